@@ -1,0 +1,13 @@
+-- What an error's own calls tell of its kinds.
+use Rattle.std.specs.Prelude.{◌≡◌, List, [], ◌∷◌, Option, None, Some}
+use Rattle.std.specs.Borrow.{Bor}
+use Rattle.template_values_errors.specs.declared.ErrorKind.{ErrorKind}
+
+-- the outermost kind
+abbrev pub IsHead : List ErrorKind → ErrorKind → Type 0
+IsHead kinds kind = (causes : List ErrorKind) × (kinds ≡ kind ∷ causes)
+
+-- the kinds behind the outermost one, where there are any
+abbrev pub IsCause : List ErrorKind → Option (Bor (List ErrorKind)) → Type 0
+IsCause kinds None = (kind : ErrorKind) × (kinds ≡ kind ∷ [])
+IsCause kinds (Some cause) = (kind : ErrorKind) × (kinds ≡ kind ∷ cause.now)
