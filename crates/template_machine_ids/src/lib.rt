@@ -1,1 +1,71 @@
+//! Numbers for the states of renders: each is given once.
 #![tactic(auto)]
+
+ghost use Rattle.std.specs.Prelude.{◌≡◌, ◌+◌, ◌<◌, ◌↔◌, ◌∷◌, [], IfOk, IfErr, OnOk, OnErr, IsErr};
+
+use std::marker::Model;
+use template_values_errors::{Error, ErrorKind};
+
+/// Gives out numbers in order, each once. A contract sees the number that comes next.
+#[derive(Drop)]
+pub struct StateIds {
+    following: u64,
+}
+
+impl Model for StateIds {
+    ghost use Rattle.std.specs.Prelude.{ℕ};
+
+    ghost Value = { ℕ };
+
+    ghost view = { λ ids. ids.following };
+}
+
+impl StateIds {
+    /// Numbers from `first` on.
+    pub fn new(first: u64) -> StateIds
+        ensures { result ≡ first }
+    {
+        StateIds { following: first }
+    }
+
+    /// The next number. `u64::MAX` is never given: there, and from then on, this is refused with
+    /// [`ErrorKind::InvalidOperation`] alone.
+    pub fn next(&mut self) -> Result<u64, Error>
+        ensures given { IfOk result (λ id. id ≡ self.old) }
+        ensures advanced { OnOk result (self.new ≡ self.old + 1) }
+        ensures never_last { IfOk result (λ id. id < u64.MAX) }
+
+        ensures at_the_end { IsErr result ↔ (self.old ≡ u64.MAX) }
+        ensures refusal { IfErr result (λ error. error ≡ ErrorKind.InvalidOperation ∷ []) }
+        ensures kept { OnErr result (self.new ≡ self.old) }
+    {
+        if self.following == u64::MAX {
+            return Err(Error::new(ErrorKind::InvalidOperation));
+        }
+        let id = self.following;
+        self.following += 1;
+        Ok(id)
+    }
+}
+
+#[cfg(test)]
+mod tests {
+    use super::*;
+    use std::test::Fail;
+
+    // Three numbers from 7 on; and before the last of all, one number and then refusals.
+    #[test]
+    fn gives_each_number_once(rt: HostRuntime) -> Result<(), Fail> {
+        let mut ids = StateIds::new(7);
+        for want in [7, 8, 9] {
+            assert_eq!(rt; ids.next().ok(), Some(want));
+        }
+        let mut last = StateIds::new(u64::MAX - 1);
+        assert_eq!(rt; last.next().ok(), Some(u64::MAX - 1));
+        for _ in 0..2 {
+            let kind = last.next().err().map(|error| error.kind());
+            assert_eq!(rt; kind, Some(ErrorKind::InvalidOperation));
+        }
+        Ok(())
+    }
+}
