@@ -1,1 +1,139 @@
+//! Where rendered text goes: sinks that take bytes, and the loop that puts a whole text into one.
 #![tactic(auto)]
+
+ghost use Rattle.std.specs.Prelude.{◌≡◌, ℕ, ◌+◌, ◌<◌, ◌≤◌, ◌↔◌, ◌∷◌, [], ◌++◌, List, Option, length, take, drop, IfOk, OnOk, OnErr, IsErrOf, IsUtf8, string_bytes};
+ghost use Rattle.std.specs.Io.KnownBytes.{Appends};
+ghost use Rattle.template_machine_output.specs.Failures.{failures_in, kind_of_fault};
+ghost use Rattle.template_machine_output.specs.Writes.{AppendsBeginning};
+
+mod wrapper;
+
+pub use wrapper::WriteWrapper;
+
+use template_values_errors::{Error, ErrorKind};
+
+/// Why a sink took no more.
+#[derive(Clone, Copy, Debug, PartialEq, Eq)]
+pub enum SinkFault {
+    /// A growth was refused.
+    Memory,
+    /// What stands behind the sink failed.
+    Device,
+}
+
+impl From<SinkFault> for Error {
+    ghost from_gives = { λ fault error. error ≡ kind_of_fault fault ∷ [] };
+
+    fn from(fault: SinkFault) -> Error {
+        Error::new(match fault {
+            SinkFault::Memory => ErrorKind::OutOfMemory,
+            SinkFault::Device => ErrorKind::WriteFailure,
+        })
+    }
+}
+
+/// What takes rendered bytes. A sink names the bytes that it has taken, or tells none, and counts
+/// its failures.
+pub trait Sink {
+    // The bytes taken so far, where the sink tells them.
+    ghost taken: { Self → Option (List ℕ) };
+
+    // How often the sink failed: `Device`, and `Ok(0)` for a piece that isn't empty.
+    ghost failures: { Self → ℕ };
+
+    // The pieces that the sink can take.
+    ghost can_take: { List ℕ → Type 0 };
+
+    /// Takes a beginning of `bytes`: at `Ok(count)` its first `count` bytes.
+    ///
+    /// # Errors
+    ///
+    /// [`SinkFault::Memory`] where a growth was refused, [`SinkFault::Device`] for every other
+    /// failure. A beginning of the piece may then have been taken.
+    fn put(&mut self, bytes: &[u8]) -> Result<usize, SinkFault>
+        requires { can_take bytes.now }
+        ensures bound { IfOk result (λ count. count ≤ length bytes.now) }
+        ensures bytes { IfOk result (λ count. Appends (taken self.old) (taken self.new) (take count bytes.now)) }
+        ensures beginning { AppendsBeginning (taken self.old) (taken self.new) bytes.now }
+        ensures rest { IfOk result (λ count. can_take (drop count bytes.now)) }
+        ensures counted { failures self.new ≡ failures self.old + failures_in result bytes.now };
+
+    // Every sink can take a text.
+    ghost takes_text: { (bytes : List ℕ) → IsUtf8 bytes → can_take bytes };
+}
+
+/// Takes text at its end, a piece as a whole; it fails for want of memory alone.
+impl Sink for String {
+    ghost use Rattle.std.specs.Prelude.{◌≡◌, ℕ, ◌+◌, ◌≤◌, ◌++◌, List, Some, length, take, drop, IfOk, OnErr, IsOkUnless, IsUtf8, string_bytes};
+    ghost use Rattle.std.specs.Io.KnownBytes.{Appends};
+    ghost use Rattle.template_machine_output.specs.Failures.{failures_in};
+    ghost use Rattle.template_machine_output.specs.Writes.{AppendsBeginning};
+
+    ghost taken = { λ text. Some (string_bytes text) };
+
+    ghost failures = { λ _. 0 };
+
+    ghost can_take = { IsUtf8 };
+
+    fn put(&mut self, bytes: &[u8]) -> Result<usize, SinkFault> {
+        // The caller has shown that the piece is UTF-8.
+        let text = unsafe { str::from_utf8_unchecked(bytes) };
+        match self.push_str(text) {
+            Ok(()) => Ok(bytes.len()),
+            Err(_refused) => Err(SinkFault::Memory),
+        }
+    }
+
+    ghost takes_text = { λ bytes utf8. utf8 };
+}
+
+/// Takes all bytes and forgets them.
+#[derive(Clone, Copy, Debug, Default)]
+pub struct NullWriter;
+
+impl Sink for NullWriter {
+    ghost taken = { λ _. None };
+
+    ghost failures = { λ _. 0 };
+
+    ghost can_take = { λ _. Unit {0} };
+
+    fn put(&mut self, bytes: &[u8]) -> Result<usize, SinkFault> {
+        Ok(bytes.len())
+    }
+
+    ghost takes_text = { λ bytes utf8. tt };
+}
+
+// What follows the first `count` bytes.
+fn rest_after(bytes: &[u8], count: usize) -> &[u8]
+    requires { count ≤ length bytes.now }
+    ensures { result.now ≡ drop count bytes.now }
+{
+    bytes.split_at(count).1
+}
+
+/// Puts a whole text into a sink, by as many calls of [`Sink::put`] as it needs.
+///
+/// # Errors
+///
+/// The sink's own fault, and [`SinkFault::Device`] where the sink takes nothing of what is left. The
+/// sink has then taken a beginning of the text.
+pub fn write_text<S: Sink>(sink: &mut S, text: &str) -> Result<(), SinkFault>
+    ensures done { OnOk result (Appends (S.taken sink.old) (S.taken sink.new) text.now) }
+    ensures beginning { OnErr result (AppendsBeginning (S.taken sink.old) (S.taken sink.new) text.now) }
+
+    ensures quiet { OnOk result (S.failures sink.new ≡ S.failures sink.old) }
+    ensures device { IsErrOf result SinkFault.Device ↔ (S.failures sink.old < S.failures sink.new) }
+    ensures memory { IsErrOf result SinkFault.Memory → S.failures sink.new ≡ S.failures sink.old }
+{
+    let mut rest = text.as_bytes();
+    while !rest.is_empty() {
+        let count = sink.put(rest)?;
+        if count == 0 {
+            return Err(SinkFault::Device);
+        }
+        rest = rest_after(rest, count);
+    }
+    Ok(())
+}
