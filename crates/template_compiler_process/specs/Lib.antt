@@ -1,0 +1,5 @@
+pub mod Process
+pub mod Drive
+pub mod Trace
+pub mod Fuel
+pub mod Isolation

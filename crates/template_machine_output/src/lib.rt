@@ -1,7 +1,7 @@
 //! Where rendered text goes: sinks that take bytes, and the loop that puts a whole text into one.
 #![tactic(auto)]
 
-ghost use Rattle.std.specs.Prelude.{◌≡◌, ℕ, ◌+◌, ◌<◌, ◌≤◌, ◌↔◌, ◌∷◌, [], ◌++◌, List, Option, length, take, drop, IfOk, OnOk, OnErr, IsErrOf, IsUtf8, string_bytes};
+ghost use Rattle.std.specs.Prelude.{◌≡◌, ℕ, ◌+◌, ◌<◌, ◌≤◌, ◌↔◌, ◌∷◌, [], ◌++◌, List, Option, length, take, drop, IfOk, OnOk, OnErr, IsErrOf, IsOkUnless, IsUtf8, Ok, Some, None, string_bytes};
 ghost use Rattle.std.specs.Io.KnownBytes.{Appends};
 ghost use Rattle.template_machine_output.specs.Failures.{failures_in, kind_of_fault};
 ghost use Rattle.template_machine_output.specs.Writes.{AppendsBeginning};
@@ -75,7 +75,13 @@ impl Sink for String {
 
     ghost can_take = { IsUtf8 };
 
-    fn put(&mut self, bytes: &[u8]) -> Result<usize, SinkFault> {
+    fn put(&mut self, bytes: &[u8]) -> Result<usize, SinkFault>
+        requires { IsUtf8 bytes.now }
+        ensures whole { IfOk result (λ count. count ≡ length bytes.now) }
+        ensures appended { OnOk result (string_bytes self.new ≡ string_bytes self.old ++ bytes.now) }
+        ensures kept { OnErr result (string_bytes self.new ≡ string_bytes self.old) }
+        ensures only_memory { IsOkUnless result SinkFault.Memory }
+    {
         // The caller has shown that the piece is UTF-8.
         let text = unsafe { str::from_utf8_unchecked(bytes) };
         match self.push_str(text) {
@@ -92,13 +98,17 @@ impl Sink for String {
 pub struct NullWriter;
 
 impl Sink for NullWriter {
+    ghost use Rattle.std.specs.Prelude.{None};
+
     ghost taken = { λ _. None };
 
     ghost failures = { λ _. 0 };
 
     ghost can_take = { λ _. Unit {0} };
 
-    fn put(&mut self, bytes: &[u8]) -> Result<usize, SinkFault> {
+    fn put(&mut self, bytes: &[u8]) -> Result<usize, SinkFault>
+        ensures whole { result ≡ Ok (length bytes.now) }
+    {
         Ok(bytes.len())
     }
 

@@ -1,1 +1,14 @@
+//! Whole inputs: the bytes or the text of a reader or a file, below a limit.
 #![tactic(auto)]
+
+mod faults;
+mod files;
+mod source;
+#[cfg(test)]
+mod tests;
+mod whole;
+
+pub use faults::FileFault;
+pub use files::{read_file, read_text_file};
+pub use source::{ReadWrapper, Source};
+pub use whole::{read_text, read_whole};

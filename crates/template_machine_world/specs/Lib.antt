@@ -1,0 +1,4 @@
+pub mod Scopes
+pub mod Surroundings
+pub mod Meaning
+pub mod History

@@ -1,0 +1,16 @@
+-- Which fault an error is.
+use Rattle.std.specs.Prelude.{ℕ, Bool, true, false, Result, Ok, Err}
+use Rattle.std.specs.declared.io.ErrorKind.{ErrorKind}
+use Rattle.std.specs.declared.io.ErrorKind.TheVariants as kind
+use Rattle.template_program_files.specs.declared.faults.FileFault.{FileFault}
+use Rattle.template_program_files.specs.declared.faults.FileFault.TheVariants.{File, Memory}
+
+-- want of memory is told apart from every other error
+abbrev pub fault_of : ErrorKind → FileFault
+fault_of kind.OutOfMemory = Memory
+fault_of _ = File
+
+-- the read failed, and not for want of memory
+abbrev pub is_file_fault : Result ℕ FileFault → Bool
+is_file_fault (Err File) = true
+is_file_fault _ = false

@@ -1,0 +1,74 @@
+//! Readers that tell whether one of their reads has failed.
+ghost use Rattle.std.specs.Prelude.{◌≡◌, ◌||◌, ℕ, List, Bool, Option, Some, false};
+ghost use Rattle.std.specs.Io.{ReadsAtMost};
+ghost use Rattle.std.specs.Io.KnownBytes.{ReadConsumes};
+ghost use Rattle.template_program_files.specs.Faults.{is_file_fault};
+
+use crate::FileFault;
+use std::io::Read;
+
+/// A reader that tells whether one of its reads has failed.
+pub trait Source {
+    /// The bytes that are left, where they are known.
+    ghost remaining: { Self → Option (List ℕ) };
+
+    /// Whether a read has failed so far.
+    ghost has_failed: { Self → Bool };
+
+    /// Reads once, into the front of `piece`; how many bytes came. No byte comes only at the end,
+    /// and where `piece` is empty.
+    fn read_piece(&mut self, piece: &mut [u8]) -> Result<usize, FileFault>
+        ensures bound { ReadsAtMost result piece.new }
+        ensures bytes { ReadConsumes (remaining self.old) (remaining self.new) result piece.new }
+        ensures failed { has_failed self.new ≡ (has_failed self.old || is_file_fault result) };
+}
+
+/// A slice, of which no read fails.
+impl Source for &[u8] {
+    ghost remaining = { λ source. Some source.now };
+
+    ghost has_failed = { λ _. false };
+
+    fn read_piece(&mut self, piece: &mut [u8]) -> Result<usize, FileFault> {
+        Ok(self.read(piece)?)
+    }
+}
+
+/// Any reader, lent, which notes a failed read. A read that was interrupted has failed too.
+#[derive(Drop)]
+pub struct ReadWrapper<'a, R> {
+    reader: &'a mut R,
+    has_failed: bool,
+}
+
+impl<'a, R: Read> ReadWrapper<'a, R> {
+    /// A reader of which no read has failed yet.
+    pub fn new(reader: &'a mut R) -> ReadWrapper<'a, R>
+        ensures remaining { ⟦<ReadWrapper<'a, R> as Source>⟧.remaining result ≡ R.remaining reader.entry.now }
+        ensures unfailed { ⟦<ReadWrapper<'a, R> as Source>⟧.has_failed result ≡ false }
+    {
+        ReadWrapper {
+            reader,
+            has_failed: false,
+        }
+    }
+}
+
+impl<R: Read> Source for ReadWrapper<'_, R> {
+    ghost remaining = { λ source. R.remaining source.reader.now };
+
+    ghost has_failed = { λ source. source.has_failed };
+
+    fn read_piece(&mut self, piece: &mut [u8]) -> Result<usize, FileFault> {
+        match self.reader.read(piece) {
+            Ok(count) => Ok(count),
+            Err(error) => {
+                let fault = FileFault::from(error);
+                if fault == FileFault::File {
+                    self.has_failed = true;
+                }
+                Err(fault)
+            }
+        }
+    }
+}

@@ -1,0 +1,82 @@
+//! A whole input, read to its end.
+ghost use Rattle.std.specs.Prelude.{◌≡◌, ◌<◌, ◌≤◌, ◌⊎◌, IfOk, IfSome, IsErrOf};
+ghost use Rattle.std.specs.Prelude.{IsTrue, OnOk, length, string_bytes, string_len, vec_len};
+ghost use Rattle.std.specs.Io.KnownBytes.{IsAtEnd};
+ghost use Rattle.template_program_files.specs.Reading.{Adds, GivesAtMost, GivesCount, GivesNoText};
+
+use crate::{FileFault, Source};
+use std::alloc::Global;
+
+/// How many bytes one read asks for.
+const PIECE: usize = 16384;
+
+/// All bytes that `source` has left, which are fewer than `limit`. An input of `limit` bytes or
+/// more is refused by [`FileFault::File`] and read no further, and so is any failing read: none is
+/// tried again.
+pub fn read_whole<S: Source>(
+    alloc: Global,
+    source: &mut S,
+    limit: usize,
+) -> Result<Vec<u8>, FileFault>
+    ensures whole { IfOk result (λ bytes. IfSome (S.remaining source.old) (λ all. bytes.items ≡ all)) }
+    ensures below { IfOk result (λ bytes. vec_len bytes < limit) }
+    ensures end { OnOk result (IsAtEnd (S.remaining source.new)) }
+
+    // A failing read is never passed over, and without one only an input that is too long is refused.
+    ensures read_ok { OnOk result (S.has_failed source.new ≡ S.has_failed source.old) }
+    ensures file { IsErrOf result FileFault.File → IsTrue (S.has_failed source.new)
+        ⊎ GivesCount (S.remaining source.old) (S.remaining source.new) limit }
+    ensures no_further { GivesAtMost (S.remaining source.old) (S.remaining source.new) limit }
+{
+    let mut bytes = Vec::new(alloc);
+    let mut piece = [0u8; PIECE];
+    while bytes.len() < limit {
+        let room = (limit - bytes.len()).min(PIECE);
+        if read_more(source, &mut piece[..room], &mut bytes)? == 0 {
+            return Ok(bytes);
+        }
+    }
+    Err(FileFault::File)
+}
+
+/// The text of all bytes that `source` has left, as [`read_whole`] reads them. Bytes that are no
+/// UTF-8 are refused by [`FileFault::File`].
+pub fn read_text<S: Source>(
+    alloc: Global,
+    source: &mut S,
+    limit: usize,
+) -> Result<String, FileFault>
+    ensures whole { IfOk result (λ text. IfSome (S.remaining source.old) (λ all. string_bytes text ≡ all)) }
+    ensures below { IfOk result (λ text. string_len text < limit) }
+    ensures end { OnOk result (IsAtEnd (S.remaining source.new)) }
+
+    ensures read_ok { OnOk result (S.has_failed source.new ≡ S.has_failed source.old) }
+    ensures file { IsErrOf result FileFault.File → IsTrue (S.has_failed source.new)
+        ⊎ GivesCount (S.remaining source.old) (S.remaining source.new) limit
+        ⊎ GivesNoText (S.remaining source.old) (S.remaining source.new) }
+    ensures no_further { GivesAtMost (S.remaining source.old) (S.remaining source.new) limit }
+{
+    let bytes = read_whole(alloc, source, limit)?;
+    String::from_utf8(bytes).map_err(|_| FileFault::File)
+}
+
+/// One read, of at most as many bytes as `piece` takes, put behind `bytes`; how many came.
+fn read_more<S: Source>(
+    source: &mut S,
+    piece: &mut [u8],
+    bytes: &mut Vec<u8>,
+) -> Result<usize, FileFault>
+    ensures count { IfOk result (λ count. count ≤ length piece.old) }
+    ensures adds { IfOk result (λ count. Adds (S.remaining source.old) (S.remaining source.new)
+        bytes.old.items bytes.new.items count) }
+    ensures end { IfOk result (λ count. count ≡ 0 → 0 < length piece.old
+        → IsAtEnd (S.remaining source.new)) }
+    ensures read_ok { OnOk result (S.has_failed source.new ≡ S.has_failed source.old) }
+    ensures file { IsErrOf result FileFault.File → IsTrue (S.has_failed source.new) }
+    ensures no_further { GivesAtMost (S.remaining source.old) (S.remaining source.new)
+        (length piece.old) }
+{
+    let count = source.read_piece(piece)?;
+    bytes.extend_from_slice(&piece[..count])?;
+    Ok(count)
+}
