@@ -1,3 +1,5 @@
 pub mod Code
 pub mod View
 pub mod Steps
+pub mod Shapes
+pub mod Prices
