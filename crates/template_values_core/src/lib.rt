@@ -1,1 +1,6 @@
+//! The values of the template language: their kinds, their one total order, and maps.
 #![tactic(auto)]
+
+mod value;
+
+pub use value::{Entry, Value};

@@ -1,0 +1,20 @@
+-- The pairs of a map that is made from pairs.
+use Rattle.std.specs.Prelude.{ℕ, List, [], ◌∷◌, Option}
+use Rattle.std.specs.BTreeMap.{insert_entry}
+use Rattle.template_values_model.specs.Val.{Val, Pairs, no_pairs, pairs_more}
+use Rattle.template_values_core.specs.Order.{val_cmp}
+
+-- a list of pairs as `Pairs`
+abbrev pub pairs_of : List (Val × Val) → Pairs
+pairs_of [] = no_pairs
+pairs_of (p ∷ ps) = pairs_more p.0 p.1 (pairs_of ps)
+
+-- the pairs `given` are put in turn: a new key at its place in the order of keys; a key that is there
+-- already stays and takes the new value
+abbrev pub put_all : List (Val × Val) → List (Val × Val) → List (Val × Val)
+put_all kept [] = kept
+put_all kept (p ∷ given) = put_all (insert_entry val_cmp kept p.0 p.1) given
+
+-- the pairs of the map that is made from the pairs given
+abbrev pub collected : List (Val × Val) → Pairs
+collected given = pairs_of (put_all [] given)

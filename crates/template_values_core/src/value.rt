@@ -1,0 +1,190 @@
+//! A value, and how it is made, shared and read.
+ghost use Rattle.std.specs.Prelude.{◌≡◌, ◌≤◌, ℕ, List, [], ◌∷◌, IfOk, IfErr, string_bytes, option_copied};
+ghost use Rattle.template_values_model.specs.Val.{Val, undefined, none, truth, int, text};
+ghost use Rattle.template_values_core.specs.Answers.{NoMemory, text_in};
+ghost use Rattle.template_values_core.specs.Kept.{IsShared};
+
+use std::alloc::AllocError;
+use std::marker::Model;
+use std::rc::{Rc, RcStr};
+use template_values_errors::{Error, ErrorKind};
+
+/// A value of the template language. A contract sees it as the mathematical value; its depth is
+/// at most 500. The contents of texts, bytes, lists, tuples, maps and modules are shared by the
+/// copies of a value.
+#[cycle(value)]
+#[derive(Drop)]
+pub struct Value {
+    levels: u32,
+    repr: Repr,
+}
+
+/// What a value holds.
+#[cycle(value)]
+#[derive(Drop)]
+pub(crate) enum Repr {
+    Undefined,
+    SilentUndefined,
+    None,
+    Truth(bool),
+    Int(i128),
+    Text(RcStr),
+    SafeText(RcStr),
+    Bytes(Rc<Vec<u8>>),
+    List(Rc<Vec<Value>>),
+    Tuple(Rc<Vec<Value>>),
+    Map(Rc<Vec<Entry>>),
+    KeywordMap(Rc<Vec<Entry>>),
+    Module(Rc<Vec<Entry>>, RcStr),
+    Function(u64, usize),
+    Namespace(u64, usize),
+    Loop(u64, usize),
+    Macro(u64, usize),
+}
+
+/// A key with its value.
+#[cycle(value)]
+#[derive(Drop)]
+pub struct Entry {
+    pub key: Value,
+    pub value: Value,
+}
+
+impl Model for Value {
+    ghost use Rattle.std.specs.Prelude.{◌≡◌, ◌≤◌};
+    ghost use Rattle.template_values_model.specs.Val.{Val};
+    ghost use Rattle.template_values_core.specs.Code.{val_code};
+    ghost use Rattle.template_values_core.specs.Depth.{depth};
+
+    ghost Value = { Val };
+
+    ghost coded = { val_code };
+
+    ghost use Rattle.template_values_core.specs.Shape.{repr_view};
+    ghost use Rattle.template_values_core.specs.Kept.{IsKept};
+
+    ghost view = { λ a. repr_view a.repr };
+
+    ghost invariant = { λ a. (a.levels ≡ depth (repr_view a.repr)) × (a.levels ≤ 500) × IsKept a.repr };
+
+    ghost size = { depth };
+
+    ghost use Rattle.template_values_core.specs.Falls.{repr_falls};
+
+    ghost size_decreases = { λ a h. repr_falls a.repr };
+}
+
+impl Value {
+    /// The undefined value.
+    pub fn undefined() -> Value
+        ensures { result ≡ undefined }
+    {
+        Value {
+            levels: 0,
+            repr: Repr::Undefined,
+        }
+    }
+
+    /// The value `none`.
+    pub fn none() -> Value
+        ensures { result ≡ none }
+    {
+        Value {
+            levels: 0,
+            repr: Repr::None,
+        }
+    }
+
+    /// A truth value.
+    pub fn from_bool(value: bool) -> Value
+        ensures { result ≡ truth value }
+    {
+        Value {
+            levels: 0,
+            repr: Repr::Truth(value),
+        }
+    }
+
+    /// A whole number.
+    pub fn from_int(value: i128) -> Value
+        ensures { result ≡ int value }
+    {
+        Value {
+            levels: 0,
+            repr: Repr::Int(value),
+        }
+    }
+
+    /// A plain text. Its bytes are not copied.
+    ///
+    /// # Errors
+    ///
+    /// [`ErrorKind::OutOfMemory`]
+    pub fn from_text(text: String) -> Result<Value, Error>
+        ensures made { IfOk result (λ v. v ≡ Val.text (string_bytes text)) }
+        ensures refused { IfErr result NoMemory }
+    {
+        match RcStr::from_string(text) {
+            Ok(shared) => Ok(Value {
+                levels: 0,
+                repr: Repr::Text(shared),
+            }),
+            Err(_) => Err(Error::new(ErrorKind::OutOfMemory)),
+        }
+    }
+
+    /// The same value, whose contents are shared.
+    ///
+    /// # Errors
+    ///
+    /// [`ErrorKind::OutOfMemory`]
+    pub fn copy(&self) -> Result<Value, Error>
+        ensures same { IfOk result (λ v. v ≡ self.now) }
+        ensures refused { IfErr result NoMemory }
+    {
+        match self.repr.share() {
+            Ok(repr) => Ok(Value {
+                levels: self.levels,
+                repr,
+            }),
+            Err(_) => Err(Error::new(ErrorKind::OutOfMemory)),
+        }
+    }
+
+    /// The text of a plain or a safe text.
+    pub fn as_str(&self) -> Option<&str>
+        ensures { option_copied result ≡ text_in self.now }
+    {
+        match &self.repr {
+            Repr::Text(text) => Some(text.as_str()),
+            Repr::SafeText(text) => Some(text.as_str()),
+            _ => None,
+        }
+    }
+}
+
+impl Repr {
+    fn share(&self) -> Result<Repr, AllocError>
+        ensures { IfOk result (λ r. IsShared self.now r) }
+    {
+        Ok(match self {
+            Repr::Undefined => Repr::Undefined,
+            Repr::SilentUndefined => Repr::SilentUndefined,
+            Repr::None => Repr::None,
+            Repr::Truth(value) => Repr::Truth(*value),
+            Repr::Int(value) => Repr::Int(*value),
+            Repr::Text(text) => Repr::Text(text.clone()?),
+            Repr::SafeText(text) => Repr::SafeText(text.clone()?),
+            Repr::Bytes(bytes) => Repr::Bytes(bytes.clone()?),
+            Repr::List(items) => Repr::List(items.clone()?),
+            Repr::Tuple(items) => Repr::Tuple(items.clone()?),
+            Repr::Map(entries) => Repr::Map(entries.clone()?),
+            Repr::KeywordMap(entries) => Repr::KeywordMap(entries.clone()?),
+            Repr::Module(entries, text) => Repr::Module(entries.clone()?, text.clone()?),
+            Repr::Function(id, number) => Repr::Function(*id, *number),
+            Repr::Namespace(id, number) => Repr::Namespace(*id, *number),
+            Repr::Loop(id, number) => Repr::Loop(*id, *number),
+            Repr::Macro(id, number) => Repr::Macro(*id, *number),
+        })
+    }
+}
