@@ -1,3 +1,4 @@
 pub mod Val
 pub mod Lookup
 pub mod Printed
+pub mod Gives
