@@ -3,3 +3,4 @@ pub mod View
 pub mod Steps
 pub mod Shapes
 pub mod Prices
+pub mod Listing

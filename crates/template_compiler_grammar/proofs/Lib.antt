@@ -1,0 +1,4 @@
+mod Rows
+pub mod Starts
+pub mod Inside
+pub mod Complete

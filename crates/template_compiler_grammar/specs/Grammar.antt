@@ -1,5 +1,6 @@
 -- The templates: which source has which tree.
-use Rattle.std.specs.Prelude.{◌≡◌, ℕ, List, [], ◌∷◌, Any, codes}
+use Rattle.std.specs.Prelude.{◌≡◌, ℕ, Bool, false, List, [], ◌∷◌, bytes_eq, codes}
+use Rattle.std.specs.List.{list_any}
 use Rattle.template_compiler_tree.specs.Tree.{Expression, Statement, variable, raw, print}
 use Rattle.template_compiler_grammar.specs.Segments.{Sign, plain, Token, identifier, Piece, data_piece, print_piece, HasPieces, stripped, less_final_newline}
 
@@ -9,12 +10,12 @@ reserved_words =
     codes "true" ∷ codes "True" ∷ codes "false" ∷ codes "False" ∷ codes "none" ∷ codes "None" ∷
     codes "loop" ∷ codes "caller" ∷ codes "self" ∷ codes "super" ∷ []
 
-abbrev pub IsReserved : List ℕ → Type 0
-IsReserved name = Any (λ word. word ≡ name) reserved_words
+unfoldable pub is_reserved : List ℕ → Bool
+is_reserved name = list_any (λ word. bytes_eq word name) reserved_words
 
 -- the tokens spell the expression: one name
 pub data IsExpression : List Token → Expression → Type 0 where
-  name_expression : {name : List ℕ} → (IsReserved name → ⊥) →
+  name_expression : {name : List ℕ} → is_reserved name ≡ false →
       IsExpression (identifier name ∷ []) (variable name)
 
 -- the statements of stripped pieces; empty data is none
@@ -28,6 +29,11 @@ pub data HasStatements : List Piece → List Statement → Type 0 where
       {pieces : List Piece} {tree : List Statement} →
       IsExpression tokens expression → HasStatements pieces tree →
       HasStatements (print_piece first tokens last ∷ pieces) (print expression ∷ tree)
+
+-- the statements of one stretch of data
+abbrev pub data_statements : List ℕ → List Statement
+data_statements [] = []
+data_statements (b ∷ s) = raw (b ∷ s) ∷ []
 
 -- the source has this tree
 pub data IsTemplate : List ℕ → List Statement → Type 0 where

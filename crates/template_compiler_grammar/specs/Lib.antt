@@ -1,2 +1,3 @@
 pub mod Segments
 pub mod Grammar
+pub mod Reader

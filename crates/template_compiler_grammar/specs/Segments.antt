@@ -32,10 +32,10 @@ sign_of s = if slice_index s 0 == 45 then minus else if slice_index s 0 == 43 th
 pub data Token : Type 0 where
   identifier : List ℕ → Token
 
-abbrev pub is_name_start : ℕ → Bool
+unfoldable pub is_name_start : ℕ → Bool
 is_name_start b = is_ascii_alphabetic b || b == 95
 
-abbrev pub is_name_part : ℕ → Bool
+unfoldable pub is_name_part : ℕ → Bool
 is_name_part b = is_ascii_alphanumeric b || b == 95
 
 -- the text begins with the token, which is as long as it can be, and the rest stands behind it

@@ -3,3 +3,4 @@ pub mod Drive
 pub mod Trace
 pub mod Fuel
 pub mod Isolation
+pub mod Laws

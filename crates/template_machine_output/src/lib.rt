@@ -6,11 +6,12 @@ ghost use Rattle.std.specs.Io.KnownBytes.{Appends};
 ghost use Rattle.template_machine_output.specs.Failures.{failures_in, kind_of_fault};
 ghost use Rattle.template_machine_output.specs.Writes.{AppendsBeginning};
 
+#[cfg(test)]
+mod tests;
 mod wrapper;
 
-pub use wrapper::WriteWrapper;
-
 use template_values_errors::{Error, ErrorKind};
+pub use wrapper::WriteWrapper;
 
 /// Why a sink took no more.
 #[derive(Clone, Copy, Debug, PartialEq, Eq)]
@@ -64,11 +65,6 @@ pub trait Sink {
 
 /// Takes text at its end, a piece as a whole; it fails for want of memory alone.
 impl Sink for String {
-    ghost use Rattle.std.specs.Prelude.{◌≡◌, ℕ, ◌+◌, ◌≤◌, ◌++◌, List, Some, length, take, drop, IfOk, OnErr, IsOkUnless, IsUtf8, string_bytes};
-    ghost use Rattle.std.specs.Io.KnownBytes.{Appends};
-    ghost use Rattle.template_machine_output.specs.Failures.{failures_in};
-    ghost use Rattle.template_machine_output.specs.Writes.{AppendsBeginning};
-
     ghost taken = { λ text. Some (string_bytes text) };
 
     ghost failures = { λ _. 0 };
@@ -98,8 +94,6 @@ impl Sink for String {
 pub struct NullWriter;
 
 impl Sink for NullWriter {
-    ghost use Rattle.std.specs.Prelude.{None};
-
     ghost taken = { λ _. None };
 
     ghost failures = { λ _. 0 };

@@ -1,10 +1,10 @@
 // A sink over a writer.
-ghost use Rattle.std.specs.Prelude.{◌≡◌, ◌≢◌, ℕ, ◌+◌, ◌≤◌, ◌∷◌, [], List, Ok, Err, None, length, take, drop, IfOk, OnErr, OnSome, IfNone, IsErrOf, IsSomeAnd};
-ghost use Rattle.std.specs.Io.KnownBytes.{Appends, Keeps};
+ghost use Rattle.std.specs.Prelude.{◌≡◌, ◌≢◌, ◌+◌, ◌≤◌, ◌∷◌, [], Err, None, length, IfOk, OnSome, IfNone, IsErrOf, IsSomeAnd};
+ghost use Rattle.std.specs.Io.KnownBytes.{WriteAppends};
 ghost use Rattle.std.specs.IoError.{error_kind};
 ghost use Rattle.std.specs.declared.io.ErrorKind.{ErrorKind as IoKind};
 ghost use Rattle.template_machine_output.specs.Failures.{failures_in};
-ghost use Rattle.template_machine_output.specs.Writes.{AppendsBeginning};
+ghost use Rattle.template_machine_output.specs.Wrapper.{failure_count};
 
 use super::{Sink, SinkFault};
 use std::io;
@@ -26,8 +26,7 @@ impl<W: io::Write> WriteWrapper<W> {
     pub fn new(w: W) -> WriteWrapper<W>
         ensures writer { result.w ≡ w }
         ensures no_error { result.err ≡ None }
-        ensures no_failure { ⟦<WriteWrapper<W> as Sink>⟧.failures result ≡ 0 }
-        ensures tells { ⟦<WriteWrapper<W> as Sink>⟧.taken result ≡ W.contents w }
+        ensures no_failure { failure_count result ≡ 0 }
     {
         WriteWrapper {
             w,
@@ -53,22 +52,20 @@ impl<W: io::Write> WriteWrapper<W> {
 impl<W: io::Write> Sink for WriteWrapper<W> {
     ghost taken = { λ s. W.contents s.w };
 
-    ghost failures = { λ s. s.failed };
+    ghost failures = { failure_count };
 
     ghost can_take = { λ _. Unit {0} };
 
     fn put(&mut self, bytes: &[u8]) -> Result<usize, SinkFault>
         ensures bound { IfOk result (λ count. count ≤ length bytes.now) }
-        ensures bytes { IfOk result (λ count. Appends (W.contents self.old.w) (W.contents self.new.w) (take count bytes.now)) }
-        ensures beginning { AppendsBeginning (W.contents self.old.w) (W.contents self.new.w) bytes.now }
-        ensures rest { IfOk result (λ _. Unit {0}) }
-        ensures counted { self.new.failed ≡ self.old.failed + failures_in result bytes.now }
+        ensures bytes { WriteAppends (W.contents self.old.w) (W.contents self.new.w) result bytes.now }
+        ensures counted { failure_count self.new ≡ failure_count self.old + failures_in result bytes.now }
 
-        // What is behind the trait: an error leaves the writer's bytes, and is kept.
-        ensures kept { OnErr result (Keeps (W.contents self.old.w) (W.contents self.new.w)) }
-        ensures error { IsErrOf result SinkFault.Device → IsSomeAnd self.new.err (λ error. error_kind error ≢ IoKind.OutOfMemory) }
+        // Beyond the trait: what becomes of an error of the writer, and of a full count.
+        ensures error { IsErrOf result SinkFault.Device
+            → IsSomeAnd self.new.err (λ error. error_kind error ≢ IoKind.OutOfMemory) }
         ensures no_error { result ≢ Err SinkFault.Device → self.new.err ≡ self.old.err }
-        ensures full { self.old.failed ≡ u64.MAX → (result ≡ Err SinkFault.Memory) × (self.new ≡ self.old) }
+        ensures full { failure_count self.old ≡ u64.MAX → (result ≡ Err SinkFault.Memory) × (self.new ≡ self.old) }
     {
         if self.failed == u64::MAX {
             return Err(SinkFault::Memory);

@@ -1,0 +1,3 @@
+pub mod Cuts
+pub mod Kernel
+pub mod Names

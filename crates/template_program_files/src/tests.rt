@@ -6,6 +6,7 @@ use std::io::Read;
 use std::test::Fail;
 
 /// Gives its bytes three at a time, and fails once where none is left.
+#[derive(Drop)]
 struct Interrupted<'a> {
     bytes: &'a [u8],
     has_failed: bool,
@@ -32,7 +33,7 @@ fn reads_below_the_limit(rt: HostRuntime) {
     }
     let mut source = b"Hello\xffWorld".as_slice();
     let read = read_whole(rt.alloc(), &mut source, 12).expect(&rt, "bytes");
-    assert!(rt; read.as_slice() == b"Hello\xffWorld");
+    assert!(rt; read.as_slice() == b"Hello\xffWorld".as_slice());
 }
 
 #[test]
@@ -72,7 +73,7 @@ fn reads_files(rt: HostRuntime) -> Result<(), Fail> {
     let text = read_text_file(&rt, "hello.txt", 6).expect(&rt, "a text");
     assert!(rt; text.as_str() == "Hello");
     let bytes = read_file(&rt, "bytes.txt", 6).expect(&rt, "bytes");
-    assert!(rt; bytes.as_slice() == b"a\xff");
+    assert!(rt; bytes.as_slice() == b"a\xff".as_slice());
     assert_eq!(rt; read_file(&rt, "hello.txt", 5).err(), Some(FileFault::File));
     for path in ["bytes.txt", "missing.txt", ".", "hello.txt/x", ""] {
         let refused = read_text_file(&rt, path, 6);

@@ -1,7 +1,7 @@
 //! A whole input, read to its end.
 ghost use Rattle.std.specs.Prelude.{◌≡◌, ◌<◌, ◌≤◌, ◌⊎◌, IfOk, IfSome, IsErrOf};
 ghost use Rattle.std.specs.Prelude.{IsTrue, OnOk, length, string_bytes, string_len, vec_len};
-ghost use Rattle.std.specs.Io.KnownBytes.{IsAtEnd};
+ghost use Rattle.std.specs.Io.KnownBytes.{Consumes, IsAtEnd};
 ghost use Rattle.template_program_files.specs.Reading.{Adds, GivesAtMost, GivesCount, GivesNoText};
 
 use crate::{FileFault, Source};
@@ -20,6 +20,7 @@ pub fn read_whole<S: Source>(
 ) -> Result<Vec<u8>, FileFault>
     ensures whole { IfOk result (λ bytes. IfSome (S.remaining source.old) (λ all. bytes.items ≡ all)) }
     ensures below { IfOk result (λ bytes. vec_len bytes < limit) }
+    ensures taken { IfOk result (λ bytes. Consumes (S.remaining source.old) (S.remaining source.new) bytes.items) }
     ensures end { OnOk result (IsAtEnd (S.remaining source.new)) }
 
     // A failing read is never passed over, and without one only an input that is too long is refused.
@@ -48,6 +49,7 @@ pub fn read_text<S: Source>(
 ) -> Result<String, FileFault>
     ensures whole { IfOk result (λ text. IfSome (S.remaining source.old) (λ all. string_bytes text ≡ all)) }
     ensures below { IfOk result (λ text. string_len text < limit) }
+    ensures taken { IfOk result (λ text. Consumes (S.remaining source.old) (S.remaining source.new) (string_bytes text)) }
     ensures end { OnOk result (IsAtEnd (S.remaining source.new)) }
 
     ensures read_ok { OnOk result (S.has_failed source.new ≡ S.has_failed source.old) }

@@ -1,6 +1,10 @@
 //! The values of the template language: their kinds, their one total order, and maps.
 #![tactic(auto)]
 
+mod lookup;
+mod maps;
+mod order;
+mod print;
 mod value;
 
 pub use value::{Entry, Value};

@@ -15,8 +15,8 @@ use template_values_errors::{Error, ErrorKind};
 #[cycle(value)]
 #[derive(Drop)]
 pub struct Value {
-    levels: u32,
-    repr: Repr,
+    pub(crate) levels: u32,
+    pub(crate) repr: Repr,
 }
 
 /// What a value holds.

@@ -22,8 +22,7 @@ pub loop-rest-preserved : goal.loop-rest-preserved
 loop-rest-preserved g c =
     let before = c.loop-rest.invariant in
     let piece = take c.in_ok-count.count c.loop-rest.rest.now in
-    let left = c.rest_after-rest.ensures in
-    (
+    let left = c.rest_after-rest.ensures in (
       before.0 ++ piece,
       rest-moved _ before.0 c.loop-rest.rest.now c.in_ok-count.count before.1 ∙ ap (λ l. (before.0 ++ piece) ++ l) (sym left),
       Appends-trans _ _ _ before.0 piece before.2 c.in_ok-count.ensures.bytes,

@@ -1,0 +1,1 @@
+-- What has a tree is read as that tree.

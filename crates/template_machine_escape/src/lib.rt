@@ -1,0 +1,82 @@
+//! Which escape a template's name stands for.
+#![tactic(auto)]
+
+ghost use Rattle.std.specs.Prelude.{◌≡◌};
+ghost use Rattle.template_machine_escape.specs.Rule.{IsExtensionOf, IsRuleOf, IsStemOf, rule_of_extension};
+
+use template_values_modes::AutoEscape;
+
+/// The escape of a template by its name: after one final `.j2`, `.jinja2` or `.jinja` is taken away,
+/// what follows the last dot decides (the whole name, where it has none). `html`, `htm` and `xml` are
+/// [`AutoEscape::Html`], `json`, `json5`, `js`, `yaml` and `yml` are [`AutoEscape::Json`], all else is
+/// [`AutoEscape::None`].
+pub fn default_auto_escape_callback(name: &str) -> AutoEscape
+    ensures { IsRuleOf name.now result }
+{
+    rule_by_extension(extension(stem(name)))
+}
+
+// The name less one ending that says that it is a template.
+fn stem(name: &str) -> &str
+    ensures { IsStemOf name.now result.now }
+{
+    if let Some(stem) = name.strip_suffix(".j2") {
+        return stem;
+    }
+    if let Some(stem) = name.strip_suffix(".jinja2") {
+        return stem;
+    }
+    if let Some(stem) = name.strip_suffix(".jinja") {
+        return stem;
+    }
+    name
+}
+
+// What follows the last dot, or the whole where there is none.
+fn extension(stem: &str) -> &[u8]
+    ensures { IsExtensionOf stem.now result.now }
+{
+    let bytes = stem.as_bytes();
+    match stem.rfind('.') {
+        Some(dot) => bytes.split_at(dot + 1).1,
+        None => bytes,
+    }
+}
+
+fn rule_by_extension(extension: &[u8]) -> AutoEscape
+    ensures { result ≡ rule_of_extension extension.now }
+{
+    match extension {
+        b"html" | b"htm" | b"xml" => AutoEscape::Html,
+        b"json" | b"json5" | b"js" | b"yaml" | b"yml" => AutoEscape::Json,
+        _ => AutoEscape::None,
+    }
+}
+
+#[cfg(test)]
+mod tests {
+    use super::*;
+
+    #[test]
+    fn names_decide(rt: HostRuntime) {
+        let cases = [
+            ("foo.html", AutoEscape::Html),
+            ("foo.htm", AutoEscape::Html),
+            ("foo.html.j2", AutoEscape::Html),
+            ("foo.htm.jinja2", AutoEscape::Html),
+            ("foo.html.jinja", AutoEscape::Html),
+            ("foo.txt", AutoEscape::None),
+            ("foo.txt.j2", AutoEscape::None),
+            ("foo.yaml", AutoEscape::Json),
+            ("foo.json.j2", AutoEscape::Json),
+            ("foo.html.j2.jinja", AutoEscape::None),
+            ("html", AutoEscape::Html),
+            ("a.b.xml", AutoEscape::Html),
+            ("json5", AutoEscape::Json),
+            ("<stdin>", AutoEscape::None),
+        ];
+        for (name, rule) in cases {
+            assert!(rt; default_auto_escape_callback(name) == rule, "{name}");
+        }
+    }
+}

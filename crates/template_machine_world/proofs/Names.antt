@@ -1,0 +1,1 @@
+-- A walk looks up used names alone.

@@ -1,0 +1,61 @@
+-- The context of a render: what the JSON and the definitions have under each name.
+use Rattle.std.specs.Prelude.{◌≡◌, ℕ, Bool, true, false, ◌&&◌, List, [], ◌∷◌, Option, None, Some, is_some, option_map, option_and_then, if◌then◌else◌}
+use Rattle.std.specs.Option.{option_or}
+use Rattle.std.specs.Str.{bytes_eq, is_utf8}
+use Rattle.serde_json.specs.Data.{Data, null, boolean, number, string, array, object, Members, no_members, member}
+use Rattle.serde_json.specs.Find.{as_integer, get}
+use Rattle.serde_json.specs.Read.{read}
+use Rattle.serde_json.specs.Written.{has_float}
+use Rattle.template_values_errors.specs.declared.ErrorKind.{ErrorKind}
+use Rattle.template_values_errors.specs.declared.ErrorKind.TheVariants.{SyntaxError, InvalidOperation, NoFloats}
+use Rattle.template_values_model.specs.Val.{Val, Pairs, none, truth, int, text, map}
+use Rattle.template_values_model.specs.Lookup.{value_at}
+
+-- what the bytes say as JSON, where they are a text that can be read
+abbrev pub data_in : List ℕ → Option Data
+data_in bytes = if is_utf8 bytes then read bytes else None
+
+-- the value of a member; a float, a list and an object have none
+abbrev pub value_of : Data → Option Val
+value_of null = Some none
+value_of (boolean b) = Some (truth b)
+value_of (number n) = option_map int (as_integer n)
+value_of (string s) = Some (text s)
+value_of (array items) = None
+value_of (object inner) = None
+
+abbrev pub all_have_values : Members → Bool
+all_have_values no_members = true
+all_have_values (member name d later) = is_some (value_of d) && all_have_values later
+
+-- the refusal of JSON that was read and has no float
+abbrev pub fault_of_top : Data → Option ErrorKind
+fault_of_top (object inner) = if all_have_values inner then None else Some InvalidOperation
+fault_of_top _ = Some InvalidOperation
+
+abbrev pub fault_of_data : Option Data → Option ErrorKind
+fault_of_data None = Some SyntaxError
+fault_of_data (Some d) = if has_float d then Some NoFloats else fault_of_top d
+
+-- the refusal that the bytes get, if any; with no bytes there is none
+abbrev pub fault_of_json : Option (List ℕ) → Option ErrorKind
+fault_of_json None = None
+fault_of_json (Some bytes) = fault_of_data (data_in bytes)
+
+-- the value of the member of that name
+abbrev pub member_under : Option (List ℕ) → List ℕ → Option Val
+member_under None name = None
+member_under (Some bytes) name = option_and_then value_of (option_and_then (get name) (data_in bytes))
+
+-- the text of the last definition of the name
+abbrev pub defined_under : List (List ℕ × List ℕ) → List ℕ → Option (List ℕ)
+defined_under [] name = None
+defined_under (d ∷ later) name = option_or (defined_under later name) (if bytes_eq d.0 name then Some d.1 else None)
+
+abbrev pub IsMap : Val → Type 0
+IsMap v = (pairs : Pairs) × (v ≡ map pairs)
+
+-- under every name the map has the text of the last definition, else the member's value
+abbrev pub IsContext : Option (List ℕ) → List (List ℕ × List ℕ) → Val → Type 0
+IsContext json definitions v = IsMap v
+    × ((name : List ℕ) → value_at name v ≡ option_or (option_map text (defined_under definitions name)) (member_under json name))

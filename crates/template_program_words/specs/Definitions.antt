@@ -1,0 +1,15 @@
+-- What `NAME=TEXT` is.
+use Rattle.std.specs.Prelude.{ℕ, List, Bool, nat_eq}
+use Rattle.std.specs.List.{before_first, after_first}
+
+-- `=`
+abbrev pub equals_sign : ℕ
+equals_sign = 61
+
+-- what stands before the first `=`
+abbrev pub name_in : List ℕ → List ℕ
+name_in words = before_first (λ byte. nat_eq byte equals_sign) words
+
+-- what stands behind the first `=`
+abbrev pub text_in : List ℕ → List ℕ
+text_in words = after_first (λ byte. nat_eq byte equals_sign) words

@@ -1,0 +1,40 @@
+//! Why the words were refused.
+use clap::error::ErrorKind;
+use std::alloc::{AllocError, AllocFailed, Global};
+
+/// Why no words were read.
+#[derive(Debug, Drop)]
+pub enum WordsFault {
+    /// No memory was left.
+    Memory,
+    /// Help was asked for: its text.
+    Help(String),
+    /// The words are none that the program takes: the text for the user.
+    Usage(String),
+    /// A definition has no `=`.
+    Definition,
+}
+
+impl From<AllocError> for WordsFault {
+    fn from(_refused: AllocError) -> WordsFault {
+        WordsFault::Memory
+    }
+}
+
+impl<T: Drop> From<AllocFailed<T>> for WordsFault {
+    fn from(_refused: AllocFailed<T>) -> WordsFault {
+        WordsFault::Memory
+    }
+}
+
+/// The fault that `error` is.
+pub(crate) fn fault_of(alloc: Global, error: &clap::Error) -> WordsFault {
+    if error.kind() == ErrorKind::OutOfMemory {
+        return WordsFault::Memory;
+    }
+    match error.to_string(alloc) {
+        Ok(text) if error.use_stderr() => WordsFault::Usage(text),
+        Ok(text) => WordsFault::Help(text),
+        Err(_refused) => WordsFault::Memory,
+    }
+}

@@ -1,0 +1,3 @@
+//! What `clap` makes of words.
+use crate::*;
+use std::test::Fail;
