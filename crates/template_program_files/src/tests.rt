@@ -1,9 +1,8 @@
 //! What no clause says: that inputs are read at all, and what files give.
 use crate::*;
-use std::fs;
-use std::io;
 use std::io::Read;
 use std::test::Fail;
+use std::{fs, io};
 
 /// Gives its bytes three at a time, and fails once where none is left.
 #[derive(Drop)]

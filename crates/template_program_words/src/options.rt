@@ -5,7 +5,8 @@ use std::alloc::{AllocError, Global};
 /// The program, with its two commands.
 pub(crate) fn program<'a>(alloc: Global) -> Result<Command<'a>, AllocError> {
     Command::new(alloc, "template")
-        .about("Renders templates of minijinja's language")
+        .about("Renders templates in the language of minijinja")
+        .bin_name("template")?
         .no_binary_name(true)
         .subcommand_required(true)
         .subcommand(render(alloc)?)?

@@ -48,13 +48,15 @@ pub fn read_words<'a>(alloc: Global, words: &'a [&'a str]) -> Result<Words<'a>, 
 }
 
 fn words_in<'a>(alloc: Global, matches: &ArgMatches<'a>) -> Result<Words<'a>, WordsFault> {
-    match matches.subcommand_matches("render") {
-        Some(render) => Ok(Words::Render(render_words(alloc, render)?)),
-        None => match matches.subcommand_matches("names") {
-            Some(names) => Ok(Words::Names(names_words(alloc, names)?)),
-            None => Err(WordsFault::Memory),
-        },
+    if let Some(render) = matches.subcommand_matches("render") {
+        return Ok(Words::Render(render_words(alloc, render)?));
     }
+    if let Some(names) = matches.subcommand_matches("names") {
+        return Ok(Words::Names(names_words(alloc, names)?));
+    }
+
+    // `clap` requires a command and knows these two.
+    Err(WordsFault::Usage(String::new(alloc)))
 }
 
 fn render_words<'a>(

@@ -6,11 +6,15 @@ use Rattle.template_program_files.proofs.whole.read_text.Goals as goal
 
 GivesNoText-refused : {T E F G : Type 0} (a b : Option (List ℕ)) (bytes : List ℕ) (read : Result T E) (mapped : Result F G) (fault : G)
     → Consumes a b bytes → IsAtEnd b → (IsUtf8 bytes → IsOk read) → is_ok mapped ≡ is_ok read → mapped ≡ Err fault → GivesNoText a b
-GivesNoText-refused a b bytes read mapped fault taken end succeeds same refused =
-    (bytes, taken, end, λ text.
-    let read_well : IsOk read = succeeds text in
-    let none : is_ok mapped ≡ false = ap is_ok refused in
-    cc)
+GivesNoText-refused a b bytes read mapped fault taken end succeeds same refused = (
+  bytes,
+  taken,
+  end,
+  λ text.
+      let read_well : IsOk read = succeeds text in
+      let none : is_ok mapped ≡ false = ap is_ok refused in
+      cc,
+)
 
 pub returns-clause-file : goal.returns-clause-file
 returns-clause-file g c = λ refused. inr (inr (GivesNoText-refused _ _ c.in_ok-bytes.bytes.items _ _ _

@@ -9,9 +9,11 @@ use Rattle.template_program_files.proofs.whole.read_whole.Goals as goal
 GivesAtMost-behind : (a b c : Option (List ℕ)) (front : List ℕ) (more most : ℕ) → Consumes a b front
     → GivesAtMost b c more → length front + more ≤ most → GivesAtMost a c most
 GivesAtMost-behind a b c front more most first second fits =
-    let taken = second.0 in
-    (front ++ taken, Consumes-trans a b c front taken first second.1,
-    omega (arith, second.2, length-append front taken))
+    let taken = second.0 in (
+      front ++ taken,
+      Consumes-trans a b c front taken first second.1,
+      omega (arith, second.2, length-append front taken),
+    )
 
 pub returns-in_err-read_more-clause-no_further : goal.returns-in_err-read_more-clause-no_further
 returns-in_err-read_more-clause-no_further g c =
