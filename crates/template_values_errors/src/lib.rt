@@ -1,7 +1,7 @@
 //! The refusals of the template engine: a kind, and at most one error as its cause.
 #![tactic(auto)]
 
-ghost use Rattle.std.specs.Prelude.{◌≡◌, ◌∷◌, [], ◌++◌, List, IsTrue, ◌↔◌, IfSome, IfNone, ◌⊎◌};
+ghost use Rattle.std.specs.Prelude.{◌≡◌, ◌∷◌, [], ◌⊎◌};
 ghost use Rattle.template_values_errors.specs.Causes.{IsCause, IsHead};
 ghost use Rattle.template_values_errors.specs.Names.{name_of};
 
@@ -113,7 +113,6 @@ impl Model for Error {
 
     ghost size = { length };
 
-
     ghost size_decreases = { λ e h. Prim.grind arith };
 }
 
@@ -154,5 +153,24 @@ impl Error {
             Some(cause) => Some(cause),
             None => None,
         }
+    }
+}
+
+#[cfg(test)]
+mod tests {
+    use super::*;
+
+    #[test]
+    fn an_error_tells_its_chain(rt: HostRuntime) {
+        let inner = Error::new(ErrorKind::OutOfFuel);
+        assert!(rt; inner.kind() == ErrorKind::OutOfFuel);
+        assert!(rt; inner.cause().is_none());
+        let outer = Error::with_cause(rt.alloc(), ErrorKind::BadInclude, inner);
+        assert!(rt; outer.kind() == ErrorKind::BadInclude);
+        match outer.cause() {
+            Some(cause) => assert!(rt; cause.kind() == ErrorKind::OutOfFuel),
+            None => panic!(rt; "the cause is gone"),
+        }
+        assert!(rt; outer.kind().name() == "BadInclude");
     }
 }
