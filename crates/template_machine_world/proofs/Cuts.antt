@@ -1,10 +1,9 @@
 -- Lemmas on the items of a run and on what a fuel leaves of them.
-use Rattle.std.proofs.Common.{◌≡◌, ℕ, ◌+◌, ◌-◌, ◌≤◌, Bool, true, false, nat_le, List, [], ◌∷◌, ◌++◌, zero, suc, refl, sym, ap, ◌∙◌, append_assoc, append-nil, arith, cond}
+use Rattle.std.proofs.Common.{◌≡◌, ℕ, ◌+◌, ◌-◌, true, false, nat_le, List, [], ◌∷◌, ◌++◌, zero, suc, refl, sym, ap, ◌∙◌, append_assoc, append-nil, arith}
 use Rattle.std.specs.Prelude.{if◌then◌else◌}
-use Rattle.template_values_errors.specs.declared.ErrorKind.{ErrorKind}
 use Rattle.template_values_errors.specs.declared.ErrorKind.TheVariants.{OutOfFuel}
-use Rattle.template_compiler_process.specs.Drive.{End, faults}
-use Rattle.template_compiler_process.specs.Trace.{Item, paid, written, Run, behind, ended, text_of, price_of}
+use Rattle.template_compiler_process.specs.Drive.{faults}
+use Rattle.template_compiler_process.specs.Trace.{Item, paid, written, Run, text_of, price_of}
 use Rattle.template_compiler_process.specs.Fuel.{items_before, wraps_at, cut}
 use Rattle.template_machine_world.specs.Laws.{BeginsWith}
 
@@ -21,8 +20,8 @@ text_before (suc steps) (paid wraps ∷ items) = text_before steps items
 pub text-cut : {S : Type 0} (n : ℕ) (r : Run S) → BeginsWith (text_of r.items) (text_of (cut n r).items)
 text-cut n r =
     elim (nat_le (price_of r.items) (n - 1)) as (λ within. BeginsWith (text_of r.items) (text_of (if within then r else record r { items = items_before (n - 1) r.items; end = faults (wraps_at (n - 1) r.items ++ OutOfFuel ∷ []) }).items)) [
-      true ↦ ([], sym (append-nil (text_of r.items)))
-    | false ↦ text_before (n - 1) r.items
+      | true ↦ ([], sym (append-nil (text_of r.items)))
+      | false ↦ text_before (n - 1) r.items
     ]
 
 pub text-append : (items later : List Item) → text_of (items ++ later) ≡ text_of items ++ text_of later

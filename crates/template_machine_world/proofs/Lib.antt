@@ -1,3 +1,4 @@
 pub mod Cuts
 pub mod Kernel
 pub mod Names
+pub mod Isolated

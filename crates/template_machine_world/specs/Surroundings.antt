@@ -1,7 +1,6 @@
 -- How a running template's scopes answer its events.
 use Rattle.std.specs.Prelude.{ℕ, List, [], ◌∷◌, Result, Ok, Err}
 use Rattle.template_values_errors.specs.declared.ErrorKind.{ErrorKind}
-use Rattle.template_values_model.specs.Val.{Val}
 use Rattle.template_values_model.specs.Printed.{printed}
 use Rattle.template_compiler_process.specs.Process.{Ask, look_up, write_raw, write_value, done, value, tells, fails}
 use Rattle.template_compiler_process.specs.Trace.{Reply, written}
