@@ -2,8 +2,6 @@
 #![tactic(auto)]
 
 mod lookup;
-mod maps;
-mod order;
 mod print;
 mod value;
 

@@ -1,7 +1,7 @@
 //! The text that a value prints.
-ghost use Rattle.std.specs.Prelude.{◌≡◌, OnErr, IfErr, string_bytes};
+ghost use Rattle.std.specs.Prelude.{string_bytes, Result};
 ghost use Rattle.template_values_model.specs.Printed.{printed};
-ghost use Rattle.template_values_core.specs.Answers.{Appends, NoMemory, NotPrinted};
+ghost use Rattle.template_values_core.specs.Answers.{Appends};
 
 use crate::value::{Repr, Value};
 use itoa::Buffer;
@@ -32,7 +32,7 @@ impl Value {
 }
 
 fn append(out: &mut String, text: &str) -> Result<(), Error>
-    ensures { Appends (string_bytes out.old) (Result.Ok text.now) result (string_bytes out.new) }
+    ensures { Appends (string_bytes out.old) (Ok text.now) result (string_bytes out.new) }
 {
     match out.push_str(text) {
         Ok(()) => Ok(()),
