@@ -1,8 +1,7 @@
 -- The charges of instructions.
-use Rattle.std.proofs.Common.{refl, ℕ, ◌+◌, List, [], ◌∷◌, Some}
-use Rattle.template_values_model.specs.Val.{Val}
-use Rattle.template_compiler_process.specs.Process.{Process, asks, stuck, look_up, write_raw, write_value, on_done, on_value}
-use Rattle.template_compiler_code.specs.Code.{Code, emit_raw, lookup, emit}
+use Rattle.std.proofs.Common.{refl, ◌+◌, [], ◌∷◌}
+use Rattle.template_compiler_process.specs.Process.{asks, stuck, look_up, write_raw, write_value, on_done, on_value}
+use Rattle.template_compiler_code.specs.Code.{emit_raw, lookup, emit}
 use Rattle.template_compiler_code.specs.Prices.{ChargesFirst}
 
 pub charges_first : ChargesFirst

@@ -129,5 +129,4 @@ impl<'source> Instructions<'source> {
 /// Each instruction begins with exactly as many priced steps as its price says.
 pub fn charged_first()
     ensures { ChargesFirst }
-{
-}
+{}

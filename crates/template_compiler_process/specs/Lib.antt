@@ -3,4 +3,5 @@ pub mod Drive
 pub mod Trace
 pub mod Fuel
 pub mod Isolation
+pub mod Whole
 pub mod Laws

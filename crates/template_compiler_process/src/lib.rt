@@ -1,3 +1,39 @@
-//! Definitions alone: what running a template does, as a process that takes priced steps and asks its
-//! surroundings, and what comes of it under surroundings that answer.
+//! What running a template does, as a process that takes priced steps and asks its surroundings, what
+//! comes of it under surroundings that answer, and the laws of both. The functions do nothing: each
+//! stands for the law in its contract.
 #![tactic(auto)]
+
+ghost use Rattle.template_compiler_process.specs.Laws.{BelowItself, BelowFollows, DrivenAlike, DrivenWhole, RunAlike, RunWhole};
+
+/// A process does what it does itself, and what follows a follower follows the first.
+pub fn below_is_an_order()
+    ensures itself { BelowItself }
+    ensures follows { BelowFollows }
+{
+}
+
+/// A process that does what another does, as far as that goes, is driven like it where the other's
+/// bound does not run out.
+pub fn driven_alike()
+    ensures { DrivenAlike }
+{
+}
+
+/// A whole process is driven to a proper end.
+pub fn driven_whole()
+    ensures { DrivenWhole }
+{
+}
+
+/// A process that does what another does, as far as that goes, runs like it under surroundings with
+/// states `S`, where the other's bound does not run out.
+pub fn run_alike<S>()
+    ensures { RunAlike S }
+{
+}
+
+/// A whole process runs to a proper end under surroundings with states `S`.
+pub fn run_whole<S>()
+    ensures { RunWhole S }
+{
+}
