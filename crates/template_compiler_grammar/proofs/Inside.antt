@@ -1,10 +1,10 @@
 -- The reading of a print's inside is the grammar's.
-use Rattle.std.proofs.Common.{◌≡◌, Bool, if◌then◌else◌, not, ◌&&◌, ◌==◌, ℕ, zero, suc, ◌+◌, ◌-◌, ◌<◌, ◌≤◌, true, false, cond, List, [], ◌∷◌, ◌++◌, length, take, drop, take_while, get_or, slice_index, codes, Option, None, Some, option_map, unwrap_or, refl, sym, ◌∙◌, ap, subst, add-one, one-add, arith, length-append, length-drop}
+use Rattle.std.proofs.Common.{◌≡◌, Bool, if◌then◌else◌, ◌&&◌, ◌==◌, ℕ, ◌<◌, true, false, List, [], ◌∷◌, ◌++◌, length, drop, take_while, slice_index, codes, Option, None, Some, option_map, unwrap_or, refl, sym, ◌∙◌, ap, subst, one-add, arith, length-append, length-drop}
 use Rattle.std.specs.List.{prefix_len}
 use Rattle.std.specs.Char.{is_ascii_whitespace}
-use Rattle.std.proofs.lemmas.Bool.{and_parts, and_from, eqb-true, not-true, not_from_false, false≢true}
+use Rattle.std.proofs.lemmas.Bool.{and_parts, eqb-true, false≢true}
 use Rattle.std.proofs.lemmas.Bool.Decides.{nat_tests}
-use Rattle.template_compiler_grammar.specs.Segments.{Sign, plain, minus, plus, sign_text, Token, identifier, IsToken, identifier_token, IsInside, ended, blank, token, is_name_start, is_name_part}
+use Rattle.template_compiler_grammar.specs.Segments.{Sign, plain, minus, plus, sign_text, Token, identifier, identifier_token, IsInside, ended, blank, token, is_name_start, is_name_part}
 use Rattle.template_compiler_grammar.specs.Grammar.{is_reserved}
 use Rattle.template_compiler_grammar.specs.Reader.{skip_blanks, closes_at, end_of, named_of, inside_of}
 
@@ -118,14 +118,24 @@ named_sound_by : (s : List ℕ) {name : List ℕ} {last : Sign} {rest : List ℕ
 named_sound_by s false r end e f g h = cc
 named_sound_by s true true end e f g h = cc
 named_sound_by s true false None e f g h = cc
-named_sound_by s true false (Some (last', rest')) e f g h =
+named_sound_by s {last = last} {rest = rest} true false (Some (last', rest')) e f g h =
     let parts = some_three h in
-    let same : ◌≡◌ {A = Option (Sign × List ℕ)} (Some (last', rest')) (Some (last, rest)) = rw (parts.1, parts.2) in
-    (token (identifier_token e (sym parts.0) refl) (blanks_back _ (ended (end_sound _ (g ∙ same)))),
-     subst (λ n. is_reserved n ≡ false) parts.0 f)
+    let same : ◌≡◌ {A = Option (Sign × List ℕ)} (Some (last', rest')) (Some (last, rest)) = rw (parts.1, parts.2) in (
+      token (identifier_token e (sym parts.0) refl) (blanks_back _ (ended (end_sound _ (g ∙ same)))),
+      subst (λ n. is_reserved n ≡ false) parts.0 f,
+    )
 
 pub inside_sound : (s : List ℕ) {name : List ℕ} {last : Sign} {rest : List ℕ} →
     inside_of s ≡ Some (name, last, rest) → IsPrint s (identifier name ∷ []) last rest × (is_reserved name ≡ false)
 unfolding named_of
 inside_sound s e =
     let found = named_sound_by (skip_blanks s) _ _ _ refl refl refl e in (blanks_back s found.0, found.1)
+
+-- the text behind a print is shorter than its inside
+pub inside_shrinks : {s : List ℕ} {tokens : List Token} {last : Sign} {rest : List ℕ} →
+    IsPrint s tokens last rest → length rest < length s
+inside_shrinks (ended {last = last} {rest = rest} e) =
+    omega (arith, ap length e, length-append (sign_text last) (codes "}}" ++ rest))
+inside_shrinks (blank w i) = let behind = inside_shrinks i in omega arith
+inside_shrinks (token (identifier_token {s = s} start n r) i) =
+    let behind = inside_shrinks i in omega (arith, ap length r, length-drop (prefix_len is_name_part s) s)

@@ -1,6 +1,6 @@
 -- `start_of` is the place of the first start marker.
-use Rattle.std.proofs.Common.{◌≡◌, Bool, if◌then◌else◌, ℕ, zero, suc, ◌+◌, ◌-◌, ◌<◌, ◌≤◌, ◌⊎◌, inl, inr, true, false, cond, List, [], ◌∷◌, length, take, get_or, slice_index, ◌==◌, refl, sym, ◌∙◌, ap, subst, add-one, arith, length-take}
-use Rattle.std.proofs.lemmas.Bool.{cases_Bool, cases_lt, cases_order, and_parts, or_cases, eqb-true, eq-eqb, and_from, or_left, or_right, false≢true}
+use Rattle.std.proofs.Common.{◌≡◌, Bool, if◌then◌else◌, ℕ, zero, suc, ◌+◌, ◌-◌, ◌<◌, ◌≤◌, ◌⊎◌, inl, inr, true, false, List, [], ◌∷◌, length, take, slice_index, ◌==◌, refl, sym, ◌∙◌, add-one, arith, length-take}
+use Rattle.std.proofs.lemmas.Bool.{cases_lt, cases_order, and_parts, or_cases, eqb-true, false≢true}
 use Rattle.std.proofs.lemmas.List.{get_or_past, get_or-take}
 use Rattle.template_compiler_grammar.specs.Segments.{StartsAt, IsFirstStart, less_final, less_final_newline}
 use Rattle.template_compiler_grammar.specs.Reader.{is_start, start_of}
@@ -8,28 +8,29 @@ use Rattle.template_compiler_grammar.specs.Reader.{is_start, start_of}
 -- the test of two bytes, and what it says
 start_bytes : (b c : ℕ) → is_start b c ≡ true → (b ≡ 123) × ((c ≡ 123) ⊎ ((c ≡ 37) ⊎ (c ≡ 35)))
 start_bytes b c e =
-    let parts = and_parts _ _ e in
-    (eqb-true b 123 parts.0,
-     elim (or_cases _ _ parts.1) [
-       inl print ↦ inl (eqb-true c 123 print)
-     | inr other ↦ inr (elim (or_cases _ _ other) [ inl block ↦ inl (eqb-true c 37 block) | inr comment ↦ inr (eqb-true c 35 comment) ])
-     ])
+    let parts = and_parts _ _ e in (
+      eqb-true b 123 parts.0,
+      elim (or_cases _ _ parts.1) [
+        | inl print ↦ inl (eqb-true c 123 print)
+        | inr other ↦ inr (elim (or_cases _ _ other) [ inl block ↦ inl (eqb-true c 37 block) | inr comment ↦ inr (eqb-true c 35 comment) ])
+      ],
+    )
 
 bytes_start : (b c : ℕ) → b ≡ 123 → ((c ≡ 123) ⊎ ((c ≡ 37) ⊎ (c ≡ 35))) → is_start b c ≡ true
 bytes_start b c e f =
     elim f [
-      inl print ↦ rw (e, print)
-    | inr other ↦ elim other [ inl block ↦ rw (e, block) | inr comment ↦ rw (e, comment) ]
+      | inl print ↦ rw (e, print)
+      | inr other ↦ elim other [ inl block ↦ rw (e, block) | inr comment ↦ rw (e, comment) ]
     ]
 
 -- a marker has two bytes
 pub StartsAt-within : (s : List ℕ) (i : ℕ) → StartsAt s i → i + 1 < length s
 StartsAt-within s i starts =
     elim (cases_lt (i + 1) (length s)) [
-      inl within ↦ within
-    | inr past ↦
-        let none : slice_index s (i + 1) ≡ 0 = get_or_past s (i + 1) 0 past in
-        absurd (elim starts.1 [ inl e ↦ omega arith | inr other ↦ elim other [ inl e ↦ omega arith | inr e ↦ omega arith ] ])
+      | inl within ↦ within
+      | inr past ↦
+          let none : slice_index s (i + 1) ≡ 0 = get_or_past s (i + 1) 0 past in
+          absurd (elim starts.1 [ inl e ↦ omega arith | inr other ↦ elim other [ inl e ↦ omega arith | inr e ↦ omega arith ] ])
     ]
 
 starts_tail : (b : ℕ) (s : List ℕ) (k : ℕ) → StartsAt (b ∷ s) (suc k) → StartsAt s k
@@ -76,10 +77,10 @@ unfolding IsLocated
 start_of_is s i first =
     let within = StartsAt-within s i first.0 in
     elim (cases_order (start_of s) i) [
-      inl same ↦ same
-    | inr other ↦ elim other [
-        inl before ↦ absurd (first.1 (start_of s) before ((located s).1 (omega arith)))
-      | inr behind ↦ absurd ((located s).2 i behind first.0)
+      | inl same ↦ same
+      | inr other ↦ elim other [
+        | inl before ↦ absurd (first.1 (start_of s) before ((located s).1 (omega arith)))
+        | inr behind ↦ absurd ((located s).2 i behind first.0)
       ]
     ]
 
@@ -87,8 +88,8 @@ pub start_of_end : (s : List ℕ) → ((k : ℕ) → StartsAt s k → ⊥) → s
 unfolding IsLocated
 start_of_end s none =
     elim (cases_lt (start_of s) (length s)) [
-      inl within ↦ absurd (none (start_of s) ((located s).1 within))
-    | inr past ↦ (let most = (located s).0 in omega arith)
+      | inl within ↦ absurd (none (start_of s) ((located s).1 within))
+      | inr past ↦ (let most = (located s).0 in omega arith)
     ]
 
 -- a beginning of a text has no starts but the text's

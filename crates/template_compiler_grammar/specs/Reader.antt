@@ -1,6 +1,6 @@
 -- The reading of a text from left to right: what the grammar's relation computes to. The parser's
 -- functions cite it; that it is the grammar is proved.
-use Rattle.std.specs.Prelude.{ℕ, zero, suc, ◌+◌, Bool, true, false, ◌&&◌, ◌||◌, ◌==◌, nat_lt, if◌then◌else◌, List, [], ◌∷◌, ◌++◌, length, take, drop, take_while, slice_index, Option, None, Some, option_map}
+use Rattle.std.specs.Prelude.{ℕ, zero, suc, ◌+◌, Bool, ◌&&◌, ◌||◌, ◌==◌, nat_lt, if◌then◌else◌, List, [], ◌∷◌, ◌++◌, length, take, drop, take_while, slice_index, Option, None, Some, option_map}
 use Rattle.std.specs.List.{prefix_len}
 use Rattle.std.specs.Char.{is_ascii_whitespace}
 use Rattle.template_compiler_tree.specs.Tree.{Statement, variable, print}
@@ -36,9 +36,9 @@ unfoldable pub named_of : List ℕ → Option (List ℕ × Sign × List ℕ)
 named_of s =
     if is_name_start (slice_index s 0)
     then
-      (if is_reserved (take_while is_name_part s)
-       then None
-       else option_map (λ end. (take_while is_name_part s, end.0, end.1)) (end_of (skip_blanks (drop (prefix_len is_name_part s) s))))
+    (if is_reserved (take_while is_name_part s)
+    then None
+    else option_map (λ end. (take_while is_name_part s, end.0, end.1)) (end_of (skip_blanks (drop (prefix_len is_name_part s) s))))
     else None
 
 abbrev pub inside_of : List ℕ → Option (List ℕ × Sign × List ℕ)
@@ -65,9 +65,9 @@ unfoldable pub step_of : Sign → List ℕ → Step
 step_of left s =
     if nat_lt (start_of s) (length s)
     then
-      (if slice_index s (start_of s + 1) == 123
-       then behind_start (strip_start left (take (start_of s) s)) (drop (start_of s + 2) s)
-       else no_step)
+    (if slice_index s (start_of s + 1) == 123
+    then behind_start (strip_start left (take (start_of s) s)) (drop (start_of s + 2) s)
+    else no_step)
     else last_step (data_statements (strip_start left s))
 
 -- the statements from a step on, by at most so many steps
