@@ -1,6 +1,7 @@
 pub mod Code
 pub mod Depth
 pub mod Order
+pub mod Parts
 pub mod Maps
 pub mod Shape
 pub mod Kept
