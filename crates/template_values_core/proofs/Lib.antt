@@ -1,1 +1,2 @@
 pub mod Deep
+pub mod PairLemmas

@@ -2,6 +2,7 @@
 #![tactic(auto)]
 
 mod lookup;
+mod maps;
 mod order;
 mod print;
 mod value;

@@ -2,6 +2,7 @@
 ghost use Rattle.std.specs.Prelude.{◌≡◌, ◌≤◌, ℕ, List, [], ◌∷◌, IfOk, IfErr, string_bytes, option_copied};
 ghost use Rattle.template_values_model.specs.Val.{Val, undefined, none, truth, int, text};
 ghost use Rattle.template_values_core.specs.Answers.{NoMemory, text_in};
+ghost use Rattle.template_values_core.specs.Depth.{depth};
 ghost use Rattle.template_values_core.specs.Kept.{IsShared};
 
 use std::alloc::AllocError;
@@ -149,6 +150,14 @@ impl Value {
             }),
             Err(_) => Err(Error::new(ErrorKind::OutOfMemory)),
         }
+    }
+
+    /// How deep the value nests: 0 for scalars, one more than the deepest item for containers.
+    pub fn levels(&self) -> u32
+        ensures is { result ≡ depth self.now }
+        ensures bound { depth self.now ≤ 500 }
+    {
+        self.levels
     }
 
     /// The text of a plain or a safe text.
