@@ -1,2 +1,3 @@
 pub mod Deep
 pub mod PairLemmas
+pub mod LastGiven

@@ -1,7 +1,9 @@
 -- The pairs of a map that is made from pairs.
-use Rattle.std.specs.Prelude.{ℕ, List, [], ◌∷◌, Option}
+use Rattle.std.specs.Prelude.{ℕ, List, [], ◌∷◌, Option, None, Some, if◌then◌else◌}
+use Rattle.std.specs.Option.{option_or}
 use Rattle.std.specs.BTreeMap.{insert_entry}
 use Rattle.template_values_model.specs.Val.{Val, Pairs, no_pairs, pairs_more}
+use Rattle.template_values_model.specs.Lookup.{is_text}
 use Rattle.template_values_core.specs.Order.{val_cmp}
 
 -- a list of pairs as `Pairs`
@@ -18,3 +20,8 @@ put_all kept (p ∷ given) = put_all (insert_entry val_cmp kept p.0 p.1) given
 -- the pairs of the map that is made from the pairs given
 abbrev pub collected : List (Val × Val) → Pairs
 collected given = pairs_of (put_all [] given)
+
+-- the value of the last pair given whose key is this text
+abbrev pub last_at : List ℕ → List (Val × Val) → Option Val
+last_at name [] = None
+last_at name (p ∷ given) = option_or (last_at name given) (if is_text name p.0 then Some p.1 else None)

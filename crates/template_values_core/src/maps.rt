@@ -1,10 +1,11 @@
 //! Maps made from entries.
-ghost use Rattle.std.specs.Prelude.{◌≡◌, ◌≤◌, [], max, IfErr, IfOk};
+ghost use Rattle.std.specs.Prelude.{◌≡◌, ◌≤◌, ℕ, List, [], max, IfErr, IfOk};
 ghost use Rattle.template_values_model.specs.Val.{map};
+ghost use Rattle.template_values_model.specs.Lookup.{value_at};
 ghost use Rattle.template_values_core.specs.Answers.{TooDeep};
 ghost use Rattle.template_values_core.specs.Depth.{pairs_depth};
 ghost use Rattle.template_values_core.specs.Kept.{IsRising};
-ghost use Rattle.template_values_core.specs.Maps.{collected, pairs_of, put_all};
+ghost use Rattle.template_values_core.specs.Maps.{collected, last_at, pairs_of, put_all};
 ghost use Rattle.template_values_core.specs.Order.{val_cmp};
 ghost use Rattle.template_values_core.specs.Shape.{pairs_in};
 ghost use Rattle.std.specs.BTreeMap.{IsOrdered};
@@ -26,8 +27,10 @@ impl Value {
     ///
     /// - [`ErrorKind::InvalidOperation`], if the map would nest deeper than 500 levels.
     /// - [`ErrorKind::OutOfMemory`]
+    #[tactic(auto, using(crate::proofs::LastGiven::from_pairs))]
     pub fn from_map(alloc: Global, entries: Vec<Entry>) -> Result<Value, Error>
         ensures made { IfOk result (λ v. v ≡ map (collected (pairs_in entries.items))) }
+        ensures last { IfOk result (λ v. (name : List ℕ) → value_at name v ≡ last_at name (pairs_in entries.items)) }
         ensures refused { IfErr result (TooDeep (map (collected (pairs_in entries.items)))) }
     {
         match sorted(alloc, entries) {

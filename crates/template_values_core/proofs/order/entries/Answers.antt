@@ -1,4 +1,4 @@
-use Rattle.std.proofs.Common.{ap, arith, refl}
+use Rattle.std.proofs.Common.{arith, refl}
 use Rattle.template_values_core.proofs.Deep.{entries_deep-pairs_depth}
 use Rattle.template_values_core.proofs.order.entries.Goals as goal
 

@@ -1,4 +1,4 @@
-use Rattle.std.proofs.Common.{ap, arith, refl}
+use Rattle.std.proofs.Common.{arith, refl}
 use Rattle.template_values_core.proofs.Deep.{items_deep-vals_depth}
 use Rattle.template_values_core.proofs.order.items.Goals as goal
 
