@@ -1,0 +1,6 @@
+pub mod Collected
+pub mod Definitions
+pub mod Documents
+pub mod Flat
+pub mod Last
+pub mod Made

@@ -1,7 +1,8 @@
 -- The context of a render: what the JSON and the definitions have under each name.
-use Rattle.std.specs.Prelude.{◌≡◌, ℕ, Bool, true, false, ◌&&◌, List, [], ◌∷◌, Option, None, Some, is_some, option_map, option_and_then, if◌then◌else◌}
+use Rattle.std.specs.Prelude.{◌≡◌, ℕ, Bool, true, false, ◌&&◌, List, [], ◌∷◌, Option, None, Some, ◌⊎◌, String, string_bytes, map as each, is_some, option_map, option_and_then, if◌then◌else◌}
 use Rattle.std.specs.Option.{option_or}
 use Rattle.std.specs.Str.{bytes_eq, is_utf8}
+use Rattle.std.specs.declared.alloc.Global.{Global}
 use Rattle.serde_json.specs.Data.{Data, null, boolean, number, string, array, object, Members, no_members, member}
 use Rattle.serde_json.specs.Find.{as_integer, get}
 use Rattle.serde_json.specs.Read.{read}
@@ -10,6 +11,7 @@ use Rattle.template_values_errors.specs.declared.ErrorKind.{ErrorKind}
 use Rattle.template_values_errors.specs.declared.ErrorKind.TheVariants.{SyntaxError, InvalidOperation, NoFloats}
 use Rattle.template_values_model.specs.Val.{Val, Pairs, none, truth, int, text, map}
 use Rattle.template_values_model.specs.Lookup.{value_at}
+use Rattle.template_values_core.specs.Answers.{NoMemory}
 
 -- what the bytes say as JSON, where they are a text that can be read
 abbrev pub data_in : List ℕ → Option Data
@@ -52,10 +54,21 @@ abbrev pub defined_under : List (List ℕ × List ℕ) → List ℕ → Option (
 defined_under [] name = None
 defined_under (d ∷ later) name = option_or (defined_under later name) (if bytes_eq d.0 name then Some d.1 else None)
 
+-- the names and the texts of definitions
+abbrev pub texts_in : List (String Global × String Global) → List (List ℕ × List ℕ)
+texts_in definitions = each (λ d. (string_bytes d.0, string_bytes d.1)) definitions
+
+-- under every name: the text of its last definition, else the member's value
+abbrev pub context_under : Option (List ℕ) → List (List ℕ × List ℕ) → List ℕ → Option Val
+context_under json definitions name = option_or (option_map text (defined_under definitions name)) (member_under json name)
+
 abbrev pub IsMap : Val → Type 0
 IsMap v = (pairs : Pairs) × (v ≡ map pairs)
 
--- under every name the map has the text of the last definition, else the member's value
+-- the context: a map that has this under every name
 abbrev pub IsContext : Option (List ℕ) → List (List ℕ × List ℕ) → Val → Type 0
-IsContext json definitions v = IsMap v
-    × ((name : List ℕ) → value_at name v ≡ option_or (option_map text (defined_under definitions name)) (member_under json name))
+IsContext json definitions v = IsMap v × ((name : List ℕ) → value_at name v ≡ context_under json definitions name)
+
+-- the error is want of memory, or the fault alone
+abbrev pub IsRefusal : Option ErrorKind → List ErrorKind → Type 0
+IsRefusal fault kinds = NoMemory kinds ⊎ ((kind : ErrorKind) × (fault ≡ Some kind) × (kinds ≡ kind ∷ []))

@@ -7,6 +7,6 @@ abbrev pub invariant-items_hold_float-loop-item : goal.invariant-items_hold_floa
 invariant-items_hold_float-loop-item l =
     items_have_float (items_view l.items.items) ≡ items_have_float (items_view (drop l.item-index l.items.items))
 
-abbrev pub invariant-members_hold_float-loop-member : goal.invariant-members_hold_float-loop-member
-invariant-members_hold_float-loop-member l =
-    members_have_float (members_view l.members.entries) ≡ members_have_float (members_view l.member-iterator)
+abbrev pub invariant-members_hold_float-loop-name : goal.invariant-members_hold_float-loop-name
+invariant-members_hold_float-loop-name l =
+    members_have_float (members_view l.members.entries) ≡ members_have_float (members_view l._name-iterator)

@@ -1,0 +1,18 @@
+use Rattle.std.proofs.Common.{inl, option_copied}
+use Rattle.std.proofs.lemmas.Result.{MatchResult-weaker}
+use Rattle.template_program_context.proofs.Made.{made_context, only_memory}
+use Rattle.template_program_context.proofs.read_context.Goals as goal
+
+pub returns-clause-context : goal.returns-clause-context
+returns-clause-context c =
+    let entries = c.in_ok-context_entries in
+    MatchResult-weaker c.from_map.result c.from_map.ensures.made
+    (λ v made. made_context (option_copied c.args.json) c.args.definitions.now entries.field-0.items v made entries.ensures.says)
+    (λ kinds refused. tt)
+
+pub returns-clause-refused : goal.returns-clause-refused
+returns-clause-refused c =
+    let entries = c.in_ok-context_entries in
+    MatchResult-weaker c.from_map.result c.from_map.ensures.refused
+    (λ v made. tt)
+    (λ kinds refused. inl (only_memory entries.field-0.items kinds entries.ensures.flat refused))
