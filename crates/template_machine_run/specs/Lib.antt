@@ -1,3 +1,5 @@
 pub mod Streams
 pub mod Tanks
+pub mod Outcomes
+pub mod Acts
 pub mod Runs

@@ -1,5 +1,5 @@
 -- What the run of a code comes to.
-use Rattle.std.specs.Prelude.{◌≡◌, ℕ, ◌+◌, List, [], Option, Result, Ok, Err, length}
+use Rattle.std.specs.Prelude.{◌≡◌, ℕ, ◌+◌, ◌⊎◌, List, [], Option, Result, Ok, Err, IsErrAnd, length}
 use Rattle.std.specs.Option.{option_map}
 use Rattle.template_values_errors.specs.declared.ErrorKind.{ErrorKind}
 use Rattle.template_values_model.specs.Val.{Val}
@@ -12,6 +12,7 @@ use Rattle.template_machine_world.specs.Scopes.{Frame}
 use Rattle.template_machine_world.specs.Surroundings.{answer}
 use Rattle.template_machine_world.specs.Meaning.{first_scopes}
 use Rattle.template_machine_world.specs.Laws.{remaining}
+use Rattle.template_machine_run.specs.Outcomes.{IsWant}
 
 -- the code from its first place on, over no operands, answered from the context
 abbrev pub free_run : List Code → Val → Run (List Frame)
@@ -34,3 +35,7 @@ IsOver _ = ⊥
 abbrev pub EndsAs : {X S : Type 0} → Result X (List ErrorKind) → Run S → Type 0
 EndsAs (Ok _) r = IsOver r.end
 EndsAs (Err kinds) r = r.end ≡ faults kinds
+
+-- a call answers as the run ends, or a growth was refused, or the sink failed
+abbrev pub ComesOut : {X S : Type 0} → Result X (List ErrorKind) → Run S → Type 0
+ComesOut result r = EndsAs result r ⊎ IsErrAnd result IsWant
