@@ -1,7 +1,7 @@
 //! Where rendered text goes: sinks that take bytes, and the loop that puts a whole text into one.
 #![tactic(auto)]
 
-ghost use Rattle.std.specs.Prelude.{◌≡◌, ℕ, ◌+◌, ◌<◌, ◌≤◌, ◌↔◌, ◌∷◌, [], ◌++◌, List, Option, length, take, drop, IfOk, OnOk, OnErr, IsErrOf, IsOkUnless, IsUtf8, Ok, Some, None, string_bytes};
+ghost use Rattle.std.specs.Prelude.{◌≡◌, ℕ, ◌+◌, ◌<◌, ◌≤◌, ◌↔◌, ◌∷◌, [], ◌++◌, List, Option, length, take, drop, IfOk, OnOk, OnErr, IsErrOf, IsOkUnless, IsUtf8, Ok, Some, None, string_bytes, string_capacity, string_len};
 ghost use Rattle.std.specs.Io.KnownBytes.{Appends};
 ghost use Rattle.template_machine_output.specs.Failures.{failures_in, kind_of_fault};
 ghost use Rattle.template_machine_output.specs.Writes.{AppendsBeginning};
@@ -63,7 +63,7 @@ pub trait Sink {
     ghost takes_text: { (bytes : List ℕ) → IsUtf8 bytes → can_take bytes };
 }
 
-/// Takes text at its end, a piece as a whole; it fails for want of memory alone.
+/// Takes text at its end, a piece as a whole. It fails only where it must grow and finds no memory.
 impl Sink for String {
     ghost taken = { λ text. Some (string_bytes text) };
 
@@ -77,6 +77,7 @@ impl Sink for String {
         ensures appended { OnOk result (string_bytes self.new ≡ string_bytes self.old ++ bytes.now) }
         ensures kept { OnErr result (string_bytes self.new ≡ string_bytes self.old) }
         ensures only_memory { IsOkUnless result SinkFault.Memory }
+        ensures only_to_grow { OnErr result (string_capacity self.old < string_len self.old + length bytes.now) }
     {
         // The caller has shown that the piece is UTF-8.
         let text = unsafe { str::from_utf8_unchecked(bytes) };
