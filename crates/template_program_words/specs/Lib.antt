@@ -1,1 +1,4 @@
 pub mod Definitions
+pub mod CommandLine
+pub mod Reading
+pub mod Refusals

@@ -1,4 +1,9 @@
 //! Why the words were refused.
+ghost use Rattle.std.specs.Prelude.{◌≡◌};
+ghost use Rattle.clap.specs.Words.{kind_of};
+ghost use Rattle.template_program_words.specs.Refusals.{IsFaultOf};
+ghost use Rattle.template_program_words.specs.declared.faults.WordsFault.TheVariants.{Memory};
+
 use clap::error::ErrorKind;
 use std::alloc::{AllocError, AllocFailed, Global};
 
@@ -16,19 +21,25 @@ pub enum WordsFault {
 }
 
 impl From<AllocError> for WordsFault {
+    ghost from_gives = { λ _ fault. fault ≡ Memory };
+
     fn from(_refused: AllocError) -> WordsFault {
         WordsFault::Memory
     }
 }
 
 impl<T: Drop> From<AllocFailed<T>> for WordsFault {
+    ghost from_gives = { λ _ fault. fault ≡ Memory };
+
     fn from(_refused: AllocFailed<T>) -> WordsFault {
         WordsFault::Memory
     }
 }
 
 /// The fault that `error` is.
-pub(crate) fn fault_of(alloc: Global, error: &clap::Error) -> WordsFault {
+pub(crate) fn fault_from(alloc: Global, error: &clap::Error) -> WordsFault
+    ensures { IsFaultOf (kind_of error.now) result }
+{
     if error.kind() == ErrorKind::OutOfMemory {
         return WordsFault::Memory;
     }

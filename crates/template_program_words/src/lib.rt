@@ -3,11 +3,14 @@
 
 mod definitions;
 mod faults;
+mod found;
 mod options;
 mod reading;
 #[cfg(test)]
 mod tests;
+mod words;
 
 pub use definitions::{Definition, split_definition};
 pub use faults::WordsFault;
-pub use reading::{NamesWords, RenderWords, Words, read_words};
+pub use reading::read_words;
+pub use words::{NamesWords, RenderWords, Words};

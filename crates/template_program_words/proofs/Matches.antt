@@ -1,0 +1,69 @@
+-- What the getters of the matches read, by the rows.
+use Rattle.std.proofs.Common.{◌≡◌, ◌∙◌, ◌<◌, ◌^◌, ◌⊎◌, OnOk, inl, inr, ℕ, List, [], ap, ap₂, codes, Bor, Option, None, Some, Result, Ok, Err, map, option_map, refl, unwrap_or, sym}
+use Rattle.std.specs.Str.Parse.{ParsesUnsigned}
+use Rattle.clap.specs.Words.{IsAmong, Kinds, ReadsOne, Row, found_of, one_of, subcommand_name_of, subcommand_rows_of}
+use Rattle.clap.specs.declared.error.kind.ErrorKind.{ErrorKind}
+use Rattle.clap.specs.declared.error.kind.ErrorKind.TheVariants.{OutOfMemory}
+use Rattle.clap.specs.declared.parser.matches.ArgMatches.{ArgMatches}
+use Rattle.clap.specs.declared.parser.matches.ArgMatches.TheViews.{out-ArgMatches}
+use Rattle.template_program_words.specs.Reading.{ReadsNumber, values_of}
+use Rattle.template_program_words.specs.Refusals.{IsFaultOf, Refuses, RefusesDefinitions}
+use Rattle.template_program_words.specs.declared.faults.WordsFault.{WordsFault}
+use Rattle.template_program_words.specs.declared.faults.WordsFault.TheVariants.{Memory, Help, Usage, Definition}
+
+-- no value is the empty list
+pub values_read : (read : Option (Bor (List (Bor (List ℕ))))) (none : Bor (List (Bor (List ℕ)))) (rows : Option (List (List ℕ)))
+    → none.now ≡ [] → option_map (λ s. map (λ v. v.now) s.now) read ≡ rows
+    → map (λ v. v.now) (unwrap_or read none).now ≡ unwrap_or rows []
+values_read None none rows empty same = ap (map (λ v. v.now)) empty ∙ ap (λ o. unwrap_or o []) same
+values_read (Some s) none rows empty same = ap (λ o. unwrap_or o []) same
+
+pub ReadsNumber-cases : (text : Option (List ℕ)) (number : Option ℕ) → (text ≡ None → number ≡ None)
+    → ((t : List ℕ) → text ≡ Some t → ReadsNumber (Some t) number) → ReadsNumber text number
+ReadsNumber-cases None number none some = none refl
+ReadsNumber-cases (Some t) number none some = some t refl
+
+-- what `parse` gives
+pub ReadsNumber-parsed : {E : Type 0} (gives : List ℕ → Result ℕ E → Type 0)
+    → ((t : List ℕ) (r : Result ℕ E) → gives t r → ParsesUnsigned 64 10 t r)
+    → (t : List ℕ) (number : Option ℕ) → ReadsOne gives t number → ReadsNumber (Some t) number
+ReadsNumber-parsed gives parses t (Some n) h = parses t (Ok n) h
+ReadsNumber-parsed gives parses t None h = parses t (Err h.0) h.1
+
+pub is_pair : (found : Option (List ℕ × List Row)) (name : List ℕ) (rows : List Row) → option_map (λ f. f.0) found ≡ Some name
+    → option_map (λ f. f.1) found ≡ Some rows → found ≡ Some (name, rows)
+is_pair None name rows first second = cc
+is_pair (Some f) name rows first second =
+    ap₂ (λ a b. Some (a, b)) (ap (λ o. unwrap_or o name) first) (ap (λ o. unwrap_or o rows) second)
+
+option_map-map : {X : Type 0} (f : X → List ℕ × List Row) (o : Option X)
+    → option_map (λ p. p.0) (option_map f o) ≡ option_map (λ x. (f x).0) o
+option_map-map f None = refl
+option_map-map f (Some x) = refl
+
+-- the subcommand's name stands before its rows
+pub name_of_rows : (m : ArgMatches) → option_map (λ f. f.0) (subcommand_rows_of m) ≡ subcommand_name_of m
+name_of_rows m = option_map-map _ (out-ArgMatches m).subcommand
+
+-- what is refused behind `render` is refused of the whole
+pub Refuses-render : (found : Option (List ℕ × List Row)) (rows : List Row) (fault : WordsFault) → found ≡ Some (codes "render", rows)
+    → RefusesDefinitions (values_of (codes "definition") rows) fault → Refuses [] found fault
+Refuses-render found rows Memory is h = tt
+Refuses-render found rows (Help text) is h = absurd h
+Refuses-render found rows (Usage text) is h = absurd h
+Refuses-render found rows Definition is h = (refl, (rows, is, h))
+
+-- an error of one of these kinds is refused
+pub Refuses-kind : (kinds : Kinds) (found : Option (List ℕ × List Row)) (kind : ErrorKind) (fault : WordsFault)
+    → (kind ≡ OutOfMemory) ⊎ IsAmong kind kinds → IsFaultOf kind fault → Refuses kinds found fault
+Refuses-kind kinds found kind Memory among h = tt
+Refuses-kind kinds found kind (Help text) (inl e) (inl h) = cc
+Refuses-kind kinds found kind (Help text) (inl e) (inr h) = cc
+Refuses-kind kinds found kind (Help text) (inr a) h = (kind, a, h)
+Refuses-kind kinds found kind (Usage text) (inl e) h = absurd (h.2 e)
+Refuses-kind kinds found kind (Usage text) (inr a) h = inl (kind, a, h)
+Refuses-kind kinds found kind Definition among h = absurd h
+
+pub OnOk-always : {T E : Type 0} (r : Result T E) (P : Type 0) → P → OnOk r P
+OnOk-always (Ok x) P p = p
+OnOk-always (Err e) P p = tt

@@ -1,0 +1,52 @@
+-- The command line: `render [--context FILE] [-D NAME=TEXT]... [--fuel N] [--main NAME] [FILE...]`
+-- and `names [--main NAME] [FILE...]`, in the words in which `clap` describes one.
+use Rattle.std.specs.Prelude.{Some, codes, true}
+use Rattle.clap.specs.Lexer.{usize_max}
+use Rattle.clap.specs.Words.{App, Rule, Shape, new_app, new_rule, with_rule, with_subcommand}
+use Rattle.clap.specs.declared.builder.action.ArgAction.TheVariants.{Append}
+use Rattle.clap.specs.declared.builder.value_parser.ValueParser.TheVariants.{Unsigned}
+
+-- `--context FILE`, once at most
+abbrev pub context_option : Rule
+context_option = record (new_rule (codes "context")) { long = Some (codes "context"); value_names = 1 }
+
+-- `-D NAME=TEXT`, any number of times
+abbrev pub definition_option : Rule
+definition_option =
+    record (new_rule (codes "definition")) { short = Some 68; value_names = 1; action = Some Append }
+
+-- `--fuel N`, once at most, of 64 bits
+abbrev pub fuel_option : Rule
+fuel_option = record (new_rule (codes "fuel")) {
+  long = Some (codes "fuel");
+  value_names = 1;
+  parser = Some (Unsigned 0 18446744073709551615);
+}
+
+-- `--main NAME`, once at most
+abbrev pub main_option : Rule
+main_option = record (new_rule (codes "main")) { long = Some (codes "main"); value_names = 1 }
+
+-- `FILE...`, none or more
+abbrev pub files_argument : Rule
+files_argument = record (new_rule (codes "files")) {
+  value_names = 1;
+  range = Some (record { start_inclusive = 0; end_inclusive = usize_max });
+  action = Some Append;
+}
+
+abbrev pub render_command : App
+render_command = with_rule (with_rule (with_rule (with_rule (with_rule (new_app (codes "render"))
+    context_option) definition_option) fuel_option) main_option) files_argument
+
+abbrev pub names_command : App
+names_command = with_rule (with_rule (new_app (codes "names")) main_option) files_argument
+
+-- the program's own name is not among the words, and one of the commands has to be
+abbrev pub bare_program : App
+bare_program = record (new_app (codes "template")) {
+  top = record ((new_app (codes "template")).top) { no_binary_name = true; subcommand_required = true };
+}
+
+abbrev pub program : App
+program = with_subcommand (with_subcommand bare_program render_command.top) names_command.top

@@ -1,0 +1,54 @@
+-- What the words ask for, by what `clap` finds in them.
+use Rattle.std.specs.Prelude.{◌≡◌, ◌<◌, ◌^◌, ℕ, List, [], map, codes, Option, None, Some, unwrap_or, option_map, All, Contains}
+use Rattle.std.specs.Option.{SomeIff}
+use Rattle.std.specs.Str.Parse.{IsNumeral, digits_value, without_leading_plus}
+use Rattle.clap.specs.Words.{Row, all_of, first_of, one_of}
+use Rattle.template_program_words.specs.Definitions.{equals_sign, name_in, text_in}
+use Rattle.template_program_words.specs.declared.definitions.Definition.{Definition}
+use Rattle.template_program_words.specs.declared.words.NamesWords.{NamesWords}
+use Rattle.template_program_words.specs.declared.words.RenderWords.{RenderWords}
+use Rattle.template_program_words.specs.declared.words.Words.{Words}
+use Rattle.template_program_words.specs.declared.words.Words.TheVariants.{Render, Names}
+
+-- all values of an option or of the files
+abbrev pub values_of : List ℕ → List Row → List (List ℕ)
+values_of id rows = unwrap_or (all_of id rows) []
+
+-- the parts of a definition
+abbrev pub parts_of : Definition → List ℕ × List ℕ
+parts_of definition = (definition.name.now, definition.text.now)
+
+abbrev pub parts_in : List ℕ → List ℕ × List ℕ
+parts_in words = (name_in words, text_in words)
+
+-- these definitions stand in these words, one in each
+pub record Defines (words : List (List ℕ)) (definitions : List Definition) : Type 0 where
+  pub signed : All (λ text. Contains text equals_sign) words
+  pub parts : map parts_of definitions ≡ map parts_in words
+
+-- a number of 64 bits in decimal digits, with `+` before it or none
+abbrev pub ReadsNumber : Option (List ℕ) → Option ℕ → Type 0
+ReadsNumber None number = number ≡ None
+ReadsNumber (Some text) number =
+    let digits = without_leading_plus text in
+    SomeIff number (IsNumeral 10 digits × (digits_value 10 digits < 2 ^ 64)) (digits_value 10 digits)
+
+-- the words behind `render`
+pub record ReadsRender (rows : List Row) (read : RenderWords) : Type 0 where
+  pub context : option_map (λ path. path.now) read.context ≡ first_of (codes "context") rows
+  pub definitions : Defines (values_of (codes "definition") rows) read.definitions.items
+  pub fuel : ReadsNumber (one_of (codes "fuel") rows) read.fuel
+  pub main : option_map (λ name. name.now) read.main ≡ first_of (codes "main") rows
+  pub files : map (λ path. path.now) read.files.items ≡ values_of (codes "files") rows
+
+-- the words behind `names`
+pub record ReadsNames (rows : List Row) (read : NamesWords) : Type 0 where
+  pub main : option_map (λ name. name.now) read.main ≡ first_of (codes "main") rows
+  pub files : map (λ path. path.now) read.files.items ≡ values_of (codes "files") rows
+
+-- the command that was found, and the words behind it
+abbrev pub Reads : Option (List ℕ × List Row) → Words → Type 0
+Reads found (Render read) =
+    (rows : List Row) × (found ≡ Some (codes "render", rows)) × ReadsRender rows read
+Reads found (Names read) =
+    (rows : List Row) × (found ≡ Some (codes "names", rows)) × ReadsNames rows read

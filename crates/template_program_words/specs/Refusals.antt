@@ -1,0 +1,49 @@
+-- Why the words are refused, by the kinds of error that `clap` may give for them and by what it
+-- finds in them.
+use Rattle.std.specs.Prelude.{◌≡◌, ◌≢◌, ◌⊎◌, ⊤, ℕ, List, [], codes, Option, Some, Contains, option_map}
+use Rattle.clap.specs.Words.{IsAmong, Kinds, Row}
+use Rattle.clap.specs.declared.error.kind.ErrorKind.{ErrorKind}
+use Rattle.clap.specs.declared.error.kind.ErrorKind.TheVariants.{DisplayHelp, DisplayVersion, OutOfMemory}
+use Rattle.template_program_words.specs.Definitions.{equals_sign}
+use Rattle.template_program_words.specs.Reading.{values_of}
+use Rattle.template_program_words.specs.declared.faults.WordsFault.{WordsFault}
+use Rattle.template_program_words.specs.declared.faults.WordsFault.TheVariants.{Memory, Help, Usage, Definition}
+
+-- help was asked for
+abbrev pub IsRequest : ErrorKind → Type 0
+IsRequest kind = (kind ≡ DisplayHelp) ⊎ (kind ≡ DisplayVersion)
+
+-- neither memory nor help
+abbrev pub IsMistake : ErrorKind → Type 0
+IsMistake kind = (kind ≢ DisplayHelp) × (kind ≢ DisplayVersion) × (kind ≢ OutOfMemory)
+
+-- the fault that an error of this kind is; that no memory is left may also be seen late
+abbrev pub IsFaultOf : ErrorKind → WordsFault → Type 0
+IsFaultOf kind Memory = ⊤
+IsFaultOf kind (Help text) = IsRequest kind
+IsFaultOf kind (Usage text) = IsMistake kind
+IsFaultOf kind Definition = ⊥
+
+-- a definition has no `=`
+abbrev pub LacksSign : List (List ℕ) → Type 0
+LacksSign words = (text : List ℕ) × Contains words text × ¬ (Contains text equals_sign)
+
+-- neither command was found
+abbrev pub FindsNone : Option (List ℕ × List Row) → Type 0
+FindsNone found = (option_map (λ f. f.0) found ≢ Some (codes "render"))
+    × (option_map (λ f. f.0) found ≢ Some (codes "names"))
+
+-- `clap`'s refusals come first, and then a definition with no `=`
+abbrev pub Refuses : Kinds → Option (List ℕ × List Row) → WordsFault → Type 0
+Refuses kinds found Memory = ⊤
+Refuses kinds found (Help text) = (kind : ErrorKind) × IsAmong kind kinds × IsRequest kind
+Refuses kinds found (Usage text) = ((kind : ErrorKind) × IsAmong kind kinds × IsMistake kind)
+    ⊎ ((kinds ≡ []) × FindsNone found)
+Refuses kinds found Definition = (kinds ≡ []) × ((rows : List Row)
+    × (found ≡ Some (codes "render", rows)) × LacksSign (values_of (codes "definition") rows))
+
+-- the same of the words behind `render`
+abbrev pub RefusesDefinitions : List (List ℕ) → WordsFault → Type 0
+RefusesDefinitions words Memory = ⊤
+RefusesDefinitions words Definition = LacksSign words
+RefusesDefinitions words _ = ⊥

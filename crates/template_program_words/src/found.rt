@@ -1,0 +1,75 @@
+//! What `clap` found in the words.
+ghost use Rattle.std.specs.Prelude.{◌≡◌, map, IfErr, IfOk};
+ghost use Rattle.clap.specs.Words.{found_of, rows_of, subcommand_rows_of};
+ghost use Rattle.template_program_words.specs.Reading.{Defines, Reads, ReadsNames, ReadsRender, values_of};
+ghost use Rattle.template_program_words.specs.Refusals.{FindsNone, Refuses, RefusesDefinitions};
+ghost use Rattle.std.specs.Prelude.{[], codes};
+
+use crate::definitions::{Definition, split_definition};
+use crate::faults::WordsFault;
+use crate::words::{NamesWords, RenderWords, Words};
+use clap::ArgMatches;
+use std::alloc::{AllocError, Global};
+
+/// What the matches ask for.
+pub(crate) fn words_in<'a>(alloc: Global, matches: &ArgMatches<'a>) -> Result<Words<'a>, WordsFault>
+    ensures reads { IfOk result (Reads (subcommand_rows_of matches.now)) }
+    ensures refuses { IfErr result (Refuses [] (subcommand_rows_of matches.now)) }
+{
+    if let Some(render) = matches.subcommand_matches("render") {
+        return Ok(Words::Render(render_words(alloc, render)?));
+    }
+    if let Some(names) = matches.subcommand_matches("names") {
+        return Ok(Words::Names(names_words(alloc, names)?));
+    }
+
+    // `clap` requires a command and knows these two.
+    Err(WordsFault::Usage(String::new(alloc)))
+}
+
+fn render_words<'a>(alloc: Global, matches: &ArgMatches<'a>) -> Result<RenderWords<'a>, WordsFault>
+    ensures reads { IfOk result (ReadsRender (rows_of (found_of matches.now))) }
+    ensures refuses { IfErr result (RefusesDefinitions (values_of (codes "definition")
+        (rows_of (found_of matches.now)))) }
+{
+    let definitions = values(alloc, matches, "definition")?;
+    Ok(RenderWords {
+        context: matches.get_str("context"),
+        definitions: definitions_in(alloc, definitions.as_slice())?,
+        fuel: matches.get_one::<u64>("fuel"),
+        main: matches.get_str("main"),
+        files: values(alloc, matches, "files")?,
+    })
+}
+
+fn names_words<'a>(alloc: Global, matches: &ArgMatches<'a>) -> Result<NamesWords<'a>, AllocError>
+    ensures { IfOk result (ReadsNames (rows_of (found_of matches.now))) }
+{
+    Ok(NamesWords {
+        main: matches.get_str("main"),
+        files: values(alloc, matches, "files")?,
+    })
+}
+
+/// All values of `id`.
+fn values<'a>(alloc: Global, matches: &ArgMatches<'a>, id: &str) -> Result<Vec<&'a str>, AllocError>
+    ensures { IfOk result (λ values. map (λ value. value.now) values.items
+        ≡ values_of id.now (rows_of (found_of matches.now))) }
+{
+    Vec::from_slice(alloc, matches.get_strs(id).unwrap_or(&[]))
+}
+
+fn definitions_in<'a>(alloc: Global, words: &[&'a str]) -> Result<Vec<Definition<'a>>, WordsFault>
+    ensures defines { IfOk result (λ definitions.
+        Defines (map (λ text. text.now) words.now) definitions.items) }
+    ensures refuses { IfErr result (RefusesDefinitions (map (λ text. text.now) words.now)) }
+{
+    let mut definitions = Vec::new(alloc);
+    for text in words {
+        let Some(definition) = split_definition(text) else {
+            return Err(WordsFault::Definition);
+        };
+        definitions.push(definition)?;
+    }
+    Ok(definitions)
+}

@@ -1,0 +1,35 @@
+//! The types of what the words ask for.
+use crate::definitions::Definition;
+
+/// What the words ask for.
+#[derive(Debug, Drop)]
+pub enum Words<'a> {
+    /// `render`: the main template's text is wanted.
+    Render(RenderWords<'a>),
+    /// `names`: the names that the templates may ask for are wanted.
+    Names(NamesWords<'a>),
+}
+
+/// The words behind `render`.
+#[derive(Debug, Drop)]
+pub struct RenderWords<'a> {
+    /// The path of the context's file.
+    pub context: Option<&'a str>,
+    /// The texts that are set over the context, in the order of the words.
+    pub definitions: Vec<Definition<'a>>,
+    /// The fuel.
+    pub fuel: Option<u64>,
+    /// The name of the main template.
+    pub main: Option<&'a str>,
+    /// The paths of the templates, in the order of the words.
+    pub files: Vec<&'a str>,
+}
+
+/// The words behind `names`.
+#[derive(Debug, Drop)]
+pub struct NamesWords<'a> {
+    /// The name of the main template.
+    pub main: Option<&'a str>,
+    /// The paths of the templates, in the order of the words.
+    pub files: Vec<&'a str>,
+}
