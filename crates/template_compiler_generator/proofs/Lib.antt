@@ -1,0 +1,5 @@
+pub mod Places
+pub mod Runs
+pub mod Correct
+pub mod Balance
+pub mod Statements
