@@ -1,3 +1,4 @@
 pub mod Deep
 pub mod PairLemmas
 pub mod LastGiven
+pub mod Halving

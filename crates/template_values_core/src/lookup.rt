@@ -1,9 +1,11 @@
 //! What a value has under a text.
 ghost use Rattle.std.specs.Prelude.{◌≡◌, option_copied};
-ghost use Rattle.template_values_model.specs.Lookup.{value_at, entry_at, is_text};
+ghost use Rattle.template_values_model.specs.Lookup.{value_at, entry_at};
+ghost use Rattle.template_values_core.specs.Kept.{IsRising};
 ghost use Rattle.template_values_core.specs.Maps.{pairs_of};
 ghost use Rattle.template_values_core.specs.Shape.{pairs_in};
 
+use crate::order::compare_to_text;
 use crate::value::{Entry, Repr, Value};
 
 impl Value {
@@ -21,21 +23,11 @@ impl Value {
 }
 
 fn entry_at<'a>(entries: &'a [Entry], name: &str) -> Option<&'a Value>
+    requires { IsRising entries.now }
     ensures { option_copied result ≡ entry_at name.now (pairs_of (pairs_in entries.now)) }
 {
-    for entry in entries {
-        if is_text(&entry.key, name) {
-            return Some(&entry.value);
-        }
-    }
-    None
-}
-
-fn is_text(value: &Value, name: &str) -> bool
-    ensures { result ≡ is_text name.now value.now }
-{
-    match value.as_str() {
-        Some(text) => text == name,
-        None => false,
+    match entries.binary_search_by(|entry| compare_to_text(&entry.key, name)) {
+        Ok(place) => Some(&entries[place].value),
+        Err(_) => None,
     }
 }

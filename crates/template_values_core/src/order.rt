@@ -3,11 +3,11 @@ ghost use Rattle.std.specs.Prelude.{◌≡◌, ◌+◌, [], pos};
 ghost use Rattle.std.specs.Cmp.{eq_by_cmp_equiv, partial_equiv_from_equiv, partial_order_from_total};
 ghost use Rattle.std.specs.Ordering.{as_partial_cmp, eq_by_cmp};
 ghost use Rattle.std.proofs.Common.{refl};
-ghost use Rattle.template_values_model.specs.Val.{vals_of};
+ghost use Rattle.template_values_model.specs.Val.{Val, vals_of};
 ghost use Rattle.template_values_core.specs.Depth.{depth, pairs_depth, vals_depth};
 ghost use Rattle.template_values_core.specs.Maps.{pairs_of};
 ghost use Rattle.template_values_core.specs.Order.{end, key, key_cmp, pairs_key, ranked, val_cmp, val_total, vals_key};
-ghost use Rattle.template_values_core.specs.Parts.{IsKeyOf};
+ghost use Rattle.template_values_core.specs.Parts.{IsKeyOf, key_of};
 ghost use Rattle.template_values_core.specs.Shape.{pairs_in};
 
 use crate::value::{Entry, Repr, Value};
@@ -105,8 +105,20 @@ fn parts_of(value: &Value) -> Parts<'_>
 fn compare(a: &Value, b: &Value) -> Ordering
     ensures { result ≡ val_cmp a.now b.now }
 {
-    let a = parts_of(a);
-    let b = parts_of(b);
+    compare_parts(parts_of(a), parts_of(b))
+}
+
+/// How a value stands to a text.
+pub(crate) fn compare_to_text(value: &Value, name: &str) -> Ordering
+    ensures { result ≡ val_cmp value.now (Val.text name.now) }
+{
+    compare_parts(parts_of(value), text(3, name.as_bytes()))
+}
+
+#[cycle(compare)]
+fn compare_parts(a: Parts<'_>, b: Parts<'_>) -> Ordering
+    ensures { result ≡ key_cmp (key_of a.entry) (key_of b.entry) }
+{
     a.rank
         .cmp(&b.rank)
         .then(a.number.cmp(&b.number))

@@ -1,4 +1,4 @@
-use Rattle.std.proofs.Common.{◌≡◌, ◌+◌, ◌*◌, ◌≤◌, length, drop}
+use Rattle.std.proofs.Common.{◌≡◌, ◌+◌, ◌*◌, ◌≤◌, max, length, drop}
 use Rattle.template_values_model.specs.Val.{vals_of}
 use Rattle.template_values_core.specs.Depth.{depth}
 use Rattle.template_values_core.specs.Maps.{pairs_of}
@@ -8,13 +8,16 @@ use Rattle.template_values_core.specs.Shape.{pairs_in}
 use Rattle.template_values_core.proofs.order.+compare.Given as goal
 
 abbrev pub decreases-compare : goal.decreases-compare
-decreases-compare l = 2 * depth l.a.now + 1
+decreases-compare l = 3 * depth l.a.now + 2
+
+abbrev pub decreases-compare_parts : goal.decreases-compare_parts
+decreases-compare_parts l = 3 * max (items_deep l.a.items.now) (entries_deep l.a.entries.now) + 1
 
 abbrev pub decreases-compare_items : goal.decreases-compare_items
-decreases-compare_items l = 2 * items_deep l.a.now
+decreases-compare_items l = 3 * items_deep l.a.now
 
 abbrev pub decreases-compare_entries : goal.decreases-compare_entries
-decreases-compare_entries l = 2 * entries_deep l.a.now
+decreases-compare_entries l = 3 * entries_deep l.a.now
 
 -- the items that were passed are equal
 abbrev pub invariant-compare_items-loop-i : goal.invariant-compare_items-loop-i
