@@ -1,0 +1,113 @@
+//! The names that a template uses.
+#![tactic(auto)]
+
+ghost use Rattle.std.specs.Prelude.{◌≡◌, ℕ, List, ◌∷◌, [], ◌||◌, ◌↔◌, ◌⊎◌, IfOk, OnOk, OnErr, IsTrue, IfErr, bytes_eq};
+ghost use Rattle.std.specs.BTreeSet.{contains_text};
+ghost use Rattle.template_compiler_names.specs.Used.{HasJust, HasMore, uses};
+ghost use Rattle.template_compiler_tree.specs.View.{statement_of, tree_of};
+
+use std::alloc::Global;
+use std::collections::BTreeSet;
+use template_compiler_tree::{Expr, Stmt, Template};
+use template_values_errors::{Error, ErrorKind};
+
+/// The names that a template uses.
+///
+/// # Errors
+///
+/// [`ErrorKind::OutOfMemory`].
+pub fn find_undeclared(alloc: Global, template: &Template<'_>) -> Result<BTreeSet<String>, Error>
+    ensures found { IfOk result (λ names. HasJust (tree_of template.now) names) }
+    ensures refused { IfErr result (λ kinds. kinds ≡ ErrorKind.OutOfMemory ∷ []) }
+{
+    let mut names = BTreeSet::new(alloc);
+    add_undeclared(alloc, &mut names, template)?;
+    Ok(names)
+}
+
+/// Adds the names that a template uses to a set of names. Takes a look-up in the set for each place of
+/// use, and memory for each new name.
+///
+/// # Errors
+///
+/// [`ErrorKind::OutOfMemory`]; then some of the names may be there.
+pub fn add_undeclared(
+    alloc: Global,
+    names: &mut BTreeSet<String>,
+    template: &Template<'_>,
+) -> Result<(), Error>
+    ensures added { OnOk result (HasMore (tree_of template.now) names.old names.new) }
+    ensures refused { IfErr result (λ kinds. kinds ≡ ErrorKind.OutOfMemory ∷ []) }
+{
+    for statement in &template.children {
+        add_statement(alloc, names, statement)?;
+    }
+    Ok(())
+}
+
+fn add_statement(
+    alloc: Global,
+    names: &mut BTreeSet<String>,
+    statement: &Stmt<'_>,
+) -> Result<(), Error>
+    ensures added { OnOk result ((q : List ℕ) → contains_text names.new q ≡ (contains_text names.old q || uses q (statement_of statement.now))) }
+    ensures refused { IfErr result (λ kinds. kinds ≡ ErrorKind.OutOfMemory ∷ []) }
+{
+    match statement {
+        Stmt::EmitRaw(_text) => Ok(()),
+        Stmt::EmitExpr(print) => match &print.node.expr {
+            Expr::Var(name) => add_name(alloc, names, name.node.id),
+        },
+    }
+}
+
+/// Adds a name to a set of names. Takes memory where it is new there.
+///
+/// # Errors
+///
+/// [`ErrorKind::OutOfMemory`], and the set is as it was.
+pub fn add_name(alloc: Global, names: &mut BTreeSet<String>, name: &str) -> Result<(), Error>
+    ensures added { OnOk result ((q : List ℕ) → contains_text names.new q ≡ (contains_text names.old q || bytes_eq name.now q)) }
+    ensures refused { IfErr result (λ kinds. kinds ≡ ErrorKind.OutOfMemory ∷ []) }
+    ensures unchanged { OnErr result ((q : List ℕ) → contains_text names.new q ≡ contains_text names.old q) }
+{
+    if names.contains(name) {
+        return Ok(());
+    }
+    let key = String::from_str(alloc, name).map_err(|_refused| Error::new(ErrorKind::OutOfMemory))?;
+    match names.insert(key) {
+        Ok(_new) => Ok(()),
+        Err(_refused) => Err(Error::new(ErrorKind::OutOfMemory)),
+    }
+}
+
+#[cfg(test)]
+mod tests {
+    use super::*;
+    use std::test::Fail;
+    use template_compiler_tree::{EmitExpr, EmitRaw, Span, Spanned, Var};
+
+    fn print(id: &str) -> Stmt<'_> {
+        let var = Spanned::new(Var { id }, Span::default());
+        let expr = Expr::Var(var);
+        Stmt::EmitExpr(Spanned::new(EmitExpr { expr }, Span::default()))
+    }
+
+    #[test]
+    fn names_are_found_once(rt: HostRuntime) -> Result<(), Fail> {
+        let mut children = Vec::new(rt.alloc());
+        children.push(print("b"))?;
+        children.push(Stmt::EmitRaw(Spanned::new(EmitRaw { raw: "c" }, Span::default())))?;
+        children.push(print("a"))?;
+        children.push(print("b"))?;
+        let names = find_undeclared(rt.alloc(), &Template { children }).map_err(
+            |error| error.kind(),
+        )?;
+        let mut found = String::new(rt.alloc());
+        for name in &names {
+            found.push_str(name.as_str())?;
+        }
+        assert!(rt; found.as_str() == "ab");
+        Ok(())
+    }
+}
