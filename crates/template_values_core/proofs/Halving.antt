@@ -7,17 +7,15 @@ use Rattle.std.specs.List.{AllByRecursion}
 use Rattle.std.specs.List.Sorted.{IsBinarySearchResult, IsNonDecreasingBy, IsSortedBy, IsPartitionPoint}
 use Rattle.std.specs.Map.{keys_of}
 use Rattle.std.specs.Ordering.{is_eq, is_lt, ordering_index, ordering_reverse}
-use Rattle.std.specs.Cmp.{alike_right, tied_back}
+use Rattle.std.specs.Cmp.{alike_right}
 use Rattle.std.proofs.lemmas.List.Sorted.{searchable_from_sorted}
 use Rattle.std.proofs.lemmas.Map.Keys.{sorted_head, sorted_tail}
-use Rattle.template_values_model.specs.Val.{Val, text}
-use Rattle.template_values_model.specs.Lookup.{is_text, entry_at}
+use Rattle.template_values_model.specs.Val.{Val}
 use Rattle.template_values_core.specs.Kept.{IsRising}
-use Rattle.template_values_core.specs.Maps.{pairs_of}
+use Rattle.template_values_core.specs.Maps.{pairs_of, under}
 use Rattle.template_values_core.specs.Order.{val_cmp, val_total}
 use Rattle.template_values_core.specs.Shape.{pairs_in}
 use Rattle.template_values_core.specs.declared.value.Entry.{Entry}
-use Rattle.template_values_core.proofs.LastGiven.{is_text-eq}
 
 -- a fact of every key holds of each one
 at_key : (P : Val → Type 0) (es : List Entry) (i : ℕ) (d : Entry) → AllByRecursion P (keys_of (pairs_in es)) → i < length es → P (get_or es i d).key
@@ -32,13 +30,7 @@ rising_at (e ∷ es) i zero d rising h k = absurd (omega (arith, h))
 rising_at (e ∷ es) zero (suc j) d rising h k = at_key (λ y. val_cmp e.key y ≡ Less) es j d (sorted_head val_cmp e.key (keys_of (pairs_in es)) rising) (omega (arith, k))
 rising_at (e ∷ es) (suc i) (suc j) d rising h k = rising_at es i j d (sorted_tail val_cmp e.key (keys_of (pairs_in es)) rising) (omega (arith, h)) (omega (arith, k))
 
-module _ (name : List ℕ) where
-  is_text_at : (k : Val) → val_cmp k (text name) ≡ Equal → is_text name k ≡ true
-  is_text_at k e = is_text-eq name k ∙ ap is_eq (tied_back val_total k (text name) e)
-
-  turned : (k : Val) (o : Ordering) → val_cmp k (text name) ≡ o → is_text name k ≡ is_eq (ordering_reverse o)
-  turned k o e = is_text-eq name k ∙ ap is_eq (val_total.antisymm (text name) k ∙ ap ordering_reverse e)
-
+module _ (q : Val) where
   skip : (b : Bool) (v : Val) (o : Option Val) → b ≡ false → (if b then Some v else o) ≡ o
   skip true v o e = absurd (cc)
   skip false v o e = refl
@@ -47,36 +39,36 @@ module _ (name : List ℕ) where
   take_it true v o e = refl
   take_it false v o e = absurd (cc)
 
-  -- an equal key's value is the one under the text
-  pub entry_at-found : (es : List Entry) (i : ℕ) (d : Entry) → IsRising es → i < length es → val_cmp (get_or es i d).key (text name) ≡ Equal → entry_at name (pairs_of (pairs_in es)) ≡ Some (get_or es i d).value
-  entry_at-found [] i d rising h is = absurd (omega (arith, h))
-  entry_at-found (e ∷ es) zero d rising h is =
-      take_it (is_text name e.key) e.value (entry_at name (pairs_of (pairs_in es))) (is_text_at e.key is)
-  entry_at-found (e ∷ es) (suc i) d rising h is =
+  -- an equal key's value is the one under the key
+  pub under-found : (es : List Entry) (i : ℕ) (d : Entry) → IsRising es → i < length es → val_cmp (get_or es i d).key q ≡ Equal → under q (pairs_of (pairs_in es)) ≡ Some (get_or es i d).value
+  under-found [] i d rising h is = absurd (omega (arith, h))
+  under-found (e ∷ es) zero d rising h is =
+      take_it (is_eq (val_cmp e.key q)) e.value (under q (pairs_of (pairs_in es))) (ap is_eq is)
+  under-found (e ∷ es) (suc i) d rising h is =
       let below : val_cmp e.key (get_or es i d).key ≡ Less = rising_at (e ∷ es) 0 (suc i) d rising (omega arith) h in
-      let less : val_cmp e.key (text name) ≡ Less = sym (alike_right val_total (get_or es i d).key (text name) e.key is) ∙ below in
-      skip (is_text name e.key) e.value (entry_at name (pairs_of (pairs_in es))) (turned e.key Less less)
-      ∙ entry_at-found es i d (sorted_tail val_cmp e.key (keys_of (pairs_in es)) rising) (omega (arith, h)) is
+      let less : val_cmp e.key q ≡ Less = sym (alike_right val_total (get_or es i d).key q e.key is) ∙ below in
+      skip (is_eq (val_cmp e.key q)) e.value (under q (pairs_of (pairs_in es))) (ap is_eq less)
+      ∙ under-found es i d (sorted_tail val_cmp e.key (keys_of (pairs_in es)) rising) (omega (arith, h)) is
 
-  entry_at-absent : (es : List Entry) → ((k : ℕ) (d : Entry) → k < length es → is_text name (get_or es k d).key ≡ false) → entry_at name (pairs_of (pairs_in es)) ≡ None
-  entry_at-absent [] none = refl
-  entry_at-absent (e ∷ es) none =
-      skip (is_text name e.key) e.value (entry_at name (pairs_of (pairs_in es))) (none 0 e (omega arith))
-      ∙ entry_at-absent es (λ k d h. none (suc k) d (omega (arith, h)))
+  under-absent : (es : List Entry) → ((k : ℕ) (d : Entry) → k < length es → is_eq (val_cmp (get_or es k d).key q) ≡ false) → under q (pairs_of (pairs_in es)) ≡ None
+  under-absent [] none = refl
+  under-absent (e ∷ es) none =
+      skip (is_eq (val_cmp e.key q)) e.value (under q (pairs_of (pairs_in es))) (none 0 e (omega arith))
+      ∙ under-absent es (λ k d h. none (suc k) d (omega (arith, h)))
 
   -- no key is equal where the answers go from less to greater
-  pub entry_at-parted : (es : List Entry) (i : ℕ) → IsPartitionPoint (λ (y : Entry). val_cmp y.key (text name) ≡ Less) (λ (y : Entry). val_cmp y.key (text name) ≡ Greater) es i → entry_at name (pairs_of (pairs_in es)) ≡ None
-  entry_at-parted es i parted = entry_at-absent es (λ k d h. either k d h (nat_lt k i) refl)
+  pub under-parted : (es : List Entry) (i : ℕ) → IsPartitionPoint (λ (y : Entry). val_cmp y.key q ≡ Less) (λ (y : Entry). val_cmp y.key q ≡ Greater) es i → under q (pairs_of (pairs_in es)) ≡ None
+  under-parted es i parted = under-absent es (λ k d h. either k d h (nat_lt k i) refl)
     where
-      either : (k : ℕ) (d : Entry) → k < length es → (b : Bool) → nat_lt k i ≡ b → is_text name (get_or es k d).key ≡ false
-      either k d h true is = turned (get_or es k d).key Less (parted.0 k d (omega arith) (ltb-true k i is))
-      either k d h false is = turned (get_or es k d).key Greater (parted.1 k d (ltb-false k i is) h)
+      either : (k : ℕ) (d : Entry) → k < length es → (b : Bool) → nat_lt k i ≡ b → is_eq (val_cmp (get_or es k d).key q) ≡ false
+      either k d h true is = ap is_eq (parted.0 k d (omega arith) (ltb-true k i is))
+      either k d h false is = ap is_eq (parted.1 k d (ltb-false k i is) h)
 
   not_below : (k j : Val) → val_cmp k j ≡ Less → is_lt (val_cmp j k) ≡ false
   not_below k j e = ap is_lt (val_total.antisymm j k ∙ ap ordering_reverse e)
 
-  pub rising_searchable : (es : List Entry) → IsRising es → IsNonDecreasingBy (λ (y : Entry). ordering_index (val_cmp y.key (text name))) es
-  rising_searchable es rising = searchable_from_sorted val_total (λ (e : Entry). e.key) es (text name) sorted
+  pub rising_searchable : (es : List Entry) → IsRising es → IsNonDecreasingBy (λ (y : Entry). ordering_index (val_cmp y.key q)) es
+  rising_searchable es rising = searchable_from_sorted val_total (λ (e : Entry). e.key) es q sorted
     where
       sorted : IsSortedBy (λ (a b : Entry). is_lt (val_cmp a.key b.key)) es
       sorted k d low h = not_below (get_or es k d).key (get_or es (k + 1) d).key (rising_at es k (k + 1) d rising (omega arith) (omega arith))

@@ -1,4 +1,4 @@
--- A map made from pairs has under each text the value of the last pair given with that key.
+-- A map made from pairs has under each key the value of the last pair given with that key.
 use Rattle.std.proofs.Common.{◌≡◌, ℕ, ◌∙◌, sym, ap, refl, List, [], ◌∷◌, Bool, true, false, Less, Equal, Greater}
 use Rattle.std.specs.Prelude.{Option, None, Some, if◌then◌else◌}
 use Rattle.std.specs.declared.cmp.Ordering.{Ordering}
@@ -6,23 +6,23 @@ use Rattle.std.specs.Option.{option_or}
 use Rattle.std.specs.Ordering.{is_eq, ordering_then, nat_cmp, match_ordering}
 use Rattle.std.specs.BTreeMap.{insert_entry}
 use Rattle.std.specs.Str.{bytes_eq}
-use Rattle.std.specs.Cmp.{Equal-is, alike_right, eq_by_cmp_equiv}
-use Rattle.std.specs.Cmp.Lexicographic.{slice_cmp, texts_ties, nat_list_cmp_total}
-use Rattle.template_values_model.specs.Val.{Val, undefined, silent_undefined, none, truth, int, text, safe_text, bytes, list, tuple, map, keyword_map, «module», function, namespace, loop_record, macro_record}
+use Rattle.std.specs.Cmp.{Equal-is, tied_back, eq_by_cmp_equiv}
+use Rattle.std.specs.Cmp.Lexicographic.{slice_cmp, texts_ties}
+use Rattle.template_values_model.specs.Val.{Val, Pairs, undefined, silent_undefined, none, truth, int, text, safe_text, bytes, list, tuple, map, keyword_map, «module», function, namespace, loop_record, macro_record, no_pairs, pairs_more}
 use Rattle.template_values_model.specs.Lookup.{is_text, entry_at}
 use Rattle.template_values_core.specs.Order.{val_cmp, val_total}
-use Rattle.template_values_core.specs.Maps.{pairs_of, put_all, last_at}
+use Rattle.template_values_core.specs.Maps.{pairs_of, put_all, last_at, under, last_under}
 
 then_end : (o : Ordering) → is_eq (ordering_then o Equal) ≡ is_eq o
 then_end Less = refl
 then_end Equal = refl
 then_end Greater = refl
 
-same_text : (name s : List ℕ) → bytes_eq s name ≡ is_eq (ordering_then (slice_cmp nat_cmp name s) Equal)
-same_text name s = texts_ties s name ∙ (eq_by_cmp_equiv nat_list_cmp_total).symm s name ∙ sym (then_end (slice_cmp nat_cmp name s))
+same_text : (name s : List ℕ) → bytes_eq s name ≡ is_eq (ordering_then (slice_cmp nat_cmp s name) Equal)
+same_text name s = texts_ties s name ∙ sym (then_end (slice_cmp nat_cmp s name))
 
 -- a value is a text exactly where it is equal to it
-pub is_text-eq : (name : List ℕ) (k : Val) → is_text name k ≡ is_eq (val_cmp (text name) k)
+pub is_text-eq : (name : List ℕ) (k : Val) → is_text name k ≡ is_eq (val_cmp k (text name))
 is_text-eq name undefined = refl
 is_text-eq name silent_undefined = refl
 is_text-eq name none = refl
@@ -42,17 +42,6 @@ is_text-eq name (namespace e n) = refl
 is_text-eq name (loop_record e n) = refl
 is_text-eq name (macro_record e n) = refl
 
--- equal keys are the same text, or both another value
-pub is_text-alike : (name : List ℕ) (k j : Val) → val_cmp k j ≡ Equal → is_text name k ≡ is_text name j
-is_text-alike name k j e =
-    is_text-eq name k ∙ ap is_eq (alike_right val_total k j (text name) e) ∙ sym (is_text-eq name j)
-
--- two keys that are one text are equal
-pub one_text : (name : List ℕ) (k j : Val) → is_text name k ≡ true → is_text name j ≡ true → val_cmp k j ≡ Equal
-one_text name k j p q =
-    sym (val_total.congr (text name) k j ((Equal-is (val_cmp (text name) k)).0 (sym (is_text-eq name k) ∙ p)))
-    ∙ (Equal-is (val_cmp (text name) j)).0 (sym (is_text-eq name j) ∙ q)
-
 none_after : {T : Type 0} (o : Option T) → option_or o None ≡ o
 none_after None = refl
 none_after (Some v) = refl
@@ -64,10 +53,15 @@ or_assoc (Some v) p q = refl
 unequal : Greater ≡ Equal → ⊥
 unequal e = cc
 
--- one pair put, by how its key stands to the first one
-module _ (name : List ℕ) (k v : Val) where
-  abbrev put_at : Option Val
-  put_at = if is_text name k then Some v else None
+-- the look-up under a key `q` after the pair of `k` and `v` is put
+module _ (q k v : Val) where
+  -- equal keys are both equal to q, or both not
+  alike : (j : Val) → val_cmp k j ≡ Equal → is_eq (val_cmp k q) ≡ is_eq (val_cmp j q)
+  alike j e = ap is_eq (val_total.congr k j q e)
+
+  both : (j : Val) → is_eq (val_cmp k q) ≡ true → is_eq (val_cmp j q) ≡ true → val_cmp k j ≡ Equal
+  both j a b =
+      val_total.congr k q j ((Equal-is (val_cmp k q)).0 a) ∙ tied_back val_total j q ((Equal-is (val_cmp j q)).0 b)
 
   new_first : (b : Bool) (o : Option Val) → (if b then Some v else o) ≡ option_or (if b then Some v else None) o
   new_first true o = refl
@@ -84,26 +78,39 @@ module _ (name : List ℕ) (k v : Val) where
   later_first true false w o f = refl
   later_first false c w o f = refl
 
-  pub entry_at-insert_entry : (kept : List (Val × Val)) → entry_at name (pairs_of (insert_entry val_cmp kept k v)) ≡ option_or put_at (entry_at name (pairs_of kept))
-  entry_at-insert_entry [] = new_first (is_text name k) None
-  entry_at-insert_entry (e ∷ kept) = by (entry_at-insert_entry kept) (val_cmp k e.0) refl
+  under-insert_entry : (kept : List (Val × Val)) → under q (pairs_of (insert_entry val_cmp kept k v)) ≡ option_or (if is_eq (val_cmp k q) then Some v else None) (under q (pairs_of kept))
+  under-insert_entry [] = new_first (is_eq (val_cmp k q)) None
+  under-insert_entry (e ∷ kept) = by (under-insert_entry kept) (val_cmp k e.0) refl
     where
-      by : entry_at name (pairs_of (insert_entry val_cmp kept k v)) ≡ option_or put_at (entry_at name (pairs_of kept)) → (o : Ordering) → val_cmp k e.0 ≡ o → entry_at name (pairs_of (match_ordering o ((k, v) ∷ e ∷ kept) ((e.0, v) ∷ kept) (e ∷ insert_entry val_cmp kept k v))) ≡ option_or put_at (entry_at name (pairs_of (e ∷ kept)))
-      by rest Less is = new_first (is_text name k) (entry_at name (pairs_of (e ∷ kept)))
-      by rest Equal is = same_first (is_text name e.0) (is_text name k) e.1 (entry_at name (pairs_of kept)) (is_text-alike name k e.0 is)
+      by : under q (pairs_of (insert_entry val_cmp kept k v)) ≡ option_or (if is_eq (val_cmp k q) then Some v else None) (under q (pairs_of kept)) → (o : Ordering) → val_cmp k e.0 ≡ o → under q (pairs_of (match_ordering o ((k, v) ∷ e ∷ kept) ((e.0, v) ∷ kept) (e ∷ insert_entry val_cmp kept k v))) ≡ option_or (if is_eq (val_cmp k q) then Some v else None) (under q (pairs_of (e ∷ kept)))
+      by rest Less is = new_first (is_eq (val_cmp k q)) (under q (pairs_of (e ∷ kept)))
+      by rest Equal is = same_first (is_eq (val_cmp e.0 q)) (is_eq (val_cmp k q)) e.1 (under q (pairs_of kept)) (alike e.0 is)
       by rest Greater is =
-          ap (λ (o : Option Val). if is_text name e.0 then Some e.1 else o) rest
-          ∙ later_first (is_text name e.0) (is_text name k) e.1 (entry_at name (pairs_of kept)) (λ p q. unequal (sym is ∙ one_text name k e.0 q p))
+          ap (λ (o : Option Val). if is_eq (val_cmp e.0 q) then Some e.1 else o) rest
+          ∙ later_first (is_eq (val_cmp e.0 q)) (is_eq (val_cmp k q)) e.1 (under q (pairs_of kept)) (λ a b. unequal (sym is ∙ both e.0 b a))
 
-pub entry_at-put_all : (name : List ℕ) (given kept : List (Val × Val)) → entry_at name (pairs_of (put_all kept given)) ≡ option_or (last_at name given) (entry_at name (pairs_of kept))
-entry_at-put_all name [] kept = refl
-entry_at-put_all name (p ∷ given) kept =
-    entry_at-put_all name given (insert_entry val_cmp kept p.0 p.1)
-    ∙ ap (option_or (last_at name given)) (entry_at-insert_entry name p.0 p.1 kept)
-    ∙ sym (or_assoc (last_at name given) (if is_text name p.0 then Some p.1 else None) (entry_at name (pairs_of kept)))
+under-put_all : (q : Val) (given kept : List (Val × Val)) → under q (pairs_of (put_all kept given)) ≡ option_or (last_under q given) (under q (pairs_of kept))
+under-put_all q [] kept = refl
+under-put_all q (p ∷ given) kept =
+    under-put_all q given (insert_entry val_cmp kept p.0 p.1)
+    ∙ ap (option_or (last_under q given)) (under-insert_entry q p.0 p.1 kept)
+    ∙ sym (or_assoc (last_under q given) (if is_eq (val_cmp p.0 q) then Some p.1 else None) (under q (pairs_of kept)))
 
 -- the whole of a map that is made from pairs
-pub entry_at-collected : (name : List ℕ) (given : List (Val × Val)) → entry_at name (pairs_of (put_all [] given)) ≡ last_at name given
-entry_at-collected name given = entry_at-put_all name given [] ∙ none_after (last_at name given)
+pub under-collected : (q : Val) (given : List (Val × Val)) → under q (pairs_of (put_all [] given)) ≡ last_under q given
+under-collected q given = under-put_all q given [] ∙ none_after (last_under q given)
 
-pub ruleset from_pairs = (entry_at-collected)
+-- under a text
+pub entry_at-under : (name : List ℕ) (ps : Pairs) → entry_at name ps ≡ under (text name) ps
+entry_at-under name no_pairs = refl
+entry_at-under name (pairs_more k v ps) = λ i. if is_text-eq name k i then Some v else entry_at-under name ps i
+
+last_at-under : (name : List ℕ) (given : List (Val × Val)) → last_at name given ≡ last_under (text name) given
+last_at-under name [] = refl
+last_at-under name (p ∷ given) = λ i. option_or (last_at-under name given i) (if is_text-eq name p.0 i then Some p.1 else None)
+
+pub entry_at-collected : (name : List ℕ) (given : List (Val × Val)) → entry_at name (pairs_of (put_all [] given)) ≡ last_at name given
+entry_at-collected name given =
+    entry_at-under name (pairs_of (put_all [] given)) ∙ under-collected (text name) given ∙ sym (last_at-under name given)
+
+pub ruleset from_pairs = (entry_at-collected, under-collected)

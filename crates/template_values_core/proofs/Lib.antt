@@ -2,3 +2,4 @@ pub mod Deep
 pub mod PairLemmas
 pub mod LastGiven
 pub mod Halving
+pub mod ReadLemmas

@@ -3,7 +3,10 @@ pub mod Depth
 pub mod Order
 pub mod Parts
 pub mod Maps
+pub mod Content
+pub mod Reads
 pub mod Shape
 pub mod Kept
+pub mod Held
 pub mod Falls
 pub mod Answers

@@ -1,6 +1,7 @@
 -- The pairs of a map that is made from pairs.
 use Rattle.std.specs.Prelude.{ℕ, List, [], ◌∷◌, Option, None, Some, if◌then◌else◌}
 use Rattle.std.specs.Option.{option_or}
+use Rattle.std.specs.Ordering.{is_eq}
 use Rattle.std.specs.BTreeMap.{insert_entry}
 use Rattle.template_values_model.specs.Val.{Val, Pairs, no_pairs, pairs_more}
 use Rattle.template_values_model.specs.Lookup.{is_text}
@@ -25,3 +26,13 @@ collected given = pairs_of (put_all [] given)
 abbrev pub last_at : List ℕ → List (Val × Val) → Option Val
 last_at name [] = None
 last_at name (p ∷ given) = option_or (last_at name given) (if is_text name p.0 then Some p.1 else None)
+
+-- the value of the first pair whose key is equal to this one
+abbrev pub under : Val → Pairs → Option Val
+under k no_pairs = None
+under k (pairs_more j v ps) = if is_eq (val_cmp j k) then Some v else under k ps
+
+-- the value of the last pair given whose key is equal to this one
+abbrev pub last_under : Val → List (Val × Val) → Option Val
+last_under k [] = None
+last_under k (p ∷ given) = option_or (last_under k given) (if is_eq (val_cmp p.0 k) then Some p.1 else None)

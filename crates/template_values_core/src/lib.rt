@@ -1,10 +1,13 @@
 //! The values of the template language: their kinds, their one total order, and maps.
 #![tactic(auto)]
 
+mod content;
+mod lists;
 mod lookup;
 mod maps;
 mod order;
 mod print;
 mod value;
 
+pub use content::Content;
 pub use value::{Entry, Value};

@@ -1,15 +1,17 @@
-//! What a value has under a text.
+//! What a value has under a key.
 ghost use Rattle.std.specs.Prelude.{◌≡◌, option_copied};
-ghost use Rattle.template_values_model.specs.Lookup.{value_at, entry_at};
+ghost use Rattle.template_values_model.specs.Lookup.{entry_at, value_at};
 ghost use Rattle.template_values_core.specs.Kept.{IsRising};
-ghost use Rattle.template_values_core.specs.Maps.{pairs_of};
+ghost use Rattle.template_values_core.specs.Maps.{pairs_of, under};
+ghost use Rattle.template_values_core.specs.Reads.{value_under};
 ghost use Rattle.template_values_core.specs.Shape.{pairs_in};
 
 use crate::order::compare_to_text;
 use crate::value::{Entry, Repr, Value};
 
 impl Value {
-    /// The value under the text `name` in a map, a keyword map or a module.
+    /// The value under the text `name` in a map, a keyword map or a module. Takes log n
+    /// comparisons for n entries.
     pub fn value_at(&self, name: &str) -> Option<&Value>
         ensures { option_copied result ≡ value_at name.now self.now }
     {
@@ -20,6 +22,19 @@ impl Value {
             _ => None,
         }
     }
+
+    /// The value under a key equal to `key` in a map, a keyword map or a module. Takes log n
+    /// comparisons for n entries.
+    pub fn value_under(&self, key: &Value) -> Option<&Value>
+        ensures { option_copied result ≡ value_under key.now self.now }
+    {
+        match &self.repr {
+            Repr::Map(entries) => entry_under(entries.as_ref().as_slice(), key),
+            Repr::KeywordMap(entries) => entry_under(entries.as_ref().as_slice(), key),
+            Repr::Module(entries, _text) => entry_under(entries.as_ref().as_slice(), key),
+            _ => None,
+        }
+    }
 }
 
 fn entry_at<'a>(entries: &'a [Entry], name: &str) -> Option<&'a Value>
@@ -27,6 +42,16 @@ fn entry_at<'a>(entries: &'a [Entry], name: &str) -> Option<&'a Value>
     ensures { option_copied result ≡ entry_at name.now (pairs_of (pairs_in entries.now)) }
 {
     match entries.binary_search_by(|entry| compare_to_text(&entry.key, name)) {
+        Ok(place) => Some(&entries[place].value),
+        Err(_) => None,
+    }
+}
+
+fn entry_under<'a>(entries: &'a [Entry], key: &Value) -> Option<&'a Value>
+    requires { IsRising entries.now }
+    ensures { option_copied result ≡ under key.now (pairs_of (pairs_in entries.now)) }
+{
+    match entries.binary_search_by(|entry| entry.key.cmp(key)) {
         Ok(place) => Some(&entries[place].value),
         Err(_) => None,
     }

@@ -1,23 +1,28 @@
 //! Maps made from entries.
-ghost use Rattle.std.specs.Prelude.{◌≡◌, ◌≤◌, ℕ, List, [], max, IfErr, IfOk};
-ghost use Rattle.template_values_model.specs.Val.{map};
+ghost use Rattle.std.specs.Prelude.{◌≡◌, ◌≤◌, ℕ, List, [], max, IfErr, IfOk, string_bytes};
+ghost use Rattle.template_values_model.specs.Val.{Val, keyword_map, map};
 ghost use Rattle.template_values_model.specs.Lookup.{value_at};
 ghost use Rattle.template_values_core.specs.Answers.{TooDeep};
-ghost use Rattle.template_values_core.specs.Depth.{pairs_depth};
+ghost use Rattle.template_values_core.specs.Depth.{depth, pairs_depth};
 ghost use Rattle.template_values_core.specs.Kept.{IsRising};
-ghost use Rattle.template_values_core.specs.Maps.{collected, last_at, pairs_of, put_all};
+ghost use Rattle.template_values_core.specs.Held.{HoldsPairs};
+ghost use Rattle.template_values_core.specs.Maps.{collected, last_at, last_under, pairs_of, put_all};
 ghost use Rattle.template_values_core.specs.Order.{val_cmp};
+ghost use Rattle.template_values_core.specs.Reads.{value_under};
 ghost use Rattle.template_values_core.specs.Shape.{pairs_in};
 ghost use Rattle.std.specs.BTreeMap.{IsOrdered};
 
-use crate::value::{Entry, Repr, Value};
+use crate::value::{DEPTH_LIMIT, Entry, Repr, Value, larger};
 use std::alloc::{AllocError, Global};
 use std::collections::BTreeMap;
-use std::rc::Rc;
+use std::rc::{Rc, RcStr};
 use template_values_errors::{Error, ErrorKind};
 
-/// The deepest that a value may nest.
-const DEPTH_LIMIT: u32 = 500;
+/// Entries that are shared, in the order of their keys, and the depth of a container of them.
+struct SharedEntries {
+    levels: u32,
+    entries: Rc<Vec<Entry>>,
+}
 
 impl Value {
     /// A map of the entries, in the order of their keys. Of equal keys the first stays, with the
@@ -30,30 +35,74 @@ impl Value {
     #[tactic(auto, using(crate::proofs::LastGiven::from_pairs))]
     pub fn from_map(alloc: Global, entries: Vec<Entry>) -> Result<Value, Error>
         ensures made { IfOk result (λ v. v ≡ map (collected (pairs_in entries.items))) }
+        ensures bound { IfOk result (λ v. depth v ≤ 500) }
         ensures last { IfOk result (λ v. (name : List ℕ) → value_at name v ≡ last_at name (pairs_in entries.items)) }
+        ensures each { IfOk result (λ v. (k : Val) → value_under k v ≡ last_under k (pairs_in entries.items)) }
         ensures refused { IfErr result (TooDeep (map (collected (pairs_in entries.items)))) }
     {
-        match sorted(alloc, entries) {
-            Ok(kept) => map_of(alloc, kept),
+        let shared = shared_entries(alloc, entries)?;
+        let SharedEntries { levels, entries } = shared;
+        Ok(Value {
+            levels,
+            repr: Repr::Map(entries),
+        })
+    }
+
+    /// A keyword map of the entries, kept as [`Value::from_map`] does.
+    ///
+    /// # Errors
+    ///
+    /// - [`ErrorKind::InvalidOperation`], if it would nest deeper than 500 levels.
+    /// - [`ErrorKind::OutOfMemory`]
+    pub fn from_kwargs(alloc: Global, entries: Vec<Entry>) -> Result<Value, Error>
+        ensures made { IfOk result (λ v. v ≡ keyword_map (collected (pairs_in entries.items))) }
+        ensures bound { IfOk result (λ v. depth v ≤ 500) }
+        ensures refused { IfErr result (TooDeep (keyword_map (collected (pairs_in entries.items)))) }
+    {
+        let shared = shared_entries(alloc, entries)?;
+        let SharedEntries { levels, entries } = shared;
+        Ok(Value {
+            levels,
+            repr: Repr::KeywordMap(entries),
+        })
+    }
+
+    /// A module of the entries, kept as [`Value::from_map`] does, and of the text that it prints.
+    ///
+    /// # Errors
+    ///
+    /// - [`ErrorKind::InvalidOperation`], if it would nest deeper than 500 levels.
+    /// - [`ErrorKind::OutOfMemory`]
+    pub fn from_module(alloc: Global, entries: Vec<Entry>, text: String) -> Result<Value, Error>
+        ensures made { IfOk result (λ v. v ≡ Val.«module» (collected (pairs_in entries.items)) (string_bytes text)) }
+        ensures bound { IfOk result (λ v. depth v ≤ 500) }
+        ensures refused { IfErr result (TooDeep (Val.«module» (collected (pairs_in entries.items)) (string_bytes text))) }
+    {
+        let shared = shared_entries(alloc, entries)?;
+        let SharedEntries { levels, entries } = shared;
+        match RcStr::from_string(text) {
+            Ok(text) => Ok(Value {
+                levels,
+                repr: Repr::Module(entries, text),
+            }),
             Err(_) => Err(Error::new(ErrorKind::OutOfMemory)),
         }
     }
 }
 
-fn map_of(alloc: Global, kept: Vec<Entry>) -> Result<Value, Error>
-    requires { IsRising kept.items }
-    ensures made { IfOk result (λ v. v ≡ map (pairs_of (pairs_in kept.items))) }
-    ensures refused { IfErr result (TooDeep (map (pairs_of (pairs_in kept.items)))) }
+fn shared_entries(alloc: Global, entries: Vec<Entry>) -> Result<SharedEntries, Error>
+    ensures made { IfOk result (λ s. HoldsPairs s (put_all [] (pairs_in entries.items))) }
+    ensures refused { IfErr result (TooDeep (map (collected (pairs_in entries.items)))) }
 {
+    let Ok(kept) = sorted(alloc, entries) else {
+        return Err(Error::new(ErrorKind::OutOfMemory));
+    };
     let levels = deepest_of(kept.as_slice()) + 1;
     if DEPTH_LIMIT < levels {
         return Err(Error::new(ErrorKind::InvalidOperation));
     }
     match Rc::new(alloc, kept) {
-        Ok(shared) => Ok(Value {
-            levels,
-            repr: Repr::Map(shared),
-        }),
+        Ok(entries) => Ok(SharedEntries { levels, entries }),
         Err(_) => Err(Error::new(ErrorKind::OutOfMemory)),
     }
 }
@@ -91,10 +140,4 @@ fn deepest_of(entries: &[Entry]) -> u32
         deepest = larger(deepest, larger(entry.key.levels(), entry.value.levels()));
     }
     deepest
-}
-
-fn larger(a: u32, b: u32) -> u32
-    ensures { result ≡ max a b }
-{
-    if a < b { b } else { a }
 }

@@ -1,14 +1,17 @@
 //! A value, and how it is made, shared and read.
-ghost use Rattle.std.specs.Prelude.{◌≡◌, ◌≤◌, ℕ, List, [], ◌∷◌, IfOk, IfErr, string_bytes, option_copied};
-ghost use Rattle.template_values_model.specs.Val.{Val, undefined, none, truth, int, text};
+ghost use Rattle.std.specs.Prelude.{◌≡◌, ◌≤◌, max, IfOk, IfErr, string_bytes, option_copied};
+ghost use Rattle.template_values_model.specs.Val.{Val, undefined, silent_undefined, none, truth, int, text};
 ghost use Rattle.template_values_core.specs.Answers.{NoMemory, text_in};
 ghost use Rattle.template_values_core.specs.Depth.{depth};
 ghost use Rattle.template_values_core.specs.Kept.{IsShared};
 
-use std::alloc::AllocError;
+use std::alloc::{AllocError, Global};
 use std::marker::Model;
 use std::rc::{Rc, RcStr};
 use template_values_errors::{Error, ErrorKind};
+
+/// The deepest that a value may nest.
+pub(crate) const DEPTH_LIMIT: u32 = 500;
 
 /// A value of the template language. A contract sees it as the mathematical value; its depth is
 /// at most 500. The contents of texts, bytes, lists, tuples, maps and modules are shared by the
@@ -86,6 +89,17 @@ impl Value {
         }
     }
 
+    /// The undefined value that a missing `else` of an if-expression gives. It is equal to
+    /// [`Value::undefined`], and prints where that one may be refused.
+    pub fn silent_undefined() -> Value
+        ensures { result ≡ silent_undefined }
+    {
+        Value {
+            levels: 0,
+            repr: Repr::SilentUndefined,
+        }
+    }
+
     /// The value `none`.
     pub fn none() -> Value
         ensures { result ≡ none }
@@ -131,6 +145,82 @@ impl Value {
                 repr: Repr::Text(shared),
             }),
             Err(_) => Err(Error::new(ErrorKind::OutOfMemory)),
+        }
+    }
+
+    /// A text that is written without escapes. Its bytes are not copied.
+    ///
+    /// # Errors
+    ///
+    /// [`ErrorKind::OutOfMemory`]
+    pub fn from_safe_text(text: String) -> Result<Value, Error>
+        ensures made { IfOk result (λ v. v ≡ Val.safe_text (string_bytes text)) }
+        ensures refused { IfErr result NoMemory }
+    {
+        match RcStr::from_string(text) {
+            Ok(shared) => Ok(Value {
+                levels: 0,
+                repr: Repr::SafeText(shared),
+            }),
+            Err(_) => Err(Error::new(ErrorKind::OutOfMemory)),
+        }
+    }
+
+    /// Bytes, which need be no text. They are not copied.
+    ///
+    /// # Errors
+    ///
+    /// [`ErrorKind::OutOfMemory`]
+    pub fn from_bytes(alloc: Global, bytes: Vec<u8>) -> Result<Value, Error>
+        ensures made { IfOk result (λ v. v ≡ Val.bytes bytes.items) }
+        ensures refused { IfErr result NoMemory }
+    {
+        match Rc::new(alloc, bytes) {
+            Ok(shared) => Ok(Value {
+                levels: 0,
+                repr: Repr::Bytes(shared),
+            }),
+            Err(_) => Err(Error::new(ErrorKind::OutOfMemory)),
+        }
+    }
+
+    /// The function of a number in the environment of an id.
+    pub fn function(id: u64, number: usize) -> Value
+        ensures { result ≡ Val.function id number }
+    {
+        Value {
+            levels: 0,
+            repr: Repr::Function(id, number),
+        }
+    }
+
+    /// The namespace of a number in the state of an id.
+    pub fn namespace(id: u64, number: usize) -> Value
+        ensures { result ≡ Val.namespace id number }
+    {
+        Value {
+            levels: 0,
+            repr: Repr::Namespace(id, number),
+        }
+    }
+
+    /// The loop of a number in the state of an id.
+    pub fn loop_record(id: u64, number: usize) -> Value
+        ensures { result ≡ Val.loop_record id number }
+    {
+        Value {
+            levels: 0,
+            repr: Repr::Loop(id, number),
+        }
+    }
+
+    /// The macro of a number in the state of an id.
+    pub fn macro_record(id: u64, number: usize) -> Value
+        ensures { result ≡ Val.macro_record id number }
+    {
+        Value {
+            levels: 0,
+            repr: Repr::Macro(id, number),
         }
     }
 
@@ -196,4 +286,10 @@ impl Repr {
             Repr::Macro(id, number) => Repr::Macro(*id, *number),
         })
     }
+}
+
+pub(crate) fn larger(a: u32, b: u32) -> u32
+    ensures { result ≡ max a b }
+{
+    if a < b { b } else { a }
 }

@@ -1,0 +1,126 @@
+//! What a value holds, for those that go by its kind.
+ghost use Rattle.std.specs.Prelude.{◌≡◌, option_copied, option_map};
+ghost use Rattle.template_values_core.specs.Content.{value_of};
+ghost use Rattle.template_values_core.specs.Maps.{pairs_of};
+ghost use Rattle.template_values_core.specs.Reads.{is_true, items_in, number_of, pairs_held, whole_number};
+ghost use Rattle.template_values_core.specs.Shape.{pairs_in};
+
+use crate::value::{Entry, Repr, Value};
+
+/// The kind of a value with its content. The entries of maps, keyword maps and modules stand in
+/// the order of their keys. Functions have the id of their environment and a number in it;
+/// namespaces, loops and macros have the id of their state and a number in it.
+#[derive(Clone, Copy)]
+pub enum Content<'a> {
+    Undefined,
+    SilentUndefined,
+    None,
+    Truth(bool),
+    Int(i128),
+    Text(&'a str),
+    SafeText(&'a str),
+    Bytes(&'a [u8]),
+    List(&'a [Value]),
+    Tuple(&'a [Value]),
+    Map(&'a [Entry]),
+    KeywordMap(&'a [Entry]),
+    Module(&'a [Entry], &'a str),
+    Function(u64, usize),
+    Namespace(u64, usize),
+    Loop(u64, usize),
+    Macro(u64, usize),
+}
+
+impl Value {
+    /// The kind and the content of this value.
+    pub fn content(&self) -> Content<'_>
+        ensures { self.now ≡ value_of result }
+    {
+        match &self.repr {
+            Repr::Undefined => Content::Undefined,
+            Repr::SilentUndefined => Content::SilentUndefined,
+            Repr::None => Content::None,
+            Repr::Truth(value) => Content::Truth(*value),
+            Repr::Int(number) => Content::Int(*number),
+            Repr::Text(text) => Content::Text(text.as_str()),
+            Repr::SafeText(text) => Content::SafeText(text.as_str()),
+            Repr::Bytes(bytes) => Content::Bytes(bytes.as_ref().as_slice()),
+            Repr::List(items) => Content::List(items.as_ref().as_slice()),
+            Repr::Tuple(items) => Content::Tuple(items.as_ref().as_slice()),
+            Repr::Map(entries) => Content::Map(entries.as_ref().as_slice()),
+            Repr::KeywordMap(entries) => Content::KeywordMap(entries.as_ref().as_slice()),
+            Repr::Module(entries, text) => {
+                Content::Module(entries.as_ref().as_slice(), text.as_str())
+            }
+            Repr::Function(id, number) => Content::Function(*id, *number),
+            Repr::Namespace(id, number) => Content::Namespace(*id, *number),
+            Repr::Loop(id, number) => Content::Loop(*id, *number),
+            Repr::Macro(id, number) => Content::Macro(*id, *number),
+        }
+    }
+
+    /// Whether the value counts as true. A record counts as true here, also an empty namespace:
+    /// only its state knows what it holds.
+    #[tactic(auto, using(crate::proofs::ReadLemmas::reading))]
+    pub fn is_true(&self) -> bool
+        ensures { result ≡ is_true self.now }
+    {
+        match self.content() {
+            Content::Undefined | Content::SilentUndefined | Content::None => false,
+            Content::Truth(value) => value,
+            Content::Int(number) => number != 0,
+            Content::Text(text) | Content::SafeText(text) => !text.is_empty(),
+            Content::Bytes(bytes) => !bytes.is_empty(),
+            Content::List(items) => !items.is_empty(),
+            Content::Tuple(items) => !items.is_empty(),
+            Content::Map(entries) => !entries.is_empty(),
+            Content::Module(entries, _) => !entries.is_empty(),
+            _ => true,
+        }
+    }
+
+    /// The number, if this is a whole number and no truth value.
+    pub fn as_int(&self) -> Option<i128>
+        ensures { result ≡ whole_number self.now }
+    {
+        match self.content() {
+            Content::Int(number) => Some(number),
+            _ => None,
+        }
+    }
+
+    /// The number that this counts as in operators: a whole number, or 0 or 1 for a truth value.
+    pub fn as_number(&self) -> Option<i128>
+        ensures { result ≡ number_of self.now }
+    {
+        match self.content() {
+            Content::Truth(value) => Some(if value { 1 } else { 0 }),
+            Content::Int(number) => Some(number),
+            _ => None,
+        }
+    }
+
+    /// The items of a list or a tuple.
+    #[tactic(auto, using(crate::proofs::ReadLemmas::reading))]
+    pub fn items(&self) -> Option<&[Value]>
+        ensures { option_copied result ≡ items_in self.now }
+    {
+        match self.content() {
+            Content::List(items) => Some(items),
+            Content::Tuple(items) => Some(items),
+            _ => None,
+        }
+    }
+
+    /// The entries of a map, a keyword map or a module, in the order of their keys.
+    pub fn entries(&self) -> Option<&[Entry]>
+        ensures { option_map (λ es. pairs_of (pairs_in es)) (option_copied result) ≡ pairs_held self.now }
+    {
+        match self.content() {
+            Content::Map(entries) => Some(entries),
+            Content::KeywordMap(entries) => Some(entries),
+            Content::Module(entries, _) => Some(entries),
+            _ => None,
+        }
+    }
+}
