@@ -23,8 +23,9 @@ pub fn read_whole<S: Source>(
     ensures taken { IfOk result (λ bytes. Consumes (S.remaining source.old) (S.remaining source.new) bytes.items) }
     ensures end { OnOk result (IsAtEnd (S.remaining source.new)) }
 
-    // A failing read is never passed over, and without one only an input that is too long is refused.
+    // A failing read is told as `File`, and without one only an input that is too long is.
     ensures read_ok { OnOk result (S.has_failed source.new ≡ S.has_failed source.old) }
+    ensures memory { IsErrOf result FileFault.Memory → S.has_failed source.new ≡ S.has_failed source.old }
     ensures file { IsErrOf result FileFault.File → IsTrue (S.has_failed source.new)
         ⊎ GivesCount (S.remaining source.old) (S.remaining source.new) limit }
     ensures no_further { GivesAtMost (S.remaining source.old) (S.remaining source.new) limit }
@@ -52,7 +53,9 @@ pub fn read_text<S: Source>(
     ensures taken { IfOk result (λ text. Consumes (S.remaining source.old) (S.remaining source.new) (string_bytes text)) }
     ensures end { OnOk result (IsAtEnd (S.remaining source.new)) }
 
+    // As above, but for bytes that are no text.
     ensures read_ok { OnOk result (S.has_failed source.new ≡ S.has_failed source.old) }
+    ensures memory { IsErrOf result FileFault.Memory → S.has_failed source.new ≡ S.has_failed source.old }
     ensures file { IsErrOf result FileFault.File → IsTrue (S.has_failed source.new)
         ⊎ GivesCount (S.remaining source.old) (S.remaining source.new) limit
         ⊎ GivesNoText (S.remaining source.old) (S.remaining source.new) }
@@ -74,6 +77,7 @@ fn read_more<S: Source>(
     ensures end { IfOk result (λ count. count ≡ 0 → 0 < length piece.old
         → IsAtEnd (S.remaining source.new)) }
     ensures read_ok { OnOk result (S.has_failed source.new ≡ S.has_failed source.old) }
+    ensures memory { IsErrOf result FileFault.Memory → S.has_failed source.new ≡ S.has_failed source.old }
     ensures file { IsErrOf result FileFault.File → IsTrue (S.has_failed source.new) }
     ensures no_further { GivesAtMost (S.remaining source.old) (S.remaining source.new)
         (length piece.old) }
