@@ -39,6 +39,24 @@ step_of_print left s i first brace inside =
     let opens : (slice_index s (i + 1) == 123) ≡ true = eq-eqb (slice_index s (i + 1)) 123 brace in
     rw (at, before, opens, inside)
 
+pub step_of_other : (left : Sign) (s : List ℕ) (i : ℕ) → IsFirstStart s i → (slice_index s (i + 1) == 123) ≡ false →
+    step_of left s ≡ no_step
+unfolding step_of
+step_of_other left s i first other =
+    let at : start_of s ≡ i = start_of_is s i first in
+    let within = StartsAt-within s i first.0 in
+    let before : nat_lt i (length s) ≡ true = lt-ltb i (length s) (omega arith) in
+    rw (at, before, other)
+
+pub step_of_no_print : (left : Sign) (s : List ℕ) (i : ℕ) → IsFirstStart s i → (slice_index s (i + 1) == 123) ≡ true →
+    inside_of (behind_sign (behind_marker s i)) ≡ None → step_of left s ≡ no_step
+unfolding step_of
+step_of_no_print left s i first opens none =
+    let at : start_of s ≡ i = start_of_is s i first in
+    let within = StartsAt-within s i first.0 in
+    let before : nat_lt i (length s) ≡ true = lt-ltb i (length s) (omega arith) in
+    rw (at, before, opens, none)
+
 -- what a step says of the text
 abbrev pub IsStep : Sign → List ℕ → Step → Type 0
 IsStep left s (last_step statements) =

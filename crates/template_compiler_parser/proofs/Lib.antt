@@ -1,0 +1,5 @@
+pub mod Starts
+pub mod Names
+pub mod Inside
+pub mod Cuts
+pub mod Taken

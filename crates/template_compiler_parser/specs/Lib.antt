@@ -1,0 +1,3 @@
+pub mod Signs
+pub mod Refusals
+pub mod Steps
