@@ -1,1 +1,5 @@
 pub mod Depths
+pub mod Acting
+pub mod Showing
+pub mod Wants
+pub mod Progress

@@ -2,8 +2,12 @@
 //! instructions.
 #![tactic(auto)]
 
+mod machine;
+mod scopes;
 mod tracker;
 mod verified;
+mod writing;
 
+pub use machine::run_code;
 pub use tracker::FuelTracker;
 pub use verified::{Checked, StreamKind, verify};

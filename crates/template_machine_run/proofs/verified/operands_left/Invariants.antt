@@ -6,5 +6,5 @@ abbrev pub invariant-loop-place : goal.invariant-loop-place
 invariant-loop-place l = record {
   rest : depth_after (drop l.place l.instructions.code) l.depth ≡ depth_after l.instructions.code 0;
   few : l.depth ≤ l.place;
-  end : l.place-end ≡ length l.instructions.code
+  end : l.place-end ≡ length l.instructions.code;
 }

@@ -1,0 +1,107 @@
+//! The run of a template's code.
+ghost use Rattle.std.specs.Prelude.{◌≡◌, ◌∷◌, [], ◌↔◌, ◌-◌, IsOk, IsSome, IfErr, OnOk, Some, reverse, vec_len};
+ghost use Rattle.std.specs.Option.{option_map};
+ghost use Rattle.template_compiler_code.specs.View.{code_of};
+ghost use Rattle.template_compiler_code.specs.Prices.{price_of};
+ghost use Rattle.template_compiler_code.specs.Shapes.{depth_after};
+ghost use Rattle.template_compiler_process.specs.Trace.{text_of};
+ghost use Rattle.std.specs.Io.KnownBytes.{Appends};
+ghost use Rattle.template_machine_output.specs.Writes.{AppendsBeginning};
+ghost use Rattle.template_machine_world.specs.Meaning.{first_scopes};
+ghost use Rattle.template_machine_run.specs.Acts.{Acts};
+ghost use Rattle.template_machine_run.specs.Outcomes.{TellsFailures};
+ghost use Rattle.template_machine_run.specs.Runs.{code_run, code_leaves, ComesOut, EndsAs};
+ghost use Rattle.template_machine_run.specs.Tanks.{fuel_left, fuel_set, Pays};
+
+use crate::scopes::Context;
+use crate::tracker::FuelTracker;
+use crate::verified::Checked;
+use crate::writing::{print, write};
+use std::alloc::Global;
+use template_compiler_code::Instruction;
+use template_machine_output::Sink;
+use template_values_core::Value;
+use template_values_errors::{Error, ErrorKind};
+
+// Takes an instruction's price of the fuel, if one is set.
+fn charge(fuel: &mut Option<FuelTracker>, instruction: &Instruction<'_>) -> Result<(), Error>
+    ensures left { fuel_left fuel.new ≡ option_map (λ n. n - price_of (code_of instruction.now)) (fuel_left fuel.old) }
+    ensures set { fuel_set fuel.new ≡ fuel_set fuel.old }
+    ensures runs { IsOk result ↔ Pays (fuel_left fuel.old) (price_of (code_of instruction.now)) }
+    ensures kind { IfErr result (λ kinds. kinds ≡ ErrorKind.OutOfFuel ∷ []) }
+{
+    match fuel {
+        Some(tracker) => tracker.track(instruction),
+        None => Ok(()),
+    }
+}
+
+// Puts a value on the operands. Refused for want of memory.
+fn push(operands: &mut Vec<Value>, value: Value) -> Result<(), Error>
+    ensures pushed { OnOk result (reverse operands.new.items ≡ value ∷ reverse operands.old.items) }
+    ensures refused { IfErr result (λ kinds. kinds ≡ ErrorKind.OutOfMemory ∷ []) }
+{
+    match operands.push(value) {
+        Ok(()) => Ok(()),
+        Err(_refused) => Err(Error::new(ErrorKind::OutOfMemory)),
+    }
+}
+
+// Does what an instruction does, once it is paid.
+fn perform<S: Sink>(
+    instruction: &Instruction<'_>,
+    context: &Context<'_>,
+    operands: &mut Vec<Value>,
+    scratch: &mut String,
+    sink: &mut S,
+) -> Result<(), Error>
+    requires { IsSome (depth_after (code_of instruction.now ∷ []) (vec_len operands.old)) }
+    ensures acts { Acts (code_of instruction.now) (first_scopes context.now.value.now) (reverse operands.old.items) (reverse operands.new.items) result (S.taken sink.old) (S.taken sink.new) }
+    ensures depth { OnOk result (depth_after (code_of instruction.now ∷ []) (vec_len operands.old) ≡ Some (vec_len operands.new)) }
+    ensures failures { TellsFailures result (S.failures sink.old) (S.failures sink.new) }
+{
+    match instruction {
+        Instruction::EmitRaw(text) => write(text.as_str(), sink),
+        Instruction::Lookup(name) => push(operands, context.load(name.as_str())?),
+        Instruction::Emit => match operands.pop() {
+            Some(value) => print(&value, scratch, sink),
+            None => unreachable!(),
+        },
+    }
+}
+
+/// Runs code over a context, and writes what it prints into a sink. A fuel, if one is set, is charged
+/// before each step.
+///
+/// # Errors
+///
+/// The fault that the run ends with, as [`ErrorKind::OutOfFuel`]; the sink has then taken the text
+/// before it. [`ErrorKind::OutOfMemory`] where a growth was refused, and [`ErrorKind::WriteFailure`]
+/// where the sink failed; it has then taken a beginning of the text.
+pub fn run_code<S: Sink>(
+    alloc: Global,
+    code: &Checked<'_>,
+    context: &Value,
+    fuel: &mut Option<FuelTracker>,
+    sink: &mut S,
+) -> Result<(), Error>
+    ensures outcome { ComesOut result (code_run (fuel_left fuel.old) code.now.instructions.code context.now) }
+    ensures text { EndsAs result (code_run (fuel_left fuel.old) code.now.instructions.code context.now) → Appends (S.taken sink.old) (S.taken sink.new) (text_of (code_run (fuel_left fuel.old) code.now.instructions.code context.now).items) }
+    ensures beginning { AppendsBeginning (S.taken sink.old) (S.taken sink.new) (text_of (code_run (fuel_left fuel.old) code.now.instructions.code context.now).items) }
+    ensures failures { TellsFailures result (S.failures sink.old) (S.failures sink.new) }
+    ensures left { EndsAs result (code_run (fuel_left fuel.old) code.now.instructions.code context.now) → fuel_left fuel.new ≡ code_leaves (fuel_left fuel.old) code.now.instructions.code context.now }
+    ensures set { fuel_set fuel.new ≡ fuel_set fuel.old }
+{
+    let context = Context { value: context };
+    let instructions = code.instructions();
+    let mut operands = Vec::new(alloc);
+    let mut scratch = String::new(alloc);
+    for place in 0..instructions.len() as u32 {
+        let Some(instruction) = instructions.get(place) else {
+            unreachable!()
+        };
+        charge(fuel, instruction)?;
+        perform(instruction, &context, &mut operands, &mut scratch, sink)?;
+    }
+    Ok(())
+}
