@@ -1,5 +1,5 @@
 -- Where a text may be cut round a start marker.
-use Rattle.std.proofs.Common.{◌≡◌, Bool, ℕ, ◌+◌, ◌-◌, ◌<◌, ◌≤◌, ◌⊎◌, inl, inr, true, false, ◌==◌, if◌then◌else◌, List, length, drop, get_or, slice_index, IsUtf8, IsCharBoundary, refl, sym, ◌∙◌, arith, length-drop}
+use Rattle.std.proofs.Common.{◌≡◌, Bool, ℕ, ◌+◌, ◌<◌, ◌⊎◌, inl, inr, true, false, ◌==◌, if◌then◌else◌, List, length, drop, slice_index, IsUtf8, IsCharBoundary, refl, arith, length-drop}
 use Rattle.std.proofs.lemmas.Bool.{cases_lt, eqb-true}
 use Rattle.std.proofs.lemmas.List.{get_or_past, drop-drop}
 use Rattle.std.proofs.lemmas.Str.{IsCharBoundary-start, IsCharBoundary-before_ascii, IsCharBoundary-after_ascii, IsCharBoundary-from_rest, IsUtf8-drop}
@@ -34,14 +34,14 @@ sign_byte t false false e f sign g = inl (rw g)
 pub sign_cut : (t : List ℕ) (sign : Sign) → IsUtf8 t → sign ≡ sign_of t → IsCharBoundary t (length (sign_text sign))
 sign_cut t sign u e =
     elim (sign_byte t (slice_index t 0 == 45) (slice_index t 0 == 43) refl refl sign e) [
-      inl none ↦ rw none (IsCharBoundary-start t u)
-    | inr one ↦
-        let within : 0 < length t =
+      | inl none ↦ rw none (IsCharBoundary-start t u)
+      | inr one ↦
+          let within : 0 < length t =
           elim (cases_lt 0 (length t)) [
-            inl h ↦ h
-          | inr h ↦ (let past : slice_index t 0 ≡ 0 = get_or_past t 0 0 h in let byte = one.1 in absurd (omega arith))
+            | inl h ↦ h
+            | inr h ↦ (let past : slice_index t 0 ≡ 0 = get_or_past t 0 0 h in let byte = one.1 in absurd (omega arith))
           ] in
-        rw one.0 (IsCharBoundary-after_ascii t 0 u within one.2)
+          rw one.0 (IsCharBoundary-after_ascii t 0 u within one.2)
     ]
 
 -- behind a start marker and its sign
@@ -51,5 +51,5 @@ print_cut s r i sign u starts e f =
     let within = StartsAt-within s i starts in
     let two : drop 2 (drop i s) ≡ drop (i + 2) s = drop-drop 2 i s in
     rw e
-      (IsCharBoundary-from_rest (drop i s) 2 (length (sign_text sign)) (omega (arith, length-drop i s))
-        (rw two (sign_cut (drop (i + 2) s) sign (IsUtf8-drop s (i + 2) u (marker_cut s i u starts)) f)))
+    (IsCharBoundary-from_rest (drop i s) 2 (length (sign_text sign)) (omega (arith, length-drop i s))
+    (rw two (sign_cut (drop (i + 2) s) sign (IsUtf8-drop s (i + 2) u (marker_cut s i u starts)) f)))

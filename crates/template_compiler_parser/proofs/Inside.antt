@@ -1,5 +1,5 @@
 -- The inside of a print, as the reader gives it.
-use Rattle.std.proofs.Common.{◌≡◌, Bool, ℕ, suc, ◌+◌, ◌-◌, ◌<◌, ◌≤◌, ◌⊎◌, inl, inr, true, false, ◌==◌, ◌&&◌, if◌then◌else◌, List, [], ◌∷◌, length, take, drop, take_while, get_or, slice_index, IsUtf8, IsCharBoundary, Option, None, Some, IfNone, option_map, refl, sym, ◌∙◌, ap, arith}
+use Rattle.std.proofs.Common.{◌≡◌, Bool, ℕ, ◌+◌, ◌-◌, ◌<◌, ◌⊎◌, inl, inr, true, false, ◌==◌, if◌then◌else◌, List, [], ◌∷◌, length, drop, take_while, slice_index, IsUtf8, IsCharBoundary, Option, None, Some, IfNone, refl, sym, ◌∙◌, arith}
 use Rattle.std.specs.List.{prefix_len}
 use Rattle.std.specs.Str.{IsTrimAsciiStart}
 use Rattle.std.proofs.lemmas.Bool.{and_parts, cases_lt, eqb-true}
@@ -29,10 +29,10 @@ pub end_cut : (s : List ℕ) (n : ℕ) → IsUtf8 s → closes_at s n ≡ true �
 end_cut s n u e =
     let brace : slice_index s (n + 1) ≡ 125 = eqb-true (slice_index s (n + 1)) 125 (and_parts (slice_index s n == 125) (slice_index s (n + 1) == 125) e).1 in
     let within : n + 1 < length s =
-      elim (cases_lt (n + 1) (length s)) [
-        inl h ↦ h
+    elim (cases_lt (n + 1) (length s)) [
+      | inl h ↦ h
       | inr h ↦ (let none : slice_index s (n + 1) ≡ 0 = get_or_past s (n + 1) 0 h in absurd (omega arith))
-      ] in
+    ] in
     let place : n + 1 + 1 ≡ n + 2 = omega arith in
     rw place at (IsCharBoundary-after_ascii s (n + 1) u within (omega arith))
 

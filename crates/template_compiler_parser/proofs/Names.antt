@@ -1,5 +1,5 @@
 -- Names in a text.
-use Rattle.std.proofs.Common.{◌≡◌, ◌∷◌, bytes_eq, ℕ, zero, suc, ◌+◌, ◌-◌, ◌<◌, ◌≤◌, true, false, List, [], length, take, drop, get_or, slice_index, IsUtf8, IsCharBoundary, refl, sym, add-one, arith}
+use Rattle.std.proofs.Common.{◌≡◌, ◌∷◌, bytes_eq, ℕ, zero, suc, ◌<◌, ◌≤◌, true, false, List, [], length, get_or, IsUtf8, IsCharBoundary, refl, sym, add-one, arith}
 use Rattle.std.specs.List.{prefix_len, list_any, AllByRecursion}
 use Rattle.std.proofs.lemmas.Slice.Eq.{bytes_eq-Decides}
 use Rattle.std.proofs.lemmas.Bool.{false_from_ne_true}
@@ -45,4 +45,4 @@ name_len_is s n h parts stop = sym (prefix_len_is is_name_part s n 0 h parts sto
 pub name_cut : (s : List ℕ) → IsUtf8 s → IsCharBoundary s (prefix_len is_name_part s)
 name_cut s u =
     name_boundary s (prefix_len is_name_part s) u (prefix_len-le-length is_name_part s)
-      (λ k h. prefix_len_passes is_name_part s k 0 h)
+    (λ k h. prefix_len_passes is_name_part s k 0 h)

@@ -1,5 +1,5 @@
 -- What a search for `{` tells of start markers.
-use Rattle.std.proofs.Common.{below_more, ◌≡◌, ℕ, ◌+◌, ◌-◌, ◌<◌, ◌≤◌, ◌⊎◌, inl, inr, None, Some, List, length, drop, get_or, slice_index, refl, sym, ◌∙◌, ap, arith, length-drop, get_or-drop}
+use Rattle.std.proofs.Common.{below_more, ◌≡◌, ℕ, ◌+◌, ◌-◌, ◌<◌, ◌≤◌, inl, inr, None, Some, List, length, drop, slice_index, sym, ◌∙◌, ap, arith, length-drop, get_or-drop}
 use Rattle.std.proofs.lemmas.Bool.{eqb-true, eq-eqb, cases_lt}
 use Rattle.memchr.specs.Find.{IsFirstByte, is_byte}
 use Rattle.template_compiler_grammar.specs.Segments.{StartsAt}
@@ -16,14 +16,14 @@ pub none_from : (s rest : List ℕ) (from : ℕ) → rest ≡ drop from s → Is
 none_from s rest from e none k h starts =
     let within = StartsAt-within s k starts in
     none (k - from) (omega arith) (omega (arith, ap length e, length-drop from s))
-      (eq-eqb (slice_index rest (k - from)) 123 (drop_reads s rest from k e h ∙ starts.0))
+    (eq-eqb (slice_index rest (k - from)) 123 (drop_reads s rest from k e h ∙ starts.0))
 
 -- the search found one: none stands before it
 pub brace_found : (s rest : List ℕ) (from skipped : ℕ) → rest ≡ drop from s → IsFirstByte (is_byte 123) rest (Some skipped) →
     slice_index s (from + skipped) ≡ 123
 brace_found s rest from skipped e found =
     sym (drop_reads s rest from (from + skipped) e (omega arith)) ∙
-      (let place : from + skipped - from ≡ skipped = omega arith in rw place (eqb-true (slice_index rest skipped) 123 found.1))
+    (let place : from + skipped - from ≡ skipped = omega arith in rw place (eqb-true (slice_index rest skipped) 123 found.1))
 
 pub brace_within : (s rest : List ℕ) (from skipped : ℕ) → rest ≡ drop from s → IsFirstByte (is_byte 123) rest (Some skipped) →
     from + skipped < length s
@@ -34,9 +34,9 @@ pub none_before : (s rest : List ℕ) (from skipped : ℕ) → rest ≡ drop fro
     ((k : ℕ) → k < from → StartsAt s k → ⊥) → (k : ℕ) → k < from + skipped → StartsAt s k → ⊥
 none_before s rest from skipped e found below k h starts =
     elim (cases_lt k from) [
-      inl before ↦ below k before starts
-    | inr after ↦
-        found.0.before (k - from) (omega arith) (omega arith)
+      | inl before ↦ below k before starts
+      | inr after ↦
+          found.0.before (k - from) (omega arith) (omega arith)
           (eq-eqb (slice_index rest (k - from)) 123 (drop_reads s rest from k e after ∙ starts.0))
     ]
 

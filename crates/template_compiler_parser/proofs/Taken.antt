@@ -1,5 +1,5 @@
 -- The parser's steps are the reader's.
-use Rattle.std.proofs.Common.{◌≡◌, ℕ, ◌+◌, ◌-◌, ◌<◌, ◌≤◌, ◌⊎◌, inl, inr, true, false, ◌==◌, List, [], ◌∷◌, ◌++◌, length, take, drop, slice_index, Option, None, Some, Result, Ok, Err, option_map, refl, sym, ◌∙◌, ap, subst, append_assoc, arith}
+use Rattle.std.proofs.Common.{◌≡◌, ℕ, ◌+◌, ◌<◌, inl, inr, true, ◌==◌, List, [], ◌∷◌, ◌++◌, length, take, drop, slice_index, Option, None, Some, Ok, Err, option_map, refl, sym, ◌∙◌, ap, subst, append_assoc, arith}
 use Rattle.std.proofs.lemmas.Bool.{eqb-true}
 use Rattle.std.proofs.lemmas.List.{take_all, drop-drop}
 use Rattle.template_values_errors.specs.declared.ErrorKind.{ErrorKind}
@@ -8,14 +8,14 @@ use Rattle.template_compiler_tree.specs.Tree.{Statement, variable, print}
 use Rattle.template_compiler_grammar.specs.Segments as grammar
 use Rattle.template_compiler_grammar.specs.Segments.{StartsAt, IsFirstStart, plain, sign_of, sign_text, strip_end, strip_start, less_final_newline}
 use Rattle.template_compiler_grammar.specs.Grammar.{IsTemplate, data_statements}
-use Rattle.template_compiler_grammar.specs.Reader.{Step, last_step, next_step, no_step, inside_of, step_of, continued, read_from, read}
-use Rattle.template_compiler_grammar.proofs.Steps.{behind_marker, behind_sign, step_statements, step_of_end, step_of_print, step_of_other, step_of_no_print, IsStep, step_of_is, step_shrinks, read_from_step}
+use Rattle.template_compiler_grammar.specs.Reader.{last_step, next_step, no_step, inside_of, step_of, read_from, read}
+use Rattle.template_compiler_grammar.proofs.Steps.{behind_marker, behind_sign, step_statements, step_of_end, step_of_print, step_of_no_print, IsStep, step_of_is, step_shrinks, read_from_step}
 use Rattle.template_compiler_grammar.proofs.Laws.{none_read}
 use Rattle.template_compiler_grammar.proofs.Sound.{sound}
 use Rattle.template_compiler_parser.specs.declared.segments.Sign.{Sign}
 use Rattle.template_compiler_parser.specs.Signs.{sign_view}
 use Rattle.template_compiler_parser.specs.Refusals.{IsAlone, IsRefusal}
-use Rattle.template_compiler_parser.specs.Steps.{IsRefused, TakesStep, TakesPrint}
+use Rattle.template_compiler_parser.specs.Steps.{IsRefused, TakesStep}
 
 behind_print : (s : List ℕ) (i w : ℕ) → drop (2 + w) (drop i s) ≡ drop w (drop (i + 2) s)
 behind_print s i w =
@@ -39,17 +39,19 @@ pub segment_taken : (left first last : grammar.Sign) (s r rest name : List ℕ) 
     (statements : List Statement) × (step_of left s ≡ next_step statements last rest) × (after ≡ before ++ statements)
 segment_taken left first last s r rest name i before middle after start opens sign from data_is inside after_is =
     let found : inside_of (behind_sign (behind_marker s i)) ≡ Some (name, last, rest) =
-      rw (from, sign, behind_print s i (length (sign_text (sign_of (drop (i + 2) s))))) at inside in
-    (step_statements left s i name, step_of_print left s i start (eqb-true (slice_index s (i + 1)) 123 opens) found,
-     after_is ∙ rw (data_is, sign) (append_assoc before (data_statements (strip_end (sign_of (drop (i + 2) s)) (strip_start left (take i s)))) (print (variable name) ∷ [])))
+    rw (from, sign, behind_print s i (length (sign_text (sign_of (drop (i + 2) s))))) at inside in (
+      step_statements left s i name,
+      step_of_print left s i start (eqb-true (slice_index s (i + 1)) 123 opens) found,
+      after_is ∙ rw (data_is, sign) (append_assoc before (data_statements (strip_end (sign_of (drop (i + 2) s)) (strip_start left (take i s)))) (print (variable name) ∷ [])),
+    )
 
 pub segment_refused : (left first : grammar.Sign) (s r : List ℕ) (i : ℕ) {e : List ErrorKind} →
     IsFirstStart s i → (slice_index s (i + 1) == 123) ≡ true → first ≡ sign_of (drop (i + 2) s) → r ≡ drop i s →
     IsRefused (inside_of (drop (2 + length (sign_text first)) r) ≡ None) e → IsRefused (step_of left s ≡ no_step) e
 segment_refused left first s r i start opens sign from refused =
     refused_as
-      (λ none. step_of_no_print left s i start opens (rw (from, sign, behind_print s i (length (sign_text (sign_of (drop (i + 2) s))))) at none))
-      refused
+    (λ none. step_of_no_print left s i start opens (rw (from, sign, behind_print s i (length (sign_text (sign_of (drop (i + 2) s))))) at none))
+    refused
 
 joined : (before statements : List Statement) (o : Option (List Statement)) →
     option_map (λ t. before ++ t) (option_map (λ t. statements ++ t) o) ≡ option_map (λ t. (before ++ statements) ++ t) o

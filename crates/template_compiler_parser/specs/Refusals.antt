@@ -14,4 +14,4 @@ abbrev pub IsRefusal : List ℕ → List ErrorKind → Type 0
 IsRefusal source e =
     IsAlone OutOfMemory e ⊎
     ((IsAlone TooLarge e × (2 ^ 32 ≤ length source)) ⊎
-     (IsAlone SyntaxError e × ((tree : List Statement) → IsTemplate source tree → ⊥)))
+    (IsAlone SyntaxError e × ((tree : List Statement) → IsTemplate source tree → ⊥)))

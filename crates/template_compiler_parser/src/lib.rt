@@ -7,3 +7,6 @@ mod segments;
 mod template;
 
 pub use template::parse;
+
+#[cfg(test)]
+mod tests;

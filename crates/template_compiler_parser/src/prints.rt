@@ -9,10 +9,9 @@ ghost use Rattle.template_compiler_parser.specs.Signs.{sign_view};
 ghost use Rattle.template_compiler_tree.specs.View.{expression_of};
 ghost use Rattle.template_compiler_tree.specs.Tree.{variable};
 
-use template_compiler_tree::{Expr, Spanned, Var};
-
 use crate::cursor::Cursor;
 use crate::segments::Sign;
+use template_compiler_tree::{Expr, Spanned, Var};
 
 /// Reads the name inside a print, and the print's end. No name, or no end, is `None`.
 pub fn read_inside<'source>(cursor: &mut Cursor<'source>) -> Option<(Spanned<Var<'source>>, Sign)>

@@ -10,14 +10,12 @@ ghost use Rattle.template_compiler_parser.specs.Steps.{IsRefused, TakesPrint, Ta
 ghost use Rattle.template_compiler_tree.specs.Tree.{Statement};
 ghost use Rattle.template_compiler_tree.specs.View.{statement_of, tree_of};
 
-use std::alloc::Global;
-
-use template_compiler_tree::{EmitExpr, EmitRaw, Expr, Spanned, Stmt, Template};
-use template_values_errors::{Error, ErrorKind};
-
 use crate::cursor::{Cursor, Place};
 use crate::prints::read_inside;
 use crate::segments::{Sign, find_start, starts_print, without_final_newline};
+use std::alloc::Global;
+use template_compiler_tree::{EmitExpr, EmitRaw, Expr, Spanned, Stmt, Template};
+use template_values_errors::{Error, ErrorKind};
 
 /// The nodes of a template's source, in linear time. Texts and names are slices of the source.
 ///
@@ -41,9 +39,7 @@ pub fn parse<'source>(
     let text = without_final_newline(source);
     let mut cursor = Cursor::new(text);
     let children = read_statements(alloc, &mut cursor)?;
-    let end = cursor
-        .place
-        .after(source.as_bytes().split_at(text.len()).1);
+    let end = cursor.place.after(source.as_bytes().split_at(text.len()).1);
     Ok(Spanned::new(Template { children }, Place::start().to(end)))
 }
 

@@ -1,4 +1,4 @@
-use Rattle.std.proofs.Common.{sym, length, get_or, arith}
+use Rattle.std.proofs.Common.{sym, arith}
 use Rattle.std.proofs.lemmas.List.{get_or_past}
 use Rattle.template_compiler_parser.proofs.Names.{no_name_start}
 use Rattle.template_compiler_parser.proofs.prints.begins_name.Goals as goal

@@ -5,9 +5,9 @@ use Rattle.template_compiler_parser.proofs.prints.name_len.Goals as goal
 pub returns-then-not-is_name_part : goal.returns-then-not-is_name_part
 returns-then-not-is_name_part c =
     name_len_is c.args.bytes.now c.loop-index.index (omega arith) c.loop-index.invariant
-      (λ _. sym c.is_name_part.ensures ∙ c.if-not-is_name_part.true)
+    (λ _. sym c.is_name_part.ensures ∙ c.if-not-is_name_part.true)
 
 pub returns : goal.returns
 returns c =
     name_len_is c.args.bytes.now (length c.args.bytes.now) (omega arith)
-      (λ k h. c.loop-index.invariant k (omega arith)) (λ h. absurd (omega arith))
+    (λ k h. c.loop-index.invariant k (omega arith)) (λ h. absurd (omega arith))

@@ -9,7 +9,7 @@ returns-then-not-closes_at-clause-none c =
     let s = c.args.cursor.now.rest.now in
     let n = c.width-width.result in
     let closes : closes_at s n ≡ false =
-      sym (c.closes_at.ensures ∙ ap (λ b. closes_at b n) c.as_bytes.ensures.value) ∙ c.if-not-closes_at.true in
+    sym (c.closes_at.ensures ∙ ap (λ b. closes_at b n) c.as_bytes.ensures.value) ∙ c.if-not-closes_at.true in
     end_missing s (sign_view c.of-sign.result) n c.of-sign.ensures c.width-width.ensures closes
 
 pub take-requires : goal.take-requires
@@ -17,7 +17,7 @@ take-requires c =
     let s = c.args.cursor.now.rest.now in
     let n = c.width-width.result in
     let closes : closes_at s n ≡ true =
-      sym (c.closes_at.ensures ∙ ap (λ b. closes_at b n) c.as_bytes.ensures.value) ∙ c.if-not-closes_at.false in
+    sym (c.closes_at.ensures ∙ ap (λ b. closes_at b n) c.as_bytes.ensures.value) ∙ c.if-not-closes_at.false in
     end_cut s n (rw c.as_bytes.ensures.value at c.as_bytes.ensures.utf8) closes
 
 pub returns-clause-found : goal.returns-clause-found
@@ -25,5 +25,5 @@ returns-clause-found c =
     let s = c.args.cursor.now.rest.now in
     let n = c.width-width.result in
     let closes : closes_at s n ≡ true =
-      sym (c.closes_at.ensures ∙ ap (λ b. closes_at b n) c.as_bytes.ensures.value) ∙ c.if-not-closes_at.false in
+    sym (c.closes_at.ensures ∙ ap (λ b. closes_at b n) c.as_bytes.ensures.value) ∙ c.if-not-closes_at.false in
     rw c.take.ensures.rest (end_found s (sign_view c.of-sign.result) n c.of-sign.ensures c.width-width.ensures closes)

@@ -1,5 +1,4 @@
-use Rattle.std.proofs.Common.{◌≡◌, List, ◌++◌, map, length, option_map}
-use Rattle.template_compiler_tree.specs.Tree.{Statement}
+use Rattle.std.proofs.Common.{◌≡◌, ◌++◌, map, length, option_map}
 use Rattle.template_compiler_tree.specs.View.{statement_of}
 use Rattle.template_compiler_grammar.specs.Segments.{plain}
 use Rattle.template_compiler_grammar.specs.Reader.{read_from}

@@ -7,5 +7,5 @@ use Rattle.template_compiler_parser.proofs.template.read_step.Goals as goal
 pub returns-in_ok-read_data-in-None : goal.returns-in_ok-read_data-in-None
 returns-in_ok-read_data-in-None c =
     last_taken (sign_view c.args.left) c.args.cursor.now.rest.now (map statement_of c.args.children.now.items)
-      (map statement_of c.read_data.new.children.items)
-      (λ k starts. c.in-None.ensures k (rw c.as_bytes.ensures.value starts)) c.in_ok-read_data-in-None.ensures.ok
+    (map statement_of c.read_data.new.children.items)
+    (λ k starts. c.in-None.ensures k (rw c.as_bytes.ensures.value starts)) c.in_ok-read_data-in-None.ensures.ok
