@@ -6,7 +6,7 @@ use Rattle.template_values_model.specs.Val.{Val, text}
 use Rattle.template_values_core.specs.declared.value.Entry.{Entry}
 use Rattle.template_program_context.specs.Context.{defined_under, texts_in}
 use Rattle.template_program_context.specs.Entries.{SayContext}
-use Rattle.template_program_context.proofs.Last.{option_or_assoc, or_none, last_under-push}
+use Rattle.template_program_context.proofs.Last.{option_or_assoc, or_none, last_at-push}
 
 defined_under-push : (ds : List (String Global × String Global)) (d : String Global × String Global) (name : List ℕ)
     → defined_under (texts_in (ds ++ d ∷ [])) name ≡ option_or (if bytes_eq (string_bytes d.0) name then Some (string_bytes d.1) else None) (defined_under (texts_in ds) name)
@@ -25,5 +25,5 @@ says_by false t found beneath defined h = h
 pub say_definition : (json : Option (List ℕ)) (ds : List (String Global × String Global)) (d : String Global × String Global) (es : List Entry) (e : Entry)
     → e.key ≡ text (string_bytes d.0) → e.value ≡ text (string_bytes d.1) → SayContext json ds es → SayContext json (ds ++ d ∷ []) (es ++ e ∷ [])
 say_definition json ds d es e key value says =
-    λ name. last_under-push es e name ∙ rw (key, value, defined_under-push ds d name)
+    λ name. last_at-push es e name ∙ rw (key, value, defined_under-push ds d name)
     (says_by (bytes_eq (string_bytes d.0) name) (string_bytes d.1) _ _ (defined_under (texts_in ds) name) (says name))

@@ -1,5 +1,5 @@
 -- Members and their values, where members are put one after another.
-use Rattle.std.proofs.Common.{◌≡◌, ℕ, List, [], ◌∷◌, ◌++◌, Bool, true, false, ◌&&◌, Option, None, Some, option_map, true≢false, refl, sym, ap, ◌∙◌, string_bytes, string_cmp, if◌then◌else◌}
+use Rattle.std.proofs.Common.{◌≡◌, ℕ, List, [], ◌∷◌, ◌++◌, Bool, true, false, ◌&&◌, Option, None, Some, true≢false, refl, sym, ◌∙◌, string_bytes, string_cmp, if◌then◌else◌}
 use Rattle.std.specs.List.Sorted.{IsStrictlySortedBy}
 use Rattle.std.specs.Map.{keys_of}
 use Rattle.std.specs.Option.{option_or, option_and_then, is_some}
@@ -14,8 +14,8 @@ use Rattle.serde_json.proofs.Views.{Entry as Member, put_last, get_member-put, g
 use Rattle.template_values_model.specs.Val.{Val, text}
 use Rattle.template_values_core.specs.declared.value.Entry.{Entry}
 use Rattle.template_program_context.specs.Context.{data_in, value_of, all_have_values}
-use Rattle.template_program_context.specs.Entries.{last_under, SayMembers}
-use Rattle.template_program_context.proofs.Last.{last_under-push}
+use Rattle.template_program_context.specs.Entries.{SayMembers}
+use Rattle.template_program_context.proofs.Last.{last_at-push}
 
 pub data_in_text : (bytes : List ℕ) (d : Data) → IsUtf8 bytes → read bytes ≡ Some d → data_in bytes ≡ Some d
 data_in_text bytes d utf8 h = rw (is_utf8-from_IsUtf8 bytes utf8) h
@@ -63,6 +63,6 @@ pub say_one_more : (done : List Member) (m : Member) (left : List Member) (es : 
     → SayMembers (members_view done) es → SayMembers (members_view (done ++ m ∷ [])) (es ++ e ∷ [])
 say_one_more done m left es e sorted key has says = (
   have_one_more done m e.value has says.0,
-  λ name. last_under-push es e name ∙ rw (key, ← put_last done m left sorted)
+  λ name. last_at-push es e name ∙ rw (key, ← put_last done m left sorted)
       (says_by (bytes_eq (string_bytes m.0) name) name (string_bytes m.0) (view m.1) e.value (members_view done) _ refl has (says.1 name)),
 )

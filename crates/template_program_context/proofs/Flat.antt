@@ -1,10 +1,10 @@
 -- Entries whose keys and values nest nothing.
-use Rattle.std.proofs.Common.{◌≡◌, ℕ, ◌+◌, ◌≤◌, List, [], ◌∷◌, ◌++◌, max, Option, None, Some, option_map, Ordering, Less, Equal, Greater, refl, sym, ap, ◌∙◌, arith}
+use Rattle.std.proofs.Common.{◌≡◌, List, [], ◌∷◌, ◌++◌, Some, Ordering, Less, Equal, Greater, refl, arith}
 use Rattle.std.proofs.lemmas.Option.{none-some, same_Some}
 use Rattle.std.specs.Ordering.{match_ordering}
 use Rattle.std.specs.BTreeMap.{insert_entry}
-use Rattle.serde_json.specs.Data.{Num, unsigned, negative, float, Data, null, boolean, number, string, array, object}
-use Rattle.template_values_model.specs.Val.{Val, int, map}
+use Rattle.serde_json.specs.Data.{unsigned, negative, float, Data, null, boolean, number, string, array, object}
+use Rattle.template_values_model.specs.Val.{Val, map}
 use Rattle.template_values_core.specs.Depth.{depth, pairs_depth}
 use Rattle.template_values_core.specs.Maps.{pairs_of, put_all, collected}
 use Rattle.template_values_core.specs.Order.{val_cmp}

@@ -1,4 +1,3 @@
-pub mod Collected
 pub mod Definitions
 pub mod Documents
 pub mod Flat

@@ -1,5 +1,5 @@
 -- The context of a render: what the JSON and the definitions have under each name.
-use Rattle.std.specs.Prelude.{◌≡◌, ℕ, Bool, true, false, ◌&&◌, List, [], ◌∷◌, Option, None, Some, ◌⊎◌, String, string_bytes, map as each, is_some, option_map, option_and_then, if◌then◌else◌}
+use Rattle.std.specs.Prelude.{◌≡◌, ℕ, Bool, true, ◌&&◌, List, [], ◌∷◌, Option, None, Some, ◌⊎◌, String, string_bytes, map as each, is_some, option_map, option_and_then, if◌then◌else◌}
 use Rattle.std.specs.Option.{option_or}
 use Rattle.std.specs.Str.{bytes_eq, is_utf8}
 use Rattle.std.specs.declared.alloc.Global.{Global}

@@ -1,24 +1,13 @@
--- What entries say, the last one first.
-use Rattle.std.specs.Prelude.{◌≡◌, ℕ, true, false, List, [], ◌∷◌, ◌⊎◌, Option, None, Some, option_and_then, if◌then◌else◌, String, string_bytes, map as each}
-use Rattle.std.specs.Option.{option_or}
+-- What entries say under names: the last one with a name counts.
+use Rattle.std.specs.Prelude.{◌≡◌, ℕ, true, List, Option, option_and_then, String}
 use Rattle.std.specs.declared.alloc.Global.{Global}
 use Rattle.serde_json.specs.Data.{Data, Members}
 use Rattle.serde_json.specs.Find.{get, get_member}
-use Rattle.template_values_errors.specs.declared.ErrorKind.{ErrorKind}
-use Rattle.template_values_errors.specs.declared.ErrorKind.TheVariants.{InvalidOperation}
-use Rattle.template_values_model.specs.Val.{Val}
-use Rattle.template_values_model.specs.Lookup.{is_text}
-use Rattle.template_values_core.specs.Answers.{NoMemory}
 use Rattle.template_values_core.specs.Depth.{pairs_depth}
-use Rattle.template_values_core.specs.Maps.{pairs_of}
+use Rattle.template_values_core.specs.Maps.{pairs_of, last_at}
 use Rattle.template_values_core.specs.Shape.{pairs_in}
 use Rattle.template_values_core.specs.declared.value.Entry.{Entry}
 use Rattle.template_program_context.specs.Context.{value_of, all_have_values, member_under, context_under, texts_in}
-
--- the value of the last pair whose key is the text
-abbrev pub last_under : List (Val × Val) → List ℕ → Option Val
-last_under [] name = None
-last_under (p ∷ later) name = option_or (last_under later name) (if is_text name p.0 then Some p.1 else None)
 
 -- no key and no value nests anything
 abbrev pub AreFlat : List Entry → Type 0
@@ -27,16 +16,16 @@ AreFlat entries = pairs_depth (pairs_of (pairs_in entries)) ≡ 0
 -- each member has a value, and the entries say the same as the members
 abbrev pub SayMembers : Members → List Entry → Type 0
 SayMembers members entries = (all_have_values members ≡ true)
-    × ((name : List ℕ) → last_under (pairs_in entries) name ≡ option_and_then value_of (get_member name members))
+    × ((name : List ℕ) → last_at name (pairs_in entries) ≡ option_and_then value_of (get_member name members))
 
 -- the entries say the same as the members of the data
 abbrev pub SayData : Data → List Entry → Type 0
-SayData d entries = (name : List ℕ) → last_under (pairs_in entries) name ≡ option_and_then value_of (get name d)
+SayData d entries = (name : List ℕ) → last_at name (pairs_in entries) ≡ option_and_then value_of (get name d)
 
 -- the entries say the same as the members of the JSON
 abbrev pub SayJson : Option (List ℕ) → List Entry → Type 0
-SayJson json entries = (name : List ℕ) → last_under (pairs_in entries) name ≡ member_under json name
+SayJson json entries = (name : List ℕ) → last_at name (pairs_in entries) ≡ member_under json name
 
 -- the entries say what the context has under every name
 abbrev pub SayContext : Option (List ℕ) → List (String Global × String Global) → List Entry → Type 0
-SayContext json definitions entries = (name : List ℕ) → last_under (pairs_in entries) name ≡ context_under json (texts_in definitions) name
+SayContext json definitions entries = (name : List ℕ) → last_at name (pairs_in entries) ≡ context_under json (texts_in definitions) name

@@ -19,8 +19,8 @@ pub(crate) fn holds_float(value: &Value) -> bool
 }
 
 #[cycle(floats)]
-fn items_hold_float(items: &Vec<Value>) -> bool
-    ensures { result ≡ items_have_float (items_view items.now.items) }
+fn items_hold_float(items: &[Value]) -> bool
+    ensures { result ≡ items_have_float (items_view items.now) }
 {
     for item in items {
         if holds_float(item) {

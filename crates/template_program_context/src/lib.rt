@@ -9,24 +9,26 @@ ghost use Rattle.template_program_context.specs.Entries.{SayJson, SayContext, Ar
 
 mod floats;
 mod members;
+#[cfg(test)]
+mod tests;
 
 use crate::members::{out_of_memory, push, read_members};
 use std::alloc::Global;
 use template_values_core::{Entry, Value};
 use template_values_errors::Error;
 
-/// The context of a render: a map of the JSON object's members, which no JSON leaves empty, and over
-/// them a text for each definition `(NAME, TEXT)`. Of equal names the last one stands. Takes
-/// n log n comparisons for n members and definitions.
+/// The context of a render: a map of the members of a JSON object, which is empty where there are no
+/// bytes, and over them a text for each definition of a name and its text. Of equal names the last
+/// one stands. Takes n log n comparisons for n members and definitions.
 ///
 /// # Errors
 ///
-/// The first of these that holds, alone:
+/// Of these kinds the first that holds, alone:
 ///
-/// - [`ErrorKind::SyntaxError`], if `serde_json` cannot read the bytes.
-/// - [`ErrorKind::NoFloats`], if a number anywhere in them is read as a float.
-/// - [`ErrorKind::InvalidOperation`], if they are no object, or a member is a list or an object.
-/// - [`ErrorKind::OutOfMemory`], at any time.
+/// - `SyntaxError`, if `serde_json` cannot read the bytes.
+/// - `NoFloats`, if a number anywhere in them is read as a float.
+/// - `InvalidOperation`, if they are no object, or a member is a list or an object.
+/// - `OutOfMemory`, at any time.
 pub fn read_context(
     alloc: Global,
     json: Option<&[u8]>,
@@ -51,9 +53,9 @@ fn context_entries(
     ensures refused { IfErr result (IsRefusal (fault_of_json (option_copied json.entry))) }
 {
     let mut entries = json_entries(alloc, json)?;
-    for definition in definitions {
-        let key = text_from(&definition.0)?;
-        let value = text_from(&definition.1)?;
+    for (name, words) in definitions {
+        let key = text_from(name)?;
+        let value = text_from(words)?;
         push(&mut entries, Entry { key, value })?;
     }
     Ok(entries)

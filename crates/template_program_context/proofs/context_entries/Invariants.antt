@@ -5,5 +5,5 @@ use Rattle.template_program_context.specs.Entries.{SayContext, AreFlat}
 use Rattle.template_program_context.proofs.context_entries.Given as goal
 
 -- the entries say what the context has after the definitions so far
-abbrev pub invariant-loop-definition : goal.invariant-loop-definition
-invariant-loop-definition l = SayContext (option_copied l.json) (take l.definition-index l.definitions) l.entries.items × AreFlat l.entries.items × (fault_of_json (option_copied l.json) ≡ None)
+abbrev pub invariant-loop-name : goal.invariant-loop-name
+invariant-loop-name l = SayContext (option_copied l.json) (take l.name-index l.definitions) l.entries.items × AreFlat l.entries.items × (fault_of_json (option_copied l.json) ≡ None)

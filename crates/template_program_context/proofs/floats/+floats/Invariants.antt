@@ -5,7 +5,7 @@ use Rattle.template_program_context.proofs.floats.+floats.Given as goal
 
 abbrev pub invariant-items_hold_float-loop-item : goal.invariant-items_hold_float-loop-item
 invariant-items_hold_float-loop-item l =
-    items_have_float (items_view l.items.items) ≡ items_have_float (items_view (drop l.item-index l.items.items))
+    items_have_float (items_view l.items) ≡ items_have_float (items_view (drop l.item-index l.items))
 
 abbrev pub invariant-members_hold_float-loop-name : goal.invariant-members_hold_float-loop-name
 invariant-members_hold_float-loop-name l =
