@@ -3,3 +3,4 @@ pub mod Runs
 pub mod Correct
 pub mod Balance
 pub mod Statements
+mod Rows
