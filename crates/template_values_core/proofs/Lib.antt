@@ -3,3 +3,4 @@ pub mod PairLemmas
 pub mod LastGiven
 pub mod Halving
 pub mod ReadLemmas
+pub mod OrderLemmas

@@ -1,6 +1,7 @@
 pub mod Code
 pub mod Depth
 pub mod Order
+pub mod OrderLaws
 pub mod Parts
 pub mod Maps
 pub mod Content

@@ -84,7 +84,7 @@ impl Value {
         ensures { result ≡ whole_number self.now }
     {
         match self.content() {
-            Content::Int(number) => Some(number),
+            Content::Int(whole) => Some(whole),
             _ => None,
         }
     }

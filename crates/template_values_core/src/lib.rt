@@ -2,6 +2,7 @@
 #![tactic(auto)]
 
 mod content;
+mod laws;
 mod lists;
 mod lookup;
 mod maps;
@@ -10,4 +11,5 @@ mod print;
 mod value;
 
 pub use content::Content;
+pub use laws::order_laws;
 pub use value::{Entry, Value};

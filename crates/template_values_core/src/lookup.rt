@@ -52,7 +52,7 @@ fn entry_under<'a>(entries: &'a [Entry], key: &Value) -> Option<&'a Value>
     ensures { option_copied result ≡ under key.now (pairs_of (pairs_in entries.now)) }
 {
     match entries.binary_search_by(|entry| entry.key.cmp(key)) {
-        Ok(place) => Some(&entries[place].value),
+        Ok(at) => Some(&entries[at].value),
         Err(_) => None,
     }
 }

@@ -235,7 +235,7 @@ impl Value {
     {
         match self.repr.share() {
             Ok(repr) => Ok(Value {
-                levels: self.levels,
+                levels: self.levels(),
                 repr,
             }),
             Err(_) => Err(Error::new(ErrorKind::OutOfMemory)),

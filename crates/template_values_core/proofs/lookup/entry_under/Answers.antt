@@ -7,8 +7,8 @@ use Rattle.template_values_core.proofs.lookup.entry_under.Goals as goal
 
 pub returns-in-Ok : goal.returns-in-Ok
 returns-in-Ok c =
-    let found = c.in-Ok.ensures.position (λ (e : Entry). val_cmp e.key c.args.key.now) (always_returns_same _ _ _ (λ a r q k. search rules)) c.index-entries-place.result in
-    sym (under-found c.args.key.now c.args.entries.now c.in-Ok.place c.index-entries-place.result c.requires c.in-Ok.ensures.bound found)
+    let found = c.in-Ok.ensures.position (λ (e : Entry). val_cmp e.key c.args.key.now) (always_returns_same _ _ _ (λ a r q k. search rules)) c.index-entries-at.result in
+    sym (under-found c.args.key.now c.args.entries.now c.in-Ok.at c.index-entries-at.result c.requires c.in-Ok.ensures.bound found)
 
 pub returns-in-Err : goal.returns-in-Err
 returns-in-Err c =
