@@ -1,9 +1,8 @@
 //! What `clap` found in the words.
-ghost use Rattle.std.specs.Prelude.{◌≡◌, map, IfErr, IfOk};
+ghost use Rattle.std.specs.Prelude.{◌≡◌, [], codes, map, IfErr, IfOk};
 ghost use Rattle.clap.specs.Words.{found_of, rows_of, subcommand_rows_of};
 ghost use Rattle.template_program_words.specs.Reading.{Defines, Reads, ReadsNames, ReadsRender, values_of};
-ghost use Rattle.template_program_words.specs.Refusals.{FindsNone, Refuses, RefusesDefinitions};
-ghost use Rattle.std.specs.Prelude.{[], codes};
+ghost use Rattle.template_program_words.specs.Refusals.{Refuses, RefusesDefinitions};
 
 use crate::definitions::{Definition, split_definition};
 use crate::faults::WordsFault;
