@@ -1,5 +1,5 @@
 pub mod Definitions
 pub mod Documents
-pub mod Flat
 pub mod Last
 pub mod Made
+pub mod Plain

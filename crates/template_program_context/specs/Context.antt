@@ -1,5 +1,7 @@
 -- The context of a render: what the JSON and the definitions have under each name.
 use Rattle.std.specs.Prelude.{◌≡◌, ℕ, Bool, true, ◌&&◌, List, [], ◌∷◌, Option, None, Some, ◌⊎◌, String, string_bytes, map as each, is_some, option_map, option_and_then, if◌then◌else◌}
+use Rattle.std.specs.List.{All}
+use Rattle.std.specs.Map.{keys_of}
 use Rattle.std.specs.Option.{option_or}
 use Rattle.std.specs.Str.{bytes_eq, is_utf8}
 use Rattle.std.specs.declared.alloc.Global.{Global}
@@ -9,9 +11,10 @@ use Rattle.serde_json.specs.Read.{read}
 use Rattle.serde_json.specs.Written.{has_float}
 use Rattle.template_values_errors.specs.declared.ErrorKind.{ErrorKind}
 use Rattle.template_values_errors.specs.declared.ErrorKind.TheVariants.{SyntaxError, InvalidOperation, NoFloats}
-use Rattle.template_values_model.specs.Val.{Val, Pairs, none, truth, int, text, map}
+use Rattle.template_values_model.specs.Val.{Val, none, truth, int, text, map}
 use Rattle.template_values_model.specs.Lookup.{value_at}
 use Rattle.template_values_core.specs.Answers.{NoMemory}
+use Rattle.template_values_core.specs.Maps.{pairs_of}
 
 -- what the bytes say as JSON, where they are a text that can be read
 abbrev pub data_in : List ℕ → Option Data
@@ -62,12 +65,16 @@ texts_in definitions = each (λ d. (string_bytes d.0, string_bytes d.1)) definit
 abbrev pub context_under : Option (List ℕ) → List (List ℕ × List ℕ) → List ℕ → Option Val
 context_under json definitions name = option_or (option_map text (defined_under definitions name)) (member_under json name)
 
-abbrev pub IsMap : Val → Type 0
-IsMap v = (pairs : Pairs) × (v ≡ map pairs)
+abbrev pub IsPlainText : Val → Type 0
+IsPlainText v = (bytes : List ℕ) × (v ≡ text bytes)
 
--- the context: a map that has this under every name
+-- a map whose keys are plain texts
+abbrev pub IsTextMap : Val → Type 0
+IsTextMap v = (pairs : List (Val × Val)) × (v ≡ map (pairs_of pairs)) × All IsPlainText (keys_of pairs)
+
+-- the context: such a map that has this under every name
 abbrev pub IsContext : Option (List ℕ) → List (List ℕ × List ℕ) → Val → Type 0
-IsContext json definitions v = IsMap v × ((name : List ℕ) → value_at name v ≡ context_under json definitions name)
+IsContext json definitions v = IsTextMap v × ((name : List ℕ) → value_at name v ≡ context_under json definitions name)
 
 -- the error is want of memory, or the fault alone
 abbrev pub IsRefusal : Option ErrorKind → List ErrorKind → Type 0

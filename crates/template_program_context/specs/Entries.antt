@@ -1,17 +1,18 @@
 -- What entries say under names: the last one with a name counts.
-use Rattle.std.specs.Prelude.{◌≡◌, ℕ, true, List, Option, option_and_then, String}
+use Rattle.std.specs.Prelude.{◌≡◌, ℕ, true, List, Option, option_and_then, String, [], ◌∷◌}
 use Rattle.std.specs.declared.alloc.Global.{Global}
 use Rattle.serde_json.specs.Data.{Data, Members}
 use Rattle.serde_json.specs.Find.{get, get_member}
-use Rattle.template_values_core.specs.Depth.{pairs_depth}
-use Rattle.template_values_core.specs.Maps.{pairs_of, last_at}
+use Rattle.template_values_core.specs.Depth.{depth}
+use Rattle.template_values_core.specs.Maps.{last_at}
 use Rattle.template_values_core.specs.Shape.{pairs_in}
 use Rattle.template_values_core.specs.declared.value.Entry.{Entry}
-use Rattle.template_program_context.specs.Context.{value_of, all_have_values, member_under, context_under, texts_in}
+use Rattle.template_program_context.specs.Context.{value_of, all_have_values, member_under, context_under, texts_in, IsPlainText}
 
--- no key and no value nests anything
-abbrev pub AreFlat : List Entry → Type 0
-AreFlat entries = pairs_depth (pairs_of (pairs_in entries)) ≡ 0
+-- keys are plain texts, and values nest nothing
+abbrev pub ArePlain : List Entry → Type 0
+ArePlain [] = Unit {0}
+ArePlain (e ∷ later) = IsPlainText e.key × (depth e.value ≡ 0) × ArePlain later
 
 -- each member has a value, and the entries say the same as the members
 abbrev pub SayMembers : Members → List Entry → Type 0

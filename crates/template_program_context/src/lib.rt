@@ -5,7 +5,7 @@ ghost use Rattle.std.specs.Prelude.{◌≡◌, None, IfOk, IfErr, string_bytes, 
 ghost use Rattle.template_values_model.specs.Val.{text};
 ghost use Rattle.template_values_core.specs.Answers.{NoMemory};
 ghost use Rattle.template_program_context.specs.Context.{fault_of_json, texts_in, IsContext, IsRefusal};
-ghost use Rattle.template_program_context.specs.Entries.{SayJson, SayContext, AreFlat};
+ghost use Rattle.template_program_context.specs.Entries.{SayJson, SayContext, ArePlain};
 
 mod floats;
 mod members;
@@ -49,7 +49,7 @@ fn context_entries(
 ) -> Result<Vec<Entry>, Error>
     ensures faultless { IfOk result (λ _. fault_of_json (option_copied json.entry) ≡ None) }
     ensures says { IfOk result (λ es. SayContext (option_copied json.entry) definitions.now es.items) }
-    ensures flat { IfOk result (λ es. AreFlat es.items) }
+    ensures plain { IfOk result (λ es. ArePlain es.items) }
     ensures refused { IfErr result (IsRefusal (fault_of_json (option_copied json.entry))) }
 {
     let mut entries = json_entries(alloc, json)?;
@@ -65,7 +65,7 @@ fn context_entries(
 fn json_entries(alloc: Global, json: Option<&[u8]>) -> Result<Vec<Entry>, Error>
     ensures faultless { IfOk result (λ _. fault_of_json (option_copied json.entry) ≡ None) }
     ensures says { IfOk result (λ es. SayJson (option_copied json.entry) es.items) }
-    ensures flat { IfOk result (λ es. AreFlat es.items) }
+    ensures plain { IfOk result (λ es. ArePlain es.items) }
     ensures refused { IfErr result (IsRefusal (fault_of_json (option_copied json.entry))) }
 {
     match json {

@@ -4,7 +4,7 @@ ghost use Rattle.serde_json.specs.Errors.{IsMemory};
 ghost use Rattle.serde_json.specs.View.{view, members_view};
 ghost use Rattle.template_values_core.specs.Answers.{NoMemory};
 ghost use Rattle.template_program_context.specs.Context.{value_of, all_have_values, data_in, fault_of_top, fault_of_json, IsRefusal};
-ghost use Rattle.template_program_context.specs.Entries.{SayMembers, SayData, SayJson, AreFlat};
+ghost use Rattle.template_program_context.specs.Entries.{SayMembers, SayData, SayJson, ArePlain};
 
 use crate::floats::holds_float;
 use serde_json::{Map, Value as Json};
@@ -16,7 +16,7 @@ use template_values_errors::{Error, ErrorKind};
 pub(crate) fn read_members(alloc: Global, bytes: &[u8]) -> Result<Vec<Entry>, Error>
     ensures faultless { IfOk result (λ _. fault_of_json (Some bytes.now) ≡ None) }
     ensures says { IfOk result (λ es. SayJson (Some bytes.now) es.items) }
-    ensures flat { IfOk result (λ es. AreFlat es.items) }
+    ensures plain { IfOk result (λ es. ArePlain es.items) }
     ensures refused { IfErr result (IsRefusal (fault_of_json (Some bytes.now))) }
 {
     let document = read_document(alloc, bytes)?;
@@ -54,7 +54,7 @@ fn refusal_of(error: serde_json::Error) -> Error
 fn object_entries(alloc: Global, document: Json) -> Result<Vec<Entry>, Error>
     ensures faultless { IfOk result (λ _. fault_of_top (view document) ≡ None) }
     ensures says { IfOk result (λ es. SayData (view document) es.items) }
-    ensures flat { IfOk result (λ es. AreFlat es.items) }
+    ensures plain { IfOk result (λ es. ArePlain es.items) }
     ensures refused { IfErr result (IsRefusal (fault_of_top (view document))) }
 {
     match document {
@@ -66,12 +66,12 @@ fn object_entries(alloc: Global, document: Json) -> Result<Vec<Entry>, Error>
 /// One entry for each member.
 fn entries_of(alloc: Global, members: Map<String, Json>) -> Result<Vec<Entry>, Error>
     ensures says { IfOk result (λ es. SayMembers (members_view members.entries) es.items) }
-    ensures flat { IfOk result (λ es. AreFlat es.items) }
+    ensures plain { IfOk result (λ es. ArePlain es.items) }
     ensures refused { IfErr result (λ e. NoMemory e
         ⊎ ((all_have_values (members_view members.entries) ≡ false)
         × (e ≡ ErrorKind.InvalidOperation ∷ []))) }
 {
-    let mut entries = Vec::with_capacity(alloc, members.len()).map_err(out_of_memory)?;
+    let mut entries = Vec::new(alloc);
     for (name, member) in members {
         let value = value_from(member)?;
         let key = Value::from_text(name)?;

@@ -3,7 +3,7 @@ use Rattle.std.proofs.lemmas.List.{take_more}
 use Rattle.template_values_core.specs.Depth.{depth}
 use Rattle.template_values_core.specs.declared.value.Entry.{Entry}
 use Rattle.template_program_context.proofs.Definitions.{say_definition}
-use Rattle.template_program_context.proofs.Flat.{flat_push}
+use Rattle.template_program_context.proofs.Plain.{plain_push}
 use Rattle.template_program_context.proofs.context_entries.Goals as goal
 
 pub loop-name-preserved : goal.loop-name-preserved
@@ -15,6 +15,6 @@ loop-name-preserved c =
     let more : take (i + 1) ds ≡ take i ds ++ d ∷ [] = take_more ds i d c.loop-name-test.true ∙ ap (λ x. take i ds ++ x ∷ []) (sym c.loop-name-item.is) in
     rw (c.in_ok-push.ensures.pushed, more) (
       say_definition _ (take i ds) d c.loop-name.entries.items e c.in_ok-key.ensures.is c.in_ok-value.ensures.is c.loop-name.invariant.0,
-      flat_push c.loop-name.entries.items e (ap depth c.in_ok-key.ensures.is) (ap depth c.in_ok-value.ensures.is) c.loop-name.invariant.1,
+      plain_push c.loop-name.entries.items e (_, c.in_ok-key.ensures.is) (ap depth c.in_ok-value.ensures.is) c.loop-name.invariant.1,
       c.loop-name.invariant.2,
     )

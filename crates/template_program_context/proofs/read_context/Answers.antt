@@ -6,11 +6,11 @@ use Rattle.template_program_context.proofs.read_context.Goals as goal
 pub returns-clause-context : goal.returns-clause-context
 returns-clause-context c =
     let entries = c.in_ok-context_entries in
-    made_context (option_copied c.args.json) c.args.definitions.now entries.field-0.items c.from_map.result entries.ensures.says c.from_map.ensures.made c.from_map.ensures.last
+    made_context (option_copied c.args.json) c.args.definitions.now entries.field-0.items c.from_map.result entries.ensures.says entries.ensures.plain c.from_map.ensures.made c.from_map.ensures.last
 
 pub returns-clause-refused : goal.returns-clause-refused
 returns-clause-refused c =
     let entries = c.in_ok-context_entries in
-    MatchResult-weaker c.from_map.result (only_memory entries.field-0.items c.from_map.result entries.ensures.flat c.from_map.ensures.refused)
+    MatchResult-weaker c.from_map.result (only_memory entries.field-0.items c.from_map.result entries.ensures.plain c.from_map.ensures.refused)
     (λ v made. tt)
     (λ kinds memory. inl memory)

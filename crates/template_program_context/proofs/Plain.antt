@@ -1,6 +1,9 @@
--- Entries whose keys and values nest nothing.
-use Rattle.std.proofs.Common.{◌≡◌, List, [], ◌∷◌, ◌++◌, Some, Ordering, Less, Equal, Greater, refl, arith}
+-- Entries whose keys are plain texts and whose values nest nothing.
+use Rattle.std.proofs.Common.{◌≡◌, List, [], ◌∷◌, ◌++◌, Some, Ordering, Less, Equal, Greater, refl, ap, arith}
 use Rattle.std.proofs.lemmas.Option.{none-some, same_Some}
+use Rattle.std.proofs.lemmas.Map.Views.{All-keys-insert_entry}
+use Rattle.std.specs.List.{All}
+use Rattle.std.specs.Map.{keys_of}
 use Rattle.std.specs.Ordering.{match_ordering}
 use Rattle.std.specs.BTreeMap.{insert_entry}
 use Rattle.serde_json.specs.Data.{unsigned, negative, float, Data, null, boolean, number, string, array, object}
@@ -10,13 +13,12 @@ use Rattle.template_values_core.specs.Maps.{pairs_of, put_all, collected}
 use Rattle.template_values_core.specs.Order.{val_cmp}
 use Rattle.template_values_core.specs.Shape.{pairs_in}
 use Rattle.template_values_core.specs.declared.value.Entry.{Entry}
-use Rattle.template_program_context.specs.Context.{value_of}
-use Rattle.template_program_context.specs.Entries.{AreFlat}
+use Rattle.template_program_context.specs.Context.{value_of, IsPlainText}
+use Rattle.template_program_context.specs.Entries.{ArePlain}
 
-pub flat_push : (es : List Entry) (e : Entry) → depth e.key ≡ 0 → depth e.value ≡ 0 → AreFlat es → AreFlat (es ++ e ∷ [])
-flat_push [] e key value h = omega arith
-flat_push (first ∷ es) e key value h =
-    let later = flat_push es e key value (omega arith) in omega arith
+pub plain_push : (es : List Entry) (e : Entry) → IsPlainText e.key → depth e.value ≡ 0 → ArePlain es → ArePlain (es ++ e ∷ [])
+plain_push [] e key value h = (key, value, tt)
+plain_push (first ∷ es) e key value h = (h.0, h.1, plain_push es e key value h.2)
 
 some_flat : (v w : Val) → depth v ≡ 0 → Some v ≡ Some w → depth w ≡ 0
 some_flat v w h e = rw (← same_Some v w e) h
@@ -42,10 +44,17 @@ flat_insert_entry [] k v h key value = omega arith
 flat_insert_entry (p ∷ ps) k v h key value =
     flat_at (val_cmp k p.0) k v p ps (insert_entry val_cmp ps k v) h key value (flat_insert_entry ps k v (omega arith) key value)
 
-flat_put_all : (ps given : List (Val × Val)) → pairs_depth (pairs_of ps) ≡ 0 → pairs_depth (pairs_of given) ≡ 0 → pairs_depth (pairs_of (put_all ps given)) ≡ 0
-flat_put_all ps [] h g = h
-flat_put_all ps (p ∷ given) h g = flat_put_all (insert_entry val_cmp ps p.0 p.1) given (flat_insert_entry ps p.0 p.1 h (omega arith) (omega arith)) (omega arith)
+flat_put_all : (kept : List (Val × Val)) (es : List Entry) → pairs_depth (pairs_of kept) ≡ 0 → ArePlain es → pairs_depth (pairs_of (put_all kept (pairs_in es))) ≡ 0
+flat_put_all kept [] h plain = h
+flat_put_all kept (e ∷ es) h plain =
+    flat_put_all (insert_entry val_cmp kept e.key e.value) es (flat_insert_entry kept e.key e.value h (ap depth plain.0.1) plain.1) plain.2
 
 -- a map of such entries is one level deep
-pub flat_map : (es : List Entry) → AreFlat es → depth (map (collected (pairs_in es))) ≡ 1
-flat_map es h = let flat = flat_put_all [] (pairs_in es) refl h in omega arith
+pub one_level : (es : List Entry) → ArePlain es → depth (map (collected (pairs_in es))) ≡ 1
+one_level es plain = let flat = flat_put_all [] es refl plain in omega arith
+
+-- and its keys are plain texts
+pub text_keys : (kept : List (Val × Val)) (es : List Entry) → All IsPlainText (keys_of kept) → ArePlain es → All IsPlainText (keys_of (put_all kept (pairs_in es)))
+text_keys kept [] h plain = h
+text_keys kept (e ∷ es) h plain =
+    text_keys (insert_entry val_cmp kept e.key e.value) es (All-keys-insert_entry val_cmp e.key e.value IsPlainText kept h plain.0) plain.2
