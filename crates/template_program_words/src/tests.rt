@@ -118,8 +118,12 @@ fn reads_fuel(rt: HostRuntime) {
 
 #[test]
 fn refuses_what_it_does_not_take(rt: HostRuntime) {
-    let refused: [&[&str]; 20] = [
-        &[],
+    let none: [&str; 0] = [];
+    assert_eq!(rt;
+        fault_word(read_words(rt.alloc(), none.as_slice())),
+        "usage"
+    );
+    let refused: [&[&str]; 19] = [
         &["paint"],
         &["--main", "a"],
         &["render", "--main", "a", "--main", "b"],
