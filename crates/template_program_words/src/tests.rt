@@ -208,13 +208,17 @@ fn tells_what_it_refused(rt: HostRuntime) -> Result<(), Fail> {
     }
     match read_words(rt.alloc(), ["help"].as_slice()) {
         Err(WordsFault::Help(text)) => {
-            println!(rt; "{text}")?;
             assert!(rt; text.as_str().contains("Usage: template <COMMAND>"));
         }
         _ => panic!(rt; "it shows no help"),
     }
     match read_words(rt.alloc(), ["render", "--help"].as_slice()) {
-        Err(WordsFault::Help(text)) => println!(rt; "{text}")?,
+        Err(WordsFault::Help(text)) => {
+            assert!(rt;
+                text.as_str()
+                    .contains("Usage: template render [OPTIONS] [FILE]...")
+            );
+        }
         _ => panic!(rt; "it shows no help"),
     }
     Ok(())
