@@ -56,8 +56,12 @@ fn perform<S: Sink>(
     sink: &mut S,
 ) -> Result<(), Error>
     requires { IsSome (depth_after (code_of instruction.now ∷ []) (vec_len operands.old)) }
-    ensures acts { Acts (code_of instruction.now) (first_scopes context.now.value.now) (reverse operands.old.items) (reverse operands.new.items) result (S.taken sink.old) (S.taken sink.new) }
-    ensures depth { OnOk result (depth_after (code_of instruction.now ∷ []) (vec_len operands.old) ≡ Some (vec_len operands.new)) }
+    ensures acts { let before = reverse operands.old.items in
+        let after = reverse operands.new.items in
+        Acts (code_of instruction.now) (first_scopes context.now.value.now) before after
+        result (S.taken sink.old) (S.taken sink.new) }
+    ensures depth { let left = depth_after (code_of instruction.now ∷ []) (vec_len operands.old) in
+        OnOk result (left ≡ Some (vec_len operands.new)) }
     ensures failures { TellsFailures result (S.failures sink.old) (S.failures sink.new) }
 {
     match instruction {
@@ -86,10 +90,16 @@ pub fn run_code<S: Sink>(
     sink: &mut S,
 ) -> Result<(), Error>
     ensures outcome { ComesOut result (code_run (fuel_left fuel.old) code.now.instructions.code context.now) }
-    ensures text { EndsAs result (code_run (fuel_left fuel.old) code.now.instructions.code context.now) → Appends (S.taken sink.old) (S.taken sink.new) (text_of (code_run (fuel_left fuel.old) code.now.instructions.code context.now).items) }
-    ensures beginning { AppendsBeginning (S.taken sink.old) (S.taken sink.new) (text_of (code_run (fuel_left fuel.old) code.now.instructions.code context.now).items) }
+    ensures text { let run = code_run (fuel_left fuel.old) code.now.instructions.code context.now in
+        EndsAs result run → Appends (S.taken sink.old) (S.taken sink.new) (text_of run.items) }
+    ensures beginning { let run = code_run (fuel_left fuel.old) code.now.instructions.code context.now in
+        AppendsBeginning (S.taken sink.old) (S.taken sink.new) (text_of run.items) }
+
+    // The sink's failures, and the fuel.
     ensures failures { TellsFailures result (S.failures sink.old) (S.failures sink.new) }
-    ensures left { EndsAs result (code_run (fuel_left fuel.old) code.now.instructions.code context.now) → fuel_left fuel.new ≡ code_leaves (fuel_left fuel.old) code.now.instructions.code context.now }
+    ensures left { let leaves = code_leaves (fuel_left fuel.old) code.now.instructions.code context.now in
+        EndsAs result (code_run (fuel_left fuel.old) code.now.instructions.code context.now)
+        → fuel_left fuel.new ≡ leaves }
     ensures set { fuel_set fuel.new ≡ fuel_set fuel.old }
 {
     let context = Context { value: context };
