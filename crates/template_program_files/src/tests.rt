@@ -78,5 +78,7 @@ fn reads_files(rt: HostRuntime) -> Result<(), Fail> {
         let refused = read_text_file(&rt, path, 6);
         assert_eq!(rt; refused.err(), Some(FileFault::File), "{path}");
     }
+    fs::remove_file(&rt, "hello.txt")?;
+    fs::remove_file(&rt, "bytes.txt")?;
     Ok(())
 }
