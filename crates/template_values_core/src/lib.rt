@@ -8,6 +8,8 @@ mod lookup;
 mod maps;
 mod order;
 mod print;
+#[cfg(test)]
+mod tests;
 mod value;
 
 pub use content::Content;
