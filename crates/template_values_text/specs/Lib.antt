@@ -1,0 +1,6 @@
+pub mod Answers
+pub mod Known
+pub mod Views
+pub mod Escapes
+pub mod Printed
+pub mod Pieces

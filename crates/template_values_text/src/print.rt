@@ -1,0 +1,303 @@
+//! The text that a value prints.
+ghost use Rattle.std.specs.Prelude.{◌≡◌, [], Ok, codes, string_bytes};
+ghost use Rattle.template_values_model.specs.Val.{vals_of};
+ghost use Rattle.template_values_core.specs.Maps.{pairs_of};
+ghost use Rattle.template_values_core.specs.Shape.{pairs_in};
+ghost use Rattle.template_values_text.specs.Answers.{Appends, joined};
+ghost use Rattle.template_values_text.specs.Pieces.{Writes};
+ghost use Rattle.template_values_text.specs.Printed.{enclosed, flat_text, inner_text, level_limit, loop_text, macro_text, map_text, namespace_text, nested_text, pair_text, pairs_text, place_text, printed, tuple_end, vals_text};
+
+use crate::pieces::{Markup, Quoting, push, push_bytes, push_quoted};
+use crate::records::Records;
+use itoa::Buffer;
+use template_values_core::{Content, Entry, Value};
+use template_values_errors::{Error, ErrorKind};
+
+/// Appends the text that the value prints to `out`, which a refusal leaves as it was. Namespaces are
+/// followed. Takes time linear in the text.
+///
+/// # Errors
+///
+/// - [`ErrorKind::InvalidOperation`], if a record is foreign, or if the value with the records that it
+///   leads to nests deeper than 500 levels.
+/// - [`ErrorKind::OutOfMemory`]
+pub fn print_to<R: Records>(value: &Value, records: &R, out: &mut String) -> Result<(), Error>
+    ensures { Appends (string_bytes out.old) (printed (R.known records.now) value.now) result (string_bytes out.new) }
+{
+    let length = out.as_str().len();
+    match print_outer(value, Markup::Plain, records, out) {
+        Ok(()) => Ok(()),
+        Err(error) => {
+            out.truncate(length);
+            Err(error)
+        }
+    }
+}
+
+/// Writes the text that the value prints.
+pub(crate) fn print_outer<R: Records>(
+    value: &Value,
+    markup: Markup,
+    records: &R,
+    out: &mut String,
+) -> Result<(), Error>
+    ensures { Writes markup (string_bytes out.old) (printed (R.known records.now) value.now) result (string_bytes out.new) }
+{
+    match value.content() {
+        Content::Undefined => push(out, markup, ""),
+        Content::SilentUndefined => push(out, markup, ""),
+        Content::Text(text) => push(out, markup, text),
+        Content::SafeText(text) => push(out, markup, text),
+        _ => print_inner(value, markup, records, deepest(), out),
+    }
+}
+
+// How deep values may nest that are printed.
+fn deepest() -> u32
+    ensures { result ≡ level_limit }
+{
+    500
+}
+
+#[cycle(print)]
+fn print_inner<R: Records>(
+    value: &Value,
+    markup: Markup,
+    records: &R,
+    left: u32,
+    out: &mut String,
+) -> Result<(), Error>
+    ensures { Writes markup (string_bytes out.old) (inner_text (R.known records.now) left value.now) result (string_bytes out.new) }
+{
+    if left == 0 {
+        return print_flat(value, markup, records, out);
+    }
+    print_nested(value, markup, records, left - 1, out)
+}
+
+#[cycle(print)]
+fn print_nested<R: Records>(
+    value: &Value,
+    markup: Markup,
+    records: &R,
+    left: u32,
+    out: &mut String,
+) -> Result<(), Error>
+    ensures { Writes markup (string_bytes out.old) (nested_text (R.known records.now) (inner_text (R.known records.now) left) value.now) result (string_bytes out.new) }
+{
+    match value.content() {
+        Content::List(items) => print_list(items, "[", "]", markup, records, left, out),
+        Content::Tuple(items) => print_list(
+            items,
+            "(",
+            tuple_end(items),
+            markup,
+            records,
+            left,
+            out,
+        ),
+        Content::Map(entries) => print_map(entries, markup, records, left, out),
+        Content::KeywordMap(entries) => print_map(entries, markup, records, left, out),
+        Content::Module(_entries, text) => push(out, markup, text),
+        Content::Namespace(id, number) => print_namespace(id, number, markup, records, left, out),
+        _ => print_flat(value, markup, records, out),
+    }
+}
+
+#[cycle(print)]
+fn print_list<R: Records>(
+    items: &[Value],
+    first: &str,
+    last: &str,
+    markup: Markup,
+    records: &R,
+    left: u32,
+    out: &mut String,
+) -> Result<(), Error>
+    ensures { Writes markup (string_bytes out.old) (enclosed first.now (vals_text [] (inner_text (R.known records.now) left) (vals_of items.now)) last.now) result (string_bytes out.new) }
+{
+    push(out, markup, first)?;
+    print_items(items, markup, records, left, out)?;
+    push(out, markup, last)
+}
+
+#[cycle(print)]
+fn print_items<R: Records>(
+    items: &[Value],
+    markup: Markup,
+    records: &R,
+    left: u32,
+    out: &mut String,
+) -> Result<(), Error>
+    ensures { Writes markup (string_bytes out.old) (vals_text [] (inner_text (R.known records.now) left) (vals_of items.now)) result (string_bytes out.new) }
+{
+    let mut before = "";
+    for item in items {
+        print_item(before, item, markup, records, left, out)?;
+        before = ", ";
+    }
+    Ok(())
+}
+
+#[cycle(print)]
+fn print_item<R: Records>(
+    before: &str,
+    item: &Value,
+    markup: Markup,
+    records: &R,
+    left: u32,
+    out: &mut String,
+) -> Result<(), Error>
+    ensures { Writes markup (string_bytes out.old) (joined (Ok before.now) (inner_text (R.known records.now) left item.now)) result (string_bytes out.new) }
+{
+    push(out, markup, before)?;
+    print_inner(item, markup, records, left, out)
+}
+
+#[cycle(print)]
+fn print_namespace<R: Records>(
+    id: u64,
+    number: usize,
+    markup: Markup,
+    records: &R,
+    left: u32,
+    out: &mut String,
+) -> Result<(), Error>
+    ensures { Writes markup (string_bytes out.old) (namespace_text (inner_text (R.known records.now) left) ((R.known records.now).namespaces id number)) result (string_bytes out.new) }
+{
+    match records.namespace(id, number) {
+        Some(entries) => print_map(entries, markup, records, left, out),
+        None => Err(Error::new(ErrorKind::InvalidOperation)),
+    }
+}
+
+#[cycle(print)]
+fn print_map<R: Records>(
+    entries: &[Entry],
+    markup: Markup,
+    records: &R,
+    left: u32,
+    out: &mut String,
+) -> Result<(), Error>
+    ensures { Writes markup (string_bytes out.old) (map_text (inner_text (R.known records.now) left) (pairs_of (pairs_in entries.now))) result (string_bytes out.new) }
+{
+    push(out, markup, "{")?;
+    print_entries(entries, markup, records, left, out)?;
+    push(out, markup, "}")
+}
+
+#[cycle(print)]
+fn print_entries<R: Records>(
+    entries: &[Entry],
+    markup: Markup,
+    records: &R,
+    left: u32,
+    out: &mut String,
+) -> Result<(), Error>
+    ensures { Writes markup (string_bytes out.old) (pairs_text [] (inner_text (R.known records.now) left) (pairs_of (pairs_in entries.now))) result (string_bytes out.new) }
+{
+    let mut before = "";
+    for entry in entries {
+        print_entry(before, entry, markup, records, left, out)?;
+        before = ", ";
+    }
+    Ok(())
+}
+
+#[cycle(print)]
+fn print_entry<R: Records>(
+    before: &str,
+    entry: &Entry,
+    markup: Markup,
+    records: &R,
+    left: u32,
+    out: &mut String,
+) -> Result<(), Error>
+    ensures { Writes markup (string_bytes out.old) (joined (Ok before.now) (pair_text (inner_text (R.known records.now) left) entry.now.key entry.now.value)) result (string_bytes out.new) }
+{
+    push(out, markup, before)?;
+    print_inner(&entry.key, markup, records, left, out)?;
+    push(out, markup, ": ")?;
+    print_inner(&entry.value, markup, records, left, out)
+}
+
+// A tuple of one value has a comma behind it.
+#[tactic(auto, using(crate::proofs::PrintLemmas::tuple_ends))]
+fn tuple_end(items: &[Value]) -> &'static str
+    ensures { result.now ≡ tuple_end (vals_of items.now) }
+{
+    if items.len() == 1 { ",)" } else { ")" }
+}
+
+fn print_flat<R: Records>(
+    value: &Value,
+    markup: Markup,
+    records: &R,
+    out: &mut String,
+) -> Result<(), Error>
+    ensures { Writes markup (string_bytes out.old) (flat_text (R.known records.now) value.now) result (string_bytes out.new) }
+{
+    match value.content() {
+        Content::Undefined => push(out, markup, "undefined"),
+        Content::SilentUndefined => push(out, markup, "undefined"),
+        Content::None => push(out, markup, "none"),
+        Content::Truth(true) => push(out, markup, "true"),
+        Content::Truth(false) => push(out, markup, "false"),
+        Content::Int(number) => push(out, markup, Buffer::new().format(number)),
+        Content::Text(text) => push_quoted(out, markup, Quoting::Printed, text),
+        Content::SafeText(text) => push_quoted(out, markup, Quoting::Printed, text),
+        Content::Bytes(bytes) => push_bytes(out, markup, bytes),
+        Content::Function(_id, _number) => push(out, markup, "<function>"),
+        Content::Loop(id, number) => print_loop(id, number, markup, records, out),
+        Content::Macro(id, number) => print_macro(id, number, markup, records, out),
+        _ => Err(Error::new(ErrorKind::InvalidOperation)),
+    }
+}
+
+fn print_loop<R: Records>(
+    id: u64,
+    number: usize,
+    markup: Markup,
+    records: &R,
+    out: &mut String,
+) -> Result<(), Error>
+    ensures { Writes markup (string_bytes out.old) (loop_text ((R.known records.now).loops id number)) result (string_bytes out.new) }
+{
+    match records.loop_view(id, number) {
+        Some(view) => print_place(view.place.unwrap_or(0), view.items.len(), markup, out),
+        None => Err(Error::new(ErrorKind::InvalidOperation)),
+    }
+}
+
+fn print_place(place: usize, count: usize, markup: Markup, out: &mut String) -> Result<(), Error>
+    ensures { Writes markup (string_bytes out.old) (place_text place count) result (string_bytes out.new) }
+{
+    push(out, markup, "<loop ")?;
+    push(out, markup, Buffer::new().format(place))?;
+    push(out, markup, "/")?;
+    push(out, markup, Buffer::new().format(count))?;
+    push(out, markup, ">")
+}
+
+fn print_macro<R: Records>(
+    id: u64,
+    number: usize,
+    markup: Markup,
+    records: &R,
+    out: &mut String,
+) -> Result<(), Error>
+    ensures { Writes markup (string_bytes out.old) (macro_text ((R.known records.now).macros id number)) result (string_bytes out.new) }
+{
+    match records.macro_view(id, number) {
+        Some(view) => print_name(view.name, markup, out),
+        None => Err(Error::new(ErrorKind::InvalidOperation)),
+    }
+}
+
+fn print_name(name: &str, markup: Markup, out: &mut String) -> Result<(), Error>
+    ensures { Writes markup (string_bytes out.old) (enclosed (codes "<macro ") (Ok name.now) (codes ">")) result (string_bytes out.new) }
+{
+    push(out, markup, "<macro ")?;
+    push(out, markup, name)?;
+    push(out, markup, ">")
+}
