@@ -1,0 +1,2 @@
+pub mod UsedBySome
+pub mod Faithful

@@ -1,0 +1,14 @@
+-- What stands in an environment.
+use Rattle.std.specs.Prelude.{◌≡◌, ℕ, List, Option, Some}
+use Rattle.std.specs.Option.{option_map}
+use Rattle.std.specs.BTreeMap.{get_by_text}
+use Rattle.template_machine_environment.specs.declared.environment.Environment.{Environment}
+
+-- the source that stands under a name
+abbrev pub source_at : Environment → List ℕ → Option (List ℕ)
+source_at environment name = option_map (λ compiled. compiled.source) (get_by_text environment.templates name)
+
+-- nothing that a caller sees has changed
+pub record IsUnchanged (old new : Environment) : Type 0 where
+  pub sources : (name : List ℕ) → source_at new name ≡ source_at old name
+  pub fuel : new.fuel ≡ old.fuel

@@ -1,0 +1,27 @@
+-- What contracts see of a template to be rendered, and of the state that a render leaves.
+use Rattle.std.specs.Prelude.{ℕ, List, Option}
+use Rattle.template_machine_run.specs.Tanks.{fuel_left, fuel_set}
+use Rattle.template_machine_environment.specs.declared.environment.Environment.{Environment}
+use Rattle.template_machine_environment.specs.declared.template.Template.{Template}
+use Rattle.template_machine_environment.specs.declared.template.State.{State}
+
+-- the environment that it stands in
+abbrev pub environment_of : Template → Environment
+environment_of t = t.environment.now
+
+abbrev pub name_of : Template → List ℕ
+name_of t = t.compiled.now.name
+
+abbrev pub source_of : Template → List ℕ
+source_of t = t.compiled.now.source
+
+-- the fuel that each of its renders is given
+abbrev pub fuel_of : Template → Option ℕ
+fuel_of t = t.environment.now.fuel
+
+-- the fuel that the state was given, and what remains of it
+abbrev pub fuel_given : State → Option ℕ
+fuel_given s = fuel_set s.fuel
+
+abbrev pub fuel_remaining : State → Option ℕ
+fuel_remaining s = fuel_left s.fuel
