@@ -1,0 +1,4 @@
+mod Repeats
+mod Parts
+pub mod Steps
+mod Bounds

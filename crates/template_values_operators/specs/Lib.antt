@@ -1,0 +1,11 @@
+pub mod Kinds
+pub mod Numbers
+pub mod Arithmetic
+pub mod Sums
+pub mod Products
+pub mod Rounds
+pub mod Items
+pub mod Contains
+pub mod Iterated
+pub mod Slices
+pub mod Places

@@ -1,0 +1,33 @@
+-- `in`: what a value contains.
+use Rattle.std.specs.Prelude.{ℕ, Bool, true, false, ◌||◌, nat_eq, List, [], ◌∷◌, Option, None, Some, is_some, Result, Ok, Err}
+use Rattle.std.specs.List.{starts_with, list_any}
+use Rattle.std.specs.Ordering.{eq_by_cmp}
+use Rattle.template_values_errors.specs.declared.ErrorKind.{ErrorKind}
+use Rattle.template_values_errors.specs.declared.ErrorKind.TheVariants.{InvalidOperation}
+use Rattle.template_values_model.specs.Val.{Val, Pairs}
+use Rattle.template_values_core.specs.Answers.{text_in}
+use Rattle.template_values_core.specs.Reads.{items_in, pairs_held, value_under}
+use Rattle.template_values_operators.specs.Kinds.{is_undefined}
+use Rattle.template_values_core.specs.Order.{val_cmp}
+
+-- the part stands somewhere in the text
+abbrev pub has_part : List ℕ → List ℕ → Bool
+has_part [] part = starts_with nat_eq [] part
+has_part (b ∷ bs) part = starts_with nat_eq (b ∷ bs) part || has_part bs part
+
+-- a text contains texts alone
+abbrev pub text_contains : List ℕ → Option (List ℕ) → Bool
+text_contains s (Some part) = has_part s part
+text_contains s None = false
+
+-- by the items, the text and the pairs of the container; nothing is in an undefined value; all else is refused
+abbrev pub contained_by : Option (List Val) → Option (List ℕ) → Option Pairs → Bool → Val → Val → Result Bool ErrorKind
+contained_by (Some vs) _ _ _ container value = Ok (list_any (λ item. eq_by_cmp val_cmp item value) vs)
+contained_by None (Some s) _ _ container value = Ok (text_contains s (text_in value))
+contained_by None None (Some _) _ container value = Ok (is_some (value_under value container))
+contained_by None None None true container value = Ok false
+contained_by None None None false container value = Err InvalidOperation
+
+abbrev pub contained : Val → Val → Result Bool ErrorKind
+contained container value =
+    contained_by (items_in container) (text_in container) (pairs_held container) (is_undefined container) container value

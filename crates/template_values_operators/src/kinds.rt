@@ -1,0 +1,76 @@
+//! What values of some kinds hold, and lists that are made.
+ghost use Rattle.std.specs.Prelude.{◌≡◌, option_copied};
+ghost use Rattle.template_values_model.specs.Gives.{Gives};
+ghost use Rattle.template_values_operators.specs.Kinds.{bytes_of, list_of, is_nothing, is_undefined, is_none, is_record, list_made};
+
+use std::alloc::Global;
+use template_values_core::{Content, Value};
+use template_values_errors::Error;
+
+/// The bytes of a value of bytes.
+pub(crate) fn bytes_of(value: &Value) -> Option<&[u8]>
+    ensures { option_copied result ≡ bytes_of value.now }
+{
+    match value.content() {
+        Content::Bytes(bytes) => Some(bytes),
+        _ => None,
+    }
+}
+
+/// The items of a list, not of a tuple.
+#[tactic(auto, using(template_values_core::proofs::ReadLemmas::reading))]
+pub(crate) fn list_of(value: &Value) -> Option<&[Value]>
+    ensures { option_copied result ≡ list_of value.now }
+{
+    match value.content() {
+        Content::List(items) => Some(items),
+        _ => None,
+    }
+}
+
+/// Whether the value is undefined, in either form, or none.
+pub(crate) fn is_nothing(value: &Value) -> bool
+    ensures { result ≡ is_nothing value.now }
+{
+    match value.content() {
+        Content::Undefined | Content::SilentUndefined | Content::None => true,
+        _ => false,
+    }
+}
+
+/// Whether the value is undefined, in either form.
+pub(crate) fn is_undefined(value: &Value) -> bool
+    ensures { result ≡ is_undefined value.now }
+{
+    match value.content() {
+        Content::Undefined | Content::SilentUndefined => true,
+        _ => false,
+    }
+}
+
+/// Whether the value is none.
+pub(crate) fn is_none(value: &Value) -> bool
+    ensures { result ≡ is_none value.now }
+{
+    match value.content() {
+        Content::None => true,
+        _ => false,
+    }
+}
+
+/// Whether the value is a namespace, a loop or a macro.
+pub(crate) fn is_record(value: &Value) -> bool
+    ensures { result ≡ is_record value.now }
+{
+    match value.content() {
+        Content::Namespace(_, _) | Content::Loop(_, _) | Content::Macro(_, _) => true,
+        _ => false,
+    }
+}
+
+/// The list of these items.
+pub(crate) fn list_made(alloc: Global, items: Vec<Value>) -> Result<Value, Error>
+    ensures { Gives result (list_made items.items) }
+{
+    Value::from_list(alloc, items)
+}

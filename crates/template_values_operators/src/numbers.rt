@@ -1,0 +1,56 @@
+//! The arithmetic of whole numbers from -2^127 to 2^127 - 1. A result out of that range is none.
+ghost use Rattle.std.specs.Prelude.{◌≡◌};
+ghost use Rattle.template_values_operators.specs.Numbers.{sum, difference, product, quotient, remainder, power, negation};
+
+/// The sum.
+pub(crate) fn sum(left: i128, right: i128) -> Option<i128>
+    ensures { result ≡ sum left right }
+{
+    left.checked_add(right)
+}
+
+/// The difference.
+pub(crate) fn difference(left: i128, right: i128) -> Option<i128>
+    ensures { result ≡ difference left right }
+{
+    left.checked_sub(right)
+}
+
+/// The product.
+pub(crate) fn product(left: i128, right: i128) -> Option<i128>
+    ensures { result ≡ product left right }
+{
+    left.checked_mul(right)
+}
+
+/// The Euclidean quotient; none at a zero divisor.
+pub(crate) fn quotient(left: i128, right: i128) -> Option<i128>
+    ensures { result ≡ quotient left right }
+{
+    left.checked_div_euclid(right)
+}
+
+/// The Euclidean remainder; none at a zero divisor.
+pub(crate) fn remainder(left: i128, right: i128) -> Option<i128>
+    ensures { result ≡ remainder left right }
+{
+    match right {
+        0 => None,
+        -1 => Some(0),
+        _ => Some(left.rem_euclid(right)),
+    }
+}
+
+/// The power; none at an exponent below 0 or from 2^32 on.
+pub(crate) fn power(base: i128, exponent: i128) -> Option<i128>
+    ensures { result ≡ power base exponent }
+{
+    base.checked_pow(u32::try_from(exponent).ok()?)
+}
+
+/// The number with the other sign.
+pub(crate) fn negation(number: i128) -> Option<i128>
+    ensures { result ≡ negation number }
+{
+    number.checked_neg()
+}

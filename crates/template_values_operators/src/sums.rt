@@ -1,0 +1,59 @@
+//! `+`.
+ghost use Rattle.std.specs.Prelude.{◌++◌, Ok};
+ghost use Rattle.template_values_model.specs.Gives.{Gives};
+ghost use Rattle.template_values_model.specs.Val.{text};
+ghost use Rattle.template_values_operators.specs.Kinds.{list_made};
+ghost use Rattle.template_values_operators.specs.Sums.{sum_of};
+
+use crate::arithmetic::{number_or_refusal, refusal};
+use crate::growth::{no_memory, push_copies};
+use crate::kinds::list_made;
+use crate::numbers;
+use std::alloc::Global;
+use template_values_core::Value;
+use template_values_errors::Error;
+
+/// `left + right`: the sum of two numbers, the plain text of two texts, the list of the items of
+/// two lists or tuples. Linear in the size of the result.
+///
+/// # Errors
+///
+/// [`ErrorKind::InvalidOperation`] at other operands, or where the sum is out of range;
+/// [`ErrorKind::OutOfMemory`].
+///
+/// [`ErrorKind::InvalidOperation`]: template_values_errors::ErrorKind::InvalidOperation
+/// [`ErrorKind::OutOfMemory`]: template_values_errors::ErrorKind::OutOfMemory
+pub fn add(alloc: Global, left: &Value, right: &Value) -> Result<Value, Error>
+    ensures { Gives result (sum_of left.now right.now) }
+{
+    if let (Some(left), Some(right)) = (left.as_number(), right.as_number()) {
+        return number_or_refusal(numbers::sum(left, right));
+    }
+    if let (Some(left), Some(right)) = (left.as_str(), right.as_str()) {
+        return joined_texts(alloc, left, right);
+    }
+    if let (Some(left), Some(right)) = (left.items(), right.items()) {
+        return joined_items(alloc, left, right);
+    }
+    refusal()
+}
+
+fn joined_texts(alloc: Global, left: &str, right: &str) -> Result<Value, Error>
+    ensures { Gives result (Ok (text (left.now ++ right.now))) }
+{
+    let length = left.len().saturating_add(right.len());
+    let mut joined = String::with_capacity(alloc, length).map_err(no_memory)?;
+    joined.push_str(left).map_err(no_memory)?;
+    joined.push_str(right).map_err(no_memory)?;
+    Value::from_text(joined)
+}
+
+fn joined_items(alloc: Global, left: &[Value], right: &[Value]) -> Result<Value, Error>
+    ensures { Gives result (list_made (left.now ++ right.now)) }
+{
+    let length = left.len().saturating_add(right.len());
+    let mut joined = Vec::with_capacity(alloc, length).map_err(no_memory)?;
+    push_copies(&mut joined, left)?;
+    push_copies(&mut joined, right)?;
+    list_made(alloc, joined)
+}
