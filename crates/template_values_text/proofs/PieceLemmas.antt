@@ -7,7 +7,7 @@ use Rattle.std.specs.Str.{IsUtf8, IsCharBoundary}
 use Rattle.std.proofs.lemmas.Str.{IsUtf8-from_ascii, IsCharBoundary-from_take}
 use Rattle.std.proofs.lemmas.List.Concat.{flat_map-append}
 use Rattle.template_values_errors.specs.declared.ErrorKind.{ErrorKind}
-use Rattle.template_values_text.specs.Answers.{Appends, joined}
+use Rattle.template_values_text.specs.Answers.{Appends, joined, mapped}
 use Rattle.template_values_text.specs.Escapes.{html_byte, html}
 use Rattle.template_values_text.specs.Pieces.{encoded, Begins, Writes}
 use Rattle.template_values_text.specs.declared.pieces.Markup.{Markup}
@@ -155,3 +155,10 @@ Appends-whole b a (Err kind) u w = w
 pub Appends-cut : (b m a : List ℕ) (r : Result (List ℕ) ErrorKind) (ks : List ErrorKind) → Writes Plain b r (Err ks) m → a ≡ take (length b) m → Appends b r (Err ks) a
 Appends-cut b m a (Ok s) ks (memory, begins) cut = (memory, cut ∙ Begins-take b m begins)
 Appends-cut b m a (Err kind) ks (why, begins) cut = (why, cut ∙ Begins-take b m begins)
+
+-- a text written with references is the text of the references
+pub Writes-html : (b a : List ℕ) (r : Result (List ℕ) ErrorKind) (res : Result (Unit {0}) (List ErrorKind)) → Writes Html b r res a → Writes Plain b (mapped html r) res a
+Writes-html b a (Ok s) (Ok u) w = w
+Writes-html b a (Ok s) (Err ks) w = w
+Writes-html b a (Err kind) (Ok u) w = w
+Writes-html b a (Err kind) (Err ks) w = w

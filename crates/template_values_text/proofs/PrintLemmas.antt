@@ -38,11 +38,17 @@ pairs_of-drop es i j e is_next h is = rw is_next (at_suc es i e h is)
     at_suc (f ∷ es) zero e h is = ap (λ (x : Entry). pairs_more x.key x.value (pairs_of (pairs_in es))) (sym is)
     at_suc (f ∷ es) (suc i) e h is = at_suc es i e (omega (arith, h)) is
 
-vals_none : (vs : List Val) (i : ℕ) → length vs ≤ i → vals_of (drop i vs) ≡ no_vals
+pub vals_none : (vs : List Val) (i : ℕ) → length vs ≤ i → vals_of (drop i vs) ≡ no_vals
 vals_none [] zero h = refl
 vals_none [] (suc i) h = refl
 vals_none (v ∷ vs) zero h = absurd (omega (arith, h))
 vals_none (v ∷ vs) (suc i) h = vals_none vs i (omega (arith, h))
+
+pub pairs_none : (es : List Entry) (i : ℕ) → length es ≤ i → pairs_of (pairs_in (drop i es)) ≡ no_pairs
+pairs_none [] zero h = refl
+pairs_none [] (suc i) h = refl
+pairs_none (e ∷ es) zero h = absurd (omega (arith, h))
+pairs_none (e ∷ es) (suc i) h = pairs_none es i (omega (arith, h))
 
 pub tuple_end-one : (vs : List Val) → length vs ≡ 1 → tuple_end (vals_of vs) ≡ codes ",)"
 tuple_end-one [] h = absurd (omega (arith, h))

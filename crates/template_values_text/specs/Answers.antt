@@ -15,3 +15,8 @@ Appends before (Ok s) (Ok _) after = after ≡ before ++ s
 Appends before (Ok s) (Err kinds) after = (kinds ≡ OutOfMemory ∷ []) × (after ≡ before)
 Appends before (Err kind) (Ok _) after = ⊥
 Appends before (Err kind) (Err kinds) after = ((kinds ≡ kind ∷ []) ⊎ (kinds ≡ OutOfMemory ∷ [])) × (after ≡ before)
+
+-- what is made of an answer, where there is one
+abbrev pub mapped : {T U : Type 0} → (T → U) → Result T ErrorKind → Result U ErrorKind
+mapped f (Ok x) = Ok (f x)
+mapped f (Err kind) = Err kind

@@ -4,3 +4,5 @@ pub mod Views
 pub mod Escapes
 pub mod Printed
 pub mod Pieces
+pub mod Json
+pub mod Escaped

@@ -1,9 +1,12 @@
 //! The text that values print, and how it is escaped.
 #![tactic(auto)]
 
+mod escape;
 mod pieces;
 mod print;
 mod records;
+mod serial;
 
+pub use escape::escape_to;
 pub use print::print_to;
 pub use records::{LoopView, MacroView, NoRecords, Records};

@@ -53,7 +53,7 @@ pub(crate) fn print_outer<R: Records>(
 }
 
 // How deep values may nest that are printed.
-fn deepest() -> u32
+pub(crate) fn deepest() -> u32
     ensures { result ≡ level_limit }
 {
     500
