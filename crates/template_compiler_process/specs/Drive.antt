@@ -11,13 +11,13 @@ pub data Mark : Type 0 where
 
 -- how a process comes to its end
 pub data End : Type 0 where
-  ends : List Val → End              -- by itself, with these operands left
-  faults : List ErrorKind → End      -- with an error, whose kinds are these, outermost first
-  breaks : End                       -- what an event started did not come to its end
-  waits : End                        -- nothing more was told
-  mistaken : End                     -- an answer was of the wrong sort
-  cuts : End                         -- its bound ran out
-  sticks : End                       -- it lacked an operand
+  ends : List Val → End  -- by itself, with these operands left
+  faults : List ErrorKind → End  -- with an error, whose kinds are these, outermost first
+  breaks : End  -- what an event started did not come to its end
+  waits : End  -- nothing more was told
+  mistaken : End  -- an answer was of the wrong sort
+  cuts : End  -- its bound ran out
+  sticks : End  -- it lacked an operand
 
 -- the marks, the end, and what was not used of what was told
 pub record Driven : Type 0 where

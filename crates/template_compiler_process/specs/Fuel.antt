@@ -24,7 +24,7 @@ wraps_at (suc steps) (paid wraps ∷ items) = wraps_at steps items
 abbrev pub cut : {S : Type 0} → ℕ → Run S → Run S
 cut n r = if nat_le (price_of r.items) (n - 1) then r else record r {
   items = items_before (n - 1) r.items;
-  end = faults (wraps_at (n - 1) r.items ++ OutOfFuel ∷ [])
+  end = faults (wraps_at (n - 1) r.items ++ OutOfFuel ∷ []);
 }
 
 -- with no fuel set, the run as it is

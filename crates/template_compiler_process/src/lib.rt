@@ -9,31 +9,26 @@ ghost use Rattle.template_compiler_process.specs.Laws.{BelowItself, BelowFollows
 pub fn below_is_an_order()
     ensures itself { BelowItself }
     ensures follows { BelowFollows }
-{
-}
+{}
 
 /// A process that does what another does, as far as that goes, is driven like it where the other's
 /// bound does not run out.
 pub fn driven_alike()
     ensures { DrivenAlike }
-{
-}
+{}
 
 /// A whole process is driven to a proper end.
 pub fn driven_whole()
     ensures { DrivenWhole }
-{
-}
+{}
 
 /// A process that does what another does, as far as that goes, runs like it under surroundings with
 /// states `S`, where the other's bound does not run out.
 pub fn run_alike<S>()
     ensures { RunAlike S }
-{
-}
+{}
 
 /// A whole process runs to a proper end under surroundings with states `S`.
 pub fn run_whole<S>()
     ensures { RunWhole S }
-{
-}
+{}
