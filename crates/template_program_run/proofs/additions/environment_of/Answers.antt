@@ -1,0 +1,35 @@
+use Rattle.std.proofs.Common.{◌≡◌, ◌∙◌, ap, sym, subst, rules, ℕ, List, Some, inr, get_or, string_bytes, if◌then◌else◌, bytes_eq}
+use Rattle.std.proofs.lemmas.Result.{err_from_is_err_and}
+use Rattle.template_machine_environment.specs.Addition.{HasTree, IsRefusedWith}
+use Rattle.template_machine_environment.specs.Standing.{source_at}
+use Rattle.template_machine_world.specs.History.{standing}
+use Rattle.template_program_context.specs.Context.{texts_in}
+use Rattle.template_program_run.proofs.Histories.{accepted-next, refuses-at, standing-next}
+use Rattle.template_program_run.proofs.additions.environment_of.Goals as goal
+
+pub returns-in_err-add_template-clause-refused : goal.returns-in_err-add_template-clause-refused
+returns-in_err-add_template-clause-refused c =
+    let p = err_from_is_err_and c.from_residual-in_err-add_template.result c.from_residual-in_err-add_template.ensures.1 in
+    let xs = c.args.templates.now in
+    let i = c.loop-name.name-index in
+    let d = c.loop-name-item.result in
+    let source : c.as_str-in-loop-name.result.now ≡ string_bytes (get_or xs i d).1 = c.as_str-in-loop-name.ensures.value ∙ ap (λ x. string_bytes x.1) c.loop-name-item.is in
+    let refused = subst (λ s. IsRefusedWith s c.in_err-add_template.field-0.0) source c.in_err-add_template.ensures.refused in
+    rw (p.1, p.2) (inr (refuses-at xs i d c.loop-name-test.true c.in_err-add_template.field-0.0 c.loop-name.invariant.accepted refused))
+
+pub loop-name-preserved : goal.loop-name-preserved
+loop-name-preserved c =
+    let xs = c.args.templates.now in
+    let i = c.loop-name.name-index in
+    let d = c.loop-name-item.result in
+    let name : c.as_str.result.now ≡ string_bytes (get_or xs i d).0 = c.as_str.ensures.value ∙ ap (λ x. string_bytes x.0) c.loop-name-item.is in
+    let source : c.as_str-in-loop-name.result.now ≡ string_bytes (get_or xs i d).1 = c.as_str-in-loop-name.ensures.value ∙ ap (λ x. string_bytes x.1) c.loop-name-item.is in
+    record {
+      accepted = accepted-next xs i d c.loop-name-test.true c.loop-name.invariant.accepted (subst HasTree source c.in_ok-add_template.ensures.accepted);
+      stands = λ q.
+          c.in_ok-add_template.ensures.stands q
+          ∙ ap (λ n. if bytes_eq n q then Some c.as_str-in-loop-name.result.now else source_at c.loop-name.environment q) name
+          ∙ ap (λ s. if bytes_eq (string_bytes (get_or xs i d).0) q then Some s else source_at c.loop-name.environment q) source
+          ∙ ap (λ o. if bytes_eq (string_bytes (get_or xs i d).0) q then Some (string_bytes (get_or xs i d).1) else o) (c.loop-name.invariant.stands q)
+          ∙ sym (standing-next xs i d c.loop-name-test.true q);
+    }

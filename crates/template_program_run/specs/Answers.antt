@@ -1,0 +1,95 @@
+-- How a request is answered.
+use Rattle.std.specs.Prelude.{◌≡◌, ◌≢◌, ℕ, ◌+◌, ◌⊎◌, ◌↔◌, List, [], ◌∷◌, Option, None, Some, Result, Ok, Err, IsTrue, String, string_bytes, OnOk}
+use Rattle.std.specs.BTreeSet.{BTreeSet, contains_text, IsOrdered}
+use Rattle.std.specs.String.{string_cmp}
+use Rattle.std.specs.declared.alloc.Global.{Global}
+use Rattle.std.specs.Io.KnownBytes.{Appends}
+use Rattle.template_values_errors.specs.declared.ErrorKind.{ErrorKind}
+use Rattle.template_values_errors.specs.declared.ErrorKind.TheVariants.{InvalidOperation, OutOfMemory, TemplateNotFound}
+use Rattle.template_values_modes.specs.declared.AutoEscape.{AutoEscape}
+use Rattle.template_values_modes.specs.declared.AutoEscape.TheVariants as escape
+use Rattle.template_values_model.specs.Val.{Val}
+use Rattle.template_compiler_tree.specs.Tree.{Statement}
+use Rattle.template_compiler_grammar.specs.Grammar.{IsTemplate}
+use Rattle.template_machine_escape.specs.Rule.{IsRuleOf}
+use Rattle.template_machine_output.specs.Writes.{AppendsBeginning}
+use Rattle.template_machine_world.specs.History.{standing}
+use Rattle.template_machine_world.specs.Meaning.{rendered}
+use Rattle.template_machine_run.specs.Outcomes.{IsWant, TellsFailures}
+use Rattle.template_machine_environment.specs.Rendering.{Renders}
+use Rattle.template_machine_environment.specs.Uses.{UsesName, is_common}
+use Rattle.template_machine_environment.specs.Names.{IsListed}
+use Rattle.template_machine_environment.specs.Standing.{source_at}
+use Rattle.template_machine_environment.specs.declared.environment.Environment.{Environment}
+use Rattle.template_program_context.specs.Context.{fault_of_json, IsContext, IsRefusal, texts_in}
+use Rattle.template_program_run.specs.Additions.{AllHaveTrees, IsLastId, IsRefusedAddition}
+use Rattle.template_program_run.specs.Lines.{lines_of}
+use Rattle.template_program_run.specs.declared.outcome.Outcome.{Outcome}
+use Rattle.template_program_run.specs.declared.outcome.Outcome.TheVariants.{Done, Render, Context, Template}
+use Rattle.template_program_run.specs.declared.request.Command.{Command}
+use Rattle.template_program_run.specs.declared.request.Command.TheVariants as asked
+use Rattle.template_program_run.specs.declared.request.Request.{Request}
+
+-- nothing was written
+abbrev pub IsUntouched : Option (List ℕ) → Option (List ℕ) → ℕ → ℕ → Type 0
+IsUntouched before after failed fails = (after ≡ before) × (fails ≡ failed)
+
+-- an outcome of a render or of names: done, or an error
+abbrev pub EndsWith : Outcome → Result (Unit {0}) (List ErrorKind) → Type 0
+EndsWith Done (Ok _) = Unit {0}
+EndsWith (Render kinds) (Err others) = kinds ≡ others
+EndsWith _ _ = ⊥
+
+-- The main template of that name and source is rendered over the context under the fuel: its tree decides
+-- the text and the end. It is refused where its name asks for an escape, and the render where no state id
+-- is left.
+abbrev pub Rendered : List ℕ → List ℕ → Option ℕ → Val → ℕ → Outcome → Option (List ℕ) → Option (List ℕ) → ℕ → ℕ → Type 0
+Rendered name source fuel context next (Context kinds) before after failed fails = ⊥
+Rendered name source fuel context next (Template kinds) before after failed fails =
+    (kinds ≡ InvalidOperation ∷ []) × ((rule : AutoEscape) × IsRuleOf name rule × (rule ≢ escape.None)) × IsUntouched before after failed fails
+Rendered name source fuel context next outcome before after failed fails =
+    IsRuleOf name escape.None
+    × (IsLastId next → (outcome ≡ Render (InvalidOperation ∷ [])) × IsUntouched before after failed fails)
+    × (¬ IsLastId next → (result : Result (Unit {0}) (List ErrorKind)) × EndsWith outcome result
+    × ((tree : List Statement) → IsTemplate source tree → Renders result before after failed fails (rendered fuel tree context)))
+
+-- The set has just the names that can matter to a render of the source.
+abbrev pub HasNames : Environment → List ℕ → BTreeSet (String Global) → Type 0
+HasNames environment source names = IsOrdered string_cmp names × ((name : List ℕ) → IsTrue (contains_text names name) ↔ IsListed environment source name)
+
+-- The names that can matter are written in their order, one a line; or a beginning of that, for want of
+-- memory or of a sink that works.
+abbrev pub Told : Environment → List ℕ → Outcome → Option (List ℕ) → Option (List ℕ) → ℕ → ℕ → Type 0
+Told environment source Done before after failed fails =
+    (names : BTreeSet (String Global)) × HasNames environment source names × Appends before after (lines_of names.keys) × (fails ≡ failed)
+Told environment source (Render kinds) before after failed fails =
+    ((kinds ≡ OutOfMemory ∷ []) × IsUntouched before after failed fails)
+    ⊎ ((names : BTreeSet (String Global)) × HasNames environment source names × IsWant kinds × AppendsBeginning before after (lines_of names.keys)
+    × ((result : Result (Unit {0}) (List ErrorKind)) × (result ≡ Err kinds) × TellsFailures result failed fails))
+Told environment source _ before after failed fails = ⊥
+
+-- the request's definitions
+abbrev pub definitions_of : Request → List (List ℕ × List ℕ)
+definitions_of request = texts_in request.texts.items
+
+-- what is done with the main template, once it stands
+abbrev pub Performed : Command → Request → List (List ℕ × List ℕ) → Option (List ℕ) → ℕ → Outcome → Option (List ℕ) → Option (List ℕ) → ℕ → ℕ → Type 0
+Performed asked.Render request additions json next outcome before after failed fails =
+    (source : List ℕ) × (standing additions (string_bytes request.main) ≡ Some source)
+    × ((context : Val) × IsContext json (definitions_of request) context
+    × Rendered (string_bytes request.main) source request.fuel context (next + 1) outcome before after failed fails)
+Performed asked.Names request additions json next outcome before after failed fails =
+    (environment : Environment) × ((name : List ℕ) → source_at environment name ≡ standing additions name)
+    × ((source : List ℕ) × (standing additions (string_bytes request.main) ≡ Some source)
+    × Told environment source outcome before after failed fails)
+
+-- The context is refused; or else the additions are, or the main template does not stand; or else what is
+-- asked is done.
+abbrev pub Answers : Request → List (List ℕ × List ℕ) → Option (List ℕ) → ℕ → Outcome → Option (List ℕ) → Option (List ℕ) → ℕ → ℕ → Type 0
+Answers request additions json next outcome before after failed fails =
+    ((kinds : List ErrorKind) × (outcome ≡ Context kinds) × IsRefusal (fault_of_json json) kinds × IsUntouched before after failed fails)
+    ⊎ ((fault_of_json json ≡ None)
+    × (((kinds : List ErrorKind) × (outcome ≡ Template kinds) × IsRefusedAddition additions next kinds × IsUntouched before after failed fails)
+    ⊎ (AllHaveTrees additions
+    × (((outcome ≡ Template (TemplateNotFound ∷ [])) × (standing additions (string_bytes request.main) ≡ None) × IsUntouched before after failed fails)
+    ⊎ Performed request.command request additions json next outcome before after failed fails))))

@@ -1,0 +1,3 @@
+pub mod Additions
+pub mod Lines
+pub mod Answers

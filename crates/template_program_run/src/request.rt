@@ -1,0 +1,23 @@
+//! What is asked of the program.
+
+/// What is to be written.
+#[derive(Clone, Copy, Debug, PartialEq, Eq)]
+pub enum Command {
+    /// The text of the main template.
+    Render,
+    /// The names of a context that can matter to it, one a line.
+    Names,
+}
+
+/// What is asked of the program.
+#[derive(Debug, Drop)]
+pub struct Request {
+    /// The name of the main template.
+    pub main: String,
+    /// The definitions, as names with their texts.
+    pub texts: Vec<(String, String)>,
+    /// The fuel of a render, if one is set.
+    pub fuel: Option<u64>,
+    /// What is to be written.
+    pub command: Command,
+}
