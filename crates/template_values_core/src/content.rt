@@ -1,6 +1,7 @@
 //! What a value holds, for those that go by its kind.
-ghost use Rattle.std.specs.Prelude.{◌≡◌, option_copied, option_map};
+ghost use Rattle.std.specs.Prelude.{◌≡◌, IfSome, option_copied, option_map};
 ghost use Rattle.template_values_core.specs.Content.{value_of};
+ghost use Rattle.template_values_core.specs.Kept.{IsRising};
 ghost use Rattle.template_values_core.specs.Maps.{pairs_of};
 ghost use Rattle.template_values_core.specs.Reads.{is_true, items_in, number_of, pairs_held, whole_number};
 ghost use Rattle.template_values_core.specs.Shape.{pairs_in};
@@ -114,12 +115,13 @@ impl Value {
 
     /// The entries of a map, a keyword map or a module, in the order of their keys.
     pub fn entries(&self) -> Option<&[Entry]>
-        ensures { option_map (λ es. pairs_of (pairs_in es)) (option_copied result) ≡ pairs_held self.now }
+        ensures held { option_map (λ es. pairs_of (pairs_in es)) (option_copied result) ≡ pairs_held self.now }
+        ensures rising { IfSome result (λ es. IsRising es.now) }
     {
-        match self.content() {
-            Content::Map(entries) => Some(entries),
-            Content::KeywordMap(entries) => Some(entries),
-            Content::Module(entries, _) => Some(entries),
+        match &self.repr {
+            Repr::Map(entries) => Some(entries.as_ref().as_slice()),
+            Repr::KeywordMap(entries) => Some(entries.as_ref().as_slice()),
+            Repr::Module(entries, _text) => Some(entries.as_ref().as_slice()),
             _ => None,
         }
     }
