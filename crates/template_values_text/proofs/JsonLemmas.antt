@@ -1,10 +1,10 @@
 -- Lemmas on the JSON of values one behind the other.
-use Rattle.std.proofs.Common.{◌≡◌, ℕ, zero, suc, ◌+◌, ◌-◌, ◌<◌, ◌≤◌, List, [], ◌∷◌, ◌++◌, length, drop, get_or, refl, sym, ◌∙◌, ap, subst, arith, append_assoc, Bool, true, false, Result, Ok, Err}
+use Rattle.std.proofs.Common.{◌≡◌, ℕ, zero, suc, ◌-◌, ◌<◌, ◌≤◌, List, [], ◌∷◌, ◌++◌, length, drop, get_or, refl, sym, ◌∙◌, ap, subst, arith, append_assoc, Bool, true, false, Result, Ok, Err}
 use Rattle.serde_json.specs.Data.{Data, Items, Members, array, object}
 use Rattle.serde_json.specs.Written.{comma_if, compact_text, items_text, members_text}
 use Rattle.json.specs.Print.{quoted}
 use Rattle.template_values_errors.specs.declared.ErrorKind.{ErrorKind}
-use Rattle.template_values_model.specs.Val.{Val, Vals, Pairs, vals_of, no_vals, vals_more, no_pairs, pairs_more}
+use Rattle.template_values_model.specs.Val.{Val, Vals, Pairs, vals_of}
 use Rattle.template_values_core.specs.Maps.{pairs_of}
 use Rattle.template_values_core.specs.Shape.{pairs_in}
 use Rattle.template_values_core.specs.declared.value.Entry.{Entry}
@@ -12,7 +12,6 @@ use Rattle.template_values_text.specs.Answers.{joined, mapped}
 use Rattle.template_values_text.specs.Json.{inner_data, item_more, items_data, key_data, key_text, member_more, members_data, nested_data}
 use Rattle.template_values_text.specs.Known.{Known}
 use Rattle.template_values_text.specs.Pieces.{Writes}
-use Rattle.template_values_text.specs.declared.pieces.Markup.{Markup}
 use Rattle.template_values_text.specs.declared.pieces.Markup.TheVariants.{Plain}
 use Rattle.template_values_text.proofs.PieceLemmas.{Writes-then, Writes-stop}
 use Rattle.template_values_text.proofs.PrintLemmas.{vals_of-drop, pairs_of-drop, vals_none, pairs_none}

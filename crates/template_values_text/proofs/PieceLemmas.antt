@@ -1,5 +1,5 @@
 -- Lemmas on texts that are written piece by piece.
-use Rattle.std.proofs.Common.{◌≡◌, ℕ, zero, suc, ◌+◌, ◌-◌, ◌<◌, ◌≤◌, List, [], ◌∷◌, ◌++◌, length, take, drop, get_or, refl, sym, ◌∙◌, ap, append_assoc, append-nil, length-append, length-drop, subst, arith, inl, inr, Result, Ok, Err}
+use Rattle.std.proofs.Common.{◌≡◌, ℕ, zero, suc, ◌-◌, ◌<◌, ◌≤◌, List, [], ◌∷◌, ◌++◌, length, take, drop, get_or, refl, sym, ◌∙◌, ap, append_assoc, append-nil, length-append, length-drop, subst, arith, inr, Result, Ok, Err}
 use Rattle.std.proofs.Math.Seq.{take-suc}
 use native.Mathlib.Numerals.{unary_clauses}
 use Rattle.std.specs.List.{flat_map}

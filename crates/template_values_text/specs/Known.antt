@@ -1,5 +1,5 @@
 -- What is known of records, by their state's id and their number in it. A foreign record is not known.
-use Rattle.std.specs.Prelude.{ℕ, Bool, List, [], Option, None}
+use Rattle.std.specs.Prelude.{ℕ, Bool, List, Option, None}
 use Rattle.template_values_model.specs.Val.{Val}
 
 -- a loop: its items, the index of the item that it is at (none before the first), and how many loops enclose it

@@ -6,3 +6,4 @@ pub mod Printed
 pub mod Pieces
 pub mod Json
 pub mod Escaped
+pub mod Truth

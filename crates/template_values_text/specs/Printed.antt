@@ -1,5 +1,5 @@
 -- The text that a value prints.
-use Rattle.std.specs.Prelude.{ℕ, zero, suc, Bool, true, false, List, [], ◌∷◌, Option, None, Some, Result, Ok, Err, if◌then◌else◌, codes, length, decimal, unwrap_or}
+use Rattle.std.specs.Prelude.{ℕ, zero, suc, true, false, List, [], Option, None, Some, Result, Ok, Err, if◌then◌else◌, codes, length, decimal, unwrap_or}
 use Rattle.std.specs.Fmt.{signed_decimal}
 use Rattle.std.specs.List.{flat_map}
 use Rattle.std.specs.Str.{is_utf8}

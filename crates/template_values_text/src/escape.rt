@@ -78,7 +78,7 @@ fn json_or_safe<R: Records>(value: &Value, records: &R, out: &mut String) -> Res
     ensures { Writes Markup.Plain (string_bytes out.old) (json_text (R.known records.now) value.now) result (string_bytes out.new) }
 {
     match value.content() {
-        Content::SafeText(text) => push(out, Markup::Plain, text),
+        Content::SafeText(safe) => push(out, Markup::Plain, safe),
         _ => json_outer(value, records, out),
     }
 }

@@ -6,7 +6,11 @@ mod pieces;
 mod print;
 mod records;
 mod serial;
+#[cfg(test)]
+mod tests;
+mod truth;
 
 pub use escape::escape_to;
 pub use print::print_to;
 pub use records::{LoopView, MacroView, NoRecords, Records};
+pub use truth::is_true;

@@ -226,7 +226,8 @@ fn print_entry<R: Records>(
 fn tuple_end(items: &[Value]) -> &'static str
     ensures { result.now ≡ tuple_end (vals_of items.now) }
 {
-    if items.len() == 1 { ",)" } else { ")" }
+    let ends_with_comma = items.len() == 1;
+    if ends_with_comma { ",)" } else { ")" }
 }
 
 fn print_flat<R: Records>(

@@ -1,4 +1,4 @@
-use Rattle.std.proofs.Common.{◌≡◌, List, ℕ, length, string_bytes, ap, ◌∙◌, take}
+use Rattle.std.proofs.Common.{ℕ, length, string_bytes, ap, ◌∙◌, take}
 use Rattle.std.specs.Str.{IsCharBoundary}
 use Rattle.std.proofs.lemmas.Str.{IsUtf8-string_bytes}
 use Rattle.template_values_text.specs.Escaped.{escaped}

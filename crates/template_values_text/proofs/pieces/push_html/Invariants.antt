@@ -1,4 +1,4 @@
-use Rattle.std.proofs.Common.{◌≡◌, ◌-◌, ◌≤◌, ◌++◌, length, take, drop, string_bytes}
+use Rattle.std.proofs.Common.{◌≡◌, ◌-◌, ◌≤◌, ◌++◌, take, drop, string_bytes}
 use Rattle.std.specs.Str.{IsCharBoundary}
 use Rattle.template_values_text.specs.Escapes.{html}
 use Rattle.template_values_text.specs.Pieces.{Begins}

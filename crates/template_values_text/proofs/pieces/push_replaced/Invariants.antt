@@ -1,7 +1,7 @@
 use Rattle.std.proofs.Common.{◌≡◌, ◌++◌, take, string_bytes}
 use Rattle.std.specs.List.{flat_map}
 use Rattle.template_values_text.specs.Escapes.{replaced_byte}
-use Rattle.template_values_text.specs.Pieces.{Begins, encoded}
+use Rattle.template_values_text.specs.Pieces.{encoded}
 use Rattle.template_values_text.proofs.pieces.push_replaced.Given as goal
 
 -- the bytes so far are written

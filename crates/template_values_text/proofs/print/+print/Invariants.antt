@@ -1,6 +1,6 @@
 use denote.Shadow.{shadow}
 use denote.Text.{Utf8}
-use Rattle.std.proofs.Common.{◌≡◌, ◌+◌, ◌*◌, List, [], drop, Result, string_bytes, ℕ}
+use Rattle.std.proofs.Common.{◌+◌, ◌*◌, List, [], drop, Result, string_bytes, ℕ}
 use Rattle.template_values_errors.specs.declared.ErrorKind.{ErrorKind}
 use Rattle.template_values_model.specs.Val.{vals_of}
 use Rattle.template_values_core.specs.Maps.{pairs_of}

@@ -1,4 +1,4 @@
-use Rattle.std.proofs.Common.{arith, ◌+◌, Result, List, ℕ, Ok, Err, string_bytes, sym, subst}
+use Rattle.std.proofs.Common.{arith, ◌+◌}
 use Rattle.std.proofs.lemmas.Result.{err_from_is_err_and}
 use Rattle.template_values_model.specs.Val.{vals_of}
 use Rattle.template_values_core.specs.Maps.{pairs_of}

@@ -1,4 +1,4 @@
-use Rattle.std.proofs.Common.{◌≡◌, ◌+◌, ◌*◌, List, [], drop, Result, string_bytes, ℕ, false}
+use Rattle.std.proofs.Common.{◌+◌, ◌*◌, List, drop, Result, string_bytes, ℕ, false}
 use Rattle.serde_json.specs.Written.{items_text, members_text}
 use Rattle.template_values_errors.specs.declared.ErrorKind.{ErrorKind}
 use Rattle.template_values_model.specs.Val.{vals_of}

@@ -1,4 +1,4 @@
-use Rattle.std.proofs.Common.{◌≡◌, List, drop, Result, Ok, string_bytes, ℕ, false}
+use Rattle.std.proofs.Common.{List, drop, Result, Ok, string_bytes, ℕ, false}
 use Rattle.serde_json.specs.Written.{items_text}
 use Rattle.template_values_errors.specs.declared.ErrorKind.{ErrorKind}
 use Rattle.template_values_text.specs.Json.{byte_items}
