@@ -1,0 +1,10 @@
+//! The body of the program, over any runtime, reader and writers.
+#![tactic(auto)]
+
+mod faults;
+mod inputs;
+mod starting;
+mod status;
+
+pub use starting::start;
+pub use status::status_of;
