@@ -1,13 +1,13 @@
 -- The places of a slice are places of its list.
-use Rattle.std.proofs.Common.{◌≡◌, ℕ, zero, suc, ◌+◌, ◌*◌, ◌/◌, ◌%◌, ◌<◌, ◌≤◌, min, ℤ, pos, negsuc, ◌+ℤ◌, ◌-ℤ◌, ◌*ℤ◌, ◌≤ℤ◌, ◌<ℤ◌, refl, sym, ap, ◌∙◌, arith, unsigned_abs, List, [], ◌∷◌, ◌++◌, length, get_or, Option, Some, add-one, encode_utf8, encode_utf8_all}
+use Rattle.std.proofs.Common.{◌≡◌, ℕ, zero, suc, ◌+◌, ◌*◌, ◌/◌, ◌<◌, ◌≤◌, ℤ, pos, negsuc, ◌+ℤ◌, ◌-ℤ◌, ◌*ℤ◌, ◌≤ℤ◌, ◌<ℤ◌, refl, ap, ◌∙◌, arith, List, [], ◌∷◌, ◌++◌, Some, add-one, encode_utf8, encode_utf8_all}
 use Rattle.std.specs.Option.{option_to_list}
 use Rattle.std.proofs.lemmas.List.{append-nil}
 use Rattle.std.proofs.lemmas.Str.{encodes-append}
 use Rattle.std.specs.Int.{div_ceil}
-use Rattle.std.proofs.Math.Nat.{mul-le-mul_right, mul-le-mul_left, div-le_self}
+use Rattle.std.proofs.Math.Nat.{mul-le-mul_right}
 use Rattle.std.proofs.lemmas.Grind.{div_ceil_times}
 use Rattle.std.proofs.lemmas.Int.{ints}
-use Rattle.template_values_operators.specs.Slices.{lowest, highest, distance, steps_within, step_count, item_at, picked}
+use Rattle.template_values_operators.specs.Slices.{lowest, highest, steps_within, step_count, item_at, picked}
 
 pub div_ceil-le : (d s : ℕ) → 0 < s → div_ceil d s ≤ d
 div_ceil-le d s apart =

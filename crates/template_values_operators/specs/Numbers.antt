@@ -1,5 +1,5 @@
 -- The arithmetic of whole numbers from -2^127 to 2^127 - 1: exact, and nothing where the result is out of range.
-use Rattle.std.specs.Prelude.{ℕ, ℤ, pos, negsuc, ◌+ℤ◌, ◌-ℤ◌, ◌*ℤ◌, neg_ℤ, ◌^◌, Bool, nat_lt, if◌then◌else◌, ◌==◌, unsigned_abs, Option, None, Some}
+use Rattle.std.specs.Prelude.{ℤ, pos, negsuc, ◌+ℤ◌, ◌-ℤ◌, ◌*ℤ◌, neg_ℤ, ◌^◌, Bool, nat_lt, if◌then◌else◌, ◌==◌, unsigned_abs, Option, None, Some}
 use Rattle.std.specs.Int.{int_div_euclid, int_rem_euclid, int_pow}
 
 -- z lies from -2^127 to 2^127 - 1

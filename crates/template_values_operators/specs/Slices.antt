@@ -4,7 +4,7 @@ use Rattle.std.specs.Int.{int_min, int_max, div_ceil}
 use Rattle.std.specs.Str.{chars}
 use Rattle.template_values_errors.specs.declared.ErrorKind.{ErrorKind}
 use Rattle.template_values_errors.specs.declared.ErrorKind.TheVariants.{InvalidOperation}
-use Rattle.template_values_model.specs.Val.{Val, none, text, bytes}
+use Rattle.template_values_model.specs.Val.{Val, text, bytes}
 use Rattle.template_values_core.specs.Answers.{text_in}
 use Rattle.template_values_core.specs.Reads.{number_of, items_in}
 use Rattle.template_values_operators.specs.Kinds.{bytes_of, is_nothing, is_none, list_made}

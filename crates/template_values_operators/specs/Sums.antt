@@ -1,5 +1,5 @@
 -- `+`: numbers add up, two texts join to a plain text, lists and tuples join to a list; all else is refused.
-use Rattle.std.specs.Prelude.{ℕ, ℤ, List, ◌++◌, Option, None, Some, Result, Ok, Err}
+use Rattle.std.specs.Prelude.{ℕ, ℤ, List, ◌++◌, Option, Some, Result, Ok, Err}
 use Rattle.template_values_errors.specs.declared.ErrorKind.{ErrorKind}
 use Rattle.template_values_errors.specs.declared.ErrorKind.TheVariants.{InvalidOperation}
 use Rattle.template_values_model.specs.Val.{Val, text}
