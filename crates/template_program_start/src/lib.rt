@@ -5,6 +5,8 @@ mod faults;
 mod inputs;
 mod starting;
 mod status;
+#[cfg(test)]
+mod tests;
 
 pub use starting::start;
 pub use status::status_of;
