@@ -1,16 +1,14 @@
 //! The command-line program: renders a template over a JSON context, or tells the names that it uses.
 #![tactic(auto)]
 
-use std::env;
-use std::io;
 use std::process::ExitCode;
-use template_program_start::start;
+use std::{env, io};
+use template_program_start::{refuse_arguments, start};
 
 fn main(rt: HostRuntime) -> ExitCode {
     match run(&rt) {
         Ok(status) => ExitCode::from(status),
-        Err(error) if error.kind() == io::ErrorKind::OutOfMemory => ExitCode::from(6),
-        Err(_refused) => ExitCode::from(2),
+        Err(error) => ExitCode::from(refuse_arguments(&error, &mut rt.stderr())),
     }
 }
 

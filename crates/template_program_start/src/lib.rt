@@ -8,5 +8,5 @@ mod status;
 #[cfg(test)]
 mod tests;
 
-pub use starting::start;
+pub use starting::{refuse_arguments, start};
 pub use status::status_of;

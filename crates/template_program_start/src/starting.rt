@@ -5,7 +5,7 @@ use crate::faults::{write_error, write_fault};
 use crate::inputs::{main_name, owned_definitions, read_context_file, read_templates};
 use crate::status::{DONE, FILE, MEMORY, WORDS, status_of};
 use std::alloc::Global;
-use std::io::{BufWriter, Read, Write};
+use std::io::{self, BufWriter, Read, Write};
 use std::rt::Files;
 use template_machine_ids::StateIds;
 use template_machine_output::WriteWrapper;
@@ -59,6 +59,19 @@ fn refuse_words<O: Write, F: Write>(refused: &WordsFault, out: &mut O, fault: &m
             WORDS
         }
     }
+}
+
+/// Tells that the arguments cannot be had, before [`start`]: for want of memory, with status 6, or because
+/// one of them is no UTF-8, with status 2.
+pub fn refuse_arguments<F: Write>(refused: &io::Error, fault: &mut F) -> u8
+    ensures { result ≤ 6 }
+{
+    if refused.kind() == io::ErrorKind::OutOfMemory {
+        let _ = write_fault(fault, ErrorKind::OutOfMemory.name());
+        return MEMORY;
+    }
+    let _ = write_fault(fault, "Arguments");
+    WORDS
 }
 
 fn refuse_file<F: Write>(refused: FileFault, fault: &mut F) -> u8
