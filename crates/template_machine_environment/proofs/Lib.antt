@@ -1,2 +1,3 @@
 pub mod UsedBySome
 pub mod Faithful
+pub mod OwnNames

@@ -1,6 +1,8 @@
 //! Environments.
 ghost use Rattle.std.specs.Prelude.{◌≡◌, ℕ, List, ◌+◌, ◌∷◌, [], ◌↔◌, ◌⊎◌, None, Some, Option, IfOk, IfErr, OnOk, OnErr, IsErr, IsTrue, bytes_eq, if◌then◌else◌};
+ghost use Rattle.std.specs.BTreeMap.{get_by_text};
 ghost use Rattle.std.specs.BTreeSet.{contains_text};
+ghost use Rattle.std.specs.Option.{ForSome};
 ghost use Rattle.template_values_model.specs.Val.{Val};
 ghost use Rattle.template_compiler_tree.specs.Tree.{Statement};
 ghost use Rattle.template_compiler_grammar.specs.Grammar.{IsTemplate};
@@ -24,12 +26,14 @@ pub struct Environment<'source> {
     alloc: Global,
     templates: BTreeMap<String, CompiledTemplate<'source>>,
     fuel: Option<u64>,
+    // Each template stands under its own name.
+    ghost named: { (name : List ℕ) → ForSome (get_by_text templates name) (λ t. t.name ≡ name) },
 }
 
 impl<'source> Environment<'source> {
     ghost use Rattle.template_machine_environment.specs.Standing.{source_at, IsUnchanged};
     ghost use Rattle.template_machine_environment.specs.Names.{AgreeAt, IsListed, IsUsedByOne};
-    ghost use Rattle.template_machine_environment.specs.Views.{environment_of, source_of};
+    ghost use Rattle.template_machine_environment.specs.Views.{environment_of, name_of, source_of};
 
     /// An environment without templates and without fuel. It takes a state id as its own.
     ///
@@ -97,6 +101,7 @@ impl<'source> Environment<'source> {
     /// [`ErrorKind::TemplateNotFound`] where none stands.
     pub fn get_template(&self, name: &str) -> Result<Template<'_, 'source>, Error>
         ensures found { IfOk result (λ t. source_at self.now name.now ≡ Some (source_of t)) }
+        ensures named { IfOk result (λ t. name_of t ≡ name.now) }
         ensures here { IfOk result (λ t. environment_of t ≡ self.now) }
         ensures missing { IfErr result (λ kinds. (kinds ≡ ErrorKind.TemplateNotFound ∷ []) × (source_at self.now name.now ≡ None)) }
     {
