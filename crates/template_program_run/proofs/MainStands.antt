@@ -1,10 +1,12 @@
--- The answer to a request whose main template is rendered.
+-- The answers to requests whose main template stands.
 use Rattle.std.proofs.Common.{◌≡◌, sym, subst, ℕ, ◌+◌, List, Option, None, Some, inr, string_bytes}
 use Rattle.template_values_model.specs.Val.{Val}
 use Rattle.template_machine_world.specs.History.{standing}
+use Rattle.template_machine_environment.specs.Standing.{source_at}
+use Rattle.template_machine_environment.specs.declared.environment.Environment.{Environment}
 use Rattle.template_program_context.specs.Context.{fault_of_json, IsContext}
 use Rattle.template_program_run.specs.Additions.{AllHaveTrees}
-use Rattle.template_program_run.specs.Answers.{Answers, Performed, Rendered, definitions_of}
+use Rattle.template_program_run.specs.Answers.{Answers, Performed, Rendered, Told, definitions_of}
 use Rattle.template_program_run.specs.declared.outcome.Outcome.{Outcome}
 use Rattle.template_program_run.specs.declared.request.Command.{Command}
 use Rattle.template_program_run.specs.declared.request.Command.TheVariants as asked
@@ -24,4 +26,16 @@ answers_rendered request additions json next outcome before after failed fails f
     let by_id = subst (λ (i : ℕ). Rendered (string_bytes request.main) source request.fuel context i outcome before after failed fails) counted by_fuel in
     let performed = subst (λ (command : Command). Performed command request additions json next outcome before after failed fails) (sym is)
     (source, stands, (context, holds, by_id)) in
+    inr (faultless, inr (accepted, inr performed))
+
+pub answers_told : (request : Request) (additions : List (List ℕ × List ℕ)) (json : Option (List ℕ)) (next : ℕ) (outcome : Outcome)
+    (before after : Option (List ℕ)) (failed fails : ℕ)
+    → fault_of_json json ≡ None → AllHaveTrees additions → request.command ≡ asked.Names
+    → (environment : Environment) → ((name : List ℕ) → source_at environment name ≡ standing additions name)
+    → (source : List ℕ) → standing additions (string_bytes request.main) ≡ Some source
+    → Told environment source outcome before after failed fails
+    → Answers request additions json next outcome before after failed fails
+answers_told request additions json next outcome before after failed fails faultless accepted is environment same source stands told =
+    let performed = subst (λ (command : Command). Performed command request additions json next outcome before after failed fails) (sym is)
+    (environment, same, (source, stands, told)) in
     inr (faultless, inr (accepted, inr performed))
