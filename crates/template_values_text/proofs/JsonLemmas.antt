@@ -8,9 +8,9 @@ use Rattle.template_values_model.specs.Val.{Val, Vals, Pairs, vals_of}
 use Rattle.template_values_core.specs.Maps.{pairs_of}
 use Rattle.template_values_core.specs.Shape.{pairs_in}
 use Rattle.template_values_core.specs.declared.value.Entry.{Entry}
-use Rattle.template_values_text.specs.Answers.{joined, mapped}
-use Rattle.template_values_text.specs.Json.{inner_data, item_more, items_data, key_data, key_text, member_more, members_data, nested_data}
-use Rattle.template_values_text.specs.Known.{Known}
+use Rattle.template_values_forms.specs.Answers.{joined, mapped}
+use Rattle.template_values_forms.specs.Json.{inner_data, item_more, items_data, key_data, key_text, member_more, members_data, nested_data}
+use Rattle.template_values_forms.specs.Known.{Known}
 use Rattle.template_values_text.specs.Pieces.{Writes}
 use Rattle.template_values_text.specs.declared.pieces.Markup.TheVariants.{Plain}
 use Rattle.template_values_text.proofs.PieceLemmas.{Writes-then, Writes-stop}

@@ -7,8 +7,8 @@ use Rattle.std.specs.Str.{IsUtf8, IsCharBoundary}
 use Rattle.std.proofs.lemmas.Str.{IsUtf8-from_ascii, IsCharBoundary-from_take}
 use Rattle.std.proofs.lemmas.List.Concat.{flat_map-append}
 use Rattle.template_values_errors.specs.declared.ErrorKind.{ErrorKind}
-use Rattle.template_values_text.specs.Answers.{Appends, joined, mapped}
-use Rattle.template_values_text.specs.Escapes.{html_byte, html}
+use Rattle.template_values_forms.specs.Answers.{Appends, joined, mapped}
+use Rattle.template_values_forms.specs.Escapes.{html_byte, html}
 use Rattle.template_values_text.specs.Pieces.{encoded, Begins, Writes}
 use Rattle.template_values_text.specs.declared.pieces.Markup.{Markup}
 use Rattle.template_values_text.specs.declared.pieces.Markup.TheVariants.{Plain, Html}

@@ -7,10 +7,10 @@ use Rattle.template_values_model.specs.Val.{Val, Vals, Pairs, vals_of, no_vals, 
 use Rattle.template_values_core.specs.Maps.{pairs_of}
 use Rattle.template_values_core.specs.Shape.{pairs_in}
 use Rattle.template_values_core.specs.declared.value.Entry.{Entry}
-use Rattle.template_values_text.specs.Answers.{joined}
-use Rattle.template_values_text.specs.Known.{Known}
+use Rattle.template_values_forms.specs.Answers.{joined}
+use Rattle.template_values_forms.specs.Known.{Known}
 use Rattle.template_values_text.specs.Pieces.{Writes}
-use Rattle.template_values_text.specs.Printed.{inner_text, nested_text, pair_text, pairs_text, tuple_end, vals_text}
+use Rattle.template_values_forms.specs.Printed.{inner_text, nested_text, pair_text, pairs_text, tuple_end, vals_text}
 use Rattle.template_values_text.specs.declared.pieces.Markup.{Markup}
 use Rattle.template_values_text.proofs.PieceLemmas.{IsUtf8-one, Writes-then}
 

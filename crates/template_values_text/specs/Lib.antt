@@ -1,9 +1,2 @@
-pub mod Answers
-pub mod Known
 pub mod Views
-pub mod Escapes
-pub mod Printed
 pub mod Pieces
-pub mod Json
-pub mod Escaped
-pub mod Truth

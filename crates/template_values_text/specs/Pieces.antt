@@ -4,7 +4,7 @@ use Rattle.template_values_errors.specs.declared.ErrorKind.{ErrorKind}
 use Rattle.template_values_errors.specs.declared.ErrorKind.TheVariants.{OutOfMemory}
 use Rattle.json.specs.Print.{escape_byte}
 use Rattle.std.specs.Char.{digit_char}
-use Rattle.template_values_text.specs.Escapes.{control_escape, html, quoted_byte}
+use Rattle.template_values_forms.specs.Escapes.{control_escape, html, quoted_byte}
 use Rattle.template_values_text.specs.declared.pieces.Escape.{Escape}
 use Rattle.template_values_text.specs.declared.pieces.Escape.TheVariants.{Known, Braced, Unicode}
 use Rattle.template_values_text.specs.declared.pieces.Quoting.{Quoting}

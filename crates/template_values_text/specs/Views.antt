@@ -1,5 +1,5 @@
 -- What a look into a loop or a macro shows.
-use Rattle.template_values_text.specs.Known.{LoopSeen, MacroSeen}
+use Rattle.template_values_forms.specs.Known.{LoopSeen, MacroSeen}
 use Rattle.template_values_text.specs.declared.records.LoopView.{LoopView}
 use Rattle.template_values_text.specs.declared.records.MacroView.{MacroView}
 

@@ -1,10 +1,10 @@
 //! The text of a value under an escape.
 ghost use Rattle.std.specs.Prelude.{string_bytes};
-ghost use Rattle.template_values_text.specs.Answers.{Appends, mapped};
-ghost use Rattle.template_values_text.specs.Escaped.{escaped, html_text, json_text};
-ghost use Rattle.template_values_text.specs.Escapes.{html};
+ghost use Rattle.template_values_forms.specs.Answers.{Appends, mapped};
+ghost use Rattle.template_values_forms.specs.Escaped.{escaped, html_text, json_text};
+ghost use Rattle.template_values_forms.specs.Escapes.{html};
 ghost use Rattle.template_values_text.specs.Pieces.{Writes};
-ghost use Rattle.template_values_text.specs.Printed.{printed};
+ghost use Rattle.template_values_forms.specs.Printed.{printed};
 
 use crate::pieces::{Markup, push};
 use crate::print::print_outer;

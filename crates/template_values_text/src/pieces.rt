@@ -3,9 +3,9 @@ ghost use Rattle.std.specs.Prelude.{◌≡◌, ◌<◌, ◌/◌, ◌%◌, ◌∷
 ghost use Rattle.json.specs.Print.{escape_byte};
 ghost use Rattle.std.specs.Char.{digit_char};
 ghost use Rattle.std.specs.List.{flat_map};
-ghost use Rattle.template_values_text.specs.Escapes.{control_escape, hexadecimal, html_byte, quoted_byte, replaced_byte};
+ghost use Rattle.template_values_forms.specs.Escapes.{control_escape, hexadecimal, html_byte, quoted_byte, replaced_byte};
 ghost use Rattle.template_values_text.specs.Pieces.{Writes, escaped_byte, escape_text, unicode_escape};
-ghost use Rattle.template_values_text.specs.Printed.{bytes_text};
+ghost use Rattle.template_values_forms.specs.Printed.{bytes_text};
 
 use std::slice;
 use template_values_errors::{Error, ErrorKind};

@@ -3,9 +3,9 @@ ghost use Rattle.std.specs.Prelude.{◌≡◌, [], Ok, codes, string_bytes};
 ghost use Rattle.template_values_model.specs.Val.{vals_of};
 ghost use Rattle.template_values_core.specs.Maps.{pairs_of};
 ghost use Rattle.template_values_core.specs.Shape.{pairs_in};
-ghost use Rattle.template_values_text.specs.Answers.{Appends, joined};
+ghost use Rattle.template_values_forms.specs.Answers.{Appends, joined};
 ghost use Rattle.template_values_text.specs.Pieces.{Writes};
-ghost use Rattle.template_values_text.specs.Printed.{enclosed, flat_text, inner_text, level_limit, loop_text, macro_text, map_text, namespace_text, nested_text, pair_text, pairs_text, place_text, printed, tuple_end, vals_text};
+ghost use Rattle.template_values_forms.specs.Printed.{enclosed, flat_text, inner_text, level_limit, loop_text, macro_text, map_text, namespace_text, nested_text, pair_text, pairs_text, place_text, printed, tuple_end, vals_text};
 
 use crate::pieces::{Markup, Quoting, push, push_bytes, push_quoted};
 use crate::records::Records;

@@ -1,7 +1,7 @@
 //! What is known of the records of a running state.
 ghost use Rattle.std.specs.Prelude.{◌≡◌, ℕ, Option, None, option_copied, option_map};
 ghost use Rattle.template_values_core.specs.Shape.{pairs_in};
-ghost use Rattle.template_values_text.specs.Known.{Known, nothing_known};
+ghost use Rattle.template_values_forms.specs.Known.{Known, nothing_known};
 
 use template_values_core::{Entry, Value};
 

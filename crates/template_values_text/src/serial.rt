@@ -4,8 +4,8 @@ ghost use Rattle.serde_json.specs.Written.{comma_if, compact_text, items_text, m
 ghost use Rattle.template_values_model.specs.Val.{vals_of};
 ghost use Rattle.template_values_core.specs.Maps.{pairs_of};
 ghost use Rattle.template_values_core.specs.Shape.{pairs_in};
-ghost use Rattle.template_values_text.specs.Answers.{joined, mapped};
-ghost use Rattle.template_values_text.specs.Json.{byte_items, flat_data, inner_data, items_data, json_data, key_data, key_text, members_data, namespace_data, nested_data, number_data};
+ghost use Rattle.template_values_forms.specs.Answers.{joined, mapped};
+ghost use Rattle.template_values_forms.specs.Json.{byte_items, flat_data, inner_data, items_data, json_data, key_data, key_text, members_data, namespace_data, nested_data, number_data};
 ghost use Rattle.template_values_text.specs.Pieces.{Writes};
 
 use crate::pieces::{Markup, Quoting, push, push_quoted};

@@ -4,7 +4,7 @@ ghost use Rattle.template_values_model.specs.Gives.{alone};
 ghost use Rattle.template_values_core.specs.Maps.{pairs_of};
 ghost use Rattle.template_values_core.specs.Reads.{has_pairs};
 ghost use Rattle.template_values_core.specs.Shape.{pairs_in};
-ghost use Rattle.template_values_text.specs.Truth.{truth_of};
+ghost use Rattle.template_values_forms.specs.Truth.{truth_of};
 
 use crate::records::Records;
 use template_values_core::{Content, Entry, Value};

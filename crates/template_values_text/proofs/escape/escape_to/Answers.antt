@@ -1,7 +1,7 @@
 use Rattle.std.proofs.Common.{ℕ, length, string_bytes, ap, ◌∙◌, take}
 use Rattle.std.specs.Str.{IsCharBoundary}
 use Rattle.std.proofs.lemmas.Str.{IsUtf8-string_bytes}
-use Rattle.template_values_text.specs.Escaped.{escaped}
+use Rattle.template_values_forms.specs.Escaped.{escaped}
 use Rattle.template_values_text.specs.declared.pieces.Markup.TheVariants.{Plain}
 use Rattle.template_values_text.proofs.PieceLemmas.{Appends-cut, Appends-whole, Begins-boundary, Writes-begins}
 use Rattle.template_values_text.proofs.escape.escape_to.Goals as goal

@@ -2,8 +2,8 @@ use Rattle.std.proofs.Common.{◌≡◌, List, ℕ, Bool, true, false, refl, ap,
 use Rattle.std.specs.List.{flat_map}
 use Rattle.std.specs.Str.{IsUtf8, is_utf8}
 use Rattle.std.proofs.lemmas.Str.{IsUtf8-from_is_utf8, is_utf8-from_IsUtf8}
-use Rattle.template_values_text.specs.Escapes.{replaced_byte}
-use Rattle.template_values_text.specs.Printed.{bytes_text}
+use Rattle.template_values_forms.specs.Escapes.{replaced_byte}
+use Rattle.template_values_forms.specs.Printed.{bytes_text}
 use Rattle.template_values_text.proofs.pieces.push_bytes.Goals as goal
 
 bytes_text-utf8 : (s : List ℕ) → IsUtf8 s → bytes_text s ≡ s

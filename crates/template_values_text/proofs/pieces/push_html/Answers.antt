@@ -1,7 +1,7 @@
 use Rattle.std.proofs.Common.{◌≡◌, ℕ, List, [], ◌∷◌, ◌++◌, take, drop, ◌-◌, ◌+◌, ◌<◌, get_or, arith, refl, string_bytes, sym, ap, subst, ◌∙◌}
 use Rattle.std.proofs.lemmas.Str.{IsCharBoundary-start, IsCharBoundary-after_ascii}
 use Rattle.template_values_text.proofs.PieceLemmas.{Begins-refl, Begins-wrote, loop_goes_on, loop_ends_block, wrote_both}
-use Rattle.template_values_text.specs.Escapes.{html_byte}
+use Rattle.template_values_forms.specs.Escapes.{html_byte}
 use Rattle.template_values_text.specs.declared.pieces.Markup.TheVariants.{Plain}
 use Rattle.template_values_text.proofs.pieces.push_html.Goals as goal
 

@@ -1,6 +1,6 @@
 use Rattle.std.proofs.Common.{◌≡◌, ◌-◌, ◌≤◌, ◌++◌, take, drop, string_bytes}
 use Rattle.std.specs.Str.{IsCharBoundary}
-use Rattle.template_values_text.specs.Escapes.{html}
+use Rattle.template_values_forms.specs.Escapes.{html}
 use Rattle.template_values_text.specs.Pieces.{Begins}
 use Rattle.template_values_text.proofs.pieces.push_html.Given as goal
 

@@ -1,6 +1,6 @@
 use Rattle.std.proofs.Common.{◌≡◌, ◌++◌, take, string_bytes}
 use Rattle.std.specs.List.{flat_map}
-use Rattle.template_values_text.specs.Escapes.{replaced_byte}
+use Rattle.template_values_forms.specs.Escapes.{replaced_byte}
 use Rattle.template_values_text.specs.Pieces.{encoded}
 use Rattle.template_values_text.proofs.pieces.push_replaced.Given as goal
 

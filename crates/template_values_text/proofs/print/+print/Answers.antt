@@ -1,5 +1,5 @@
 use Rattle.std.proofs.Common.{arith, ◌+◌}
-use Rattle.template_values_text.specs.Printed.{inner_text}
+use Rattle.template_values_forms.specs.Printed.{inner_text}
 use Rattle.template_values_text.proofs.PrintLemmas.{comma_is_text, inner_text-below, writes_next_val, writes_next_pair}
 use Rattle.template_values_text.proofs.print.+print.Goals as goal
 

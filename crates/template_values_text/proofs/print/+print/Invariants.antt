@@ -6,7 +6,7 @@ use Rattle.template_values_model.specs.Val.{vals_of}
 use Rattle.template_values_core.specs.Maps.{pairs_of}
 use Rattle.template_values_core.specs.Shape.{pairs_in}
 use Rattle.template_values_text.specs.Pieces.{Writes}
-use Rattle.template_values_text.specs.Printed.{inner_text, pairs_text, vals_text}
+use Rattle.template_values_forms.specs.Printed.{inner_text, pairs_text, vals_text}
 use Rattle.template_values_text.proofs.print.+print.Given as goal
 
 abbrev pub decreases-print_inner : goal.decreases-print_inner

@@ -1,5 +1,5 @@
 use Rattle.std.proofs.Common.{refl}
-use Rattle.template_values_text.specs.Printed.{level_limit}
+use Rattle.template_values_forms.specs.Printed.{level_limit}
 use Rattle.template_values_text.proofs.print.deepest.Goals as goal
 
 pub returns : goal.returns

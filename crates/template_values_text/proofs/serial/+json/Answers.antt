@@ -3,7 +3,7 @@ use Rattle.std.proofs.lemmas.Result.{err_from_is_err_and}
 use Rattle.template_values_model.specs.Val.{vals_of}
 use Rattle.template_values_core.specs.Maps.{pairs_of}
 use Rattle.template_values_core.specs.Shape.{pairs_in}
-use Rattle.template_values_text.specs.Json.{inner_data, items_data, members_data}
+use Rattle.template_values_forms.specs.Json.{inner_data, items_data, members_data}
 use Rattle.template_values_text.proofs.JsonLemmas.{array_text, inner_data-below, object_text, stops_at_item, stops_at_member, writes_last_item, writes_last_member, writes_next_item, writes_next_member}
 use Rattle.template_values_text.proofs.serial.+json.Goals as goal
 

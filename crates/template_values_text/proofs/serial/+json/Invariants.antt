@@ -4,8 +4,8 @@ use Rattle.template_values_errors.specs.declared.ErrorKind.{ErrorKind}
 use Rattle.template_values_model.specs.Val.{vals_of}
 use Rattle.template_values_core.specs.Maps.{pairs_of}
 use Rattle.template_values_core.specs.Shape.{pairs_in}
-use Rattle.template_values_text.specs.Answers.{mapped}
-use Rattle.template_values_text.specs.Json.{inner_data, items_data, members_data}
+use Rattle.template_values_forms.specs.Answers.{mapped}
+use Rattle.template_values_forms.specs.Json.{inner_data, items_data, members_data}
 use Rattle.template_values_text.specs.Pieces.{Writes}
 use Rattle.template_values_text.specs.declared.pieces.Markup.TheVariants.{Plain}
 use Rattle.template_values_text.proofs.serial.+json.Given as goal

@@ -1,7 +1,7 @@
 use Rattle.std.proofs.Common.{List, drop, Result, Ok, string_bytes, ℕ, false}
 use Rattle.serde_json.specs.Written.{items_text}
 use Rattle.template_values_errors.specs.declared.ErrorKind.{ErrorKind}
-use Rattle.template_values_text.specs.Json.{byte_items}
+use Rattle.template_values_forms.specs.Json.{byte_items}
 use Rattle.template_values_text.specs.Pieces.{Writes}
 use Rattle.template_values_text.specs.declared.pieces.Markup.TheVariants.{Plain}
 use Rattle.template_values_text.proofs.serial.json_byte_items.Given as goal

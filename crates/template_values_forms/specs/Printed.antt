@@ -7,9 +7,9 @@ use Rattle.template_values_errors.specs.declared.ErrorKind.{ErrorKind}
 use Rattle.template_values_errors.specs.declared.ErrorKind.TheVariants.{InvalidOperation}
 use Rattle.template_values_model.specs.Val.{Val, Vals, Pairs, undefined, silent_undefined, none, truth, int, text, safe_text, bytes, list, tuple, map, keyword_map, «module», function, namespace, loop_record, macro_record, no_vals, vals_more, no_pairs, pairs_more}
 use Rattle.template_values_core.specs.Maps.{pairs_of}
-use Rattle.template_values_text.specs.Answers.{joined}
-use Rattle.template_values_text.specs.Escapes.{quoted, replaced_byte}
-use Rattle.template_values_text.specs.Known.{Known, LoopSeen, MacroSeen}
+use Rattle.template_values_forms.specs.Answers.{joined}
+use Rattle.template_values_forms.specs.Escapes.{quoted, replaced_byte}
+use Rattle.template_values_forms.specs.Known.{Known, LoopSeen, MacroSeen}
 
 -- between a first and a last text
 abbrev pub enclosed : List ℕ → Result (List ℕ) ErrorKind → List ℕ → Result (List ℕ) ErrorKind

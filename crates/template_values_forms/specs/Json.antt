@@ -6,9 +6,9 @@ use Rattle.template_values_errors.specs.declared.ErrorKind.{ErrorKind}
 use Rattle.template_values_errors.specs.declared.ErrorKind.TheVariants.{BadSerialization, InvalidOperation}
 use Rattle.template_values_model.specs.Val.{Val, Vals, Pairs, undefined, silent_undefined, none, truth, int, text, safe_text, bytes, list, tuple, map, keyword_map, «module», function, namespace, loop_record, macro_record, no_vals, vals_more, no_pairs, pairs_more}
 use Rattle.template_values_core.specs.Maps.{pairs_of}
-use Rattle.template_values_text.specs.Answers.{mapped}
-use Rattle.template_values_text.specs.Known.{Known}
-use Rattle.template_values_text.specs.Printed.{level_limit}
+use Rattle.template_values_forms.specs.Answers.{mapped}
+use Rattle.template_values_forms.specs.Known.{Known}
+use Rattle.template_values_forms.specs.Printed.{level_limit}
 
 -- a number from -2^63 to 2^64 - 1
 abbrev pub number_data : ℤ → Result Data ErrorKind

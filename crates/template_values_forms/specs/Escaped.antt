@@ -6,11 +6,11 @@ use Rattle.template_values_errors.specs.declared.ErrorKind.TheVariants.{InvalidO
 use Rattle.template_values_model.specs.Val.{Val, safe_text}
 use Rattle.template_values_modes.specs.declared.AutoEscape.{AutoEscape}
 use Rattle.template_values_modes.specs.declared.AutoEscape.TheVariants.{None, Html, Json, Custom}
-use Rattle.template_values_text.specs.Answers.{mapped}
-use Rattle.template_values_text.specs.Escapes.{html}
-use Rattle.template_values_text.specs.Json.{json_data}
-use Rattle.template_values_text.specs.Known.{Known}
-use Rattle.template_values_text.specs.Printed.{printed}
+use Rattle.template_values_forms.specs.Answers.{mapped}
+use Rattle.template_values_forms.specs.Escapes.{html}
+use Rattle.template_values_forms.specs.Json.{json_data}
+use Rattle.template_values_forms.specs.Known.{Known}
+use Rattle.template_values_forms.specs.Printed.{printed}
 
 -- a safe text stands as it is
 abbrev pub html_text : Known → Val → Result (List ℕ) ErrorKind

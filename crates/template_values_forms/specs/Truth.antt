@@ -5,7 +5,7 @@ use Rattle.template_values_errors.specs.declared.ErrorKind.TheVariants.{InvalidO
 use Rattle.template_values_model.specs.Val.{Val, namespace}
 use Rattle.template_values_core.specs.Maps.{pairs_of}
 use Rattle.template_values_core.specs.Reads.{has_pairs, is_true}
-use Rattle.template_values_text.specs.Known.{Known}
+use Rattle.template_values_forms.specs.Known.{Known}
 
 abbrev pub namespace_truth : Option (List (Val × Val)) → Result Bool ErrorKind
 namespace_truth None = Err InvalidOperation

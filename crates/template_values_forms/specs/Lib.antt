@@ -1,0 +1,7 @@
+pub mod Answers
+pub mod Known
+pub mod Escapes
+pub mod Printed
+pub mod Json
+pub mod Escaped
+pub mod Truth
