@@ -192,7 +192,14 @@ fn a_value_is_looked_up_and_printed(rt: HostRuntime) -> Result<(), Fail> {
     let plain = AutoEscape::None;
     writes(&rt, alloc, plain, Value::from_int(-7), Ok(()), "Hello -7!")?;
     writes(&rt, alloc, plain, Value::undefined(), Ok(()), "Hello !")?;
-    writes(&rt, alloc, plain, Value::function(1, 2), Ok(()), "Hello <function>!")?;
+    writes(
+        &rt,
+        alloc,
+        plain,
+        Value::function(1, 2),
+        Ok(()),
+        "Hello <function>!",
+    )?;
     let items = list(alloc, Value::from_int(1), kind_of(text(alloc, "<"))?)?;
     writes(&rt, alloc, plain, items, Ok(()), "Hello [1, \"<\"]!")?;
     let entries = map(alloc, kind_of(text(alloc, "a"))?, Value::none())?;
@@ -210,9 +217,23 @@ fn a_value_is_escaped_as_html(rt: HostRuntime) -> Result<(), Fail> {
     let html = AutoEscape::Html;
     let tag = kind_of(text(alloc, "<b>"))?;
     writes(&rt, alloc, html, tag, Ok(()), "Hello &lt;b&gt;!")?;
-    writes(&rt, alloc, html, safe_text(alloc, "<b>")?, Ok(()), "Hello <b>!")?;
+    writes(
+        &rt,
+        alloc,
+        html,
+        safe_text(alloc, "<b>")?,
+        Ok(()),
+        "Hello <b>!",
+    )?;
     let items = list(alloc, Value::from_int(1), kind_of(text(alloc, "<"))?)?;
-    writes(&rt, alloc, html, items, Ok(()), "Hello [1, &quot;&lt;&quot;]!")?;
+    writes(
+        &rt,
+        alloc,
+        html,
+        items,
+        Ok(()),
+        "Hello [1, &quot;&lt;&quot;]!",
+    )?;
     writes(&rt, alloc, html, Value::undefined(), Ok(()), "Hello !")?;
     Ok(())
 }
@@ -223,7 +244,14 @@ fn a_value_is_written_as_json(rt: HostRuntime) -> Result<(), Fail> {
     let json = AutoEscape::Json;
     let tag = kind_of(text(alloc, "<b>"))?;
     writes(&rt, alloc, json, tag, Ok(()), "Hello \"<b>\"!")?;
-    writes(&rt, alloc, json, safe_text(alloc, "<b>")?, Ok(()), "Hello <b>!")?;
+    writes(
+        &rt,
+        alloc,
+        json,
+        safe_text(alloc, "<b>")?,
+        Ok(()),
+        "Hello <b>!",
+    )?;
     let items = list(alloc, Value::from_int(1), Value::none())?;
     let entries = map(alloc, kind_of(text(alloc, "a"))?, items)?;
     writes(&rt, alloc, json, entries, Ok(()), "Hello {\"a\":[1,null]}!")?;
@@ -239,8 +267,16 @@ fn a_value_without_a_text_faults_behind_the_text_before_it(rt: HostRuntime) -> R
     let cases = [
         (AutoEscape::Json, large, ErrorKind::BadSerialization),
         (AutoEscape::Json, number_key, ErrorKind::BadSerialization),
-        (AutoEscape::None, Value::namespace(1, 2), ErrorKind::InvalidOperation),
-        (AutoEscape::Custom(1), safe_text(alloc, "<b>")?, ErrorKind::InvalidOperation),
+        (
+            AutoEscape::None,
+            Value::namespace(1, 2),
+            ErrorKind::InvalidOperation,
+        ),
+        (
+            AutoEscape::Custom(1),
+            safe_text(alloc, "<b>")?,
+            ErrorKind::InvalidOperation,
+        ),
     ];
     for (escape, value, kind) in cases {
         writes(&rt, alloc, escape, value, Err(kind), "Hello ")?;
@@ -259,7 +295,14 @@ fn a_print_keeps_nothing_of_the_one_before(rt: HostRuntime) -> Result<(), Fail> 
     let mut out = String::new(alloc);
     match verify(code) {
         Ok(code) => {
-            kind_of(run_code(alloc, &code, AutoEscape::Html, &context, &mut None, &mut out))?;
+            kind_of(run_code(
+                alloc,
+                &code,
+                AutoEscape::Html,
+                &context,
+                &mut None,
+                &mut out,
+            ))?;
         }
         Err((error, _code)) => return Err(error.kind().into()),
     }
@@ -300,7 +343,14 @@ fn an_empty_code_needs_no_fuel(rt: HostRuntime) -> Result<(), Fail> {
     let mut out = String::new(alloc);
     match verify(empty(alloc)) {
         Ok(code) => {
-            kind_of(run_code(alloc, &code, AutoEscape::None, &Value::undefined(), &mut tank, &mut out))?;
+            kind_of(run_code(
+                alloc,
+                &code,
+                AutoEscape::None,
+                &Value::undefined(),
+                &mut tank,
+                &mut out,
+            ))?;
         }
         Err((error, _code)) => return Err(error.kind().into()),
     }
