@@ -1,5 +1,5 @@
 -- What a value that has no text under an escape is refused with.
-use Rattle.std.proofs.Common.{◌≡◌, ℕ, ℤ, pos, negsuc, zero, suc, Bool, true, false, nat_lt, ◌^◌, List, [], ◌++◌, Option, None, Some, Result, Ok, Err, IfErr, refl, inl, inr}
+use Rattle.std.proofs.Common.{◌≡◌, ℕ, ℤ, pos, negsuc, zero, suc, Bool, true, false, nat_lt, ◌^◌, List, [], Option, None, Some, Result, Ok, Err, IfErr, refl, inl, inr}
 use Rattle.std.specs.Prelude.{◌⊎◌, codes, if◌then◌else◌}
 use Rattle.serde_json.specs.Data.{Data, Items, Members, unsigned, negative, number, array, object}
 use Rattle.serde_json.specs.Written.{compact_text}

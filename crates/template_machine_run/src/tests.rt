@@ -190,7 +190,8 @@ fn writes(
 fn a_value_is_looked_up_and_printed(rt: HostRuntime) -> Result<(), Fail> {
     let alloc = rt.alloc();
     let plain = AutoEscape::None;
-    writes(&rt, alloc, plain, Value::from_int(-7), Ok(()), "Hello -7!")?;
+    let least = "Hello -170141183460469231731687303715884105728!";
+    writes(&rt, alloc, plain, Value::from_int(i128::MIN), Ok(()), least)?;
     writes(&rt, alloc, plain, Value::undefined(), Ok(()), "Hello !")?;
     writes(
         &rt,
