@@ -20,8 +20,9 @@ abbrev pub Writes : {X : Type 0} → List ℕ → Result X (List ErrorKind) → 
 Writes text (Ok _) before after = Appends before after text
 Writes text (Err kinds) before after = IsWant kinds × AppendsBeginning before after text
 
--- the sink takes a text that was made, and nothing where the text was refused
+-- the sink takes a text that was made; and nothing where the text was refused, which may also be for want
+-- of memory
 abbrev pub Prints : {X : Type 0} → Result (List ℕ) ErrorKind → Result X (List ErrorKind) → Option (List ℕ) → Option (List ℕ) → Type 0
 Prints (Ok text) result before after = Writes text result before after
 Prints (Err kind) (Ok _) before after = ⊥
-Prints (Err kind) (Err kinds) before after = (kinds ≡ kind ∷ []) × (after ≡ before)
+Prints (Err kind) (Err kinds) before after = ((kinds ≡ kind ∷ []) ⊎ (kinds ≡ OutOfMemory ∷ [])) × (after ≡ before)

@@ -3,9 +3,9 @@
 #![tactic(auto)]
 
 mod machine;
-mod scopes;
 mod tracker;
 mod verified;
+mod world;
 mod writing;
 
 pub use machine::run_code;

@@ -7,21 +7,22 @@ ghost use Rattle.template_compiler_code.specs.Shapes.{depth_after};
 ghost use Rattle.template_compiler_process.specs.Trace.{text_of};
 ghost use Rattle.std.specs.Io.KnownBytes.{Appends};
 ghost use Rattle.template_machine_output.specs.Writes.{AppendsBeginning};
-ghost use Rattle.template_machine_world.specs.Meaning.{first_scopes};
+ghost use Rattle.template_machine_world.specs.World.{first_world};
 ghost use Rattle.template_machine_run.specs.Acts.{Acts};
 ghost use Rattle.template_machine_run.specs.Outcomes.{TellsFailures};
 ghost use Rattle.template_machine_run.specs.Runs.{code_run, code_leaves, ComesOut, EndsAs};
 ghost use Rattle.template_machine_run.specs.Tanks.{fuel_left, fuel_set, Pays};
 
-use crate::scopes::Context;
 use crate::tracker::FuelTracker;
 use crate::verified::Checked;
+use crate::world::World;
 use crate::writing::{print, write};
 use std::alloc::Global;
 use template_compiler_code::Instruction;
 use template_machine_output::Sink;
 use template_values_core::Value;
 use template_values_errors::{Error, ErrorKind};
+use template_values_modes::AutoEscape;
 
 // Takes an instruction's price of the fuel, if one is set.
 fn charge(fuel: &mut Option<FuelTracker>, instruction: &Instruction<'_>) -> Result<(), Error>
@@ -50,7 +51,7 @@ fn push(operands: &mut Vec<Value>, value: Value) -> Result<(), Error>
 // Does what an instruction does, once it is paid.
 fn perform<S: Sink>(
     instruction: &Instruction<'_>,
-    context: &Context<'_>,
+    world: &World<'_>,
     operands: &mut Vec<Value>,
     scratch: &mut String,
     sink: &mut S,
@@ -58,7 +59,7 @@ fn perform<S: Sink>(
     requires { IsSome (depth_after (code_of instruction.now ∷ []) (vec_len operands.old)) }
     ensures acts { let before = reverse operands.old.items in
         let after = reverse operands.new.items in
-        Acts (code_of instruction.now) (first_scopes context.now.value.now) before after
+        Acts (code_of instruction.now) (first_world world.now.escape world.now.context.now) before after
         result (S.taken sink.old) (S.taken sink.new) }
     ensures depth { let left = depth_after (code_of instruction.now ∷ []) (vec_len operands.old) in
         OnOk result (left ≡ Some (vec_len operands.new)) }
@@ -66,43 +67,47 @@ fn perform<S: Sink>(
 {
     match instruction {
         Instruction::EmitRaw(text) => write(text.as_str(), sink),
-        Instruction::Lookup(name) => push(operands, context.load(name.as_str())?),
+        Instruction::Lookup(name) => push(operands, world.load(name.as_str())?),
         Instruction::Emit => match operands.pop() {
-            Some(value) => print(&value, scratch, sink),
+            Some(value) => print(&value, world.escape, scratch, sink),
             None => unreachable!(),
         },
     }
 }
 
-/// Runs code over a context, and writes what it prints into a sink. A fuel, if one is set, is charged
-/// before each step.
+/// Runs code over a context, and writes the texts of the values that it prints, under the escape, into
+/// a sink. A fuel, if one is set, is charged before each step.
 ///
 /// # Errors
 ///
-/// The fault that the run ends with, as [`ErrorKind::OutOfFuel`]; the sink has then taken the text
-/// before it. [`ErrorKind::OutOfMemory`] where a growth was refused, and [`ErrorKind::WriteFailure`]
-/// where the sink failed; it has then taken a beginning of the text.
+/// The fault that the run ends with, as [`ErrorKind::OutOfFuel`], or what [`escape_to`] refuses a value
+/// with; the sink has then taken the text before it. [`ErrorKind::OutOfMemory`] where a growth was
+/// refused, and [`ErrorKind::WriteFailure`] where the sink failed; it has then taken a beginning of the
+/// text.
+///
+/// [`escape_to`]: template_values_text::escape_to
 pub fn run_code<S: Sink>(
     alloc: Global,
     code: &Checked<'_>,
+    escape: AutoEscape,
     context: &Value,
     fuel: &mut Option<FuelTracker>,
     sink: &mut S,
 ) -> Result<(), Error>
-    ensures outcome { ComesOut result (code_run (fuel_left fuel.old) code.now.instructions.code context.now) }
-    ensures text { let run = code_run (fuel_left fuel.old) code.now.instructions.code context.now in
+    ensures outcome { ComesOut result (code_run escape (fuel_left fuel.old) code.now.instructions.code context.now) }
+    ensures text { let run = code_run escape (fuel_left fuel.old) code.now.instructions.code context.now in
         EndsAs result run → Appends (S.taken sink.old) (S.taken sink.new) (text_of run.items) }
-    ensures beginning { let run = code_run (fuel_left fuel.old) code.now.instructions.code context.now in
+    ensures beginning { let run = code_run escape (fuel_left fuel.old) code.now.instructions.code context.now in
         AppendsBeginning (S.taken sink.old) (S.taken sink.new) (text_of run.items) }
 
     // The sink's failures, and the fuel.
     ensures failures { TellsFailures result (S.failures sink.old) (S.failures sink.new) }
-    ensures left { let leaves = code_leaves (fuel_left fuel.old) code.now.instructions.code context.now in
-        EndsAs result (code_run (fuel_left fuel.old) code.now.instructions.code context.now)
+    ensures left { let leaves = code_leaves escape (fuel_left fuel.old) code.now.instructions.code context.now in
+        EndsAs result (code_run escape (fuel_left fuel.old) code.now.instructions.code context.now)
         → fuel_left fuel.new ≡ leaves }
     ensures set { fuel_set fuel.new ≡ fuel_set fuel.old }
 {
-    let context = Context { value: context };
+    let world = World { context, escape };
     let instructions = code.instructions();
     let mut operands = Vec::new(alloc);
     let mut scratch = String::new(alloc);
@@ -111,7 +116,7 @@ pub fn run_code<S: Sink>(
             unreachable!()
         };
         charge(fuel, instruction)?;
-        perform(instruction, &context, &mut operands, &mut scratch, sink)?;
+        perform(instruction, &world, &mut operands, &mut scratch, sink)?;
     }
     Ok(())
 }

@@ -1,11 +1,14 @@
 //! Texts and values on their way into a sink.
-ghost use Rattle.std.specs.Prelude.{◌≡◌};
-ghost use Rattle.template_values_model.specs.Printed.{printed};
+ghost use Rattle.std.specs.Prelude.{◌≡◌, Ok, IfSome};
+ghost use Rattle.template_values_forms.specs.Escaped.{escaped};
+ghost use Rattle.template_values_forms.specs.Known.{nothing_known};
 ghost use Rattle.template_machine_run.specs.Outcomes.{TellsFailures, Writes, Prints};
 
 use template_machine_output::{Sink, write_text};
-use template_values_core::Value;
+use template_values_core::{Content, Value};
 use template_values_errors::Error;
+use template_values_modes::AutoEscape;
+use template_values_text::{NoRecords, escape_to};
 
 // Puts a text into a sink. Refused for want of memory, and where the sink fails.
 pub(crate) fn write<S: Sink>(text: &str, sink: &mut S) -> Result<(), Error>
@@ -15,16 +18,33 @@ pub(crate) fn write<S: Sink>(text: &str, sink: &mut S) -> Result<(), Error>
     Ok(write_text(sink, text)?)
 }
 
-// Puts what a value prints into a sink. A text is not copied on the way; other values are printed to
-// `scratch` first.
-pub(crate) fn print<S: Sink>(value: &Value, scratch: &mut String, sink: &mut S) -> Result<(), Error>
-    ensures written { Prints (printed value.now) result (S.taken sink.old) (S.taken sink.new) }
+// The text of a value that stands as it is under an escape: a safe text, or any without an escape.
+fn standing_text(value: &Value, escape: AutoEscape) -> Option<&str>
+    ensures { IfSome result (λ text. escaped escape nothing_known value.now ≡ Ok text.now) }
+{
+    match (value.content(), escape) {
+        (_, AutoEscape::Custom(_)) => None,
+        (Content::SafeText(text), _) => Some(text),
+        (Content::Text(text), AutoEscape::None) => Some(text),
+        _ => None,
+    }
+}
+
+// Puts the text of a value under an escape into a sink. A text that stands as it is is not copied on
+// the way; others are made in `scratch` first.
+pub(crate) fn print<S: Sink>(
+    value: &Value,
+    escape: AutoEscape,
+    scratch: &mut String,
+    sink: &mut S,
+) -> Result<(), Error>
+    ensures written { Prints (escaped escape nothing_known value.now) result (S.taken sink.old) (S.taken sink.new) }
     ensures failures { TellsFailures result (S.failures sink.old) (S.failures sink.new) }
 {
-    if let Some(text) = value.as_str() {
+    if let Some(text) = standing_text(value, escape) {
         return write(text, sink);
     }
     scratch.clear();
-    value.print_to(scratch)?;
+    escape_to(value, escape, &NoRecords, scratch)?;
     write(scratch.as_str(), sink)
 }

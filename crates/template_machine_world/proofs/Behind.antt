@@ -1,11 +1,11 @@
 -- A fuel, where items that it pays lie before the rest of a run.
-use Rattle.std.proofs.Common.{◌≡◌, ℕ, ◌+◌, ◌-◌, ◌≤◌, Bool, true, false, nat_le, List, [], ◌∷◌, ◌++◌, zero, suc, refl, sym, ap, ◌∙◌, arith, rules}
+use Rattle.std.proofs.Common.{◌≡◌, ℕ, ◌+◌, ◌-◌, ◌≤◌, true, false, nat_le, List, [], ◌∷◌, ◌++◌, zero, suc, refl, ap, ◌∙◌, arith}
 use Rattle.std.specs.Prelude.{if◌then◌else◌}
 use Rattle.std.proofs.lemmas.Bool.Decides.{nat_tests}
 use Rattle.template_values_errors.specs.declared.ErrorKind.{ErrorKind}
 use Rattle.template_values_errors.specs.declared.ErrorKind.TheVariants.{OutOfFuel}
-use Rattle.template_compiler_process.specs.Drive.{End, faults}
-use Rattle.template_compiler_process.specs.Trace.{Item, paid, written, Run, behind, text_of, price_of}
+use Rattle.template_compiler_process.specs.Drive.{faults}
+use Rattle.template_compiler_process.specs.Trace.{Item, paid, written, Run, behind, price_of}
 use Rattle.template_compiler_process.specs.Fuel.{items_before, wraps_at, cut}
 use Rattle.template_machine_world.specs.Laws.{remaining}
 use Rattle.template_machine_world.proofs.Cuts.{price-append}

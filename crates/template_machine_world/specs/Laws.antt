@@ -1,5 +1,6 @@
 -- What a template's meaning depends on, and what a fuel makes of it.
 use Rattle.std.specs.Prelude.{◌≡◌, ℕ, ◌+◌, ◌-◌, ◌<◌, ◌≤◌, ◌++◌, ◌⊎◌, nat_le, List, Option, None, Some, if◌then◌else◌}
+use Rattle.template_values_modes.specs.declared.AutoEscape.{AutoEscape}
 use Rattle.template_values_model.specs.Val.{Val}
 use Rattle.template_values_model.specs.Lookup.{value_at}
 use Rattle.template_compiler_tree.specs.Tree.{Statement}
@@ -15,9 +16,10 @@ AgreesOn tree c d = (name : List ℕ) → IsUsed name tree → value_at name c �
 abbrev pub IsSameRun : {S T : Type 0} → Run S → Run T → Type 0
 IsSameRun r q = (r.items ≡ q.items) × (r.end ≡ q.end)
 
--- two contexts that agree on the names that a tree uses give the same, without fuel and under every fuel
+-- two contexts that agree on the names that a tree uses give the same, under every escape, without fuel
+-- and under every fuel
 abbrev pub DependsOnUsedNames : Type 0
-DependsOnUsedNames = (tree : List Statement) (c d : Val) → AgreesOn tree c d → (fuel : Option ℕ) → IsSameRun (rendered fuel tree c) (rendered fuel tree d)
+DependsOnUsedNames = (escape : AutoEscape) (tree : List Statement) (c d : Val) → AgreesOn tree c d → (fuel : Option ℕ) → IsSameRun (rendered escape fuel tree c) (rendered escape fuel tree d)
 
 -- a fuel lets a run of this price through
 abbrev pub Lasts : ℕ → ℕ → Type 0
@@ -25,7 +27,8 @@ Lasts n price = (price ≡ 0) ⊎ (price < n)
 
 -- a fuel that lets a template through changes nothing, and neither does a greater one
 abbrev pub EnoughIsEnough : Type 0
-EnoughIsEnough = (tree : List Statement) (context : Val) (n m : ℕ) → Lasts n (price_of (meaning tree context).items) → n ≤ m → rendered (Some m) tree context ≡ rendered None tree context
+EnoughIsEnough = (escape : AutoEscape) (tree : List Statement) (context : Val) (n m : ℕ) → Lasts n (price_of (meaning escape tree context).items) → n ≤ m
+    → rendered escape (Some m) tree context ≡ rendered escape None tree context
 
 -- what a run takes of a fuel: its price, or all of it where the run is cut
 abbrev pub consumed : {S : Type 0} → ℕ → Run S → ℕ
@@ -37,7 +40,7 @@ remaining n r = if nat_le (price_of r.items) (n - 1) then n - price_of r.items e
 
 -- what is consumed and what remains are the fuel that was set
 abbrev pub AddsUp : Type 0
-AddsUp = (tree : List Statement) (context : Val) (n : ℕ) → consumed n (meaning tree context) + remaining n (meaning tree context) ≡ n
+AddsUp = (escape : AutoEscape) (tree : List Statement) (context : Val) (n : ℕ) → consumed n (meaning escape tree context) + remaining n (meaning escape tree context) ≡ n
 
 -- one text begins with another
 abbrev pub BeginsWith : List ℕ → List ℕ → Type 0
@@ -45,4 +48,4 @@ BeginsWith whole front = (rest : List ℕ) × (whole ≡ front ++ rest)
 
 -- under a fuel a template writes a beginning of what it writes without fuel
 abbrev pub WritesBeginning : Type 0
-WritesBeginning = (tree : List Statement) (context : Val) (n : ℕ) → BeginsWith (text_of (meaning tree context).items) (text_of (rendered (Some n) tree context).items)
+WritesBeginning = (escape : AutoEscape) (tree : List Statement) (context : Val) (n : ℕ) → BeginsWith (text_of (meaning escape tree context).items) (text_of (rendered escape (Some n) tree context).items)

@@ -1,4 +1,5 @@
 pub mod Scopes
+pub mod World
 pub mod Surroundings
 pub mod Meaning
 pub mod History

@@ -1,17 +1,20 @@
--- How a running template's scopes answer its events.
+-- How what surrounds a running template answers its events.
 use Rattle.std.specs.Prelude.{ℕ, List, [], ◌∷◌, Result, Ok, Err}
 use Rattle.template_values_errors.specs.declared.ErrorKind.{ErrorKind}
-use Rattle.template_values_model.specs.Printed.{printed}
+use Rattle.template_values_forms.specs.Escaped.{escaped}
+use Rattle.template_values_forms.specs.Known.{nothing_known}
 use Rattle.template_compiler_process.specs.Process.{Ask, look_up, write_raw, write_value, done, value, tells, fails}
 use Rattle.template_compiler_process.specs.Trace.{Reply, written}
-use Rattle.template_machine_world.specs.Scopes.{Frame, lookup}
+use Rattle.template_machine_world.specs.Scopes.{lookup}
+use Rattle.template_machine_world.specs.World.{World}
 
 -- a text that was made is written, a refusal fails
-abbrev pub printed_reply : List Frame → Result (List ℕ) ErrorKind → Reply (List Frame)
-printed_reply scopes (Ok text) = record { told = tells done; items = written text ∷ []; after = scopes }
-printed_reply scopes (Err kind) = record { told = fails (kind ∷ []); items = []; after = scopes }
+abbrev pub printed_reply : World → Result (List ℕ) ErrorKind → Reply World
+printed_reply world (Ok text) = record { told = tells done; items = written text ∷ []; after = world }
+printed_reply world (Err kind) = record { told = fails (kind ∷ []); items = []; after = world }
 
-abbrev pub answer : List Frame → Ask → Reply (List Frame)
-answer scopes (look_up name) = record { told = tells (value (lookup name scopes)); items = []; after = scopes }
-answer scopes (write_raw text) = record { told = tells done; items = written text ∷ []; after = scopes }
-answer scopes (write_value v) = printed_reply scopes (printed v)
+-- a text of the template is written as it stands, a value under the escape in force
+abbrev pub answer : World → Ask → Reply World
+answer world (look_up name) = record { told = tells (value (lookup name world.frames)); items = []; after = world }
+answer world (write_raw text) = record { told = tells done; items = written text ∷ []; after = world }
+answer world (write_value v) = printed_reply world (escaped world.escape nothing_known v)

@@ -3,8 +3,8 @@
 
 ghost use Rattle.template_machine_world.specs.Laws.{AddsUp, DependsOnUsedNames, EnoughIsEnough, WritesBeginning};
 
-/// A template's items and end depend on its context at the names that it uses alone, without fuel
-/// and under every fuel.
+/// A template's items and end depend on its context at the names that it uses alone, under every
+/// escape, without fuel and under every fuel.
 pub fn isolation()
     ensures { DependsOnUsedNames }
 {}

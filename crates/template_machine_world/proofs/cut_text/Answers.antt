@@ -4,4 +4,4 @@ use Rattle.template_machine_world.proofs.Cuts.{text-cut}
 use Rattle.template_machine_world.proofs.cut_text.Goals as goal
 
 pub returns : goal.returns
-returns c = λ tree context n. text-cut n (meaning tree context)
+returns c = λ escape tree context n. text-cut n (meaning escape tree context)
