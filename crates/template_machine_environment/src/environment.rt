@@ -18,6 +18,7 @@ use std::collections::{BTreeMap, BTreeSet};
 use template_machine_ids::StateIds;
 use template_machine_world::isolation;
 use template_values_errors::{Error, ErrorKind};
+use template_values_modes::AutoEscape;
 
 /// The templates that stand, by name, and the fuel that each render is given.
 #[derive(Drop)]
@@ -130,8 +131,9 @@ impl<'source> Environment<'source> {
     pub fn context_names(&self, template: &Template<'_, 'source>) -> Result<BTreeSet<String>, Error>
         ensures listed { IfOk result (λ names. (name : List ℕ) → IsTrue (contains_text names name) ↔ IsListed self.now (source_of template.now) name) }
 
-        // Contexts that agree at these names give the same bytes, end and price.
-        ensures isolated { IfOk result (λ names. (c d : Val) → AgreeAt names c d → (tree : List Statement) → IsTemplate (source_of template.now) tree → (fuel : Option ℕ) → IsSameRun (rendered fuel tree c) (rendered fuel tree d)) }
+        // Contexts that agree at these names give the same bytes, end and price, under every escape.
+        ensures isolated { IfOk result (λ names. (c d : Val) → AgreeAt names c d → (rule : AutoEscape) → (tree : List Statement) → IsTemplate (source_of template.now) tree →
+            (fuel : Option ℕ) → IsSameRun (rendered rule fuel tree c) (rendered rule fuel tree d)) }
         ensures refused { IfErr result (λ kinds. kinds ≡ ErrorKind.OutOfMemory ∷ []) }
     {
         let mut names = common_names(self.alloc)?;
