@@ -1,5 +1,7 @@
 pub mod Depths
+pub mod Refusals
 pub mod Acting
+pub mod Printing
 pub mod Showing
 pub mod Wants
 pub mod Progress

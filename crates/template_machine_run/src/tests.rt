@@ -3,11 +3,13 @@ ghost use Rattle.std.specs.Prelude.{Some};
 use super::*;
 use std::alloc::Global;
 use std::borrow::CowStr;
+use std::process::Abort;
 use std::test::Fail;
 use template_compiler_code::{Instruction, Instructions};
 use template_machine_output::{Sink, SinkFault};
 use template_values_core::{Entry, Value};
 use template_values_errors::{Error, ErrorKind};
+use template_values_modes::AutoEscape;
 
 // Takes `room` bytes, and then fails.
 #[derive(Drop)]
@@ -92,12 +94,13 @@ fn hello(alloc: Global) -> Result<Instructions<'static>, Error> {
 
 fn render<S: Sink>(
     alloc: Global,
+    escape: AutoEscape,
     context: &Value,
     fuel: &mut Option<FuelTracker>,
     sink: &mut S,
 ) -> Result<(), Error> {
     match verify(hello(alloc)?) {
-        Ok(code) => run_code(alloc, &code, context, fuel, sink),
+        Ok(code) => run_code(alloc, &code, escape, context, fuel, sink),
         Err((error, _code)) => Err(error),
     }
 }
@@ -132,7 +135,7 @@ fn a_fuel_stops_a_template_before_the_step_that_it_does_not_pay(
         let mut tank = Some(FuelTracker::new(fuel));
         let mut out = String::new(alloc);
         assert_eq!(rt;
-            kind_of(render(alloc, &context, &mut tank, &mut out)),
+            kind_of(render(alloc, AutoEscape::None, &context, &mut tank, &mut out)),
             answer,
             "fuel {fuel}"
         );
@@ -148,25 +151,119 @@ fn a_fuel_stops_a_template_before_the_step_that_it_does_not_pay(
     Ok(())
 }
 
-// What `Hello {{ name }}!` writes where `name` has the value.
-fn written(alloc: Global, name: &str, value: Value) -> Result<String, Error> {
-    let context = context(alloc, name, value)?;
+fn safe_text(alloc: Global, text: &str) -> Result<Value, Fail> {
+    Ok(kind_of(Value::from_safe_text(String::from_str(alloc, text)?))?)
+}
+
+fn list(alloc: Global, first: Value, second: Value) -> Result<Value, Fail> {
+    let mut items = Vec::new(alloc);
+    items.push(first)?;
+    items.push(second)?;
+    Ok(kind_of(Value::from_list(alloc, items))?)
+}
+
+// A map of one entry.
+fn map(alloc: Global, key: Value, value: Value) -> Result<Value, Fail> {
+    let mut entries = Vec::new(alloc);
+    entries.push(Entry { key, value })?;
+    Ok(kind_of(Value::from_map(alloc, entries))?)
+}
+
+// What `Hello {{ name }}!` answers and writes where `name` has the value.
+fn writes(
+    rt: &impl Abort,
+    alloc: Global,
+    escape: AutoEscape,
+    value: Value,
+    answer: Result<(), ErrorKind>,
+    wanted: &str,
+) -> Result<(), Fail> {
+    let context = kind_of(context(alloc, "name", value))?;
     let mut out = String::new(alloc);
-    match render(alloc, &context, &mut None, &mut out) {
-        Ok(()) => Ok(out),
-        Err(error) => Err(error),
-    }
+    let outcome = kind_of(render(alloc, escape, &context, &mut None, &mut out));
+    assert_eq!(rt; outcome, answer, "before {wanted}");
+    assert_eq!(rt; out.as_str(), wanted);
+    Ok(())
 }
 
 #[test]
 fn a_value_is_looked_up_and_printed(rt: HostRuntime) -> Result<(), Fail> {
     let alloc = rt.alloc();
-    let number = kind_of(written(alloc, "name", Value::from_int(-7)))?;
-    assert_eq!(rt; number.as_str(), "Hello -7!");
-    let unknown = kind_of(written(alloc, "other", Value::from_int(-7)))?;
-    assert_eq!(rt; unknown.as_str(), "Hello !");
-    let function = kind_of(written(alloc, "name", Value::function(1, 2)));
-    assert!(rt; matches!(function, Err(ErrorKind::InvalidOperation)));
+    let plain = AutoEscape::None;
+    writes(&rt, alloc, plain, Value::from_int(-7), Ok(()), "Hello -7!")?;
+    writes(&rt, alloc, plain, Value::undefined(), Ok(()), "Hello !")?;
+    writes(&rt, alloc, plain, Value::function(1, 2), Ok(()), "Hello <function>!")?;
+    let items = list(alloc, Value::from_int(1), kind_of(text(alloc, "<"))?)?;
+    writes(&rt, alloc, plain, items, Ok(()), "Hello [1, \"<\"]!")?;
+    let entries = map(alloc, kind_of(text(alloc, "a"))?, Value::none())?;
+    writes(&rt, alloc, plain, entries, Ok(()), "Hello {\"a\": none}!")?;
+    let unknown = kind_of(context(alloc, "other", Value::from_int(-7)))?;
+    let mut out = String::new(alloc);
+    kind_of(render(alloc, plain, &unknown, &mut None, &mut out))?;
+    assert_eq!(rt; out.as_str(), "Hello !");
+    Ok(())
+}
+
+#[test]
+fn a_value_is_escaped_as_html(rt: HostRuntime) -> Result<(), Fail> {
+    let alloc = rt.alloc();
+    let html = AutoEscape::Html;
+    let tag = kind_of(text(alloc, "<b>"))?;
+    writes(&rt, alloc, html, tag, Ok(()), "Hello &lt;b&gt;!")?;
+    writes(&rt, alloc, html, safe_text(alloc, "<b>")?, Ok(()), "Hello <b>!")?;
+    let items = list(alloc, Value::from_int(1), kind_of(text(alloc, "<"))?)?;
+    writes(&rt, alloc, html, items, Ok(()), "Hello [1, &quot;&lt;&quot;]!")?;
+    writes(&rt, alloc, html, Value::undefined(), Ok(()), "Hello !")?;
+    Ok(())
+}
+
+#[test]
+fn a_value_is_written_as_json(rt: HostRuntime) -> Result<(), Fail> {
+    let alloc = rt.alloc();
+    let json = AutoEscape::Json;
+    let tag = kind_of(text(alloc, "<b>"))?;
+    writes(&rt, alloc, json, tag, Ok(()), "Hello \"<b>\"!")?;
+    writes(&rt, alloc, json, safe_text(alloc, "<b>")?, Ok(()), "Hello <b>!")?;
+    let items = list(alloc, Value::from_int(1), Value::none())?;
+    let entries = map(alloc, kind_of(text(alloc, "a"))?, items)?;
+    writes(&rt, alloc, json, entries, Ok(()), "Hello {\"a\":[1,null]}!")?;
+    writes(&rt, alloc, json, Value::undefined(), Ok(()), "Hello null!")?;
+    Ok(())
+}
+
+#[test]
+fn a_value_without_a_text_faults_behind_the_text_before_it(rt: HostRuntime) -> Result<(), Fail> {
+    let alloc = rt.alloc();
+    let large = Value::from_int(18446744073709551616);
+    let number_key = map(alloc, Value::from_int(1), Value::from_int(2))?;
+    let cases = [
+        (AutoEscape::Json, large, ErrorKind::BadSerialization),
+        (AutoEscape::Json, number_key, ErrorKind::BadSerialization),
+        (AutoEscape::None, Value::namespace(1, 2), ErrorKind::InvalidOperation),
+        (AutoEscape::Custom(1), safe_text(alloc, "<b>")?, ErrorKind::InvalidOperation),
+    ];
+    for (escape, value, kind) in cases {
+        writes(&rt, alloc, escape, value, Err(kind), "Hello ")?;
+    }
+    Ok(())
+}
+
+#[test]
+fn a_print_keeps_nothing_of_the_one_before(rt: HostRuntime) -> Result<(), Fail> {
+    let alloc = rt.alloc();
+    let code = kind_of(with(empty(alloc), lookup("name")))?;
+    let code = kind_of(with(code, Instruction::Emit))?;
+    let code = kind_of(with(code, lookup("name")))?;
+    let code = kind_of(with(code, Instruction::Emit))?;
+    let context = kind_of(context(alloc, "name", Value::from_int(7)))?;
+    let mut out = String::new(alloc);
+    match verify(code) {
+        Ok(code) => {
+            kind_of(run_code(alloc, &code, AutoEscape::Html, &context, &mut None, &mut out))?;
+        }
+        Err((error, _code)) => return Err(error.kind().into()),
+    }
+    assert_eq!(rt; out.as_str(), "77");
     Ok(())
 }
 
@@ -187,7 +284,7 @@ fn a_sink_that_fails_has_the_bytes_before(rt: HostRuntime) -> Result<(), Fail> {
             Ok(())
         };
         assert_eq!(rt;
-            kind_of(render(alloc, &context, &mut None, &mut sink)),
+            kind_of(render(alloc, AutoEscape::None, &context, &mut None, &mut sink)),
             answer,
             "after {room} bytes"
         );
@@ -203,7 +300,7 @@ fn an_empty_code_needs_no_fuel(rt: HostRuntime) -> Result<(), Fail> {
     let mut out = String::new(alloc);
     match verify(empty(alloc)) {
         Ok(code) => {
-            kind_of(run_code(alloc, &code, &Value::undefined(), &mut tank, &mut out))?;
+            kind_of(run_code(alloc, &code, AutoEscape::None, &Value::undefined(), &mut tank, &mut out))?;
         }
         Err((error, _code)) => return Err(error.kind().into()),
     }

@@ -24,7 +24,7 @@ loop-place-preserved g c =
     let place = c.loop-place.place in
     let at : slice_get code place ≡ Some (code_of c.in-Some.instruction.now) = sym c.in-Some.ensures in
     record {
-      progress = progress_more code _ _ _ _ _ _ _ place _ _ (code_of c.in-Some.instruction.now) c.loop-place.invariant.progress at (c.in_ok-charge.ensures.runs.0 refl) c.in_ok-charge.ensures.left c.in_ok-perform.ensures.acts;
+      progress = progress_more _ code _ _ _ _ _ _ _ place _ _ (code_of c.in-Some.instruction.now) c.loop-place.invariant.progress at (c.in_ok-charge.ensures.runs.0 refl) c.in_ok-charge.ensures.left c.in_ok-perform.ensures.acts;
       depth = depth_on (code_of c.in-Some.instruction.now) (drop (place + 1) code) (vec_len c.loop-place.operands) (vec_len c.perform.new.operands) _ (sym (depth_at code place _ _ at) ∙ c.loop-place.invariant.depth) c.in_ok-perform.ensures.depth;
       failures = c.in_ok-perform.ensures.failures ∙ c.loop-place.invariant.failures;
       set = c.in_ok-charge.ensures.set ∙ c.loop-place.invariant.set;
@@ -37,9 +37,9 @@ returns-in_err-charge g c =
     let place = c.loop-place.place in
     let at : slice_get code place ≡ Some (code_of c.in-Some.instruction.now) = sym c.in-Some.ensures in
     let p = err_from_is_err_and c.from_residual.result c.from_residual.ensures.1 in
-    let concluded = progress_refused code _ _ _ _ _ _ place _ (code_of c.in-Some.instruction.now) c.loop-place.invariant.progress at (λ pays. false≢true (c.in_err-charge.ensures.runs.1 pays)) c.in_err-charge.ensures.left in
+    let concluded = progress_refused _ code _ _ _ _ _ _ place _ (code_of c.in-Some.instruction.now) c.loop-place.invariant.progress at (λ pays. false≢true (c.in_err-charge.ensures.runs.1 pays)) c.in_err-charge.ensures.left in
     let is : c.from_residual.result ≡ Err (OutOfFuel ∷ []) = p.1 ∙ ap (λ e. Err e) (p.2 ∙ c.in_err-charge.ensures.kind) in
-    let known = outcome_at _ code _ _ _ _ _ _ (ap (λ (i : Listing). i.code) c.instructions-instructions.ensures) (outcome_fault _ _ _ _ _ _ _ _ is concluded) in
+    let known = outcome_at _ _ code _ _ _ _ _ _ (ap (λ (i : Listing). i.code) c.instructions-instructions.ensures) (outcome_fault _ _ _ _ _ _ _ _ _ is concluded) in
     record {
       outcome = known.outcome;
       text = known.text;
@@ -56,9 +56,9 @@ returns-in_err-perform g c =
     let at : slice_get code place ≡ Some (code_of c.in-Some.instruction.now) = sym c.in-Some.ensures in
     let p = err_from_is_err_and c.from_residual-in_err-perform.result c.from_residual-in_err-perform.ensures.1 in
     let is : c.from_residual-in_err-perform.result ≡ Err c.in_err-perform.field-0.0 = p.1 ∙ ap (λ e. Err e) p.2 in
-    let outcome = progress_failed code _ _ _ _ _ _ _ place _ (reverse c.perform.new.operands.items) (code_of c.in-Some.instruction.now) _ _ is
+    let outcome = progress_failed _ code _ _ _ _ _ _ _ place _ (reverse c.perform.new.operands.items) (code_of c.in-Some.instruction.now) _ _ is
     c.loop-place.invariant.progress at (c.in_ok-charge.ensures.runs.0 refl) c.in_ok-charge.ensures.left c.in_err-perform.ensures.acts in
-    let known = outcome_at _ code _ _ _ _ _ _ (ap (λ (i : Listing). i.code) c.instructions-instructions.ensures) outcome in
+    let known = outcome_at _ _ code _ _ _ _ _ _ (ap (λ (i : Listing). i.code) c.instructions-instructions.ensures) outcome in
     record {
       outcome = known.outcome;
       text = known.text;
@@ -72,8 +72,8 @@ pub returns : goal.returns
 returns g c =
     let code = c.instructions-instructions.result.now.code in
     let past : length code ≤ c.loop-place.place = omega arith in
-    let concluded = progress_done code _ _ _ _ _ c.loop-place.place _ c.loop-place.invariant.progress (slice_get_past code c.loop-place.place past) in
-    let known = outcome_at _ code _ _ _ _ _ _ (ap (λ (i : Listing). i.code) c.instructions-instructions.ensures) (outcome_over {X = Unit {0}} tt _ _ _ _ _ _ _ concluded) in
+    let concluded = progress_done _ code _ _ _ _ _ c.loop-place.place _ c.loop-place.invariant.progress (slice_get_past code c.loop-place.place past) in
+    let known = outcome_at _ _ code _ _ _ _ _ _ (ap (λ (i : Listing). i.code) c.instructions-instructions.ensures) (outcome_over {X = Unit {0}} tt _ _ _ _ _ _ _ _ concluded) in
     record {
       outcome = known.outcome;
       text = known.text;
