@@ -129,12 +129,23 @@ impl<'source> CompiledTemplate<'source> {
         fuel: Option<u64>,
         sink: &mut S,
     ) -> Result<Option<FuelTracker>, Error>
-        ensures renders { (tree : List Statement) → IsTemplate self.now.source tree → Renders result (S.taken sink.old) (S.taken sink.new) (S.failures sink.old) (S.failures sink.new) (rendered fuel tree context.now) }
-        ensures remains { IfOk result (λ left. (tree : List Statement) → IsTemplate self.now.source tree → fuel_left left ≡ option_map (λ n. remaining n (meaning tree context.now)) fuel) }
+        // The text and the end are those of each tree of the source (it has one), under the escape of the
+        // name (it has one).
+        ensures renders { (rule : AutoEscape) → IsRuleOf self.now.name rule → (tree : List Statement) → IsTemplate self.now.source tree →
+            Renders result (S.taken sink.old) (S.taken sink.new) (S.failures sink.old) (S.failures sink.new) (rendered rule fuel tree context.now) }
+        ensures remains { IfOk result (λ left. (rule : AutoEscape) → IsRuleOf self.now.name rule → (tree : List Statement) → IsTemplate self.now.source tree →
+            fuel_left left ≡ option_map (λ n. remaining n (meaning rule tree context.now)) fuel) }
         ensures given { IfOk result (λ left. fuel_set left ≡ fuel) }
     {
         let mut tracker = fuel.map(FuelTracker::new);
-        run_code(alloc, &self.instructions, context, &mut tracker, sink)?;
+        run_code(
+            alloc,
+            &self.instructions,
+            self.initial_auto_escape,
+            context,
+            &mut tracker,
+            sink,
+        )?;
         Ok(tracker)
     }
 }

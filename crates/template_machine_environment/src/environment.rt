@@ -1,5 +1,5 @@
 //! Environments.
-ghost use Rattle.std.specs.Prelude.{◌≡◌, ℕ, List, ◌+◌, ◌∷◌, [], ◌↔◌, ◌⊎◌, None, Some, Option, IfOk, IfErr, OnOk, OnErr, IsErr, IsTrue, bytes_eq, if◌then◌else◌};
+ghost use Rattle.std.specs.Prelude.{◌≡◌, ◌≢◌, ℕ, List, ◌+◌, ◌∷◌, [], ◌↔◌, ◌⊎◌, None, Some, Option, IfOk, IfErr, OnOk, OnErr, IsErr, IsTrue, bytes_eq, if◌then◌else◌};
 ghost use Rattle.std.specs.BTreeMap.{get_by_text};
 ghost use Rattle.std.specs.BTreeSet.{contains_text};
 ghost use Rattle.std.specs.Option.{ForSome};
@@ -18,6 +18,7 @@ use std::collections::{BTreeMap, BTreeSet};
 use template_machine_ids::StateIds;
 use template_machine_world::isolation;
 use template_values_errors::{Error, ErrorKind};
+use template_values_modes::AutoEscape;
 
 /// The templates that stand, by name, and the fuel that each render is given.
 #[derive(Drop)]
@@ -43,6 +44,7 @@ impl<'source> Environment<'source> {
     pub fn new(alloc: Global, ids: &mut StateIds) -> Result<Environment<'source>, Error>
         ensures empty { IfOk result (λ e. (name : List ℕ) → source_at e name ≡ None) }
         ensures no_fuel { IfOk result (λ e. e.fuel ≡ None) }
+        ensures had_one { OnOk result (ids.old ≢ u64.MAX) }
         ensures counted { OnOk result (ids.new ≡ ids.old + 1) }
         ensures refused { IfErr result (λ kinds. (kinds ≡ ErrorKind.InvalidOperation ∷ []) × (ids.old ≡ u64.MAX) × (ids.new ≡ ids.old)) }
     {
@@ -129,8 +131,9 @@ impl<'source> Environment<'source> {
     pub fn context_names(&self, template: &Template<'_, 'source>) -> Result<BTreeSet<String>, Error>
         ensures listed { IfOk result (λ names. (name : List ℕ) → IsTrue (contains_text names name) ↔ IsListed self.now (source_of template.now) name) }
 
-        // Contexts that agree at these names give the same bytes, end and price.
-        ensures isolated { IfOk result (λ names. (c d : Val) → AgreeAt names c d → (tree : List Statement) → IsTemplate (source_of template.now) tree → (fuel : Option ℕ) → IsSameRun (rendered fuel tree c) (rendered fuel tree d)) }
+        // Contexts that agree at these names give the same bytes, end and price, under every escape.
+        ensures isolated { IfOk result (λ names. (c d : Val) → AgreeAt names c d → (rule : AutoEscape) → (tree : List Statement) → IsTemplate (source_of template.now) tree →
+            (fuel : Option ℕ) → IsSameRun (rendered rule fuel tree c) (rendered rule fuel tree d)) }
         ensures refused { IfErr result (λ kinds. kinds ≡ ErrorKind.OutOfMemory ∷ []) }
     {
         let mut names = common_names(self.alloc)?;

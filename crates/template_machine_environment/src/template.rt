@@ -61,8 +61,8 @@ impl<'env, 'source> Template<'env, 'source> {
         self.compiled.initial_auto_escape()
     }
 
-    /// Renders the template over a context, under the fuel of its environment, and writes the text into
-    /// a sink as it comes. Takes time linear in the source and in what is written, and a look-up in the
+    /// Renders the template over a context, under the escape of its name and the fuel of its environment,
+    /// and writes the text into a sink as it comes. Takes time linear in the source and in what is written, and a look-up in the
     /// context for each print.
     ///
     /// # Errors
@@ -77,9 +77,12 @@ impl<'env, 'source> Template<'env, 'source> {
         context: Value,
         sink: &mut S,
     ) -> Result<Captured, Error>
-        // The text and the end are those of each tree of the source (it has one).
-        ensures renders { ids.old ≢ u64.MAX → (tree : List Statement) → IsTemplate (source_of self.now) tree → Renders result (S.taken sink.old) (S.taken sink.new) (S.failures sink.old) (S.failures sink.new) (rendered (fuel_of self.now) tree context) }
-        ensures remains { IfOk result (λ captured. (tree : List Statement) → IsTemplate (source_of self.now) tree → fuel_remaining captured.state ≡ option_map (λ n. remaining n (meaning tree context)) (fuel_of self.now)) }
+        // The text and the end are those of each tree of the source (it has one), under the escape of the
+        // name (it has one).
+        ensures renders { ids.old ≢ u64.MAX → (rule : AutoEscape) → IsRuleOf (name_of self.now) rule → (tree : List Statement) → IsTemplate (source_of self.now) tree →
+            Renders result (S.taken sink.old) (S.taken sink.new) (S.failures sink.old) (S.failures sink.new) (rendered rule (fuel_of self.now) tree context) }
+        ensures remains { IfOk result (λ captured. (rule : AutoEscape) → IsRuleOf (name_of self.now) rule → (tree : List Statement) → IsTemplate (source_of self.now) tree →
+            fuel_remaining captured.state ≡ option_map (λ n. remaining n (meaning rule tree context)) (fuel_of self.now)) }
         ensures given { IfOk result (λ captured. fuel_given captured.state ≡ fuel_of self.now) }
         ensures counted { ids.old ≢ u64.MAX → ids.new ≡ ids.old + 1 }
         ensures exhausted { ids.old ≡ u64.MAX → (result ≡ Err (ErrorKind.InvalidOperation ∷ [])) × (sink.new ≡ sink.old) × (ids.new ≡ ids.old) }

@@ -1,5 +1,5 @@
 -- Which escape a template's name stands for.
-use Rattle.std.specs.Prelude.{◌≡◌, ◌≢◌, ℕ, ◌<◌, Bool, ◌||◌, if◌then◌else◌, List, ◌∷◌, ◌++◌, ◌⊎◌, length, slice_index, codes}
+use Rattle.std.specs.Prelude.{◌≡◌, ◌≢◌, ℕ, ◌<◌, ◌||◌, if◌then◌else◌, List, ◌∷◌, ◌++◌, ◌⊎◌, length, slice_index, codes}
 use Rattle.std.specs.Str.{bytes_eq}
 use Rattle.template_values_modes.specs.declared.AutoEscape.{AutoEscape}
 use Rattle.template_values_modes.specs.declared.AutoEscape.TheVariants.{None, Html, Json}

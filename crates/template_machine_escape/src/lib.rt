@@ -1,7 +1,7 @@
 //! Which escape a template's name stands for.
 #![tactic(auto)]
 
-ghost use Rattle.std.specs.Prelude.{◌≡◌};
+ghost use Rattle.std.specs.Prelude.{◌≡◌, ℕ, List};
 ghost use Rattle.template_machine_escape.specs.Rule.{IsExtensionOf, IsRuleOf, IsStemOf, rule_of_extension};
 
 use template_values_modes::AutoEscape;
@@ -15,6 +15,11 @@ pub fn default_auto_escape_callback(name: &str) -> AutoEscape
 {
     rule_by_extension(extension(stem(name)))
 }
+
+/// A name has no two escapes.
+pub fn one_rule()
+    ensures { (name : List ℕ) (rule other : AutoEscape) → IsRuleOf name rule → IsRuleOf name other → rule ≡ other }
+{}
 
 // The name less one ending that says that it is a template.
 fn stem(name: &str) -> &str

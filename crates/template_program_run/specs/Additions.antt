@@ -18,6 +18,6 @@ RefusesOne (addition ∷ later) kinds = IsRefusedWith addition.1 kinds ⊎ (HasT
 abbrev pub IsLastId : ℕ → Type 0
 IsLastId next = next ≡ 2 ^ 64 - 1
 
--- the kinds that the additions are refused with: the first refused one's, or there is no state id
+-- the kinds that the additions are refused with: there is no state id, or else the first refused one's
 abbrev pub IsRefusedAddition : List (List ℕ × List ℕ) → ℕ → List ErrorKind → Type 0
-IsRefusedAddition additions next kinds = (IsLastId next × (kinds ≡ InvalidOperation ∷ [])) ⊎ RefusesOne additions kinds
+IsRefusedAddition additions next kinds = (IsLastId next × (kinds ≡ InvalidOperation ∷ [])) ⊎ (¬ IsLastId next × RefusesOne additions kinds)

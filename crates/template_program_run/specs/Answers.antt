@@ -84,12 +84,12 @@ Performed asked.Names request additions json next outcome before after failed fa
     × Told environment source outcome before after failed fails)
 
 -- The context is refused; or else the additions are, or the main template does not stand; or else what is
--- asked is done.
+-- asked is done. With no state id left the additions are refused.
 abbrev pub Answers : Request → List (List ℕ × List ℕ) → Option (List ℕ) → ℕ → Outcome → Option (List ℕ) → Option (List ℕ) → ℕ → ℕ → Type 0
 Answers request additions json next outcome before after failed fails =
     ((kinds : List ErrorKind) × (outcome ≡ Context kinds) × IsRefusal (fault_of_json json) kinds × IsUntouched before after failed fails)
     ⊎ ((fault_of_json json ≡ None)
     × (((kinds : List ErrorKind) × (outcome ≡ Template kinds) × IsRefusedAddition additions next kinds × IsUntouched before after failed fails)
-    ⊎ (AllHaveTrees additions
+    ⊎ (¬ IsLastId next × AllHaveTrees additions
     × (((outcome ≡ Template (TemplateNotFound ∷ [])) × (standing additions (string_bytes request.main) ≡ None) × IsUntouched before after failed fails)
     ⊎ Performed request.command request additions json next outcome before after failed fails))))

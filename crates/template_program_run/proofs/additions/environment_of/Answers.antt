@@ -15,7 +15,7 @@ returns-in_err-add_template-clause-refused c =
     let d = c.loop-name-item.result in
     let source : c.as_str-in-loop-name.result.now ≡ string_bytes (get_or xs i d).1 = c.as_str-in-loop-name.ensures.value ∙ ap (λ x. string_bytes x.1) c.loop-name-item.is in
     let refused = subst (λ s. IsRefusedWith s c.in_err-add_template.field-0.0) source c.in_err-add_template.ensures.refused in
-    rw (p.1, p.2) (inr (refuses-at xs i d c.loop-name-test.true c.in_err-add_template.field-0.0 c.loop-name.invariant.accepted refused))
+    rw (p.1, p.2) (inr (c.in_ok-environment.ensures.had_one, refuses-at xs i d c.loop-name-test.true c.in_err-add_template.field-0.0 c.loop-name.invariant.accepted refused))
 
 pub loop-name-preserved : goal.loop-name-preserved
 loop-name-preserved c =
