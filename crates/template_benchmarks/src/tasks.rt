@@ -1,0 +1,149 @@
+//! The tasks.
+use std::alloc::Global;
+use std::hint::black_box;
+use std::time::{Duration, Instant};
+use template_values_core::{Entry, Value};
+use template_values_modes::AutoEscape;
+use template_values_operators::add;
+use template_values_text::{NoRecords, escape_to, print_to};
+
+const LINE: &str =
+    "The <quick> brown fox jumps over the lazy dog, and so it goes on & on for a long line.\n";
+
+const LINES: usize = 115_000;
+
+const KEYS: u32 = 100_000;
+
+const LOOK_UPS: u32 = 10_000_000;
+
+const ADDITIONS: u32 = 10_000_000;
+
+const COPIES: u32 = 1_000_000;
+
+/// The time of the task of that name; none where there is no such task, or something was refused.
+pub(crate) fn measure(rt: &HostRuntime, task: &str) -> Option<Duration> {
+    match task {
+        "print" => print(rt),
+        "escape-html" => escape(rt, AutoEscape::Html),
+        "escape-json" => escape(rt, AutoEscape::Json),
+        "sort-map" => sort_map(rt),
+        "look-up" => look_up(rt),
+        "add" => add_up(rt),
+        "copy" => copy(rt),
+        _ => None,
+    }
+}
+
+fn text(alloc: Global, text: &str) -> Option<Value> {
+    Value::from_text(String::from_str(alloc, text).ok()?).ok()
+}
+
+// 10 MB of text.
+fn long_text(alloc: Global) -> Option<Value> {
+    Value::from_text(LINE.repeat(alloc, LINES).ok()?).ok()
+}
+
+fn print(rt: &HostRuntime) -> Option<Duration> {
+    let value = long_text(rt.alloc())?;
+    let mut out = String::new(rt.alloc());
+    let start = Instant::now(rt).ok()?;
+    print_to(&value, &NoRecords, &mut out).ok()?;
+    let time = start.elapsed(rt).ok()?;
+    black_box(out.as_str().len());
+    Some(time)
+}
+
+fn escape(rt: &HostRuntime, rule: AutoEscape) -> Option<Duration> {
+    let value = long_text(rt.alloc())?;
+    let mut out = String::new(rt.alloc());
+    let start = Instant::now(rt).ok()?;
+    escape_to(&value, rule, &NoRecords, &mut out).ok()?;
+    let time = start.elapsed(rt).ok()?;
+    black_box(out.as_str().len());
+    Some(time)
+}
+
+// The numbers from 0 to `KEYS` in an order that is far from sorted.
+fn shuffled(number: u32) -> u32 {
+    (number % KEYS) * 7919 % KEYS
+}
+
+fn key(alloc: Global, number: u32) -> Option<Value> {
+    Value::from_text(format!(in alloc; "key {number}").ok()?).ok()
+}
+
+fn entries(alloc: Global) -> Option<Vec<Entry>> {
+    let mut entries = Vec::new(alloc);
+    for number in 0..KEYS {
+        entries
+            .push(Entry {
+                key: key(alloc, shuffled(number))?,
+                value: Value::from_int(i128::from(number)),
+            })
+            .ok()?;
+    }
+    Some(entries)
+}
+
+fn sort_map(rt: &HostRuntime) -> Option<Duration> {
+    let entries = entries(rt.alloc())?;
+    let start = Instant::now(rt).ok()?;
+    let map = Value::from_map(rt.alloc(), entries).ok()?;
+    let time = start.elapsed(rt).ok()?;
+    black_box(map.levels());
+    Some(time)
+}
+
+fn look_up(rt: &HostRuntime) -> Option<Duration> {
+    let map = Value::from_map(rt.alloc(), entries(rt.alloc())?).ok()?;
+    let mut names = Vec::new(rt.alloc());
+    for number in 0..KEYS {
+        names
+            .push(format!(in rt.alloc(); "key {}", shuffled(number)).ok()?)
+            .ok()?;
+    }
+    let mut found = 0u32;
+    let start = Instant::now(rt).ok()?;
+    for _ in 0..LOOK_UPS / KEYS {
+        for name in &names {
+            if map.value_at(name.as_str()).is_some() {
+                found = found.wrapping_add(1);
+            }
+        }
+    }
+    let time = start.elapsed(rt).ok()?;
+    if found == LOOK_UPS { Some(time) } else { None }
+}
+
+fn add_up(rt: &HostRuntime) -> Option<Duration> {
+    let mut sum = Value::from_int(0);
+    let one = Value::from_int(1);
+    let start = Instant::now(rt).ok()?;
+    for _ in 0..ADDITIONS {
+        sum = add(rt.alloc(), &sum, &one).ok()?;
+    }
+    let time = start.elapsed(rt).ok()?;
+    if sum.as_int() == Some(i128::from(ADDITIONS)) {
+        Some(time)
+    } else {
+        None
+    }
+}
+
+fn copy(rt: &HostRuntime) -> Option<Duration> {
+    let mut items = Vec::new(rt.alloc());
+    for number in 0..KEYS {
+        items.push(Value::from_int(i128::from(number))).ok()?;
+    }
+    let list = Value::from_list(rt.alloc(), items).ok()?;
+    let mut copied = 0u32;
+    let start = Instant::now(rt).ok()?;
+    for _ in 0..COPIES {
+        let copy = list.copy().ok()?;
+        if copy.levels() == 1 {
+            copied = copied.wrapping_add(1);
+        }
+    }
+    let time = start.elapsed(rt).ok()?;
+    if copied == COPIES { Some(time) } else { None }
+}
