@@ -1,5 +1,8 @@
 pub mod Definitions
 pub mod Documents
 pub mod Last
+pub mod Levels
 pub mod Made
+pub mod Named
 pub mod Plain
+pub mod Steps

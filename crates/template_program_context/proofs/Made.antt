@@ -1,5 +1,5 @@
 -- The map that is made from entries that say what the context has.
-use Rattle.std.proofs.Common.{◌≡◌, ℕ, List, [], Option, Result, Ok, Err, IfOk, IfErr, inl, inr, ◌∙◌, String, Global, arith}
+use Rattle.std.proofs.Common.{◌≡◌, ◌≤◌, ℕ, List, [], Option, Result, Ok, Err, IfOk, IfErr, inl, inr, ◌∙◌, String, Global, arith}
 use Rattle.std.proofs.lemmas.List.Elements.{All-nil}
 use Rattle.template_values_errors.specs.declared.ErrorKind.{ErrorKind}
 use Rattle.template_values_model.specs.Val.{Val, map}
@@ -11,7 +11,7 @@ use Rattle.template_values_core.specs.Shape.{pairs_in}
 use Rattle.template_values_core.specs.declared.value.Entry.{Entry}
 use Rattle.template_program_context.specs.Context.{texts_in, IsContext, IsPlainText}
 use Rattle.template_program_context.specs.Entries.{SayContext, ArePlain}
-use Rattle.template_program_context.proofs.Plain.{text_keys, one_level}
+use Rattle.template_program_context.proofs.Plain.{text_keys, map_within}
 
 abbrev pub Made : Type 0
 Made = Result Val (List ErrorKind)
@@ -22,10 +22,13 @@ pub made_context : (json : Option (List ℕ)) (ds : List (String Global × Strin
 made_context json ds es (Ok v) says plain is last = ((put_all [] (pairs_in es), is, text_keys [] es (All-nil IsPlainText) plain), λ name. last name ∙ says name)
 made_context json ds es (Err kinds) says plain is last = tt
 
--- such a map is never too deep
-pub only_memory : (es : List Entry) (made : Made) → ArePlain es → IfErr made (TooDeep (map (collected (pairs_in es)))) → IfErr made NoMemory
-only_memory es (Ok v) plain refused = tt
-only_memory es (Err kinds) plain refused = elim refused [
+-- a value that nests within the bound is never too deep
+pub never_deep : (v : Val) (made : Made) → depth v ≤ 500 → IfErr made (TooDeep v) → IfErr made NoMemory
+never_deep v (Ok w) within refused = tt
+never_deep v (Err kinds) within refused = elim refused [
   | inl memory ↦ memory
-  | inr deep ↦ absurd (let levels : depth (map (collected (pairs_in es))) ≡ 1 = one_level es plain in omega (arith, deep.1))
+  | inr deep ↦ absurd (omega (arith, deep.1, within))
 ]
+
+pub only_memory : (es : List Entry) (made : Made) → ArePlain es → IfErr made (TooDeep (map (collected (pairs_in es)))) → IfErr made NoMemory
+only_memory es made plain refused = never_deep (map (collected (pairs_in es))) made (map_within es plain) refused

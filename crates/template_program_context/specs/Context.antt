@@ -1,41 +1,47 @@
 -- The context of a render: what the JSON and the definitions have under each name.
-use Rattle.std.specs.Prelude.{◌≡◌, ℕ, Bool, true, ◌&&◌, List, [], ◌∷◌, Option, None, Some, ◌⊎◌, String, string_bytes, map as each, is_some, option_map, option_and_then, if◌then◌else◌}
+use Rattle.std.specs.Prelude.{◌≡◌, ℕ, List, [], ◌∷◌, Option, None, Some, ◌⊎◌, String, string_bytes, map as each, option_map, option_and_then, unwrap_or, if◌then◌else◌}
 use Rattle.std.specs.List.{All}
 use Rattle.std.specs.Map.{keys_of}
 use Rattle.std.specs.Option.{option_or}
 use Rattle.std.specs.Str.{bytes_eq, is_utf8}
 use Rattle.std.specs.declared.alloc.Global.{Global}
-use Rattle.serde_json.specs.Data.{Data, null, boolean, number, string, array, object, Members, no_members, member}
+use Rattle.serde_json.specs.Data.{Data, null, boolean, number, string, array, object, Items, no_items, item, Members, no_members, member}
 use Rattle.serde_json.specs.Find.{as_integer, get}
 use Rattle.serde_json.specs.Read.{read}
 use Rattle.serde_json.specs.Written.{has_float}
 use Rattle.template_values_errors.specs.declared.ErrorKind.{ErrorKind}
 use Rattle.template_values_errors.specs.declared.ErrorKind.TheVariants.{SyntaxError, InvalidOperation, NoFloats}
-use Rattle.template_values_model.specs.Val.{Val, none, truth, int, text, map}
+use Rattle.template_values_model.specs.Val.{Val, Vals, undefined, none, truth, int, text, list, map, no_vals, vals_more}
 use Rattle.template_values_model.specs.Lookup.{value_at}
 use Rattle.template_values_core.specs.Answers.{NoMemory}
-use Rattle.template_values_core.specs.Maps.{pairs_of}
+use Rattle.template_values_core.specs.Maps.{pairs_of, collected}
 
 -- what the bytes say as JSON, where they are a text that can be read
 abbrev pub data_in : List ℕ → Option Data
 data_in bytes = if is_utf8 bytes then read bytes else None
 
--- the value of a member; a float, a list and an object have none
-abbrev pub value_of : Data → Option Val
-value_of null = Some none
-value_of (boolean b) = Some (truth b)
-value_of (number n) = option_map int (as_integer n)
-value_of (string s) = Some (text s)
-value_of (array items) = None
-value_of (object inner) = None
+-- The value that JSON stands for: an array is a list, an object a map whose keys are its names as plain texts.
+-- A float has no value (JSON that holds one is refused), and is undefined here.
+abbrev mutual
+  pub value_of : Data → Val
+  value_of null = none
+  value_of (boolean b) = truth b
+  value_of (number n) = unwrap_or (option_map int (as_integer n)) undefined
+  value_of (string s) = text s
+  value_of (array items) = list (values_of items)
+  value_of (object inner) = map (collected (named_values inner))
 
-abbrev pub all_have_values : Members → Bool
-all_have_values no_members = true
-all_have_values (member name d later) = is_some (value_of d) && all_have_values later
+  pub values_of : Items → Vals
+  values_of no_items = no_vals
+  values_of (item d later) = vals_more (value_of d) (values_of later)
+
+  pub named_values : Members → List (Val × Val)
+  named_values no_members = []
+  named_values (member name d later) = (text name, value_of d) ∷ named_values later
 
 -- the refusal of JSON that was read and has no float
 abbrev pub fault_of_top : Data → Option ErrorKind
-fault_of_top (object inner) = if all_have_values inner then None else Some InvalidOperation
+fault_of_top (object inner) = None
 fault_of_top _ = Some InvalidOperation
 
 abbrev pub fault_of_data : Option Data → Option ErrorKind
@@ -50,7 +56,7 @@ fault_of_json (Some bytes) = fault_of_data (data_in bytes)
 -- the value of the member of that name
 abbrev pub member_under : Option (List ℕ) → List ℕ → Option Val
 member_under None name = None
-member_under (Some bytes) name = option_and_then value_of (option_and_then (get name) (data_in bytes))
+member_under (Some bytes) name = option_map value_of (option_and_then (get name) (data_in bytes))
 
 -- the text of the last definition of the name
 abbrev pub defined_under : List (List ℕ × List ℕ) → List ℕ → Option (List ℕ)

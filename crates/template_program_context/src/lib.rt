@@ -9,25 +9,30 @@ ghost use Rattle.template_program_context.specs.Entries.{SayJson, SayContext, Ar
 
 mod floats;
 mod members;
+mod memory;
 #[cfg(test)]
 mod tests;
+mod values;
 
-use crate::members::{out_of_memory, push, read_members};
+use crate::members::read_members;
+use crate::memory::{out_of_memory, push};
 use std::alloc::Global;
 use template_values_core::{Entry, Value};
 use template_values_errors::Error;
 
 /// The context of a render: a map of the members of a JSON object, which is empty where there are no
-/// bytes, and over them a text for each definition of a name and its text. Of equal names the last
-/// one stands. Takes n log n comparisons for n members and definitions.
+/// bytes, and over them a text for each definition of a name and its text. Arrays are lists, and
+/// objects are maps in the order of their names, as deep as `serde_json` reads: 127 levels, the
+/// outermost object among them. Of equal names the last one stands, inside of members too. Takes time
+/// in proportion to the bytes, and n log n comparisons for n members and definitions.
 ///
 /// # Errors
 ///
 /// Of these kinds the first that holds, alone:
 ///
-/// - `SyntaxError`, if `serde_json` cannot read the bytes.
+/// - `SyntaxError`, if `serde_json` cannot read the bytes, as where they nest deeper.
 /// - `NoFloats`, if a number anywhere in them is read as a float.
-/// - `InvalidOperation`, if they are no object, or a member is a list or an object.
+/// - `InvalidOperation`, if they are no object.
 /// - `OutOfMemory`, at any time.
 pub fn read_context(
     alloc: Global,

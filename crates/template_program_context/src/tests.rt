@@ -2,7 +2,7 @@
 use crate::read_context;
 use std::alloc::Global;
 use std::test::Fail;
-use template_values_core::Value;
+use template_values_core::{Content, Value};
 use template_values_errors::{Error, ErrorKind};
 
 #[test]
@@ -33,12 +33,18 @@ fn gives_each_refusal(rt: HostRuntime) {
             b"{\"a\": [1], \"b\": {\"c\": 1.5}}",
             Some(ErrorKind::NoFloats),
         ),
+        (
+            b"{\"a\": [[], {\"b\": [2, 1e2]}]}",
+            Some(ErrorKind::NoFloats),
+        ),
         (b"[-0]", Some(ErrorKind::NoFloats)),
+        (b"1.5", Some(ErrorKind::NoFloats)),
         (b"[1]", Some(ErrorKind::InvalidOperation)),
+        (b"[{}]", Some(ErrorKind::InvalidOperation)),
         (b"null", Some(ErrorKind::InvalidOperation)),
         (b"\"a\"", Some(ErrorKind::InvalidOperation)),
-        (b"{\"a\": [1]}", Some(ErrorKind::InvalidOperation)),
-        (b"{\"a\": 1, \"b\": {}}", Some(ErrorKind::InvalidOperation)),
+        (b"{\"a\": [1]}", None),
+        (b"{\"a\": 1, \"b\": {}}", None),
     ] {
         let refusal = read_context(rt.alloc(), Some(json), &[]).err();
         assert_eq!(rt; refusal.as_ref().map(Error::kind), kind, "at {json:?}");
@@ -47,23 +53,41 @@ fn gives_each_refusal(rt: HostRuntime) {
     }
 }
 
-// An object that nests 127 levels with its lists is read, one of 128 is not.
+// The refusal and the levels of an object with the opening and the closing text so many times in it.
+fn read_nested(
+    alloc: Global,
+    open: &str,
+    close: &str,
+    times: usize,
+) -> Result<Result<u32, ErrorKind>, Fail> {
+    let mut json = String::from_str(alloc, "{\"a\":")?;
+    for _ in 0..times {
+        json.push_str(open)?;
+    }
+    json.push('1')?;
+    for _ in 0..times {
+        json.push_str(close)?;
+    }
+    json.push('}')?;
+    Ok(
+        read_context(alloc, Some(json.as_bytes()), &[])
+            .map(|context| context.levels())
+            .map_err(|error| error.kind()),
+    )
+}
+
+// JSON of 127 levels is read, one of 128 is not.
 #[test]
 fn reads_to_the_limit_of_nesting(rt: HostRuntime) -> Result<(), Fail> {
-    for (lists, kind) in [
-        (126usize, ErrorKind::InvalidOperation),
-        (127, ErrorKind::SyntaxError),
-    ] {
-        let mut json = String::from_str(rt.alloc(), "{\"a\":")?;
-        for _ in 0..lists {
-            json.push('[')?;
+    for (open, close) in [("[", "]"), ("{\"a\":", "}")] {
+        for (times, answer) in [
+            (125usize, Ok(126u32)),
+            (126, Ok(127)),
+            (127, Err(ErrorKind::SyntaxError)),
+        ] {
+            let given = read_nested(rt.alloc(), open, close, times)?;
+            assert_eq!(rt; given, answer, "at {times} of {open}");
         }
-        for _ in 0..lists {
-            json.push(']')?;
-        }
-        json.push('}')?;
-        let refusal = read_context(rt.alloc(), Some(json.as_bytes()), &[]).err();
-        assert_eq!(rt; refusal.map(|error| error.kind()), Some(kind), "at {lists}");
     }
     Ok(())
 }
@@ -83,17 +107,18 @@ fn refuses_a_whole_number_of_400_digits(rt: HostRuntime) -> Result<(), Fail> {
     Ok(())
 }
 
-// A value as it prints, a text in quotes.
+// A value that holds no other, a text in quotes.
 fn shown(alloc: Global, value: Option<&Value>) -> Result<String, Fail> {
-    let Some(value) = value else {
-        return Ok(String::from_str(alloc, "absent")?);
-    };
-    if let Some(text) = value.as_str() {
-        return Ok(format!(in alloc; "'{text}'")?);
-    }
-    let mut out = String::new(alloc);
-    value.print_to(&mut out).map_err(|error| error.kind())?;
-    Ok(out)
+    Ok(match value.map(Value::content) {
+        None => String::from_str(alloc, "absent")?,
+        Some(Content::None) => String::from_str(alloc, "none")?,
+        Some(Content::Truth(value)) => format!(in alloc; "{value}")?,
+        Some(Content::Int(number)) => format!(in alloc; "{number}")?,
+        Some(Content::Text(text)) => format!(in alloc; "'{text}'")?,
+        Some(Content::List(items)) => format!(in alloc; "list of {}", items.len())?,
+        Some(Content::Map(entries)) => format!(in alloc; "map of {}", entries.len())?,
+        Some(_) => String::from_str(alloc, "other")?,
+    })
 }
 
 #[test]
@@ -148,5 +173,64 @@ fn reads_without_json(rt: HostRuntime) -> Result<(), Fail> {
     let context = read_context(alloc, None, &[pair]).map_err(|error| error.kind())?;
     assert_eq!(rt; shown(alloc, context.value_at("a"))?.as_str(), "'b'");
     assert_eq!(rt; shown(alloc, context.value_at("b"))?.as_str(), "absent");
+    Ok(())
+}
+
+// What a list or a map holds, each item or key and value behind the one before.
+fn held(alloc: Global, value: Option<&Value>) -> Result<String, Fail> {
+    let mut out = String::new(alloc);
+    for item in value.and_then(Value::items).unwrap_or_default() {
+        out.push_str(shown(alloc, Some(item))?.as_str())?;
+        out.push(';')?;
+    }
+    for entry in value.and_then(Value::entries).unwrap_or_default() {
+        out.push_str(shown(alloc, Some(&entry.key))?.as_str())?;
+        out.push(':')?;
+        out.push_str(shown(alloc, Some(&entry.value))?.as_str())?;
+        out.push(';')?;
+    }
+    Ok(out)
+}
+
+// The item at the place of a list.
+fn item_at(value: Option<&Value>, place: usize) -> Option<&Value> {
+    value?.items()?.get(place)
+}
+
+#[test]
+fn has_lists_in_their_order(rt: HostRuntime) -> Result<(), Fail> {
+    let alloc = rt.alloc();
+    let json = b"{\"list\": [1, \"two\", null, true, [], {}, [[-3, -4], {\"x\": 5}]], \
+        \"empty\": []}";
+    let context = read_context(alloc, Some(json), &[]).map_err(|error| error.kind())?;
+    let list = context.value_at("list");
+    let inner = item_at(list, 6);
+    for (value, items) in [
+        (list, "1;'two';none;true;list of 0;map of 0;list of 2;"),
+        (inner, "list of 2;map of 1;"),
+        (item_at(inner, 0), "-3;-4;"),
+        (item_at(inner, 1), "'x':5;"),
+        (context.value_at("empty"), ""),
+    ] {
+        assert_eq!(rt; held(alloc, value)?.as_str(), items);
+    }
+    Ok(())
+}
+
+// Inside too, the keys stand in their order, and of equal names the last one counts.
+#[test]
+fn has_maps_in_the_order_of_keys(rt: HostRuntime) -> Result<(), Fail> {
+    let alloc = rt.alloc();
+    let json = "{\"map\": {\"b\": {\"c\": 1}, \"é\": 2, \"a\": [3, 4], \
+        \"b\": {\"d\": 5, \"e\": 6, \"d\": 7}, \"\": 8}, \"empty\": {}}";
+    let context = read_context(alloc, Some(json.as_bytes()), &[]).map_err(|error| error.kind())?;
+    let map = context.value_at("map");
+    for (value, entries) in [
+        (map, "'':8;'a':list of 2;'b':map of 2;'é':2;"),
+        (map.and_then(|map| map.value_at("b")), "'d':7;'e':6;"),
+        (context.value_at("empty"), ""),
+    ] {
+        assert_eq!(rt; held(alloc, value)?.as_str(), entries);
+    }
     Ok(())
 }

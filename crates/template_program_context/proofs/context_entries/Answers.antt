@@ -1,4 +1,4 @@
-use Rattle.std.proofs.Common.{◌≡◌, ◌+◌, [], ◌∷◌, ◌++◌, take, sym, ap, ◌∙◌}
+use Rattle.std.proofs.Common.{◌≡◌, ◌+◌, [], ◌∷◌, ◌++◌, take, sym, ap, ◌∙◌, arith}
 use Rattle.std.proofs.lemmas.List.{take_more}
 use Rattle.template_values_core.specs.Depth.{depth}
 use Rattle.template_values_core.specs.declared.value.Entry.{Entry}
@@ -15,6 +15,6 @@ loop-name-preserved c =
     let more : take (i + 1) ds ≡ take i ds ++ d ∷ [] = take_more ds i d c.loop-name-test.true ∙ ap (λ x. take i ds ++ x ∷ []) (sym c.loop-name-item.is) in
     rw (c.in_ok-push.ensures.pushed, more) (
       say_definition _ (take i ds) d c.loop-name.entries.items e c.in_ok-key.ensures.is c.in_ok-value.ensures.is c.loop-name.invariant.0,
-      plain_push c.loop-name.entries.items e (_, c.in_ok-key.ensures.is) (ap depth c.in_ok-value.ensures.is) c.loop-name.invariant.1,
+      plain_push c.loop-name.entries.items e (_, c.in_ok-key.ensures.is) (omega (arith, ap depth c.in_ok-value.ensures.is)) c.loop-name.invariant.1,
       c.loop-name.invariant.2,
     )
