@@ -1,5 +1,5 @@
 -- Templates stand under their own names, also after an insertion.
-use Rattle.std.proofs.Common.{◌≡◌, ◌∙◌, ap, sym, ℕ, List, Bool, true, false, cond, Option, None, Some, Result, Ok, Err, OnOk, OnErr, bytes_eq, string_bytes, refl}
+use Rattle.std.proofs.Common.{◌≡◌, ◌∙◌, ap, sym, ℕ, List, Bool, true, false, cond, Option, Some, Result, Ok, Err, OnOk, OnErr, bytes_eq, string_bytes, refl}
 use Rattle.std.specs.BTreeMap as tree
 use Rattle.std.specs.BTreeMap.{BTreeMap, get_by_text, is_at}
 use Rattle.std.specs.Cmp.Lexicographic.{slice_cmp}

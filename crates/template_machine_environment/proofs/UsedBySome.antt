@@ -1,11 +1,9 @@
 -- The names that some of a list of sources use, and those that the templates of an environment use.
-use Rattle.std.proofs.Common.{◌≡◌, ℕ, zero, suc, List, [], ◌∷◌, ◌++◌, map, Option, None, Some, inl, inr, ◌⊎◌, ◌↔◌, sym, subst, refl, ap, string_bytes, ◌∙◌, IsTrue}
+use Rattle.std.proofs.Common.{◌≡◌, ℕ, zero, suc, List, [], ◌∷◌, ◌++◌, map, Option, None, Some, inl, inr, ◌⊎◌, ◌↔◌, sym, subst, refl, ap, string_bytes}
 use Rattle.std.specs.List.{slice_get}
 use Rattle.std.specs.Option.{option_map}
 use Rattle.std.specs.String.{string_cmp, string_cmp_total}
-use Rattle.std.specs.Prelude.{String}
 use Rattle.std.specs.BTreeMap as tree
-use Rattle.std.specs.BTreeMap.{BTreeMap, is_at}
 use Rattle.std.proofs.lemmas.Map.Entries.{place_from_lookup, btree_map_get_place}
 use Rattle.template_machine_environment.specs.Compiled.{Compiled}
 use Rattle.template_machine_environment.specs.Uses.{UsesName}

@@ -1,11 +1,9 @@
 -- What a compiled template keeps of its source.
-use Rattle.std.specs.Prelude.{◌≡◌, ℕ, ◌^◌, ◌<◌, List, length}
-use Rattle.template_values_modes.specs.declared.AutoEscape.{AutoEscape}
+use Rattle.std.specs.Prelude.{◌≡◌, ◌^◌, ◌<◌, List, length}
 use Rattle.template_compiler_tree.specs.Tree.{Statement}
 use Rattle.template_compiler_grammar.specs.Grammar.{IsTemplate}
 use Rattle.template_compiler_code.specs.Listing.{Listing}
 use Rattle.template_compiler_generator.specs.Generated.{template_code}
-use Rattle.template_machine_escape.specs.Rule.{IsRuleOf}
 
 -- the tree of the source, whose code the listing has
 pub record IsFaithful (listing : Listing) : Type 0 where

@@ -1,11 +1,11 @@
 -- How a render comes out.
-use Rattle.std.specs.Prelude.{◌≡◌, ℕ, ◌⊎◌, List, [], ◌∷◌, Option, None, Some, Result, Ok, Err, IsErrAnd}
+use Rattle.std.specs.Prelude.{ℕ, List, Option, Result}
 use Rattle.std.specs.Io.KnownBytes.{Appends}
 use Rattle.template_values_errors.specs.declared.ErrorKind.{ErrorKind}
 use Rattle.template_compiler_process.specs.Trace.{Run, text_of}
 use Rattle.template_machine_output.specs.Writes.{AppendsBeginning}
 use Rattle.template_machine_world.specs.World.{World}
-use Rattle.template_machine_run.specs.Outcomes.{IsWant, TellsFailures}
+use Rattle.template_machine_run.specs.Outcomes.{TellsFailures}
 use Rattle.template_machine_run.specs.Runs.{ComesOut, EndsAs}
 
 -- The call answers as the run ends, and the sink, which had taken `before`, took its text as well. Or a

@@ -114,8 +114,8 @@ impl<'source> CompiledTemplate<'source> {
         Ok(())
     }
 
-    /// Renders the template over a context, and writes the text into a sink as it comes. What is left of
-    /// the fuel comes back.
+    /// Renders the template over a context, under the escape of its name, and writes the text into a sink
+    /// as it comes. What is left of the fuel comes back.
     ///
     /// # Errors
     ///

@@ -7,7 +7,6 @@ use Rattle.std.specs.Io.KnownBytes.{Appends}
 use Rattle.template_values_errors.specs.declared.ErrorKind.{ErrorKind}
 use Rattle.template_values_errors.specs.declared.ErrorKind.TheVariants.{InvalidOperation, OutOfMemory, TemplateNotFound}
 use Rattle.template_values_modes.specs.declared.AutoEscape.{AutoEscape}
-use Rattle.template_values_modes.specs.declared.AutoEscape.TheVariants as escape
 use Rattle.template_values_model.specs.Val.{Val}
 use Rattle.template_compiler_tree.specs.Tree.{Statement}
 use Rattle.template_compiler_grammar.specs.Grammar.{IsTemplate}
@@ -40,18 +39,14 @@ EndsWith Done (Ok _) = Unit {0}
 EndsWith (Render kinds) (Err others) = kinds ≡ others
 EndsWith _ _ = ⊥
 
--- The main template of that name and source is rendered over the context under the fuel: its tree decides
--- the text and the end. It is refused where its name asks for an escape, and the render where no state id
--- is left.
+-- The main template of that name and source is rendered over the context, under the escape of its name and
+-- the fuel: its tree decides the text and the end. The render is refused where no state id is left.
 abbrev pub Rendered : List ℕ → List ℕ → Option ℕ → Val → ℕ → Outcome → Option (List ℕ) → Option (List ℕ) → ℕ → ℕ → Type 0
-Rendered name source fuel context next (Context kinds) before after failed fails = ⊥
-Rendered name source fuel context next (Template kinds) before after failed fails =
-    (kinds ≡ InvalidOperation ∷ []) × ((rule : AutoEscape) × IsRuleOf name rule × (rule ≢ escape.None)) × IsUntouched before after failed fails
 Rendered name source fuel context next outcome before after failed fails =
-    IsRuleOf name escape.None
-    × (IsLastId next → (outcome ≡ Render (InvalidOperation ∷ [])) × IsUntouched before after failed fails)
+    (IsLastId next → (outcome ≡ Render (InvalidOperation ∷ [])) × IsUntouched before after failed fails)
     × (¬ IsLastId next → (result : Result (Unit {0}) (List ErrorKind)) × EndsWith outcome result
-    × ((tree : List Statement) → IsTemplate source tree → Renders result before after failed fails (rendered fuel tree context)))
+    × ((rule : AutoEscape) → IsRuleOf name rule → (tree : List Statement) → IsTemplate source tree
+    → Renders result before after failed fails (rendered rule fuel tree context)))
 
 -- The set has just the names that can matter to a render of the source.
 abbrev pub HasNames : Environment → List ℕ → BTreeSet (String Global) → Type 0

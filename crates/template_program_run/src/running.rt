@@ -1,7 +1,7 @@
 //! The run of a request.
 ghost use Rattle.std.specs.Prelude.{option_copied};
 ghost use Rattle.template_program_context.specs.Context.{texts_in};
-ghost use Rattle.template_machine_environment.specs.Views.{fuel_of, source_of};
+ghost use Rattle.template_machine_environment.specs.Views.{fuel_of, name_of, source_of};
 ghost use Rattle.template_program_run.specs.Answers.{Answers, Rendered, Told};
 
 use crate::additions::environment_of;
@@ -10,17 +10,14 @@ use crate::outcome::Outcome;
 use crate::request::{Command, Request};
 use std::alloc::Global;
 use template_machine_environment::{Environment, Template};
-use template_machine_escape::default_auto_escape_callback;
 use template_machine_ids::StateIds;
 use template_machine_output::Sink;
 use template_program_context::read_context;
 use template_values_core::Value;
-use template_values_errors::{Error, ErrorKind};
-use template_values_modes::AutoEscape;
 
 /// Does what is asked with the templates (names with their sources) and the bytes of a context, and
 /// writes into a sink. The context is read first, then the templates are added in order, then the main
-/// one is rendered or its names are told. Takes two state ids.
+/// one is rendered, under the escape of its name, or its names are told.
 pub fn run<S: Sink>(
     alloc: Global,
     request: &Request,
@@ -44,24 +41,20 @@ pub fn run<S: Sink>(
         Err(error) => return Outcome::Template(error),
     };
     match request.command {
-        Command::Render => render(request.main.as_str(), &template, context, ids, sink),
+        Command::Render => render(&template, context, ids, sink),
         Command::Names => tell_names(&environment, &template, sink),
     }
 }
 
-// Renders the main template, which is not to be escaped.
+// Renders the main template.
 fn render<S: Sink>(
-    name: &str,
     template: &Template<'_, '_>,
     context: Value,
     ids: &mut StateIds,
     sink: &mut S,
 ) -> Outcome
-    ensures { Rendered name.now (source_of template.now) (fuel_of template.now) context ids.old result (S.taken sink.old) (S.taken sink.new) (S.failures sink.old) (S.failures sink.new) }
+    ensures { Rendered (name_of template.now) (source_of template.now) (fuel_of template.now) context ids.old result (S.taken sink.old) (S.taken sink.new) (S.failures sink.old) (S.failures sink.new) }
 {
-    if default_auto_escape_callback(name) != AutoEscape::None {
-        return Outcome::Template(Error::new(ErrorKind::InvalidOperation));
-    }
     match template.render_captured_to(ids, context, sink) {
         Ok(_captured) => Outcome::Done,
         Err(error) => Outcome::Render(error),

@@ -99,8 +99,8 @@ fn renders_files(rt: HostRuntime) -> Result<(), Fail> {
     assert_run(&rt, words, b"", "Hello World!", "", 0);
     let words = ["render", "--context", "start_d.json", "start_t.txt"].as_slice();
     assert_run(&rt, words, b"", "", "fault: NoFloats\n", 4);
-    let words = ["render", "start_t.html"].as_slice();
-    assert_run(&rt, words, b"", "", "fault: InvalidOperation\n", 5);
+    let words = ["render", "-D", "name=<b>", "start_t.html"].as_slice();
+    assert_run(&rt, words, b"", "&lt;b&gt;", "", 0);
     let words = ["names", "start_t.txt", "start_u.txt"].as_slice();
     assert_run(
         &rt,

@@ -1,36 +1,29 @@
-use Rattle.std.proofs.Common.{◌≡◌, rules, subst, refl, Ok, Err, ap}
-use Rattle.template_machine_escape.specs.Rule.{IsRuleOf}
-use Rattle.template_values_modes.specs.declared.AutoEscape.TheVariants as escape
-use Rattle.template_program_run.specs.declared.outcome.Outcome.TheVariants.{Render}
+use Rattle.std.proofs.Common.{refl, Ok, Err, ap}
 use Rattle.template_program_run.proofs.running.render.Goals as goal
 
 pub returns-in-Ok : goal.returns-in-Ok
-returns-in-Ok g c =
-    let none : c.default_auto_escape_callback.result ≡ escape.None = search rules in (
-      subst (IsRuleOf c.args.name.now) none c.default_auto_escape_callback.ensures,
-      λ last. let never = (c.in-Ok.ensures.exhausted last).0 in cc,
-      λ more. (
-        Ok tt,
-        tt,
-        λ tree is.
-            let r = c.in-Ok.ensures.renders more tree is in
-            record { outcome = r.outcome; text = r.text; beginning = r.beginning; failures = r.failures },
-      ),
-    )
+returns-in-Ok g c = (
+  λ last. let never = (c.in-Ok.ensures.exhausted last).0 in cc,
+  λ more. (
+    Ok tt,
+    tt,
+    λ rule asks tree is.
+        let r = c.in-Ok.ensures.renders more rule asks tree is in
+        record { outcome = r.outcome; text = r.text; beginning = r.beginning; failures = r.failures },
+  ),
+)
 
 pub returns-in-Err : goal.returns-in-Err
-returns-in-Err g c =
-    let none : c.default_auto_escape_callback.result ≡ escape.None = search rules in (
-      subst (IsRuleOf c.args.name.now) none c.default_auto_escape_callback.ensures,
-      λ last.
-          let out = c.in-Err.ensures.exhausted last in
-          let kinds = out.0 in
-          (cc, (ap (λ s. g.S.Sink.taken s) out.1, ap (λ s. g.S.Sink.failures s) out.1)),
-      λ more. (
-        Err c.in-Err.error,
-        refl,
-        λ tree is.
-            let r = c.in-Err.ensures.renders more tree is in
-            record { outcome = r.outcome; text = r.text; beginning = r.beginning; failures = r.failures },
-      ),
-    )
+returns-in-Err g c = (
+  λ last.
+      let out = c.in-Err.ensures.exhausted last in
+      let kinds = out.0 in
+      (cc, (ap (λ s. g.S.Sink.taken s) out.1, ap (λ s. g.S.Sink.failures s) out.1)),
+  λ more. (
+    Err c.in-Err.error,
+    refl,
+    λ rule asks tree is.
+        let r = c.in-Err.ensures.renders more rule asks tree is in
+        record { outcome = r.outcome; text = r.text; beginning = r.beginning; failures = r.failures },
+  ),
+)

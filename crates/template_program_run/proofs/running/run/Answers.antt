@@ -1,5 +1,5 @@
 use Rattle.std.proofs.Common.{◌≡◌, ◌∙◌, ap, sym, rules, option_copied, string_bytes, Option, ℕ}
-use Rattle.template_machine_environment.specs.Views.{fuel_of, source_of}
+use Rattle.template_machine_environment.specs.Views.{fuel_of, name_of, source_of}
 use Rattle.template_machine_environment.specs.declared.environment.Environment.{Environment}
 use Rattle.template_program_context.specs.Context.{texts_in, IsContext}
 use Rattle.template_program_run.specs.Answers.{definitions_of}
@@ -14,7 +14,7 @@ returns-in-Render g c =
     c.in-Ok.ensures.faultless e.ensures.had_one e.ensures.accepted (search rules)
     (source_of t.template) (sym (e.ensures.stands (string_bytes c.args.request.now.main)) ∙ (rw c.as_str.ensures.value at t.ensures.found))
     c.in-Ok.context (rw c.deref.ensures.value at c.in-Ok.ensures.context)
-    c.as_str-in-Render.result.now c.as_str-in-Render.ensures.value
+    (name_of t.template) (t.ensures.named ∙ c.as_str.ensures.value)
     (fuel_of t.template) (ap (λ (x : Environment). x.fuel) t.ensures.here ∙ e.ensures.fuel)
     c.environment_of.new.ids e.ensures.counted
     c.render.ensures

@@ -1,10 +1,8 @@
-use Rattle.std.proofs.Common.{rules, ◌≡◌, ℕ, List, map, inl, inr, ◌⊎◌, ◌↔◌, sym, subst, IsTrue}
+use Rattle.std.proofs.Common.{rules, ◌≡◌, map, inl, inr, sym, subst}
 use Rattle.std.specs.BTreeMap as tree
-use Rattle.std.specs.BTreeSet.{contains_text}
 use Rattle.std.specs.Map.Iter.{deref_pair}
 use Rattle.std.specs.String.{string_cmp}
 use Rattle.std.proofs.lemmas.Map.Iter.{iter_end}
-use Rattle.template_machine_environment.specs.Names.{IsUsedByOne}
 use Rattle.template_machine_environment.proofs.UsedBySome.{UsedBySome, used-push, used-map, used_by_one}
 use Rattle.template_machine_environment.proofs.environment.Environment.add_standing.Goals as goal
 

@@ -1,6 +1,5 @@
-use Rattle.std.proofs.Common.{◌≡◌, ◌∙◌, ap, sym, arith, rules, string_bytes}
+use Rattle.std.proofs.Common.{◌≡◌, arith, rules, string_bytes}
 use Rattle.std.proofs.lemmas.Map.Text.{text_keys}
-use Rattle.template_machine_environment.specs.Compiled.{Compiled}
 use Rattle.template_machine_environment.proofs.OwnNames.{named_after}
 use Rattle.template_machine_environment.proofs.environment.Environment.add_template.Goals as goal
 
