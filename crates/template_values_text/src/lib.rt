@@ -4,7 +4,6 @@
 mod escape;
 mod pieces;
 mod print;
-mod records;
 mod serial;
 #[cfg(test)]
 mod tests;
@@ -12,5 +11,5 @@ mod truth;
 
 pub use escape::escape_to;
 pub use print::print_to;
-pub use records::{LoopView, MacroView, NoRecords, Records};
+pub use template_values_records::{LoopView, MacroView, NoRecords, Records};
 pub use truth::is_true;
