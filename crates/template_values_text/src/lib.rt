@@ -1,6 +1,7 @@
 //! The text that values print, and how it is escaped.
 #![tactic(auto)]
 
+mod concat;
 mod escape;
 mod pieces;
 mod print;
@@ -9,6 +10,7 @@ mod serial;
 mod tests;
 mod truth;
 
+pub use concat::string_concat;
 pub use escape::escape_to;
 pub use print::print_to;
 pub use template_values_records::{LoopView, MacroView, NoRecords, Records};
