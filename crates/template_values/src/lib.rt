@@ -13,4 +13,4 @@ pub use template_values_operators::{
     add, contains, div, get_attr, get_item, int_div, items_of, mul, neg, pow, rem, slice, sub,
 };
 pub use template_values_records::{LoopView, MacroView, NoRecords, Records};
-pub use template_values_text::{escape_to, is_true, print_to};
+pub use template_values_text::{escape_to, is_true, print_to, string_concat};
