@@ -1,0 +1,20 @@
+pub use Rattle.template_values_errors.specs.Causes
+pub use Rattle.template_values_errors.specs.Names
+pub use Rattle.template_values_model.specs.Val
+pub use Rattle.template_values_model.specs.Gives
+pub use Rattle.template_values_model.specs.Lookup
+pub use Rattle.template_values_core.specs.Answers
+pub use Rattle.template_values_core.specs.Content
+pub use Rattle.template_values_core.specs.Depth
+pub use Rattle.template_values_core.specs.Kept
+pub use Rattle.template_values_core.specs.Maps
+pub use Rattle.template_values_core.specs.Order
+pub use Rattle.template_values_core.specs.OrderLaws
+pub use Rattle.template_values_core.specs.Reads
+pub use Rattle.template_values_core.specs.Shape
+pub use Rattle.template_values_kwargs.specs.Keywords
+pub use Rattle.template_values_forms.specs.Answers as FormAnswers
+pub use Rattle.template_values_forms.specs.Known
+pub use Rattle.template_values_forms.specs.Printed
+pub use Rattle.template_values_forms.specs.Escaped
+pub use Rattle.template_values_forms.specs.Truth
