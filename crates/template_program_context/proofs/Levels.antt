@@ -6,7 +6,7 @@ use Rattle.serde_json.specs.Data.{unsigned, negative, float, Data, null, boolean
 use Rattle.serde_json.specs.View.{view, items_view, members_view}
 use Rattle.serde_json.specs.declared.value.Value.{Value, Array, Object}
 use Rattle.serde_json.proofs.Views.{view-Array, view-Object}
-use Rattle.template_values_model.specs.Val.{Val, text}
+use Rattle.template_values_model.specs.Val.{Val}
 use Rattle.template_values_core.specs.Depth.{depth, vals_depth, pairs_depth}
 use Rattle.template_values_core.specs.Maps.{pairs_of, put_all}
 use Rattle.template_values_core.specs.Order.{val_cmp}
