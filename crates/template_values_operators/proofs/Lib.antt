@@ -1,4 +1,5 @@
 mod Repeats
 mod Parts
+mod Powers
 pub mod Steps
 mod Bounds

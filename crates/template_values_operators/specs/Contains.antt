@@ -4,9 +4,11 @@ use Rattle.std.specs.List.{starts_with, list_any}
 use Rattle.std.specs.Ordering.{eq_by_cmp}
 use Rattle.template_values_errors.specs.declared.ErrorKind.{ErrorKind}
 use Rattle.template_values_errors.specs.declared.ErrorKind.TheVariants.{InvalidOperation}
-use Rattle.template_values_model.specs.Val.{Val, Pairs}
+use Rattle.template_values_model.specs.Val.{Val, Pairs, namespace}
 use Rattle.template_values_core.specs.Answers.{text_in}
+use Rattle.template_values_core.specs.Maps.{pairs_of, under}
 use Rattle.template_values_core.specs.Reads.{items_in, pairs_held, value_under}
+use Rattle.template_values_forms.specs.Known.{Known}
 use Rattle.template_values_operators.specs.Kinds.{is_undefined}
 use Rattle.template_values_core.specs.Order.{val_cmp}
 
@@ -28,6 +30,16 @@ contained_by None None (Some _) _ container value = Ok (is_some (value_under val
 contained_by None None None true container value = Ok false
 contained_by None None None false container value = Err InvalidOperation
 
-abbrev pub contained : Val → Val → Result Bool ErrorKind
-contained container value =
+-- in a container that is no record
+abbrev pub held_in : Val → Val → Result Bool ErrorKind
+held_in container value =
     contained_by (items_in container) (text_in container) (pairs_held container) (is_undefined container) container value
+
+-- whether a namespace has something under the key; a foreign one is refused
+abbrev pub namespace_contains : Val → Option (List (Val × Val)) → Result Bool ErrorKind
+namespace_contains key None = Err InvalidOperation
+namespace_contains key (Some ps) = Ok (is_some (under key (pairs_of ps)))
+
+abbrev pub contained : Known → Val → Val → Result Bool ErrorKind
+contained known (namespace id number) value = namespace_contains value (known.namespaces id number)
+contained known container value = held_in container value

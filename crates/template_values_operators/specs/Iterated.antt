@@ -3,9 +3,11 @@ use Rattle.std.specs.Prelude.{ℕ, Bool, true, false, List, [], ◌∷◌, Optio
 use Rattle.std.specs.Str.{chars}
 use Rattle.template_values_errors.specs.declared.ErrorKind.{ErrorKind}
 use Rattle.template_values_errors.specs.declared.ErrorKind.TheVariants.{InvalidOperation}
-use Rattle.template_values_model.specs.Val.{Val, Pairs, no_pairs, pairs_more}
+use Rattle.template_values_model.specs.Val.{Val, Pairs, namespace, no_pairs, pairs_more}
 use Rattle.template_values_core.specs.Answers.{text_in}
+use Rattle.template_values_core.specs.Maps.{pairs_of}
 use Rattle.template_values_core.specs.Reads.{items_in, pairs_held}
+use Rattle.template_values_forms.specs.Known.{Known}
 use Rattle.template_values_operators.specs.Kinds.{is_nothing}
 use Rattle.template_values_operators.specs.Items.{character_value}
 
@@ -22,8 +24,18 @@ iterated_by None None (Some ps) _ = Ok (keys_in ps)
 iterated_by None None None true = Ok []
 iterated_by None None None false = Err InvalidOperation
 
-abbrev pub iterated : Val → Result (List Val) ErrorKind
-iterated value = iterated_by (items_in value) (text_in value) (pairs_held value) (is_nothing value)
+-- of a value that is no record
+abbrev pub held_items : Val → Result (List Val) ErrorKind
+held_items value = iterated_by (items_in value) (text_in value) (pairs_held value) (is_nothing value)
+
+-- the keys of a namespace; a foreign one is refused
+abbrev pub namespace_keys : Option (List (Val × Val)) → Result (List Val) ErrorKind
+namespace_keys None = Err InvalidOperation
+namespace_keys (Some ps) = Ok (keys_in (pairs_of ps))
+
+abbrev pub iterated : Known → Val → Result (List Val) ErrorKind
+iterated known (namespace id number) = namespace_keys (known.namespaces id number)
+iterated known value = held_items value
 
 -- the items of a call's vector
 abbrev pub items_given : {Z : Type 0} → Result (Vec Val Z) (List ErrorKind) → Result (List Val) (List ErrorKind)

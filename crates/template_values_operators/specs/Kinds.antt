@@ -2,7 +2,7 @@
 use Rattle.std.specs.Prelude.{ℕ, Bool, true, false, nat_le, if◌then◌else◌, List, Option, None, Some, Result, Ok, Err}
 use Rattle.template_values_errors.specs.declared.ErrorKind.{ErrorKind}
 use Rattle.template_values_errors.specs.declared.ErrorKind.TheVariants.{InvalidOperation}
-use Rattle.template_values_model.specs.Val.{Val, undefined, silent_undefined, none, bytes, list, namespace, loop_record, macro_record, items_of, vals_of}
+use Rattle.template_values_model.specs.Val.{Val, undefined, silent_undefined, none, bytes, list, items_of, vals_of}
 use Rattle.template_values_core.specs.Depth.{depth}
 
 -- the bytes of a value of bytes
@@ -30,13 +30,6 @@ is_undefined _ = false
 abbrev pub is_none : Val → Bool
 is_none none = true
 is_none _ = false
-
--- a namespace, a loop or a macro
-abbrev pub is_record : Val → Bool
-is_record (namespace _ _) = true
-is_record (loop_record _ _) = true
-is_record (macro_record _ _) = true
-is_record _ = false
 
 -- the list of these items, refused where its depth is past 500
 abbrev pub list_made : List Val → Result Val ErrorKind

@@ -4,6 +4,7 @@ pub mod Arithmetic
 pub mod Sums
 pub mod Products
 pub mod Rounds
+pub mod Records
 pub mod Items
 pub mod Contains
 pub mod Iterated

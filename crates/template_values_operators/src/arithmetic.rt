@@ -62,7 +62,7 @@ pub fn rem(left: &Value, right: &Value) -> Result<Value, Error>
     }
 }
 
-/// `base ** exponent`, in at most 200 multiplications, whatever the exponent.
+/// `base ** exponent`, in at most two multiplications for each binary digit of the exponent.
 ///
 /// # Errors
 ///

@@ -1,8 +1,10 @@
-//! Texts and lists that grow. A refused growth is OutOfMemory alone.
-ghost use Rattle.std.specs.Prelude.{◌≡◌, [], ◌∷◌, ◌++◌, OnOk, IfErr, string_bytes};
+//! Texts and lists that grow, and copies. A refused growth is OutOfMemory alone.
+ghost use Rattle.std.specs.Prelude.{◌≡◌, [], ◌∷◌, ◌++◌, Ok, OnOk, IfOk, IfErr, option_copied, unwrap_or};
+ghost use Rattle.template_values_model.specs.Gives.{Gives};
+ghost use Rattle.template_values_model.specs.Val.{undefined};
 ghost use Rattle.template_values_core.specs.Answers.{NoMemory};
 
-use std::alloc::AllocError;
+use std::alloc::{AllocError, Global};
 use template_values_core::Value;
 use template_values_errors::{Error, ErrorKind};
 
@@ -26,6 +28,26 @@ pub(crate) fn push_copies(items: &mut Vec<Value>, more: &[Value]) -> Result<(), 
         push(items, item.copy()?)?;
     }
     Ok(())
+}
+
+/// Copies of the items.
+pub(crate) fn copies(alloc: Global, items: &[Value]) -> Result<Vec<Value>, Error>
+    ensures ok { IfOk result (λ v. v.items ≡ items.now) }
+    ensures refused { IfErr result NoMemory }
+{
+    let mut copies = Vec::with_capacity(alloc, items.len()).map_err(no_memory)?;
+    push_copies(&mut copies, items)?;
+    Ok(copies)
+}
+
+/// A copy of the value, or undefined where there is none.
+pub(crate) fn copy_or_undefined(value: Option<&Value>) -> Result<Value, Error>
+    ensures { Gives result (Ok (unwrap_or (option_copied value.entry) undefined)) }
+{
+    match value {
+        Some(value) => value.copy(),
+        None => Ok(Value::undefined()),
+    }
 }
 
 /// Puts a byte behind the others.

@@ -1,37 +1,54 @@
 //! Items and attributes.
-ghost use Rattle.std.specs.Prelude.{◌≡◌, Ok, Some, unwrap_or, option_copied, option_map, length, slice_get, map};
+ghost use Rattle.std.specs.Prelude.{◌≡◌, Ok, option_copied, length, slice_get, map};
 ghost use Rattle.std.specs.Str.{chars};
 ghost use Rattle.template_values_model.specs.Gives.{Gives};
-ghost use Rattle.template_values_model.specs.Val.{undefined};
 ghost use Rattle.template_values_core.specs.Reads.{number_of};
 ghost use Rattle.template_values_core.specs.Maps.{pairs_of};
 ghost use Rattle.template_values_core.specs.Shape.{pairs_in};
-ghost use Rattle.template_values_operators.specs.Iterated.{iterated, items_given, keys_in};
-ghost use Rattle.template_values_operators.specs.Items.{item_of, attribute_of, place, element, character_value};
+ghost use Rattle.template_values_operators.specs.Iterated.{iterated, held_items, items_given, keys_in, namespace_keys};
+ghost use Rattle.template_values_operators.specs.Items.{item_of, held_item, attribute_of, place, element, character_value};
 
 use crate::arithmetic::refusal;
-use crate::growth::{no_memory, push, push_copies};
-use crate::kinds::{bytes_of, is_nothing, is_record};
+use crate::growth::{copies, copy_or_undefined, no_memory, push};
+use crate::kinds::{bytes_of, is_nothing};
+use crate::records::{loop_attribute, macro_attribute, namespace_attribute, namespace_item};
 use std::alloc::Global;
-use template_values_core::{Entry, Value};
+use template_values_core::{Content, Entry, Value};
 use template_values_errors::Error;
+use template_values_records::Records;
 
 /// The item of a list, tuple, bytes or text at a number, counted from the end where it is
-/// negative, or of a map, keyword map or module at a key. What is missing is undefined. Linear in
-/// the size of a text; a list's item is found at once.
+/// negative, of a map, keyword map, module or namespace at a key, or the attribute of a loop or a
+/// macro at a text. What is missing is undefined. Linear in the size of a text or a namespace; a
+/// list's item is found at once.
 ///
 /// # Errors
 ///
-/// [`ErrorKind::InvalidOperation`] at a record; [`ErrorKind::OutOfMemory`].
+/// [`ErrorKind::InvalidOperation`] at a foreign record, or where the list of a macro's arguments
+/// would nest deeper than 500 levels; [`ErrorKind::OutOfMemory`].
 ///
 /// [`ErrorKind::InvalidOperation`]: template_values_errors::ErrorKind::InvalidOperation
 /// [`ErrorKind::OutOfMemory`]: template_values_errors::ErrorKind::OutOfMemory
-pub fn get_item(alloc: Global, value: &Value, key: &Value) -> Result<Value, Error>
-    ensures { Gives result (item_of value.now key.now) }
+pub fn get_item<R: Records>(
+    alloc: Global,
+    value: &Value,
+    key: &Value,
+    records: &R,
+) -> Result<Value, Error>
+    ensures { Gives result (item_of (R.known records.now) value.now key.now) }
 {
-    if is_record(value) {
-        return refusal();
+    match value.content() {
+        Content::Namespace(id, number) => namespace_item(id, number, key, records),
+        Content::Loop(id, number) => loop_attribute(id, number, key.as_str(), records),
+        Content::Macro(id, number) => macro_attribute(alloc, id, number, key.as_str(), records),
+        _ => held_item(alloc, value, key),
     }
+}
+
+/// The item of a value that is no record.
+fn held_item(alloc: Global, value: &Value, key: &Value) -> Result<Value, Error>
+    ensures { Gives result (Ok (held_item value.now key.now)) }
+{
     if let Some(items) = value.items() {
         return copy_or_undefined(element(items, key));
     }
@@ -50,39 +67,59 @@ pub fn get_item(alloc: Global, value: &Value, key: &Value) -> Result<Value, Erro
     copy_or_undefined(value.value_under(key))
 }
 
-/// The value of a map, keyword map or module under a text. What is missing is undefined.
+/// The attribute of a value: what a map, keyword map, module or namespace has under a text, where
+/// a loop is, or what a macro is. What is missing is undefined, and so is all of a loop before its
+/// first item. Linear in the size of a namespace.
 ///
 /// # Errors
 ///
-/// [`ErrorKind::InvalidOperation`] at a record; [`ErrorKind::OutOfMemory`].
+/// [`ErrorKind::InvalidOperation`] at a foreign record, or where the list of a macro's arguments
+/// would nest deeper than 500 levels; [`ErrorKind::OutOfMemory`].
 ///
 /// [`ErrorKind::InvalidOperation`]: template_values_errors::ErrorKind::InvalidOperation
 /// [`ErrorKind::OutOfMemory`]: template_values_errors::ErrorKind::OutOfMemory
-pub fn get_attr(value: &Value, name: &str) -> Result<Value, Error>
-    ensures { Gives result (attribute_of value.now name.now) }
+pub fn get_attr<R: Records>(
+    alloc: Global,
+    value: &Value,
+    name: &str,
+    records: &R,
+) -> Result<Value, Error>
+    ensures { Gives result (attribute_of (R.known records.now) value.now name.now) }
 {
-    if is_record(value) {
-        return refusal();
+    match value.content() {
+        Content::Namespace(id, number) => namespace_attribute(id, number, name, records),
+        Content::Loop(id, number) => loop_attribute(id, number, Some(name), records),
+        Content::Macro(id, number) => macro_attribute(alloc, id, number, Some(name), records),
+        _ => copy_or_undefined(value.value_at(name)),
     }
-    copy_or_undefined(value.value_at(name))
 }
 
-/// What a loop goes over: the items of a list or tuple, the keys of a map, keyword map or module,
-/// the characters of a text, nothing for none and undefined. Linear in the size of the value.
+/// What a loop goes over: the items of a list or tuple, the keys of a map, keyword map, module or
+/// namespace, the characters of a text, nothing for none and undefined. Linear in the size of the
+/// value.
 ///
 /// # Errors
 ///
-/// [`ErrorKind::InvalidOperation`] at other values; [`ErrorKind::OutOfMemory`].
+/// [`ErrorKind::InvalidOperation`] at other values and at a foreign namespace;
+/// [`ErrorKind::OutOfMemory`].
 ///
 /// [`ErrorKind::InvalidOperation`]: template_values_errors::ErrorKind::InvalidOperation
 /// [`ErrorKind::OutOfMemory`]: template_values_errors::ErrorKind::OutOfMemory
-pub fn items_of(alloc: Global, value: &Value) -> Result<Vec<Value>, Error>
-    ensures { Gives (items_given result) (iterated value.now) }
+pub fn items_of<R: Records>(alloc: Global, value: &Value, records: &R) -> Result<Vec<Value>, Error>
+    ensures { Gives (items_given result) (iterated (R.known records.now) value.now) }
+{
+    match value.content() {
+        Content::Namespace(id, number) => namespace_keys(alloc, id, number, records),
+        _ => held_items(alloc, value),
+    }
+}
+
+/// What a loop goes over in a value that is no record.
+fn held_items(alloc: Global, value: &Value) -> Result<Vec<Value>, Error>
+    ensures { Gives (items_given result) (held_items value.now) }
 {
     if let Some(items) = value.items() {
-        let mut copies = Vec::with_capacity(alloc, items.len()).map_err(no_memory)?;
-        push_copies(&mut copies, items)?;
-        return Ok(copies);
+        return copies(alloc, items);
     }
     if let Some(text) = value.as_str() {
         return characters(alloc, text);
@@ -107,6 +144,21 @@ fn characters(alloc: Global, text: &str) -> Result<Vec<Value>, Error>
     Ok(values)
 }
 
+/// The keys of a namespace.
+fn namespace_keys<R: Records>(
+    alloc: Global,
+    id: u64,
+    number: usize,
+    records: &R,
+) -> Result<Vec<Value>, Error>
+    ensures { Gives (items_given result) (namespace_keys ((R.known records.now).namespaces id number)) }
+{
+    match records.namespace(id, number) {
+        Some(entries) => keys(alloc, entries),
+        None => refusal(),
+    }
+}
+
 /// The keys of entries.
 fn keys(alloc: Global, entries: &[Entry]) -> Result<Vec<Value>, Error>
     ensures { Gives (items_given result) (Ok (keys_in (pairs_of (pairs_in entries.now)))) }
@@ -116,16 +168,6 @@ fn keys(alloc: Global, entries: &[Entry]) -> Result<Vec<Value>, Error>
         push(&mut keys, entry.key.copy()?)?;
     }
     Ok(keys)
-}
-
-/// A copy of the value, or undefined where there is none.
-fn copy_or_undefined(value: Option<&Value>) -> Result<Value, Error>
-    ensures { Gives result (Ok (unwrap_or (option_copied value.entry) undefined)) }
-{
-    match value {
-        Some(value) => value.copy(),
-        None => Ok(Value::undefined()),
-    }
 }
 
 /// The element at the place that a key means.

@@ -1,7 +1,7 @@
 //! What values of some kinds hold, and lists that are made.
 ghost use Rattle.std.specs.Prelude.{◌≡◌, option_copied};
 ghost use Rattle.template_values_model.specs.Gives.{Gives};
-ghost use Rattle.template_values_operators.specs.Kinds.{bytes_of, list_of, is_nothing, is_undefined, is_none, is_record, list_made};
+ghost use Rattle.template_values_operators.specs.Kinds.{bytes_of, list_of, is_nothing, is_undefined, is_none, list_made};
 
 use std::alloc::Global;
 use template_values_core::{Content, Value};
@@ -54,16 +54,6 @@ pub(crate) fn is_none(value: &Value) -> bool
 {
     match value.content() {
         Content::None => true,
-        _ => false,
-    }
-}
-
-/// Whether the value is a namespace, a loop or a macro.
-pub(crate) fn is_record(value: &Value) -> bool
-    ensures { result ≡ is_record value.now }
-{
-    match value.content() {
-        Content::Namespace(_, _) | Content::Loop(_, _) | Content::Macro(_, _) => true,
         _ => false,
     }
 }

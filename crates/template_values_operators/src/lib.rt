@@ -8,6 +8,7 @@ mod kinds;
 mod membership;
 mod numbers;
 mod products;
+mod records;
 mod slices;
 mod sums;
 

@@ -1,24 +1,36 @@
 //! `in`.
 ghost use Rattle.std.specs.Prelude.{◌≡◌};
 ghost use Rattle.template_values_model.specs.Gives.{alone};
-ghost use Rattle.template_values_operators.specs.Contains.{contained, has_part};
+ghost use Rattle.template_values_operators.specs.Contains.{contained, held_in, has_part};
 
 use crate::arithmetic::refusal;
 use crate::kinds::is_undefined;
-use template_values_core::Value;
+use crate::records::namespace_contains;
+use template_values_core::{Content, Value};
 use template_values_errors::Error;
+use template_values_records::Records;
 
 /// Whether the value is in the container: a text in a text, an item of a list or tuple, a key of
-/// a map, keyword map or module. A value that is no text is not in a text, and nothing is in an
-/// undefined value.
+/// a map, keyword map, module or namespace. A value that is no text is not in a text, and nothing
+/// is in an undefined value. Linear in the size of a text, a list, a tuple or a namespace.
 ///
 /// # Errors
 ///
-/// [`ErrorKind::InvalidOperation`] at other containers.
+/// [`ErrorKind::InvalidOperation`] at other containers and at a foreign namespace.
 ///
 /// [`ErrorKind::InvalidOperation`]: template_values_errors::ErrorKind::InvalidOperation
-pub fn contains(container: &Value, value: &Value) -> Result<bool, Error>
-    ensures { result ≡ alone (contained container.now value.now) }
+pub fn contains<R: Records>(container: &Value, value: &Value, records: &R) -> Result<bool, Error>
+    ensures { result ≡ alone (contained (R.known records.now) container.now value.now) }
+{
+    match container.content() {
+        Content::Namespace(id, number) => namespace_contains(id, number, value, records),
+        _ => held_in(container, value),
+    }
+}
+
+/// Whether a value that is no record has the other in it.
+fn held_in(container: &Value, value: &Value) -> Result<bool, Error>
+    ensures { result ≡ alone (held_in container.now value.now) }
 {
     if let Some(items) = container.items() {
         return Ok(items.contains(value));

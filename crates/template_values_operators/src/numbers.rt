@@ -1,5 +1,5 @@
 //! The arithmetic of whole numbers from -2^127 to 2^127 - 1. A result out of that range is none.
-ghost use Rattle.std.specs.Prelude.{◌≡◌};
+ghost use Rattle.std.specs.Prelude.{◌≡◌, ◌<◌, ◌^◌, SomeIff};
 ghost use Rattle.template_values_operators.specs.Numbers.{sum, difference, product, quotient, remainder, power, negation};
 
 /// The sum.
@@ -41,11 +41,38 @@ pub(crate) fn remainder(left: i128, right: i128) -> Option<i128>
     }
 }
 
-/// The power; none at an exponent below 0 or from 2^32 on.
+/// The power; none at an exponent below 0 or from 2^32 on. At most 63 multiplications, two for each
+/// binary digit of the exponent.
 pub(crate) fn power(base: i128, exponent: i128) -> Option<i128>
     ensures { result ≡ power base exponent }
 {
-    base.checked_pow(u32::try_from(exponent).ok()?)
+    let exponent = u32::try_from(exponent).ok()?;
+    let size = size_of_power(base.unsigned_abs(), exponent)?;
+    if base < 0 && exponent % 2 == 1 {
+        0_i128.checked_sub_unsigned(size)
+    } else {
+        0_i128.checked_add_unsigned(size)
+    }
+}
+
+/// The power by squaring; none from 2^128 on.
+fn size_of_power(base: u128, exponent: u32) -> Option<u128>
+    ensures { SomeIff result (base ^ exponent < 2 ^ 128) (base ^ exponent) }
+{
+    if exponent == 0 {
+        return Some(1);
+    }
+    let mut power: u128 = 1;
+    let mut square = base;
+    let mut left = exponent;
+    while 1 < left {
+        if left % 2 == 1 {
+            power = power.checked_mul(square)?;
+        }
+        square = square.checked_mul(square)?;
+        left /= 2;
+    }
+    power.checked_mul(square)
 }
 
 /// The number with the other sign.

@@ -8,11 +8,11 @@ ghost use Rattle.template_values_forms.specs.Printed.{printed};
 
 use crate::pieces::{Markup, push};
 use crate::print::print_outer;
-use crate::records::Records;
 use crate::serial::json_outer;
 use template_values_core::{Content, Value};
 use template_values_errors::{Error, ErrorKind};
 use template_values_modes::AutoEscape;
+use template_values_records::Records;
 
 /// Appends the text of the value under the escape `rule` to `out`, which a refusal leaves as it was:
 /// as it prints, with references for HTML's markup, or as the compact JSON of `serde_json`. Under the

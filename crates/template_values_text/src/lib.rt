@@ -1,16 +1,17 @@
 //! The text that values print, and how it is escaped.
 #![tactic(auto)]
 
+mod concat;
 mod escape;
 mod pieces;
 mod print;
-mod records;
 mod serial;
 #[cfg(test)]
 mod tests;
 mod truth;
 
+pub use concat::string_concat;
 pub use escape::escape_to;
 pub use print::print_to;
-pub use records::{LoopView, MacroView, NoRecords, Records};
+pub use template_values_records::{LoopView, MacroView, NoRecords, Records};
 pub use truth::is_true;

@@ -8,10 +8,10 @@ ghost use Rattle.template_values_text.specs.Pieces.{Writes};
 ghost use Rattle.template_values_forms.specs.Printed.{enclosed, flat_text, inner_text, level_limit, loop_text, macro_text, map_text, namespace_text, nested_text, pair_text, pairs_text, place_text, printed, tuple_end, vals_text};
 
 use crate::pieces::{Markup, Quoting, push, push_bytes, push_quoted};
-use crate::records::Records;
 use itoa::Buffer;
 use template_values_core::{Content, Entry, Value};
 use template_values_errors::{Error, ErrorKind};
+use template_values_records::Records;
 
 /// Appends the text that the value prints to `out`, which a refusal leaves as it was. Namespaces are
 /// followed. Takes time linear in the text.

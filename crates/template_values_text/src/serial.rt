@@ -10,10 +10,10 @@ ghost use Rattle.template_values_text.specs.Pieces.{Writes};
 
 use crate::pieces::{Markup, Quoting, push, push_quoted};
 use crate::print::deepest;
-use crate::records::Records;
 use itoa::Buffer;
 use template_values_core::{Content, Entry, Value};
 use template_values_errors::{Error, ErrorKind};
+use template_values_records::Records;
 
 /// Writes the JSON of the value.
 pub(crate) fn json_outer<R: Records>(

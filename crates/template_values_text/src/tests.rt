@@ -5,7 +5,7 @@ use super::*;
 use std::alloc::Global;
 use std::process::Abort;
 use std::test::Fail;
-use template_values_core::{Entry, Value};
+use template_values_core::{Content, Entry, Value};
 use template_values_errors::{Error, ErrorKind};
 use template_values_modes::AutoEscape;
 
@@ -387,5 +387,47 @@ fn levels_are_limited(rt: HostRuntime) -> Result<(), Fail> {
         &scene,
         Err(ErrorKind::InvalidOperation),
     );
+    Ok(())
+}
+
+#[test]
+fn printed_forms_are_joined(rt: HostRuntime) -> Result<(), Fail> {
+    let alloc = rt.alloc();
+    let entries = one_entry(alloc, text(alloc, "k")?, safe_text(alloc, "<b>")?)?;
+    let items = vec![in alloc; Value::none(), Value::none(), Value::none()]?;
+    let scene = Scene {
+        entries: entries.as_slice(),
+        items: items.as_slice(),
+    };
+    let namespace = Value::namespace(1, 0);
+    let number = Value::from_int(-3);
+    let safe = safe_text(alloc, "<i>")?;
+    for (left, right, wanted) in [
+        (&number, &safe, "-3<i>"),
+        (&safe, &Value::undefined(), "<i>"),
+        (&namespace, &number, "{\"k\": \"<b>\"}-3"),
+        (
+            &Value::loop_record(1, 0),
+            &Value::macro_record(1, 0),
+            "<loop 1/3><macro m>",
+        ),
+    ] {
+        let joined = kinded(string_concat(alloc, left, right, &scene))?;
+        match joined.content() {
+            Content::Text(text) => assert!(rt; text == wanted, "{wanted}"),
+            _ => assert!(rt; false, "{wanted} is no plain text"),
+        }
+    }
+    for (left, right) in [(&namespace, &number), (&number, &namespace)] {
+        let refused = kinded(string_concat(alloc, left, right, &NoRecords));
+        assert!(rt; refused.is_err_and(|kind| kind == ErrorKind::InvalidOperation));
+    }
+    let round = one_entry(alloc, text(alloc, "self")?, Value::namespace(1, 0))?;
+    let circle = Scene {
+        entries: round.as_slice(),
+        items: &[],
+    };
+    let refused = kinded(string_concat(alloc, &number, &namespace, &circle));
+    assert!(rt; refused.is_err_and(|kind| kind == ErrorKind::InvalidOperation));
     Ok(())
 }

@@ -6,9 +6,9 @@ ghost use Rattle.template_values_core.specs.Reads.{has_pairs};
 ghost use Rattle.template_values_core.specs.Shape.{pairs_in};
 ghost use Rattle.template_values_forms.specs.Truth.{truth_of};
 
-use crate::records::Records;
 use template_values_core::{Content, Entry, Value};
 use template_values_errors::{Error, ErrorKind};
+use template_values_records::Records;
 
 /// Whether the value counts as true: undefined values, `none`, `false`, 0 and what is empty do not. A
 /// namespace counts by what it holds.
