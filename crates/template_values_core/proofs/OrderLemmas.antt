@@ -1,12 +1,12 @@
 -- The laws of the order, kind by kind.
-use Rattle.std.proofs.Common.{◌≡◌, ℕ, ℤ, pos, ◌<◌, ◌<ℤ◌, ◌∙◌, sym, ap, refl, List, [], Bool, true, false, Less, Equal, Greater, arith}
+use Rattle.std.proofs.Common.{◌≡◌, ℕ, pos, ◌<◌, ◌<ℤ◌, ◌∙◌, sym, ap, refl, List, [], true, false, Less, Equal, Greater, arith}
 use Rattle.std.proofs.lemmas.Int.{ints}
 use Rattle.std.specs.declared.cmp.Ordering.{Ordering}
 use Rattle.std.specs.Cmp.{int_cmp_is, ranks, tied_itself}
 use Rattle.std.specs.Cmp.Lexicographic.{slice_cmp}
 use Rattle.std.specs.Ordering.{MatchOrdering, int_cmp, nat_cmp, ordering_then}
-use Rattle.template_values_model.specs.Val.{Val, Vals, Pairs, undefined, silent_undefined, none, truth, int, text, safe_text, bytes, list, tuple, map, keyword_map, «module», function, namespace, loop_record, macro_record, no_vals, vals_more, no_pairs, pairs_more}
-use Rattle.template_values_core.specs.Order.{Key, leaf, branch, end, key, key_cmp, vals_key, pairs_key, leaf_cmp, val_cmp, val_total}
+use Rattle.template_values_model.specs.Val.{Val, undefined, silent_undefined, none, truth, int, text, safe_text, bytes, list, tuple, map, keyword_map, «module», function, namespace, loop_record, macro_record}
+use Rattle.template_values_core.specs.Order.{Key, leaf, branch, key, key_cmp, vals_key, val_cmp, val_total}
 use Rattle.template_values_core.specs.OrderLaws.{rank_of, KindsFirst, Alike, WithinKinds}
 
 then_end : (o : Ordering) → ordering_then o Equal ≡ o
@@ -32,6 +32,10 @@ then_assoc : (p q r : Ordering) → ordering_then (ordering_then p q) r ≡ orde
 then_assoc Less q r = refl
 then_assoc Equal q r = refl
 then_assoc Greater q r = refl
+
+-- texts stand by their bytes
+pub texts_by_bytes : (s t : List ℕ) → slice_cmp nat_cmp s t ≡ val_cmp (text s) (text t)
+texts_by_bytes s t = sym (then_end (slice_cmp nat_cmp s t))
 
 abbrev behind : Key → Key
 behind (branch a b) = b

@@ -102,17 +102,25 @@ fn parts_of(value: &Value) -> Parts<'_>
 }
 
 #[cycle(compare)]
+#[tactic(auto, using(crate::proofs::OrderLemmas::texts_by_bytes))]
 fn compare(a: &Value, b: &Value) -> Ordering
     ensures { result ≡ val_cmp a.now b.now }
 {
-    compare_parts(parts_of(a), parts_of(b))
+    match (&a.repr, &b.repr) {
+        (Repr::Text(a), Repr::Text(b)) => a.as_str().as_bytes().cmp(b.as_str().as_bytes()),
+        _ => compare_parts(parts_of(a), parts_of(b)),
+    }
 }
 
 /// How a value stands to a text.
+#[tactic(auto, using(crate::proofs::OrderLemmas::texts_by_bytes))]
 pub(crate) fn compare_to_text(value: &Value, name: &str) -> Ordering
     ensures { result ≡ val_cmp value.now (Val.text name.now) }
 {
-    compare_parts(parts_of(value), text(3, name.as_bytes()))
+    match &value.repr {
+        Repr::Text(value) => value.as_str().as_bytes().cmp(name.as_bytes()),
+        _ => compare_parts(parts_of(value), text(3, name.as_bytes())),
+    }
 }
 
 #[cycle(compare)]
