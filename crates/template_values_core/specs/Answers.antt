@@ -1,5 +1,5 @@
 -- How the calls of values answer.
-use Rattle.std.specs.Prelude.{◌≡◌, ℕ, ◌<◌, List, [], ◌∷◌, ◌⊎◌, ◌++◌, Option, None, Some, Result, Ok, Err}
+use Rattle.std.specs.Prelude.{◌≡◌, ℕ, ◌<◌, List, [], ◌∷◌, ◌⊎◌, Option, None, Some}
 use Rattle.template_values_errors.specs.declared.ErrorKind.{ErrorKind}
 use Rattle.template_values_errors.specs.declared.ErrorKind.TheVariants.{OutOfMemory, InvalidOperation}
 use Rattle.template_values_model.specs.Val.{Val, text, safe_text}
@@ -18,10 +18,3 @@ abbrev pub text_in : Val → Option (List ℕ)
 text_in (text s) = Some s
 text_in (safe_text s) = Some s
 text_in _ = None
-
--- what is appended to a text: the model's text, or nothing where a growth or the model refuses
-abbrev pub Appends : List ℕ → Result (List ℕ) ErrorKind → Result (Unit {0}) (List ErrorKind) → List ℕ → Type 0
-Appends before (Ok s) (Ok _) after = after ≡ before ++ s
-Appends before (Ok s) (Err kinds) after = NoMemory kinds × (after ≡ before)
-Appends before (Err kind) (Ok _) after = ⊥
-Appends before (Err kind) (Err kinds) after = (kinds ≡ kind ∷ []) × (after ≡ before)

@@ -7,7 +7,6 @@ mod lists;
 mod lookup;
 mod maps;
 mod order;
-mod print;
 #[cfg(test)]
 mod tests;
 mod value;

@@ -1,4 +1,3 @@
 pub mod Val
 pub mod Lookup
-pub mod Printed
 pub mod Gives
