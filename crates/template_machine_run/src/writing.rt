@@ -1,5 +1,6 @@
 //! Texts and values on their way into a sink.
-ghost use Rattle.std.specs.Prelude.{◌≡◌, Ok, IfSome};
+ghost use Rattle.std.specs.Prelude.{◌≡◌, [], Ok, IfSome, string_bytes};
+ghost use Rattle.template_values_forms.specs.Answers.{Appends};
 ghost use Rattle.template_values_forms.specs.Escaped.{escaped};
 ghost use Rattle.template_values_forms.specs.Known.{nothing_known};
 ghost use Rattle.template_machine_run.specs.Outcomes.{TellsFailures, Writes, Prints};
@@ -30,6 +31,15 @@ fn standing_text(value: &Value, escape: AutoEscape) -> Option<&str>
     }
 }
 
+// Makes the text of a value under an escape in `scratch`, which loses what it holds and keeps its room.
+// Refused where the value has no text, and for want of memory.
+fn make_text(value: &Value, escape: AutoEscape, scratch: &mut String) -> Result<(), Error>
+    ensures { Appends [] (escaped escape nothing_known value.now) result (string_bytes scratch.new) }
+{
+    scratch.clear();
+    escape_to(value, escape, &NoRecords, scratch)
+}
+
 // Puts the text of a value under an escape into a sink. A text that stands as it is is not copied on
 // the way; others are made in `scratch` first.
 pub(crate) fn print<S: Sink>(
@@ -44,7 +54,6 @@ pub(crate) fn print<S: Sink>(
     if let Some(text) = standing_text(value, escape) {
         return write(text, sink);
     }
-    scratch.clear();
-    escape_to(value, escape, &NoRecords, scratch)?;
+    make_text(value, escape, scratch)?;
     write(scratch.as_str(), sink)
 }
