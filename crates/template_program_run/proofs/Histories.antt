@@ -1,5 +1,5 @@
 -- Additions, one more at a time.
-use Rattle.std.proofs.Common.{◌≡◌, ◌∙◌, ℕ, suc, ◌+◌, ◌<◌, List, [], ◌∷◌, ◌++◌, length, take, drop, Option, None, Some, if◌then◌else◌, refl, sym, subst, ap, inl, inr, arith, get_or, String, string_bytes, map, add-one, bytes_eq}
+use Rattle.std.proofs.Common.{◌≡◌, ◌∙◌, ℕ, suc, ◌+◌, ◌<◌, List, [], ◌∷◌, ◌++◌, length, take, drop, Option, None, Some, if◌then◌else◌, refl, sym, subst, ap, inl, inr, get_or, String, string_bytes, add-one, bytes_eq}
 use Rattle.std.proofs.Math.Seq.{take-suc, split_at}
 use Rattle.std.specs.declared.alloc.Global.{Global}
 use Rattle.template_values_errors.specs.declared.ErrorKind.{ErrorKind}

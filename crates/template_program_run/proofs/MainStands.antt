@@ -5,7 +5,8 @@ use Rattle.template_machine_world.specs.History.{standing}
 use Rattle.template_machine_environment.specs.Standing.{source_at}
 use Rattle.template_machine_environment.specs.declared.environment.Environment.{Environment}
 use Rattle.template_program_context.specs.Context.{fault_of_json, IsContext}
-use Rattle.template_program_run.specs.Additions.{AllHaveTrees, IsLastId}
+use Rattle.template_program_run.specs.Additions.{AllHaveTrees}
+use Rattle.template_program_run.specs.Ids.{IsLastId}
 use Rattle.template_program_run.specs.Answers.{Answers, Performed, Rendered, Told, definitions_of}
 use Rattle.template_program_run.specs.declared.outcome.Outcome.{Outcome}
 use Rattle.template_program_run.specs.declared.request.Command.{Command}

@@ -1,8 +1,9 @@
 -- Additions of templates in order, as names with their sources.
-use Rattle.std.specs.Prelude.{◌≡◌, ℕ, ◌^◌, ◌-◌, ◌⊎◌, List, [], ◌∷◌}
+use Rattle.std.specs.Prelude.{◌≡◌, ℕ, ◌⊎◌, List, [], ◌∷◌}
 use Rattle.template_values_errors.specs.declared.ErrorKind.{ErrorKind}
 use Rattle.template_values_errors.specs.declared.ErrorKind.TheVariants.{InvalidOperation}
 use Rattle.template_machine_environment.specs.Addition.{HasTree, IsRefusedWith}
+use Rattle.template_program_run.specs.Ids.{IsLastId}
 
 -- each source has a tree
 abbrev pub AllHaveTrees : List (List ℕ × List ℕ) → Type 0
@@ -13,10 +14,6 @@ AllHaveTrees (addition ∷ later) = HasTree addition.1 × AllHaveTrees later
 abbrev pub RefusesOne : List (List ℕ × List ℕ) → List ErrorKind → Type 0
 RefusesOne [] kinds = ⊥
 RefusesOne (addition ∷ later) kinds = IsRefusedWith addition.1 kinds ⊎ (HasTree addition.1 × RefusesOne later kinds)
-
--- no state id is left, which is next
-abbrev pub IsLastId : ℕ → Type 0
-IsLastId next = next ≡ 2 ^ 64 - 1
 
 -- the kinds that the additions are refused with: there is no state id, or else the first refused one's
 abbrev pub IsRefusedAddition : List (List ℕ × List ℕ) → ℕ → List ErrorKind → Type 0

@@ -1,5 +1,5 @@
 -- How a request is answered.
-use Rattle.std.specs.Prelude.{◌≡◌, ◌≢◌, ℕ, ◌+◌, ◌⊎◌, ◌↔◌, List, [], ◌∷◌, Option, None, Some, Result, Ok, Err, IsTrue, String, string_bytes, OnOk}
+use Rattle.std.specs.Prelude.{◌≡◌, ℕ, ◌+◌, ◌⊎◌, ◌↔◌, List, [], ◌∷◌, Option, None, Some, Result, Ok, Err, IsTrue, String, string_bytes}
 use Rattle.std.specs.BTreeSet.{BTreeSet, contains_text, IsOrdered}
 use Rattle.std.specs.String.{string_cmp}
 use Rattle.std.specs.declared.alloc.Global.{Global}
@@ -16,12 +16,12 @@ use Rattle.template_machine_world.specs.History.{standing}
 use Rattle.template_machine_world.specs.Meaning.{rendered}
 use Rattle.template_machine_run.specs.Outcomes.{IsWant, TellsFailures}
 use Rattle.template_machine_environment.specs.Rendering.{Renders}
-use Rattle.template_machine_environment.specs.Uses.{UsesName, is_common}
 use Rattle.template_machine_environment.specs.Names.{IsListed}
 use Rattle.template_machine_environment.specs.Standing.{source_at}
 use Rattle.template_machine_environment.specs.declared.environment.Environment.{Environment}
 use Rattle.template_program_context.specs.Context.{fault_of_json, IsContext, IsRefusal, texts_in}
-use Rattle.template_program_run.specs.Additions.{AllHaveTrees, IsLastId, IsRefusedAddition}
+use Rattle.template_program_run.specs.Additions.{AllHaveTrees, IsRefusedAddition}
+use Rattle.template_program_run.specs.Ids.{IsLastId}
 use Rattle.template_program_run.specs.Lines.{lines_of}
 use Rattle.template_program_run.specs.declared.outcome.Outcome.{Outcome}
 use Rattle.template_program_run.specs.declared.outcome.Outcome.TheVariants.{Done, Render, Context, Template}

@@ -1,3 +1,4 @@
+pub mod Ids
 pub mod Additions
 pub mod Lines
 pub mod Answers

@@ -3,7 +3,8 @@ ghost use Rattle.std.specs.Prelude.{◌≡◌, ◌+◌, ℕ, List, IfOk, IfErr, 
 ghost use Rattle.template_machine_environment.specs.Standing.{source_at};
 ghost use Rattle.template_machine_world.specs.History.{standing};
 ghost use Rattle.template_program_context.specs.Context.{texts_in};
-ghost use Rattle.template_program_run.specs.Additions.{AllHaveTrees, IsLastId, IsRefusedAddition};
+ghost use Rattle.template_program_run.specs.Additions.{AllHaveTrees, IsRefusedAddition};
+ghost use Rattle.template_program_run.specs.Ids.{IsLastId, behind_one};
 
 use std::alloc::Global;
 use template_machine_environment::Environment;
@@ -26,7 +27,7 @@ pub(crate) fn environment_of<'source>(
     ensures stands { IfOk result (λ e. (name : List ℕ) → source_at e name ≡ standing (texts_in templates.entry.now) name) }
     ensures fuel { IfOk result (λ e. e.fuel ≡ fuel) }
     ensures had_one { OnOk result (¬ IsLastId ids.old) }
-    ensures counted { OnOk result (ids.new ≡ ids.old + 1) }
+    ensures counted { ids.new ≡ behind_one ids.old }
     ensures refused { IfErr result (IsRefusedAddition (texts_in templates.entry.now) ids.old) }
 {
     let mut environment = Environment::new(alloc, ids)?;

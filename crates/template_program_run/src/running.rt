@@ -1,8 +1,9 @@
 //! The run of a request.
-ghost use Rattle.std.specs.Prelude.{option_copied};
+ghost use Rattle.std.specs.Prelude.{◌≡◌, option_copied};
 ghost use Rattle.template_program_context.specs.Context.{texts_in};
 ghost use Rattle.template_machine_environment.specs.Views.{fuel_of, name_of, source_of};
 ghost use Rattle.template_program_run.specs.Answers.{Answers, Rendered, Told};
+ghost use Rattle.template_program_run.specs.Ids.{behind_one, behind_request};
 
 use crate::additions::environment_of;
 use crate::names::write_lines;
@@ -26,7 +27,8 @@ pub fn run<S: Sink>(
     ids: &mut StateIds,
     sink: &mut S,
 ) -> Outcome
-    ensures { Answers request.now (texts_in templates.now) (option_copied context.entry) ids.old result (S.taken sink.old) (S.taken sink.new) (S.failures sink.old) (S.failures sink.new) }
+    ensures answers { Answers request.now (texts_in templates.now) (option_copied context.entry) ids.old result (S.taken sink.old) (S.taken sink.new) (S.failures sink.old) (S.failures sink.new) }
+    ensures counted { ids.new ≡ behind_request request.now.command result ids.old }
 {
     let context = match read_context(alloc, context, &request.texts) {
         Ok(context) => context,
@@ -53,7 +55,8 @@ fn render<S: Sink>(
     ids: &mut StateIds,
     sink: &mut S,
 ) -> Outcome
-    ensures { Rendered (name_of template.now) (source_of template.now) (fuel_of template.now) context ids.old result (S.taken sink.old) (S.taken sink.new) (S.failures sink.old) (S.failures sink.new) }
+    ensures rendered { Rendered (name_of template.now) (source_of template.now) (fuel_of template.now) context ids.old result (S.taken sink.old) (S.taken sink.new) (S.failures sink.old) (S.failures sink.new) }
+    ensures counted { ids.new ≡ behind_one ids.old }
 {
     match template.render_captured_to(ids, context, sink) {
         Ok(_captured) => Outcome::Done,

@@ -1,9 +1,7 @@
-use Rattle.std.proofs.Common.{◌≡◌, ◌∙◌, ap, sym, subst, rules, ℕ, List, Some, inr, get_or, string_bytes, if◌then◌else◌, bytes_eq}
+use Rattle.std.proofs.Common.{◌≡◌, ◌∙◌, ap, sym, subst, Some, inr, get_or, string_bytes, if◌then◌else◌, bytes_eq}
 use Rattle.std.proofs.lemmas.Result.{err_from_is_err_and}
 use Rattle.template_machine_environment.specs.Addition.{HasTree, IsRefusedWith}
 use Rattle.template_machine_environment.specs.Standing.{source_at}
-use Rattle.template_machine_world.specs.History.{standing}
-use Rattle.template_program_context.specs.Context.{texts_in}
 use Rattle.template_program_run.proofs.Histories.{accepted-next, refuses-at, standing-next}
 use Rattle.template_program_run.proofs.additions.environment_of.Goals as goal
 

@@ -1,8 +1,8 @@
 use Rattle.std.proofs.Common.{refl, Ok, Err, ap}
 use Rattle.template_program_run.proofs.running.render.Goals as goal
 
-pub returns-in-Ok : goal.returns-in-Ok
-returns-in-Ok g c = (
+pub returns-in-Ok-clause-rendered : goal.returns-in-Ok-clause-rendered
+returns-in-Ok-clause-rendered g c = (
   λ last. let never = (c.in-Ok.ensures.exhausted last).0 in cc,
   λ more. (
     Ok tt,
@@ -13,8 +13,8 @@ returns-in-Ok g c = (
   ),
 )
 
-pub returns-in-Err : goal.returns-in-Err
-returns-in-Err g c = (
+pub returns-in-Err-clause-rendered : goal.returns-in-Err-clause-rendered
+returns-in-Err-clause-rendered g c = (
   λ last.
       let out = c.in-Err.ensures.exhausted last in
       let kinds = out.0 in

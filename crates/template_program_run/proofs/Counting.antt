@@ -1,0 +1,60 @@
+-- The state ids that a request has taken.
+use Rattle.std.proofs.Common.{◌≡◌, ◌∙◌, ap, sym, refl, ℕ, ◌+◌, ◌⊎◌, inl, inr, List, Option, if◌then◌else◌}
+use Rattle.std.proofs.lemmas.Bool.Decides.{eqb_tells}
+use Rattle.template_values_model.specs.Val.{Val}
+use Rattle.template_machine_environment.specs.declared.environment.Environment.{Environment}
+use Rattle.template_program_run.specs.Answers.{Rendered, Told}
+use Rattle.template_program_run.specs.Ids.{IsLastId, behind_one, behind_request, last_id}
+use Rattle.template_program_run.specs.declared.outcome.Outcome.{Outcome}
+use Rattle.template_program_run.specs.declared.outcome.Outcome.TheVariants.{Done, Render, Context, Template}
+use Rattle.template_program_run.specs.declared.request.Command.{Command}
+use Rattle.template_program_run.specs.declared.request.Command.TheVariants as asked
+
+last_or_not : (next : ℕ) → IsLastId next ⊎ (¬ IsLastId next)
+last_or_not next = elim (eqb_tells next last_id) [ inl same ↦ inl same.1 | inr other ↦ inr other.1 ]
+
+pub one_more : (next : ℕ) → ¬ IsLastId next → behind_one next ≡ next + 1
+one_more next more = elim (eqb_tells next last_id) [
+  | inl same ↦ absurd (more same.1)
+  | inr other ↦ ap (λ b. if b then next else next + 1) other.0
+]
+
+-- a render ends done or with an error of the render
+takes_two : (name source : List ℕ) (fuel : Option ℕ) (context : Val) (id : ℕ) (outcome : Outcome) (before after : Option (List ℕ)) (failed fails : ℕ)
+    → Rendered name source fuel context id outcome before after failed fails
+    → (next : ℕ) → behind_request asked.Render outcome next ≡ behind_one (behind_one next)
+takes_two name source fuel context id Done before after failed fails rendered next = refl
+takes_two name source fuel context id (Render kinds) before after failed fails rendered next = refl
+takes_two name source fuel context id (Context kinds) before after failed fails rendered next = elim (last_or_not id) [
+  | inl last ↦ let is = (rendered.0 last).0 in cc
+  | inr more ↦ absurd (rendered.1 more).1
+]
+takes_two name source fuel context id (Template kinds) before after failed fails rendered next = elim (last_or_not id) [
+  | inl last ↦ let is = (rendered.0 last).0 in cc
+  | inr more ↦ absurd (rendered.1 more).1
+]
+
+-- and so does a telling of names
+takes_one : (environment : Environment) (source : List ℕ) (outcome : Outcome) (before after : Option (List ℕ)) (failed fails : ℕ)
+    → Told environment source outcome before after failed fails
+    → (next : ℕ) → behind_request asked.Names outcome next ≡ behind_one next
+takes_one environment source Done before after failed fails told next = refl
+takes_one environment source (Render kinds) before after failed fails told next = refl
+takes_one environment source (Context kinds) before after failed fails told next = absurd told
+takes_one environment source (Template kinds) before after failed fails told next = absurd told
+
+pub rendered_counts : (name source : List ℕ) (fuel : Option ℕ) (context : Val) (id : ℕ) (outcome : Outcome) (before after : Option (List ℕ)) (failed fails : ℕ)
+    → Rendered name source fuel context id outcome before after failed fails
+    → (command : Command) → command ≡ asked.Render → (next end : ℕ) → id ≡ behind_one next → end ≡ behind_one id
+    → end ≡ behind_request command outcome next
+rendered_counts name source fuel context id outcome before after failed fails rendered command is next end first second =
+    second ∙ ap behind_one first ∙ sym (takes_two name source fuel context id outcome before after failed fails rendered next)
+    ∙ ap (λ (c : Command). behind_request c outcome next) (sym is)
+
+pub told_counts : (environment : Environment) (source : List ℕ) (outcome : Outcome) (before after : Option (List ℕ)) (failed fails : ℕ)
+    → Told environment source outcome before after failed fails
+    → (command : Command) → command ≡ asked.Names → (next end : ℕ) → end ≡ behind_one next
+    → end ≡ behind_request command outcome next
+told_counts environment source outcome before after failed fails told command is next end first =
+    first ∙ sym (takes_one environment source outcome before after failed fails told next)
+    ∙ ap (λ (c : Command). behind_request c outcome next) (sym is)
