@@ -1,5 +1,5 @@
 //! What is known of the records of a running state.
-ghost use Rattle.std.specs.Prelude.{◌≡◌, ℕ, Option, None, option_copied, option_map};
+ghost use Rattle.std.specs.Prelude.{◌≡◌, option_map};
 ghost use Rattle.template_values_core.specs.Shape.{pairs_in};
 ghost use Rattle.template_values_forms.specs.Known.{Known, nothing_known};
 

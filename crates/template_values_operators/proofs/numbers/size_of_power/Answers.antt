@@ -1,4 +1,4 @@
-use Rattle.std.proofs.Common.{◌<◌, ◌≤◌, ◌*◌, ◌^◌, ◌∙◌, arith}
+use Rattle.std.proofs.Common.{◌≤◌, ◌*◌, ◌^◌, ◌∙◌, arith}
 use Rattle.template_values_operators.proofs.Powers.{even_turn, odd_turn, last_turn, product_below, square_below}
 use Rattle.template_values_operators.proofs.numbers.size_of_power.Goals as goal
 
