@@ -20,9 +20,9 @@ returns-in_err-square c =
 pub loop-left-preserved : goal.loop-left-preserved
 loop-left-preserved c = elim c.if-left-eq1.branch [
   | goal.then-left-eq1+in_ok-power w ↦ rw (w.power-is ∙ w.in_ok-power.ensures.1, c.in_ok-square.ensures.1)
-  (odd_turn _ _ _ _ _ c.loop-left.invariant c.loop-left-test.true w.if-left-eq1.true)
+      (odd_turn _ _ _ _ _ c.loop-left.invariant c.loop-left-test.true w.if-left-eq1.true)
   | goal.else-left-eq1 w ↦ rw (w.power-is, c.in_ok-square.ensures.1)
-  (even_turn _ _ _ _ _ c.loop-left.invariant c.loop-left-test.true w.if-left-eq1.false)
+      (even_turn _ _ _ _ _ c.loop-left.invariant c.loop-left-test.true w.if-left-eq1.false)
 ]
 
 pub returns : goal.returns
