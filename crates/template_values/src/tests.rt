@@ -1,18 +1,10 @@
-//! Tables of calls with the answers that the rules of the language give. Each call whose growth is
-//! refused is made again on the same values, and gives the answer of its row then.
+//! Calls with the answers that the rules of the language give. Each call whose growth is refused is
+//! made again on the same values, and gives the answer of its row then.
 use super::*;
 use std::alloc::Global;
 
-mod arithmetic;
-mod items;
 mod kinds;
 mod rows;
-mod sequences;
-mod slices;
-mod texts;
-
-/// The word of the refusal that most rows of refusals give.
-const REFUSED: &str = "InvalidOperation";
 
 /// A value as the tables write it, without containers.
 #[derive(Clone, Copy)]
@@ -38,21 +30,6 @@ enum Given<'a> {
     Map(&'a [(Scalar<'a>, Scalar<'a>)]),
     Keywords(&'a [(Scalar<'a>, Scalar<'a>)]),
     Module(&'a [(Scalar<'a>, Scalar<'a>)], &'a str),
-}
-
-/// What takes two values and gives one.
-#[derive(Clone, Copy)]
-enum Operator {
-    Add,
-    Sub,
-    Mul,
-    Div,
-    IntDiv,
-    Rem,
-    Pow,
-    Concat,
-    Contains,
-    Item,
 }
 
 // The errors by their kinds, which can be shown.
@@ -146,21 +123,6 @@ fn make_module(
     Value::from_module(alloc, make_entries(alloc, given)?, string(alloc, text)?)
 }
 
-fn operate(alloc: Global, operator: Operator, left: &Value, right: &Value) -> Result<Value, Error> {
-    match operator {
-        Operator::Add => add(alloc, left, right),
-        Operator::Sub => sub(left, right),
-        Operator::Mul => mul(alloc, left, right),
-        Operator::Div => div(left, right),
-        Operator::IntDiv => int_div(left, right),
-        Operator::Rem => rem(left, right),
-        Operator::Pow => pow(left, right),
-        Operator::Concat => string_concat(alloc, left, right, &NoRecords),
-        Operator::Contains => Ok(Value::from_bool(contains(left, right, &NoRecords)?)),
-        Operator::Item => get_item(alloc, left, right, &NoRecords),
-    }
-}
-
 fn list_of_one(alloc: Global, item: Value) -> Result<Value, Error> {
     let mut items = Vec::new(alloc);
     items.push(item).map_err(no_memory)?;
@@ -171,48 +133,6 @@ fn printed(alloc: Global, value: &Value) -> Result<String, Error> {
     let mut out = String::new(alloc);
     print_to(value, &NoRecords, &mut out)?;
     Ok(out)
-}
-
-// The answer as the tables write it: the text of a list of the value, or the word of the refusal.
-fn shown(alloc: Global, answer: Result<Value, Error>) -> Result<String, Error> {
-    match answer {
-        Ok(value) => printed(alloc, &list_of_one(alloc, value)?),
-        Err(error) => shown_kind(alloc, error.kind()),
-    }
-}
-
-fn shown_kind(alloc: Global, kind: ErrorKind) -> Result<String, Error> {
-    match kind {
-        ErrorKind::OutOfMemory => Err(Error::new(kind)),
-        _ => string(alloc, kind.name()),
-    }
-}
-
-// What the operator gives at the two values.
-fn answer(
-    alloc: Global,
-    left: Given<'_>,
-    operator: Operator,
-    right: Given<'_>,
-) -> Result<String, ErrorKind> {
-    let left = again!(make_value(alloc, left))?;
-    let right = again!(make_value(alloc, right))?;
-    again!(shown(alloc, operate(alloc, operator, &left, &right)))
-}
-
-// What the call gives, which takes no memory but in showing its answer.
-fn number_answer(
-    alloc: Global,
-    left: i128,
-    operator: Operator,
-    right: i128,
-) -> Result<String, ErrorKind> {
-    answer(
-        alloc,
-        Given::One(Scalar::Int(left)),
-        operator,
-        Given::One(Scalar::Int(right)),
-    )
 }
 
 // The text that is written under the rule, which a refused call has not begun.

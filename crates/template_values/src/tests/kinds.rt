@@ -1,45 +1,8 @@
-//! Truth, keyword arguments and modes.
-use super::Given::{Keywords, List, Map, Module, One, Tuple};
-use super::Scalar::{Bytes, Function, Int, Namespace, Nil, Safe, Silent, Text, Truth, Undefined};
+//! Keyword arguments and modes.
+use super::Given::Keywords;
+use super::Scalar::{Int, Nil, Text};
 use super::*;
 use std::test::Fail;
-
-fn truth_of(alloc: Global, given: Given<'_>) -> Result<bool, ErrorKind> {
-    let value = again!(make_value(alloc, given))?;
-    kinded(is_true(&value, &NoRecords))
-}
-
-#[test]
-fn values_count_as_true(rt: HostRuntime) {
-    for (given, want) in [
-        (One(Undefined), Ok(false)),
-        (One(Silent), Ok(false)),
-        (One(Nil), Ok(false)),
-        (One(Truth(false)), Ok(false)),
-        (One(Truth(true)), Ok(true)),
-        (One(Int(0)), Ok(false)),
-        (One(Int(-1)), Ok(true)),
-        (One(Text("")), Ok(false)),
-        (One(Text("0")), Ok(true)),
-        (One(Safe("")), Ok(false)),
-        (One(Safe(" ")), Ok(true)),
-        (One(Bytes(b"")), Ok(false)),
-        (One(Bytes(b"\x00")), Ok(true)),
-        (List(&[]), Ok(false)),
-        (List(&[Nil]), Ok(true)),
-        (Tuple(&[]), Ok(false)),
-        (Tuple(&[Nil]), Ok(true)),
-        (Map(&[]), Ok(false)),
-        (Map(&[(Nil, Nil)]), Ok(true)),
-        (Keywords(&[]), Ok(true)),
-        (Module(&[], "text"), Ok(false)),
-        (Module(&[(Nil, Nil)], ""), Ok(true)),
-        (One(Function), Ok(true)),
-        (One(Namespace), Err(ErrorKind::InvalidOperation)),
-    ] {
-        assert!(rt; truth_of(rt.alloc(), given) == want);
-    }
-}
 
 #[test]
 fn keyword_arguments_are_read(rt: HostRuntime) -> Result<(), Fail> {

@@ -1,35 +1,8 @@
 //! Worked rows of the language that speak of values.
 use super::Given::{List, Map, One};
-use super::Operator::{Add, Div, IntDiv, Mul, Pow, Rem};
 use super::Scalar::{Int, Nil, Text, Truth};
 use super::*;
 use std::test::Fail;
-
-#[test]
-fn operators_are_exact(rt: HostRuntime) -> Result<(), Fail> {
-    for (left, operator, right, want) in [
-        (Int(5), IntDiv, Int(3), "[1]"),
-        (Int(2), Pow, Int(3), "[8]"),
-        (Int(2), Pow, Int(9), "[512]"),
-        (Int(-2), Pow, Int(2), "[4]"),
-        (Int(-7), IntDiv, Int(2), "[-4]"),
-        (Int(-7), Rem, Int(2), "[1]"),
-        (Int(7), IntDiv, Int(-2), "[-3]"),
-        (Int(1), Div, Int(2), REFUSED),
-        (Truth(true), Add, Int(1), "[2]"),
-        (Text("ab"), Mul, Int(3), "[\"ababab\"]"),
-        (
-            Int(170141183460469231731687303715884105727),
-            Add,
-            Int(1),
-            REFUSED,
-        ),
-    ] {
-        let answer = answer(rt.alloc(), One(left), operator, One(right))?;
-        assert_eq!(rt; answer.as_str(), want);
-    }
-    Ok(())
-}
 
 #[test]
 fn values_are_compared(rt: HostRuntime) -> Result<(), Fail> {
