@@ -1,0 +1,81 @@
+//! The constructors of values, by name.
+use crate::expressions::no_memory;
+use std::alloc::Global;
+use template_values::{Entry, Error, ErrorKind, Value};
+
+/// What the constructor of that name makes of the arguments; none where there is no such one.
+pub(crate) fn construct(
+    alloc: Global,
+    name: &str,
+    arguments: &[Value],
+) -> Result<Option<Value>, Error> {
+    Ok(Some(match name {
+        "list" => Value::from_list(alloc, copies(alloc, arguments)?)?,
+        "tuple" => Value::from_tuple(alloc, copies(alloc, arguments)?)?,
+        "map" => Value::from_map(alloc, entries(alloc, arguments)?)?,
+        "kwargs" => Value::from_kwargs(alloc, entries(alloc, arguments)?)?,
+        "module" => module(alloc, arguments)?,
+        "bytes" => Value::from_bytes(alloc, bytes(alloc, arguments)?)?,
+        _ => return Ok(None),
+    }))
+}
+
+fn copies(alloc: Global, values: &[Value]) -> Result<Vec<Value>, Error> {
+    let mut copies = Vec::new(alloc);
+    for value in values {
+        copies.push(value.copy()?).map_err(no_memory)?;
+    }
+    Ok(copies)
+}
+
+// Keys and values stand in turn.
+fn entries(alloc: Global, values: &[Value]) -> Result<Vec<Entry>, Error> {
+    let mut entries = Vec::new(alloc);
+    for pair in values.chunks_exact(2) {
+        if let [key, value] = pair {
+            let key = key.copy()?;
+            let value = value.copy()?;
+            entries.push(Entry { key, value }).map_err(no_memory)?;
+        }
+    }
+    Ok(entries)
+}
+
+// The text stands first.
+fn module(alloc: Global, arguments: &[Value]) -> Result<Value, Error> {
+    match arguments {
+        [text, members @ ..] => {
+            let text = owned(alloc, text)?;
+            Value::from_module(alloc, entries(alloc, members)?, text)
+        }
+        [] => Err(Error::new(ErrorKind::MissingArgument)),
+    }
+}
+
+fn bytes(alloc: Global, values: &[Value]) -> Result<Vec<u8>, Error> {
+    let mut bytes = Vec::new(alloc);
+    for value in values {
+        bytes.push(byte(value)?).map_err(no_memory)?;
+    }
+    Ok(bytes)
+}
+
+fn byte(value: &Value) -> Result<u8, Error> {
+    match value.as_int().and_then(|number| u8::try_from(number).ok()) {
+        Some(byte) => Ok(byte),
+        None => Err(Error::new(ErrorKind::SyntaxError)),
+    }
+}
+
+/// The text that the value is.
+pub(crate) fn text_of(value: &Value) -> Result<&str, Error> {
+    match value.as_str() {
+        Some(text) => Ok(text),
+        None => Err(Error::new(ErrorKind::SyntaxError)),
+    }
+}
+
+/// A copy of the text that the value is.
+pub(crate) fn owned(alloc: Global, value: &Value) -> Result<String, Error> {
+    String::from_str(alloc, text_of(value)?).map_err(no_memory)
+}

@@ -1,0 +1,26 @@
+//! Calls of values, as rows. Each line of standard input is an expression in JSON; it is written as it
+//! stands, then ` = `, then the value that it has, as containers print it, or the kind of the refusal. A
+//! line that begins with `#` is written as it stands. The stored run is the table of the library's cases.
+#![tactic(auto)]
+
+mod calls;
+mod constructors;
+mod expressions;
+
+use crate::expressions::answer;
+use std::io;
+
+fn main(rt: HostRuntime) -> io::Result<()> {
+    for line in rt.lines(rt.alloc()) {
+        let line = line?;
+        if line.starts_with('#') || line.is_empty() {
+            println!(rt; "{line}")?;
+            continue;
+        }
+        match answer(rt.alloc(), line.as_str()) {
+            Ok(text) => println!(rt; "{line} = {text}")?,
+            Err(error) => println!(rt; "{line} = {}", error.kind().name())?,
+        }
+    }
+    Ok(())
+}
