@@ -1,5 +1,8 @@
 pub mod Deep
 pub mod PairLemmas
+pub mod Rising
+pub mod Pairing
+pub mod Sorting
 pub mod LastGiven
 pub mod Halving
 pub mod ReadLemmas

@@ -22,6 +22,15 @@ put_all kept (p ∷ given) = put_all (insert_entry val_cmp kept p.0 p.1) given
 abbrev pub collected : List (Val × Val) → Pairs
 collected given = pairs_of (put_all [] given)
 
+-- a pair, then the pairs given: of neighbours with equal keys the first key stays, with the last value
+abbrev pub merged_after : Val × Val → List (Val × Val) → List (Val × Val)
+merged_after p [] = p ∷ []
+merged_after p (q ∷ given) = if is_eq (val_cmp q.0 p.0) then merged_after (p.0, q.1) given else p ∷ merged_after q given
+
+abbrev pub merged : List (Val × Val) → List (Val × Val)
+merged [] = []
+merged (p ∷ given) = merged_after p given
+
 -- the value of the last pair given whose key is this text
 abbrev pub last_at : List ℕ → List (Val × Val) → Option Val
 last_at name [] = None

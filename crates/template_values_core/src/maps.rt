@@ -6,15 +6,14 @@ ghost use Rattle.template_values_core.specs.Answers.{TooDeep};
 ghost use Rattle.template_values_core.specs.Depth.{depth, pairs_depth};
 ghost use Rattle.template_values_core.specs.Kept.{IsRising};
 ghost use Rattle.template_values_core.specs.Held.{HoldsPairs};
-ghost use Rattle.template_values_core.specs.Maps.{collected, last_at, last_under, pairs_of, put_all};
+ghost use Rattle.template_values_core.specs.Maps.{collected, last_at, last_under, merged, pairs_of, put_all};
 ghost use Rattle.template_values_core.specs.Order.{val_cmp};
 ghost use Rattle.template_values_core.specs.Reads.{value_under};
 ghost use Rattle.template_values_core.specs.Shape.{pairs_in};
-ghost use Rattle.std.specs.BTreeMap.{IsOrdered};
 
 use crate::value::{DEPTH_LIMIT, Entry, Repr, Value, larger};
 use std::alloc::{AllocError, Global};
-use std::collections::BTreeMap;
+use std::mem::swap;
 use std::rc::{Rc, RcStr};
 use template_values_errors::{Error, ErrorKind};
 
@@ -26,7 +25,7 @@ struct SharedEntries {
 
 impl Value {
     /// A map of the entries, in the order of their keys. Of equal keys the first stays, with the
-    /// last one's value. Takes n log n comparisons for n entries.
+    /// last one's value. Takes n log n comparisons for n entries, and n where they are in order.
     ///
     /// # Errors
     ///
@@ -94,7 +93,7 @@ fn shared_entries(alloc: Global, entries: Vec<Entry>) -> Result<SharedEntries, E
     ensures made { IfOk result (λ s. HoldsPairs s (put_all [] (pairs_in entries.items))) }
     ensures refused { IfErr result (TooDeep (map (collected (pairs_in entries.items)))) }
 {
-    let Ok(kept) = sorted(alloc, entries) else {
+    let Ok(kept) = sorted(entries) else {
         return Err(Error::new(ErrorKind::OutOfMemory));
     };
     let levels = deepest_of(kept.as_slice()) + 1;
@@ -107,28 +106,27 @@ fn shared_entries(alloc: Global, entries: Vec<Entry>) -> Result<SharedEntries, E
     }
 }
 
-fn sorted(alloc: Global, entries: Vec<Entry>) -> Result<Vec<Entry>, AllocError>
+// In the order of keys. Of equal keys the first stays, with the last one's value.
+fn sorted(mut entries: Vec<Entry>) -> Result<Vec<Entry>, AllocError>
     ensures made { IfOk result (λ v. pairs_in v.items ≡ put_all [] (pairs_in entries.items)) }
     ensures rising { IfOk result (λ v. IsRising v.items) }
 {
-    let mut map = BTreeMap::new(alloc);
-    for entry in entries {
-        let Entry { key, value } = entry;
-        let _old = map.insert(key, value)?;
-    }
-    entries_of(alloc, map)
+    entries.sort_by(|left, right| left.key.cmp(&right.key))?;
+    merge_equal_keys(&mut entries);
+    Ok(entries)
 }
 
-#[tactic(auto, using(crate::proofs::PairLemmas::pairs_in_push))]
-fn entries_of(alloc: Global, map: BTreeMap<Value, Value>) -> Result<Vec<Entry>, AllocError>
-    ensures made { IfOk result (λ v. pairs_in v.items ≡ map.entries) }
-    ensures rising { IfOk result (λ v. IsRising v.items) }
+// Of neighbours with equal keys the first stays, with the last one's value.
+fn merge_equal_keys(entries: &mut Vec<Entry>)
+    ensures { pairs_in entries.new.items ≡ merged (pairs_in entries.old.items) }
 {
-    let mut entries = Vec::with_capacity(alloc, map.len())?;
-    for (key, value) in map {
-        entries.push(Entry { key, value })?;
-    }
-    Ok(entries)
+    entries.dedup_by(|later, kept| {
+        let is_equal = later.key == kept.key;
+        if is_equal {
+            swap(&mut later.value, &mut kept.value);
+        }
+        is_equal
+    });
 }
 
 fn deepest_of(entries: &[Entry]) -> u32

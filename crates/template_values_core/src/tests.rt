@@ -223,6 +223,38 @@ fn maps_keep_the_first_key_and_the_last_value(rt: HostRuntime) -> Result<(), Fai
     Ok(())
 }
 
+// Each number below 50, out of order, for the numbers from 0 to 49, and again for those from 50 to 99.
+fn key_of(number: u8) -> Value {
+    Value::from_int(i128::from(u32::from(number) * 37 % 50))
+}
+
+fn keys_given_twice(alloc: Global) -> Result<Vec<Entry>, Fail> {
+    let mut entries = Vec::new(alloc);
+    for number in 0..100u8 {
+        add(&mut entries, Ok(key_of(number)), i128::from(number))?;
+    }
+    Ok(entries)
+}
+
+#[test]
+fn a_long_map_is_in_order(rt: HostRuntime) -> Result<(), Fail> {
+    let alloc = rt.alloc();
+    let map = kinded(Value::from_map(alloc, keys_given_twice(alloc)?))?;
+    let entries = map.entries().ok_or("no entries")?;
+    assert_eq!(rt; entries.len(), 50);
+    for (entry, key) in entries.iter().zip(0..50i128) {
+        assert_eq!(rt; entry.key.as_int(), Some(key));
+    }
+    for number in 50..100u8 {
+        let found = match map.value_under(&key_of(number)) {
+            Some(value) => value.as_int(),
+            None => None,
+        };
+        assert_eq!(rt; found, Some(i128::from(number)));
+    }
+    Ok(())
+}
+
 fn name_of(alloc: Global, number: u8) -> Result<String, AllocError> {
     format!(in alloc; "{}", u32::from(number) * 5 % 9)
 }
