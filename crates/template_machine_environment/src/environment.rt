@@ -44,6 +44,7 @@ impl<'source> Environment<'source> {
     pub fn new(alloc: Global, ids: &mut StateIds) -> Result<Environment<'source>, Error>
         ensures empty { IfOk result (λ e. (name : List ℕ) → source_at e name ≡ None) }
         ensures no_fuel { IfOk result (λ e. e.fuel ≡ None) }
+        ensures id { IfOk result (λ e. e.id ≡ ids.old) }
         ensures had_one { OnOk result (ids.old ≢ u64.MAX) }
         ensures counted { OnOk result (ids.new ≡ ids.old + 1) }
         ensures refused { IfErr result (λ kinds. (kinds ≡ ErrorKind.InvalidOperation ∷ []) × (ids.old ≡ u64.MAX) × (ids.new ≡ ids.old)) }
@@ -68,6 +69,7 @@ impl<'source> Environment<'source> {
         ensures accepted { OnOk result (HasTree source.now) }
         ensures stands { OnOk result ((q : List ℕ) → source_at self.new q ≡ (if bytes_eq name.now q then Some source.now else source_at self.old q)) }
         ensures fuel { self.new.fuel ≡ self.old.fuel }
+        ensures id { self.new.id ≡ self.old.id }
         ensures refused { IfErr result (IsRefusedWith source.now) }
         ensures unchanged { OnErr result (IsUnchanged self.old self.new) }
     {
@@ -85,6 +87,7 @@ impl<'source> Environment<'source> {
     pub fn set_fuel(&mut self, fuel: Option<u64>)
         ensures set { self.new.fuel ≡ fuel }
         ensures sources { (name : List ℕ) → source_at self.new name ≡ source_at self.old name }
+        ensures id { self.new.id ≡ self.old.id }
     {
         self.fuel = fuel;
     }
