@@ -8,7 +8,7 @@ ghost use Rattle.template_compiler_tree.specs.Tree.{Statement};
 ghost use Rattle.template_compiler_grammar.specs.Grammar.{IsTemplate};
 ghost use Rattle.template_machine_world.specs.Laws.{IsSameRun};
 ghost use Rattle.template_machine_world.specs.Meaning.{rendered};
-ghost use Rattle.template_machine_environment.specs.Addition.{HasTree, IsRefusedWith};
+ghost use Rattle.template_machine_environment.specs.Addition.{IsAccepted, IsRefusedWith};
 
 use crate::common::common_names;
 use crate::compiled::CompiledTemplate;
@@ -63,10 +63,11 @@ impl<'source> Environment<'source> {
     ///
     /// # Errors
     ///
-    /// [`ErrorKind::SyntaxError`] where the source has no tree, [`ErrorKind::TooLarge`] where it or its
-    /// code has 2^32 parts or more. After a refusal all is as before.
+    /// [`ErrorKind::TooLarge`] where the source has 2^32 bytes or more, else [`ErrorKind::SyntaxError`]
+    /// where it has no tree; [`ErrorKind::OutOfMemory`] where a growth was refused. After a refusal all is
+    /// as before.
     pub fn add_template(&mut self, name: &'source str, source: &'source str) -> Result<(), Error>
-        ensures accepted { OnOk result (HasTree source.now) }
+        ensures accepted { OnOk result (IsAccepted source.now) }
         ensures stands { OnOk result ((q : List ℕ) → source_at self.new q ≡ (if bytes_eq name.now q then Some source.now else source_at self.old q)) }
         ensures fuel { self.new.fuel ≡ self.old.fuel }
         ensures id { self.new.id ≡ self.old.id }
