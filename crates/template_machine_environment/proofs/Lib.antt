@@ -1,3 +1,4 @@
 pub mod UsedBySome
 pub mod Faithful
 pub mod OwnNames
+pub mod Sizes

@@ -8,7 +8,7 @@ ghost use Rattle.template_machine_world.specs.Meaning.{meaning, rendered};
 ghost use Rattle.template_machine_run.specs.Tanks.{fuel_left, fuel_set};
 ghost use Rattle.template_machine_environment.specs.Rendering.{Renders};
 ghost use Rattle.std.specs.BTreeSet.{contains_text};
-ghost use Rattle.template_machine_environment.specs.Addition.{HasTree, IsRefusedWith};
+ghost use Rattle.template_machine_environment.specs.Addition.{IsAccepted, IsRefusedWith};
 ghost use Rattle.template_machine_escape.specs.Rule.{IsRuleOf};
 
 use std::alloc::Global;
@@ -54,15 +54,14 @@ impl<'source> CompiledTemplate<'source> {
     ///
     /// # Errors
     ///
-    /// The refusals of [`parse`], and [`ErrorKind::TooLarge`](template_values_errors::ErrorKind::TooLarge)
-    /// where the code has 2^32 instructions or more.
+    /// The refusals of [`parse`]: no code is longer than its source.
     pub fn new(
         alloc: Global,
         name: &'source str,
         source: &'source str,
     ) -> Result<CompiledTemplate<'source>, Error>
         ensures compiled { IfOk result (λ t. t ≡ record { name = name.now; source = source.now }) }
-        ensures accepted { IfOk result (λ t. HasTree source.now) }
+        ensures accepted { IfOk result (λ t. IsAccepted source.now) }
         ensures refused { IfErr result (IsRefusedWith source.now) }
     {
         let template = parse(alloc, source)?;

@@ -8,7 +8,7 @@ ghost use Rattle.template_compiler_tree.specs.Tree.{Statement};
 ghost use Rattle.template_compiler_grammar.specs.Grammar.{IsTemplate};
 ghost use Rattle.template_machine_world.specs.Laws.{IsSameRun};
 ghost use Rattle.template_machine_world.specs.Meaning.{rendered};
-ghost use Rattle.template_machine_environment.specs.Addition.{HasTree, IsRefusedWith};
+ghost use Rattle.template_machine_environment.specs.Addition.{IsAccepted, IsRefusedWith};
 
 use crate::common::common_names;
 use crate::compiled::CompiledTemplate;
@@ -44,6 +44,7 @@ impl<'source> Environment<'source> {
     pub fn new(alloc: Global, ids: &mut StateIds) -> Result<Environment<'source>, Error>
         ensures empty { IfOk result (λ e. (name : List ℕ) → source_at e name ≡ None) }
         ensures no_fuel { IfOk result (λ e. e.fuel ≡ None) }
+        ensures id { IfOk result (λ e. e.id ≡ ids.old) }
         ensures had_one { OnOk result (ids.old ≢ u64.MAX) }
         ensures counted { OnOk result (ids.new ≡ ids.old + 1) }
         ensures refused { IfErr result (λ kinds. (kinds ≡ ErrorKind.InvalidOperation ∷ []) × (ids.old ≡ u64.MAX) × (ids.new ≡ ids.old)) }
@@ -62,12 +63,14 @@ impl<'source> Environment<'source> {
     ///
     /// # Errors
     ///
-    /// [`ErrorKind::SyntaxError`] where the source has no tree, [`ErrorKind::TooLarge`] where it or its
-    /// code has 2^32 parts or more. After a refusal all is as before.
+    /// [`ErrorKind::TooLarge`] where the source has 2^32 bytes or more, else [`ErrorKind::SyntaxError`]
+    /// where it has no tree; [`ErrorKind::OutOfMemory`] where a growth was refused. After a refusal all is
+    /// as before.
     pub fn add_template(&mut self, name: &'source str, source: &'source str) -> Result<(), Error>
-        ensures accepted { OnOk result (HasTree source.now) }
+        ensures accepted { OnOk result (IsAccepted source.now) }
         ensures stands { OnOk result ((q : List ℕ) → source_at self.new q ≡ (if bytes_eq name.now q then Some source.now else source_at self.old q)) }
         ensures fuel { self.new.fuel ≡ self.old.fuel }
+        ensures id { self.new.id ≡ self.old.id }
         ensures refused { IfErr result (IsRefusedWith source.now) }
         ensures unchanged { OnErr result (IsUnchanged self.old self.new) }
     {
@@ -85,6 +88,7 @@ impl<'source> Environment<'source> {
     pub fn set_fuel(&mut self, fuel: Option<u64>)
         ensures set { self.new.fuel ≡ fuel }
         ensures sources { (name : List ℕ) → source_at self.new name ≡ source_at self.old name }
+        ensures id { self.new.id ≡ self.old.id }
     {
         self.fuel = fuel;
     }

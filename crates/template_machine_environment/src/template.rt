@@ -84,6 +84,7 @@ impl<'env, 'source> Template<'env, 'source> {
         ensures remains { IfOk result (λ captured. (rule : AutoEscape) → IsRuleOf (name_of self.now) rule → (tree : List Statement) → IsTemplate (source_of self.now) tree →
             fuel_remaining captured.state ≡ option_map (λ n. remaining n (meaning rule tree context)) (fuel_of self.now)) }
         ensures given { IfOk result (λ captured. fuel_given captured.state ≡ fuel_of self.now) }
+        ensures id { IfOk result (λ captured. captured.state.id ≡ ids.old) }
         ensures counted { ids.old ≢ u64.MAX → ids.new ≡ ids.old + 1 }
         ensures exhausted { ids.old ≡ u64.MAX → (result ≡ Err (ErrorKind.InvalidOperation ∷ [])) × (sink.new ≡ sink.old) × (ids.new ≡ ids.old) }
     {

@@ -5,7 +5,7 @@ use Rattle.template_machine_world.specs.History.{standing}
 use Rattle.template_machine_environment.specs.Standing.{source_at}
 use Rattle.template_machine_environment.specs.declared.environment.Environment.{Environment}
 use Rattle.template_program_context.specs.Context.{fault_of_json, IsContext}
-use Rattle.template_program_run.specs.Additions.{AllHaveTrees}
+use Rattle.template_program_run.specs.Additions.{AllAreAccepted}
 use Rattle.template_program_run.specs.Ids.{IsLastId}
 use Rattle.template_program_run.specs.Answers.{Answers, Performed, Rendered, Told, definitions_of}
 use Rattle.template_program_run.specs.declared.outcome.Outcome.{Outcome}
@@ -15,7 +15,7 @@ use Rattle.template_program_run.specs.declared.request.Request.{Request}
 
 pub answers_rendered : (request : Request) (additions : List (List ℕ × List ℕ)) (json : Option (List ℕ)) (next : ℕ) (outcome : Outcome)
     (before after : Option (List ℕ)) (failed fails : ℕ)
-    → fault_of_json json ≡ None → ¬ IsLastId next → AllHaveTrees additions → request.command ≡ asked.Render
+    → fault_of_json json ≡ None → ¬ IsLastId next → AllAreAccepted additions → request.command ≡ asked.Render
     → (source : List ℕ) → standing additions (string_bytes request.main) ≡ Some source
     → (context : Val) → IsContext json (definitions_of request) context
     → (name : List ℕ) → name ≡ string_bytes request.main → (fuel : Option ℕ) → fuel ≡ request.fuel → (id : ℕ) → id ≡ next + 1
@@ -31,7 +31,7 @@ answers_rendered request additions json next outcome before after failed fails f
 
 pub answers_told : (request : Request) (additions : List (List ℕ × List ℕ)) (json : Option (List ℕ)) (next : ℕ) (outcome : Outcome)
     (before after : Option (List ℕ)) (failed fails : ℕ)
-    → fault_of_json json ≡ None → ¬ IsLastId next → AllHaveTrees additions → request.command ≡ asked.Names
+    → fault_of_json json ≡ None → ¬ IsLastId next → AllAreAccepted additions → request.command ≡ asked.Names
     → (environment : Environment) → ((name : List ℕ) → source_at environment name ≡ standing additions name)
     → (source : List ℕ) → standing additions (string_bytes request.main) ≡ Some source
     → Told environment source outcome before after failed fails

@@ -20,7 +20,7 @@ use Rattle.template_machine_environment.specs.Names.{IsListed}
 use Rattle.template_machine_environment.specs.Standing.{source_at}
 use Rattle.template_machine_environment.specs.declared.environment.Environment.{Environment}
 use Rattle.template_program_context.specs.Context.{fault_of_json, IsContext, IsRefusal, texts_in}
-use Rattle.template_program_run.specs.Additions.{AllHaveTrees, IsRefusedAddition}
+use Rattle.template_program_run.specs.Additions.{AllAreAccepted, IsRefusedAddition}
 use Rattle.template_program_run.specs.Ids.{IsLastId}
 use Rattle.template_program_run.specs.Lines.{lines_of}
 use Rattle.template_program_run.specs.declared.outcome.Outcome.{Outcome}
@@ -85,6 +85,6 @@ Answers request additions json next outcome before after failed fails =
     ((kinds : List ErrorKind) × (outcome ≡ Context kinds) × IsRefusal (fault_of_json json) kinds × IsUntouched before after failed fails)
     ⊎ ((fault_of_json json ≡ None)
     × (((kinds : List ErrorKind) × (outcome ≡ Template kinds) × IsRefusedAddition additions next kinds × IsUntouched before after failed fails)
-    ⊎ (¬ IsLastId next × AllHaveTrees additions
+    ⊎ (¬ IsLastId next × AllAreAccepted additions
     × (((outcome ≡ Template (TemplateNotFound ∷ [])) × (standing additions (string_bytes request.main) ≡ None) × IsUntouched before after failed fails)
     ⊎ Performed request.command request additions json next outcome before after failed fails))))

@@ -3,7 +3,7 @@ ghost use Rattle.std.specs.Prelude.{◌≡◌, ◌+◌, ℕ, List, IfOk, IfErr, 
 ghost use Rattle.template_machine_environment.specs.Standing.{source_at};
 ghost use Rattle.template_machine_world.specs.History.{standing};
 ghost use Rattle.template_program_context.specs.Context.{texts_in};
-ghost use Rattle.template_program_run.specs.Additions.{AllHaveTrees, IsRefusedAddition};
+ghost use Rattle.template_program_run.specs.Additions.{AllAreAccepted, IsRefusedAddition};
 ghost use Rattle.template_program_run.specs.Ids.{IsLastId, behind_one};
 
 use std::alloc::Global;
@@ -23,7 +23,7 @@ pub(crate) fn environment_of<'source>(
     fuel: Option<u64>,
     ids: &mut StateIds,
 ) -> Result<Environment<'source>, Error>
-    ensures accepted { IfOk result (λ e. AllHaveTrees (texts_in templates.entry.now)) }
+    ensures accepted { IfOk result (λ e. AllAreAccepted (texts_in templates.entry.now)) }
     ensures stands { IfOk result (λ e. (name : List ℕ) → source_at e name ≡ standing (texts_in templates.entry.now) name) }
     ensures fuel { IfOk result (λ e. e.fuel ≡ fuel) }
     ensures had_one { OnOk result (¬ IsLastId ids.old) }

@@ -1,6 +1,6 @@
 use Rattle.std.proofs.Common.{◌≡◌, ◌∙◌, ap, sym, subst, Some, inr, get_or, string_bytes, if◌then◌else◌, bytes_eq}
 use Rattle.std.proofs.lemmas.Result.{err_from_is_err_and}
-use Rattle.template_machine_environment.specs.Addition.{HasTree, IsRefusedWith}
+use Rattle.template_machine_environment.specs.Addition.{IsAccepted, IsRefusedWith}
 use Rattle.template_machine_environment.specs.Standing.{source_at}
 use Rattle.template_program_run.proofs.Histories.{accepted-next, refuses-at, standing-next}
 use Rattle.template_program_run.proofs.additions.environment_of.Goals as goal
@@ -23,7 +23,7 @@ loop-name-preserved c =
     let name : c.as_str.result.now ≡ string_bytes (get_or xs i d).0 = c.as_str.ensures.value ∙ ap (λ x. string_bytes x.0) c.loop-name-item.is in
     let source : c.as_str-in-loop-name.result.now ≡ string_bytes (get_or xs i d).1 = c.as_str-in-loop-name.ensures.value ∙ ap (λ x. string_bytes x.1) c.loop-name-item.is in
     record {
-      accepted = accepted-next xs i d c.loop-name-test.true c.loop-name.invariant.accepted (subst HasTree source c.in_ok-add_template.ensures.accepted);
+      accepted = accepted-next xs i d c.loop-name-test.true c.loop-name.invariant.accepted (subst IsAccepted source c.in_ok-add_template.ensures.accepted);
       stands = λ q.
           c.in_ok-add_template.ensures.stands q
           ∙ ap (λ n. if bytes_eq n q then Some c.as_str-in-loop-name.result.now else source_at c.loop-name.environment q) name

@@ -2,12 +2,12 @@ use Rattle.std.proofs.Common.{◌≡◌, ℕ, List, take}
 use Rattle.template_machine_environment.specs.Standing.{source_at}
 use Rattle.template_machine_world.specs.History.{standing}
 use Rattle.template_program_context.specs.Context.{texts_in}
-use Rattle.template_program_run.specs.Additions.{AllHaveTrees}
+use Rattle.template_program_run.specs.Additions.{AllAreAccepted}
 use Rattle.template_program_run.proofs.additions.environment_of.Given as goal
 
 -- the additions so far are accepted, and they stand
 abbrev pub invariant-loop-name : goal.invariant-loop-name
 invariant-loop-name l = record {
-  accepted : AllHaveTrees (texts_in (take l.name-index l.templates));
+  accepted : AllAreAccepted (texts_in (take l.name-index l.templates));
   stands : (q : List ℕ) → source_at l.environment q ≡ standing (texts_in (take l.name-index l.templates)) q;
 }
