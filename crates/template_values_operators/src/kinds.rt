@@ -1,6 +1,8 @@
 //! What values of some kinds hold, and lists that are made.
-ghost use Rattle.std.specs.Prelude.{◌≡◌, option_copied};
+ghost use Rattle.std.specs.Prelude.{◌≡◌, ◌<◌, IfSome, option_copied};
+ghost use Rattle.template_values_core.specs.Depth.{vals_depth};
 ghost use Rattle.template_values_model.specs.Gives.{Gives};
+ghost use Rattle.template_values_model.specs.Val.{vals_of};
 ghost use Rattle.template_values_operators.specs.Kinds.{bytes_of, list_of, is_nothing, is_undefined, is_none, list_made};
 
 use std::alloc::Global;
@@ -17,11 +19,13 @@ pub(crate) fn bytes_of(value: &Value) -> Option<&[u8]>
     }
 }
 
-/// The items of a list, not of a tuple.
+/// The items of a list, not of a tuple. They nest at most 499 levels deep.
 #[tactic(auto, using(template_values_core::proofs::ReadLemmas::reading))]
 pub(crate) fn list_of(value: &Value) -> Option<&[Value]>
-    ensures { option_copied result ≡ list_of value.now }
+    ensures items { option_copied result ≡ list_of value.now }
+    ensures shallow { IfSome result (λ items. vals_depth (vals_of items.now) < 500) }
 {
+    prove!(value.levels() <= 500);
     match value.content() {
         Content::List(items) => Some(items),
         _ => None,

@@ -1,6 +1,8 @@
 //! `*`.
-ghost use Rattle.std.specs.Prelude.{◌≡◌, ◌<◌, ◌≤◌, ◌*◌, IfSome, IfNone, OnSome};
+ghost use Rattle.std.specs.Prelude.{◌≡◌, ◌<◌, ◌≤◌, ◌*◌, [], ◌∷◌, Err, IfErr, IfSome, IfNone, OnSome};
+ghost use Rattle.template_values_core.specs.Depth.{vals_depth};
 ghost use Rattle.template_values_model.specs.Gives.{Gives};
+ghost use Rattle.template_values_model.specs.Val.{vals_of};
 ghost use Rattle.template_values_operators.specs.Rounds.{IsAsOften};
 ghost use Rattle.template_values_operators.specs.Products.{product_of, repetition_of, text_repeated, list_repeated, count_of};
 
@@ -30,7 +32,8 @@ const MOST_ITEMS: usize = 100000;
 /// [`ErrorKind::InvalidOperation`]: template_values_errors::ErrorKind::InvalidOperation
 /// [`ErrorKind::OutOfMemory`]: template_values_errors::ErrorKind::OutOfMemory
 pub fn mul(alloc: Global, left: &Value, right: &Value) -> Result<Value, Error>
-    ensures { Gives result (product_of left.now right.now) }
+    ensures gives { Gives result (product_of left.now right.now) }
+    ensures refused { IfErr (product_of left.now right.now) (λ kind. result ≡ Err (kind ∷ [])) }
 {
     match (left.as_number(), right.as_number()) {
         (Some(left), Some(right)) => number_or_refusal(numbers::product(left, right)),
@@ -41,7 +44,8 @@ pub fn mul(alloc: Global, left: &Value, right: &Value) -> Result<Value, Error>
 }
 
 fn repetition(alloc: Global, count: i128, value: &Value) -> Result<Value, Error>
-    ensures { Gives result (repetition_of count value.now) }
+    ensures gives { Gives result (repetition_of count value.now) }
+    ensures refused { IfErr (repetition_of count value.now) (λ kind. result ≡ Err (kind ∷ [])) }
 {
     let Some(count) = count_of(count) else {
         return refusal();
@@ -62,7 +66,8 @@ fn count_of(number: i128) -> Option<u128>
 }
 
 fn repeated_text(alloc: Global, count: u128, text: &str) -> Result<Value, Error>
-    ensures { Gives result (text_repeated count text.now) }
+    ensures gives { Gives result (text_repeated count text.now) }
+    ensures refused { IfErr (text_repeated count text.now) (λ kind. result ≡ Err (kind ∷ [])) }
 {
     let Some(rounds) = rounds(count, text.len(), MOST_BYTES) else {
         return refusal();
@@ -75,7 +80,9 @@ fn repeated_text(alloc: Global, count: u128, text: &str) -> Result<Value, Error>
 }
 
 fn repeated_list(alloc: Global, count: u128, items: &[Value]) -> Result<Value, Error>
-    ensures { Gives result (list_repeated count items.now) }
+    requires { vals_depth (vals_of items.now) < 500 }
+    ensures gives { Gives result (list_repeated count items.now) }
+    ensures refused { IfErr (list_repeated count items.now) (λ kind. result ≡ Err (kind ∷ [])) }
 {
     let Some(rounds) = rounds(count, items.len(), MOST_ITEMS) else {
         return refusal();
