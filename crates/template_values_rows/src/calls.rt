@@ -1,40 +1,52 @@
 //! Calls of values, by name.
 use crate::constructors::{owned, text_of};
 use crate::expressions::no_memory;
+use crate::scene::{STATE, Scene};
 use std::alloc::Global;
 use std::cmp::Ordering;
 use template_values::*;
 
-/// The value of that name.
+// The id of a state that is not there.
+const FOREIGN: u64 = 0;
+
+/// The value of that name; the records among them are foreign.
 pub(crate) fn constant(name: &str) -> Result<Value, Error> {
     match name {
         "undefined" => Ok(Value::undefined()),
         "silent" => Ok(Value::silent_undefined()),
         "function" => Ok(Value::function(1, 2)),
-        "namespace" => Ok(Value::namespace(1, 2)),
-        "loop" => Ok(Value::loop_record(1, 2)),
-        "macro" => Ok(Value::macro_record(1, 2)),
+        "namespace" => Ok(Value::namespace(FOREIGN, 2)),
+        "loop" => Ok(Value::loop_record(FOREIGN, 2)),
+        "macro" => Ok(Value::macro_record(FOREIGN, 2)),
         _ => Err(unknown()),
     }
 }
 
 /// The call of that name with one argument.
-pub(crate) fn of_one(alloc: Global, name: &str, value: &Value) -> Result<Value, Error> {
+pub(crate) fn of_one(
+    alloc: Global,
+    scene: &Scene,
+    name: &str,
+    value: &Value,
+) -> Result<Value, Error> {
     match name {
         "int" => int(value),
+        "namespace" => Ok(Value::namespace(STATE, place(value)?)),
+        "loop" => Ok(Value::loop_record(STATE, place(value)?)),
+        "macro" => Ok(Value::macro_record(STATE, place(value)?)),
         "safe" => Value::from_safe_text(owned(alloc, value)?),
         "neg" => neg(value),
-        "items_of" => Value::from_list(alloc, items_of(alloc, value, &NoRecords)?),
+        "items_of" => Value::from_list(alloc, items_of(alloc, value, scene)?),
         "is_true" => Ok(Value::from_bool(value.is_true())),
-        "truth" => Ok(Value::from_bool(is_true(value, &NoRecords)?)),
+        "truth" => Ok(Value::from_bool(is_true(value, scene)?)),
         "levels" => Ok(Value::from_int(i128::from(value.levels()))),
         "as_str" => text_or_none(alloc, value),
         "kwargs_names" => names(alloc, value),
-        "print" => printed(alloc, value),
-        "none" => escaped(alloc, value, AutoEscape::None),
-        "html" => escaped(alloc, value, AutoEscape::Html),
-        "json" => escaped(alloc, value, AutoEscape::Json),
-        "custom" => escaped(alloc, value, AutoEscape::Custom(1)),
+        "print" => printed(alloc, scene, value),
+        "none" => escaped(alloc, scene, value, AutoEscape::None),
+        "html" => escaped(alloc, scene, value, AutoEscape::Html),
+        "json" => escaped(alloc, scene, value, AutoEscape::Json),
+        "custom" => escaped(alloc, scene, value, AutoEscape::Custom(1)),
         _ => Err(unknown()),
     }
 }
@@ -42,6 +54,7 @@ pub(crate) fn of_one(alloc: Global, name: &str, value: &Value) -> Result<Value, 
 /// The call of that name with two arguments.
 pub(crate) fn of_two(
     alloc: Global,
+    scene: &Scene,
     name: &str,
     left: &Value,
     right: &Value,
@@ -54,10 +67,10 @@ pub(crate) fn of_two(
         "int_div" => int_div(left, right),
         "rem" => rem(left, right),
         "pow" => pow(left, right),
-        "string_concat" => string_concat(alloc, left, right, &NoRecords),
-        "contains" => Ok(Value::from_bool(contains(left, right, &NoRecords)?)),
-        "get_attr" => get_attr(alloc, left, text_of(right)?, &NoRecords),
-        "get_item" => get_item(alloc, left, right, &NoRecords),
+        "string_concat" => string_concat(alloc, left, right, scene),
+        "contains" => Ok(Value::from_bool(contains(left, right, scene)?)),
+        "get_attr" => get_attr(alloc, left, text_of(right)?, scene),
+        "get_item" => get_item(alloc, left, right, scene),
         "equal" => Ok(Value::from_bool(left == right)),
         "less" => Ok(Value::from_bool(left.cmp(right) == Ordering::Less)),
         "kwargs_get" => keywords(left)?.get(text_of(right)?),
@@ -77,6 +90,17 @@ fn int(digits: &Value) -> Result<Value, Error> {
     }
 }
 
+// The number of a record.
+fn place(value: &Value) -> Result<usize, Error> {
+    match value
+        .as_int()
+        .and_then(|number| usize::try_from(number).ok())
+    {
+        Some(place) => Ok(place),
+        None => Err(Error::new(ErrorKind::SyntaxError)),
+    }
+}
+
 fn text_or_none(alloc: Global, value: &Value) -> Result<Value, Error> {
     match value.as_str() {
         Some(text) => Value::from_text(String::from_str(alloc, text).map_err(no_memory)?),
@@ -84,15 +108,15 @@ fn text_or_none(alloc: Global, value: &Value) -> Result<Value, Error> {
     }
 }
 
-fn printed(alloc: Global, value: &Value) -> Result<Value, Error> {
+fn printed(alloc: Global, scene: &Scene, value: &Value) -> Result<Value, Error> {
     let mut text = String::new(alloc);
-    print_to(value, &NoRecords, &mut text)?;
+    print_to(value, scene, &mut text)?;
     Value::from_text(text)
 }
 
-fn escaped(alloc: Global, value: &Value, rule: AutoEscape) -> Result<Value, Error> {
+fn escaped(alloc: Global, scene: &Scene, value: &Value, rule: AutoEscape) -> Result<Value, Error> {
     let mut text = String::new(alloc);
-    escape_to(value, rule, &NoRecords, &mut text)?;
+    escape_to(value, rule, scene, &mut text)?;
     Value::from_text(text)
 }
 

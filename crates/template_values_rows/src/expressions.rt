@@ -2,9 +2,10 @@
 //! of the others, and all else is itself.
 use crate::calls::{constant, of_one, of_two};
 use crate::constructors::construct;
+use crate::scene::Scene;
 use serde_json::Value as Json;
 use std::alloc::Global;
-use template_values::{Error, ErrorKind, NoRecords, Value, print_to, slice};
+use template_values::{Error, ErrorKind, Value, print_to, slice};
 
 /// What the expression has, as containers print it. A call that wants memory is made a second time.
 pub(crate) fn answer(alloc: Global, expression: &str) -> Result<String, Error> {
@@ -24,7 +25,9 @@ fn wants_memory(answered: &Result<String, Error>) -> bool {
 
 fn answer_once(alloc: Global, expression: &str) -> Result<String, Error> {
     let expression = Json::from_str(alloc, expression).map_err(refusal)?;
-    shown(alloc, value_of(alloc, expression)?)
+    let scene = Scene::new(alloc)?;
+    let value = value_of(alloc, &scene, expression)?;
+    shown(alloc, &scene, value)
 }
 
 fn refusal(error: serde_json::Error) -> Error {
@@ -36,12 +39,12 @@ fn refusal(error: serde_json::Error) -> Error {
 }
 
 // As the item of a list, without the list's brackets.
-fn shown(alloc: Global, value: Value) -> Result<String, Error> {
+fn shown(alloc: Global, scene: &Scene, value: Value) -> Result<String, Error> {
     let mut items = Vec::new(alloc);
     items.push(value).map_err(no_memory)?;
     let list = Value::from_list(alloc, items)?;
     let mut text = String::new(alloc);
-    print_to(&list, &NoRecords, &mut text)?;
+    print_to(&list, scene, &mut text)?;
     let inner = text
         .strip_prefix("[")
         .and_then(|rest| rest.strip_suffix("]"))
@@ -50,7 +53,7 @@ fn shown(alloc: Global, value: Value) -> Result<String, Error> {
 }
 
 #[cycle(expressions)]
-fn value_of(alloc: Global, expression: Json) -> Result<Value, Error> {
+fn value_of(alloc: Global, scene: &Scene, expression: Json) -> Result<Value, Error> {
     match expression {
         Json::Null => Ok(Value::none()),
         Json::Bool(truth) => Ok(Value::from_bool(truth)),
@@ -59,41 +62,46 @@ fn value_of(alloc: Global, expression: Json) -> Result<Value, Error> {
             None => Err(Error::new(ErrorKind::NoFloats)),
         },
         Json::String(text) => Value::from_text(text),
-        Json::Array(items) => call(alloc, values_of(alloc, items)?.as_slice()),
+        Json::Array(items) => call(alloc, scene, values_of(alloc, scene, items)?.as_slice()),
         Json::Object(_) => Err(Error::new(ErrorKind::SyntaxError)),
     }
 }
 
 #[cycle(expressions)]
-fn values_of(alloc: Global, expressions: Vec<Json>) -> Result<Vec<Value>, Error> {
+fn values_of(alloc: Global, scene: &Scene, expressions: Vec<Json>) -> Result<Vec<Value>, Error> {
     let mut values = Vec::new(alloc);
     for expression in expressions {
         values
-            .push(value_of(alloc, expression)?)
+            .push(value_of(alloc, scene, expression)?)
             .map_err(no_memory)?;
     }
     Ok(values)
 }
 
 // Of the name that stands first, with the others.
-fn call(alloc: Global, words: &[Value]) -> Result<Value, Error> {
+fn call(alloc: Global, scene: &Scene, words: &[Value]) -> Result<Value, Error> {
     let [name, arguments @ ..] = words else {
         return Err(Error::new(ErrorKind::SyntaxError));
     };
     match name.as_str() {
-        Some(name) => call_by_name(alloc, name, arguments),
+        Some(name) => call_by_name(alloc, scene, name, arguments),
         None => Err(Error::new(ErrorKind::SyntaxError)),
     }
 }
 
-fn call_by_name(alloc: Global, name: &str, arguments: &[Value]) -> Result<Value, Error> {
+fn call_by_name(
+    alloc: Global,
+    scene: &Scene,
+    name: &str,
+    arguments: &[Value],
+) -> Result<Value, Error> {
     if let Some(value) = construct(alloc, name, arguments)? {
         return Ok(value);
     }
     match arguments {
         [] => constant(name),
-        [value] => of_one(alloc, name, value),
-        [left, right] => of_two(alloc, name, left, right),
+        [value] => of_one(alloc, scene, name, value),
+        [left, right] => of_two(alloc, scene, name, left, right),
         [value, start, stop, step] if name == "slice" => slice(alloc, value, start, stop, step),
         _ => Err(Error::new(ErrorKind::UnknownFunction)),
     }

@@ -6,6 +6,7 @@
 mod calls;
 mod constructors;
 mod expressions;
+mod scene;
 
 use crate::expressions::answer;
 use std::io;
