@@ -1,36 +1,8 @@
-//! Calls with the answers that the rules of the language give. Each call whose growth is refused is
-//! made again on the same values, and gives the answer of its row then.
+//! What the table of cases, which is the stored run of `template_values_rows`, does not show. Each call
+//! whose growth is refused is made again, and gives its answer then.
 use super::*;
 use std::alloc::Global;
-
-mod kinds;
-mod rows;
-
-/// A value as the tables write it, without containers.
-#[derive(Clone, Copy)]
-enum Scalar<'a> {
-    Undefined,
-    Silent,
-    Nil,
-    Truth(bool),
-    Int(i128),
-    Text(&'a str),
-    Safe(&'a str),
-    Bytes(&'a [u8]),
-    Function,
-    Namespace,
-}
-
-/// A value as the tables write it.
-#[derive(Clone, Copy)]
-enum Given<'a> {
-    One(Scalar<'a>),
-    List(&'a [Scalar<'a>]),
-    Tuple(&'a [Scalar<'a>]),
-    Map(&'a [(Scalar<'a>, Scalar<'a>)]),
-    Keywords(&'a [(Scalar<'a>, Scalar<'a>)]),
-    Module(&'a [(Scalar<'a>, Scalar<'a>)], &'a str),
-}
+use std::test::Fail;
 
 // The errors by their kinds, which can be shown.
 fn kinded<T>(outcome: Result<T, Error>) -> Result<T, ErrorKind> {
@@ -50,77 +22,12 @@ macro_rules! again {
     };
 }
 
-use again;
-
 fn no_memory<T: Drop>(_refused: T) -> Error {
     Error::new(ErrorKind::OutOfMemory)
 }
 
-fn string(alloc: Global, text: &str) -> Result<String, Error> {
-    String::from_str(alloc, text).map_err(no_memory)
-}
-
-fn make_bytes(alloc: Global, bytes: &[u8]) -> Result<Value, Error> {
-    Value::from_bytes(alloc, bytes.to_vec(alloc).map_err(no_memory)?)
-}
-
-fn make_scalar(alloc: Global, given: Scalar<'_>) -> Result<Value, Error> {
-    match given {
-        Scalar::Undefined => Ok(Value::undefined()),
-        Scalar::Silent => Ok(Value::silent_undefined()),
-        Scalar::Nil => Ok(Value::none()),
-        Scalar::Truth(value) => Ok(Value::from_bool(value)),
-        Scalar::Int(number) => Ok(Value::from_int(number)),
-        Scalar::Text(text) => Value::from_text(string(alloc, text)?),
-        Scalar::Safe(text) => Value::from_safe_text(string(alloc, text)?),
-        Scalar::Bytes(bytes) => make_bytes(alloc, bytes),
-        Scalar::Function => Ok(Value::function(1, 2)),
-        Scalar::Namespace => Ok(Value::namespace(1, 2)),
-    }
-}
-
-fn make_scalars(alloc: Global, given: &[Scalar<'_>]) -> Result<Vec<Value>, Error> {
-    let mut items = Vec::new(alloc);
-    for item in given {
-        items.push(make_scalar(alloc, *item)?).map_err(no_memory)?;
-    }
-    Ok(items)
-}
-
-fn make_entry(alloc: Global, key: Scalar<'_>, value: Scalar<'_>) -> Result<Entry, Error> {
-    Ok(Entry {
-        key: make_scalar(alloc, key)?,
-        value: make_scalar(alloc, value)?,
-    })
-}
-
-fn make_entries(alloc: Global, given: &[(Scalar<'_>, Scalar<'_>)]) -> Result<Vec<Entry>, Error> {
-    let mut entries = Vec::new(alloc);
-    for pair in given {
-        entries
-            .push(make_entry(alloc, pair.0, pair.1)?)
-            .map_err(no_memory)?;
-    }
-    Ok(entries)
-}
-
-fn make_value(alloc: Global, given: Given<'_>) -> Result<Value, Error> {
-    match given {
-        Given::One(one) => make_scalar(alloc, one),
-        Given::List(items) => Value::from_list(alloc, make_scalars(alloc, items)?),
-        Given::Tuple(items) => Value::from_tuple(alloc, make_scalars(alloc, items)?),
-        Given::Map(entries) => Value::from_map(alloc, make_entries(alloc, entries)?),
-        Given::Keywords(entries) => Value::from_kwargs(alloc, make_entries(alloc, entries)?),
-        Given::Module(entries, text) => make_module(alloc, entries, text),
-    }
-}
-
-fn make_module(
-    alloc: Global,
-    given: &[(Scalar<'_>, Scalar<'_>)],
-    text: &str,
-) -> Result<Value, Error> {
-    Value::from_module(alloc, make_entries(alloc, given)?, string(alloc, text)?)
+fn text(alloc: Global, text: &str) -> Result<Value, Error> {
+    Value::from_text(String::from_str(alloc, text).map_err(no_memory)?)
 }
 
 fn list_of_one(alloc: Global, item: Value) -> Result<Value, Error> {
@@ -129,16 +36,142 @@ fn list_of_one(alloc: Global, item: Value) -> Result<Value, Error> {
     Value::from_list(alloc, items)
 }
 
+// `none` in lists up to this depth
+fn nested(alloc: Global, depth: u32) -> Result<Value, Error> {
+    let mut value = Value::none();
+    for _ in 0..depth {
+        value = list_of_one(alloc, value)?;
+    }
+    Ok(value)
+}
+
 fn printed(alloc: Global, value: &Value) -> Result<String, Error> {
     let mut out = String::new(alloc);
     print_to(value, &NoRecords, &mut out)?;
     Ok(out)
 }
 
-// The text that is written under the rule, which a refused call has not begun.
-fn escaped(alloc: Global, given: Given<'_>, rule: AutoEscape) -> Result<String, ErrorKind> {
-    let value = again!(make_value(alloc, given))?;
-    let mut out = String::new(alloc);
-    again!(escape_to(&value, rule, &NoRecords, &mut out))?;
-    Ok(out)
+#[test]
+fn a_list_nests_500_levels(rt: HostRuntime) -> Result<(), Fail> {
+    let deepest = again!(nested(rt.alloc(), 500))?;
+    assert_eq!(rt; deepest.levels(), 500);
+    assert_eq!(rt; again!(printed(rt.alloc(), &deepest))?.len(), 1004);
+    let refused = again!(nested(rt.alloc(), 501)).err();
+    assert!(rt; refused == Some(ErrorKind::InvalidOperation));
+    Ok(())
+}
+
+// A map of 1 to a list of the deepest, and of true, which is equal to it, to 2
+fn map_with_a_replaced_value(alloc: Global) -> Result<Value, Error> {
+    let mut entries = Vec::new(alloc);
+    for (key, value) in [
+        (Value::from_int(1), nested(alloc, 500)?),
+        (Value::from_bool(true), Value::from_int(2)),
+    ] {
+        entries.push(Entry { key, value }).map_err(no_memory)?;
+    }
+    Value::from_map(alloc, entries)
+}
+
+#[test]
+fn a_replaced_value_has_no_depth(rt: HostRuntime) -> Result<(), Fail> {
+    let map = again!(map_with_a_replaced_value(rt.alloc()))?;
+    assert_eq!(rt; map.levels(), 1);
+    Ok(())
+}
+
+// A list whose last item, a foreign loop, has no printed form
+fn list_with_a_loop(alloc: Global) -> Result<Value, Error> {
+    let mut items = Vec::new(alloc);
+    items.push(Value::from_int(7)).map_err(no_memory)?;
+    items.push(Value::loop_record(1, 2)).map_err(no_memory)?;
+    Value::from_list(alloc, items)
+}
+
+#[test]
+fn a_refusal_leaves_the_text_as_it_was(rt: HostRuntime) -> Result<(), Fail> {
+    let list = again!(list_with_a_loop(rt.alloc()))?;
+    let mut out = String::from_str(rt.alloc(), "before")?;
+    let printed = again!(print_to(&list, &NoRecords, &mut out)).err();
+    assert!(rt; printed == Some(ErrorKind::InvalidOperation));
+    let html = again!(escape_to(&list, AutoEscape::Html, &NoRecords, &mut out)).err();
+    assert!(rt; html == Some(ErrorKind::InvalidOperation));
+    let json = again!(escape_to(&list, AutoEscape::Json, &NoRecords, &mut out)).err();
+    assert!(rt; json == Some(ErrorKind::BadSerialization));
+    assert_eq!(rt; out.as_str(), "before");
+    Ok(())
+}
+
+fn copied_bytes(alloc: Global) -> Result<Value, Error> {
+    let bytes = b"a\xff".to_vec(alloc).map_err(no_memory)?;
+    Value::from_bytes(alloc, bytes)?.copy()
+}
+
+#[test]
+fn bytes_are_read(rt: HostRuntime) -> Result<(), Fail> {
+    let value = again!(copied_bytes(rt.alloc()))?;
+    match value.content() {
+        Content::Bytes(bytes) => assert!(rt; bytes == b"a\xff".as_slice()),
+        _ => assert!(rt; false, "no bytes"),
+    }
+    assert!(rt; value.as_str().is_none() && value.items().is_none());
+    Ok(())
+}
+
+#[test]
+fn numbers_are_read(rt: HostRuntime) {
+    assert!(rt; Value::from_int(7).as_int() == Some(7));
+    assert!(rt; Value::from_bool(true).as_int().is_none());
+    assert!(rt; Value::from_bool(true).as_number() == Some(1));
+    assert!(rt; Value::none().as_number().is_none());
+}
+
+// `{"a": 1}`, as a keyword map if asked for
+fn map_of_one(alloc: Global, is_keywords: bool) -> Result<Value, Error> {
+    let mut entries = Vec::new(alloc);
+    let (key, value) = (text(alloc, "a")?, Value::from_int(1));
+    entries.push(Entry { key, value }).map_err(no_memory)?;
+    if is_keywords {
+        return Value::from_kwargs(alloc, entries);
+    }
+    Value::from_map(alloc, entries)
+}
+
+#[test]
+fn maps_are_looked_up(rt: HostRuntime) -> Result<(), Fail> {
+    let map = again!(map_of_one(rt.alloc(), false))?;
+    let key = again!(text(rt.alloc(), "a"))?;
+    assert!(rt; map.value_at("a") == Some(&Value::from_int(1)));
+    assert!(rt; map.value_at("b").is_none());
+    assert!(rt; map.value_under(&key) == Some(&Value::from_int(1)));
+    assert!(rt; map.value_under(&Value::none()).is_none());
+    assert!(rt; map.entries().is_some() && key.entries().is_none());
+    Ok(())
+}
+
+#[test]
+fn keyword_maps_alone_are_keywords(rt: HostRuntime) -> Result<(), Fail> {
+    let map = again!(map_of_one(rt.alloc(), false))?;
+    let keywords = again!(map_of_one(rt.alloc(), true))?;
+    assert!(rt; again!(Kwargs::extract(&map))?.is_none());
+    assert!(rt; again!(Kwargs::extract(&keywords))?.is_some());
+    assert!(rt; map == keywords);
+    Ok(())
+}
+
+#[test]
+fn modes_are_copied_and_compared(rt: HostRuntime) {
+    let rule = AutoEscape::Custom(7);
+    let same = rule;
+    assert!(rt; rule == same && rule != AutoEscape::Custom(8) && rule != AutoEscape::None);
+    let behavior = UndefinedBehavior::default();
+    assert!(rt; behavior == UndefinedBehavior::Lenient);
+    assert!(rt; behavior != UndefinedBehavior::Chainable);
+    assert!(rt; UndefinedBehavior::SemiStrict != UndefinedBehavior::Strict);
+}
+
+#[test]
+fn the_order_has_its_laws(rt: HostRuntime) {
+    order_laws();
+    assert!(rt; Value::none() < Value::from_int(0));
 }

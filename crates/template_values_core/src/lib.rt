@@ -7,8 +7,6 @@ mod lists;
 mod lookup;
 mod maps;
 mod order;
-#[cfg(test)]
-mod tests;
 mod value;
 
 pub use content::Content;

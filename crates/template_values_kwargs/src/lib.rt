@@ -2,7 +2,5 @@
 #![tactic(auto)]
 
 mod kwargs;
-#[cfg(test)]
-mod tests;
 
 pub use kwargs::Kwargs;

@@ -18,6 +18,3 @@ pub use membership::contains;
 pub use products::mul;
 pub use slices::slice;
 pub use sums::add;
-
-#[cfg(test)]
-mod tests;

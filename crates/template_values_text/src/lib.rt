@@ -6,8 +6,6 @@ mod escape;
 mod pieces;
 mod print;
 mod serial;
-#[cfg(test)]
-mod tests;
 mod truth;
 
 pub use concat::string_concat;
