@@ -1,0 +1,2 @@
+//! The tokens of a template's text.
+#![tactic(auto)]
