@@ -1,0 +1,5 @@
+pub mod Operators
+pub mod Containers
+pub mod Constants
+pub mod Expressions
+pub mod Statements

@@ -1,0 +1,89 @@
+-- The walk of statements: their events in the order of execution, and between them the priced steps. A loop does at
+-- most so many rounds as the bound says.
+use Rattle.std.specs.Prelude.{ℕ, zero, suc, Bool, true, false, List, [], ◌∷◌}
+use Rattle.template_values_model.specs.Val.{Val}
+use Rattle.template_tree.specs.Tree.{Expression, Expressions, Statement, Statements, Assignments, variable, list_literal, absent, no_expressions, expressions_more, raw, print, for_loop, if_condition, with_block, set, auto_escape, include, continue_loop, break_loop, no_statements, statements_more, no_assignments, assignments_more}
+use Rattle.template_process.specs.Process as events
+use Rattle.template_process.specs.Process.{Ask, store, truth_of, unpack, write_raw, write_value, open_frame, close_frame, open_loop, next_item, did_not_iterate, close_loop, open_escape, close_escape, Process, over, step, asks, cut_short, on_done, on_value, on_truth, on_item, on_items}
+use Rattle.template_walk.specs.Expressions.{expression_walk}
+
+-- where `break` and `continue` lead
+pub record Exits : Type 0 where
+  pub on_break : Process
+  pub on_continue : Process
+
+-- outside of loops, where no `break` or `continue` stands
+abbrev pub outside : Exits
+outside = record { on_break = cut_short; on_continue = cut_short }
+
+-- what is open is closed on the way out
+abbrev pub closing : Ask → Exits → Exits
+closing close exits = record { on_break = asks close (on_done exits.on_break); on_continue = asks close (on_done exits.on_continue) }
+
+abbrev pub number_of : Expressions → ℕ
+number_of no_expressions = 0
+number_of (expressions_more e es) = suc (number_of es)
+
+abbrev mutual
+  -- a value is stored in a target: a name, or targets that it is unpacked into
+  pub target_walk : Expression → Val → Process → Process
+  target_walk (variable name) v go = step (asks (store name v) (on_done go))
+  target_walk (list_literal targets) v go = step (asks (unpack (number_of targets) v) (on_items (number_of targets) (λ vs. targets_walk targets vs go)))
+  target_walk _ v go = cut_short
+
+  -- from the first to the last
+  pub targets_walk : Expressions → List Val → Process → Process
+  targets_walk (expressions_more target targets) (v ∷ vs) go = target_walk target v (targets_walk targets vs go)
+  targets_walk _ _ go = go
+
+-- each value, and then its target
+abbrev pub assignments_walk : Assignments → Process → Process
+assignments_walk no_assignments go = go
+assignments_walk (assignments_more target e more) go = expression_walk e (λ v. target_walk target v (assignments_walk more go))
+
+-- so many rounds at most: an item is asked for, one step, and the round leads back by one step
+abbrev pub rounds : ℕ → (Val → Exits → Process → Process) → Process → Process
+rounds zero round finished = cut_short
+rounds (suc n) round finished =
+    let again = step (rounds n round finished) in
+    step (asks next_item (on_item (λ v. round v (record { on_break = step finished; on_continue = again }) again) finished))
+
+-- the end of a loop: its frame is closed; an else part runs where no item was given, behind a test
+abbrev pub loop_end : Statements → Process → Process → Process
+loop_end no_statements otherwise go = asks close_loop (on_done go)
+loop_end (statements_more s ss) otherwise go =
+    asks did_not_iterate (on_value (λ flag. asks close_loop (on_done (step (asks (truth_of flag) (on_truth otherwise go))))))
+
+-- behind a branch that an else part follows, one step leads past that
+abbrev pub past : Statements → Process → Process
+past no_statements go = go
+past (statements_more s ss) go = step go
+
+abbrev mutual
+  pub statement_walk : ℕ → Statement → Exits → Process → Process
+  statement_walk n (raw text) exits go = step (asks (write_raw text) (on_done go))
+  statement_walk n (print e) exits go = expression_walk e (λ v. step (asks (write_value v) (on_done go)))
+  statement_walk n (for_loop target e absent false body otherwise) exits go =
+      expression_walk e (λ v. asks (open_loop v) (on_done (rounds n (λ item inner again. target_walk target item (statements_walk n body inner again)) (loop_end otherwise (statements_walk n otherwise exits go) go))))
+  statement_walk n (if_condition e body otherwise) exits go =
+      expression_walk e (λ v. step (asks (truth_of v) (on_truth (statements_walk n body exits (past otherwise go)) (statements_walk n otherwise exits go))))
+  statement_walk n (with_block assignments body) exits go =
+      asks open_frame (on_done (assignments_walk assignments (statements_walk n body (closing close_frame exits) (asks close_frame (on_done go)))))
+  statement_walk n (set target e) exits go = expression_walk e (λ v. target_walk target v go)
+  statement_walk n (auto_escape e body) exits go =
+      expression_walk e (λ v. asks (open_escape v) (on_done (statements_walk n body (closing close_escape exits) (asks close_escape (on_done go)))))
+  statement_walk n (include e ignore_missing) exits go = expression_walk e (λ v. step (asks (events.include ignore_missing v) (on_done go)))
+  statement_walk n continue_loop exits go = exits.on_continue
+  statement_walk n break_loop exits go = exits.on_break
+  statement_walk n _ exits go = cut_short
+
+  pub statements_walk : ℕ → Statements → Exits → Process → Process
+  statements_walk n no_statements exits go = go
+  statements_walk n (statements_more s ss) exits go = statement_walk n s exits (statements_walk n ss exits go)
+
+-- a whole template, which leaves no operand, and an expression alone, which leaves its value
+abbrev pub template_walk : ℕ → Statements → Process
+template_walk n tree = statements_walk n tree outside (over [])
+
+abbrev pub standalone_walk : Expression → Process
+standalone_walk e = expression_walk e (λ v. over (v ∷ []))
