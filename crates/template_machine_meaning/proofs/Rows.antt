@@ -1,0 +1,103 @@
+-- Worked rows, computed: texts, prices and ends.
+use Rattle.std.proofs.Common.{◌≡◌, ℕ, pos, true, false, List, [], ◌∷◌, None, Some, Option, codes, bytes_eq, refl}
+use Rattle.std.specs.Prelude.{if◌then◌else◌}
+use Rattle.template_values_errors.specs.declared.ErrorKind.TheVariants.{InvalidOperation, BadInclude, OutOfFuel, TemplateNotFound, UndefinedError}
+use Rattle.template_values_modes.specs.declared.AutoEscape.TheVariants as escapes
+use Rattle.template_values_modes.specs.declared.UndefinedBehavior.{UndefinedBehavior}
+use Rattle.template_values_modes.specs.declared.UndefinedBehavior.TheVariants.{Lenient, Strict}
+use Rattle.template_values_model.specs.Val.{Val, int, text, map, no_pairs, pairs_more}
+use Rattle.template_tree.specs.declared.operators.BinOpKind.TheVariants as binary_operators
+use Rattle.template_tree.specs.declared.operators.CompareOpKind.TheVariants.{Lt, Gt}
+use Rattle.std.specs.Fmt as fmt
+use Rattle.template_values_forms.specs.Printed as printed_forms
+use Rattle.template_tree.specs.Tree as tree
+use Rattle.template_tree.specs.Tree.{Expression, Expressions, Statement, Statements, variable, constant, chain, list_literal, absent, no_expressions, expressions_more, no_links, links_more, raw, print, for_loop, if_condition, set, no_statements, statements_more}
+use Rattle.template_process.specs.Drive.{End, ends, faults}
+use Rattle.template_process.specs.Trace.{Run, text_of, price_of}
+use Rattle.template_process.specs.Fuel.{under}
+use Rattle.template_machine_meaning.specs.World.{World}
+use Rattle.template_machine_meaning.specs.Meaning.{Standing, Setting, rendered}
+
+abbrev number : ℕ → Expression
+number n = constant (int (pos n))
+
+abbrev expressions : List Expression → Expressions
+expressions [] = no_expressions
+expressions (e ∷ es) = expressions_more e (expressions es)
+
+abbrev statements : List Statement → Statements
+statements [] = no_statements
+statements (s ∷ ss) = statements_more s (statements ss)
+
+abbrev named : List ℕ → List ℕ → Statements → Option Standing
+named name other t = if bytes_eq name other then Some (record { tree = t; escape = escapes.None }) else None
+
+-- one template, named `b`, stands
+abbrev setting : UndefinedBehavior → Statements → Setting
+setting mode b = record { templates = λ name. named (codes "b") name b; limit = 500; undefined = mode }
+
+abbrev run_of : UndefinedBehavior → Statements → List Statement → Val → Run World
+run_of mode b ss context = rendered (setting mode b) 5 (record { tree = statements ss; escape = escapes.None }) context
+
+abbrev only : List ℕ → Val → Val
+only name v = map (pairs_more (text name) v no_pairs)
+
+-- `{% for x in [1, 2] %}{{ x }},{% endfor %}`
+abbrev loop_row : Run World
+loop_row = run_of Lenient no_statements (for_loop (variable (codes "x")) (list_literal (expressions (number 1 ∷ number 2 ∷ []))) absent false (statements (print (variable (codes "x")) ∷ raw (codes ",") ∷ [])) no_statements ∷ []) (map no_pairs)
+
+loop_text : text_of loop_row.items ≡ codes "1,2,"
+unfolding printed_forms.level_limit fmt.digits
+loop_text = refl
+
+loop_price : price_of loop_row.items ≡ 14
+unfolding printed_forms.level_limit fmt.digits
+loop_price = refl
+
+-- `{{ 1 < x < 3 }}`
+abbrev chain_row : ℕ → Run World
+chain_row x = run_of Lenient no_statements (print (chain (number 1) (links_more Lt (variable (codes "x")) (links_more Lt (number 3) no_links))) ∷ []) (only (codes "x") (int (pos x)))
+
+chain_price : price_of (chain_row 2).items ≡ 8
+unfolding printed_forms.level_limit fmt.digits
+chain_price = refl
+
+chain_text : text_of (chain_row 2).items ≡ codes "true"
+unfolding printed_forms.level_limit fmt.digits
+chain_text = refl
+
+short_chain_price : price_of (chain_row 0).items ≡ 6
+unfolding printed_forms.level_limit fmt.digits
+short_chain_price = refl
+
+-- `{{ 1 > 2 > x }}`
+abbrev constant_row : Run World
+constant_row = run_of Strict no_statements (print (chain (number 1) (links_more Gt (number 2) (links_more Gt (variable (codes "x")) no_links))) ∷ []) (map no_pairs)
+
+constant_price : price_of constant_row.items ≡ 2
+unfolding printed_forms.level_limit fmt.digits
+constant_price = refl
+
+constant_text : text_of constant_row.items ≡ codes "false"
+unfolding printed_forms.level_limit fmt.digits
+constant_text = refl
+
+-- `x{% include "b" %}{{ v }}`, where b is `{% set v = 7 %}`
+abbrev include_row : Run World
+include_row = run_of Lenient (statements (set (variable (codes "v")) (number 7) ∷ [])) (raw (codes "x") ∷ tree.include (constant (text (codes "b"))) false ∷ print (variable (codes "v")) ∷ []) (map no_pairs)
+
+include_text : text_of include_row.items ≡ codes "x7"
+unfolding printed_forms.level_limit fmt.digits
+include_text = refl
+
+-- under fuel 3 a step within the include is not paid
+abbrev short_include : Run World
+short_include = run_of Lenient (statements (raw (codes "x") ∷ [])) (tree.include (constant (text (codes "b"))) false ∷ []) (map no_pairs)
+
+short_include_end : (under (Some 3) short_include).end ≡ faults (BadInclude ∷ OutOfFuel ∷ [])
+unfolding printed_forms.level_limit fmt.digits
+short_include_end = refl
+
+whole_include_text : text_of (under (Some 4) short_include).items ≡ codes "x"
+unfolding printed_forms.level_limit fmt.digits
+whole_include_text = refl

@@ -1,0 +1,37 @@
+-- What a template means for a context, under a bound.
+use Rattle.std.specs.Prelude.{ℕ, List, Option, option_map}
+use Rattle.template_values_modes.specs.declared.AutoEscape.{AutoEscape}
+use Rattle.template_values_modes.specs.declared.UndefinedBehavior.{UndefinedBehavior}
+use Rattle.template_values_model.specs.Val.{Val}
+use Rattle.template_tree.specs.Tree.{Statements}
+use Rattle.template_process.specs.Trace.{Run, run}
+use Rattle.template_walk.specs.Statements.{template_walk}
+use Rattle.template_machine_meaning.specs.World.{World, first_world}
+use Rattle.template_machine_meaning.specs.Surroundings.{Program, Programs, answer}
+
+-- a template that stands: its tree, and the escape of its name when it was added
+pub record Standing : Type 0 where
+  pub tree : Statements
+  pub escape : AutoEscape
+
+-- what no render changes
+pub record Setting : Type 0 where
+  pub templates : List ℕ → Option Standing
+  pub limit : ℕ
+  pub undefined : UndefinedBehavior
+
+-- the walk of each template that stands
+abbrev pub walks_of : Setting → Programs
+walks_of setting = record {
+  program = λ n name. option_map (λ (t : Standing). record { escape = t.escape; process = template_walk n t.tree }) (setting.templates name);
+  limit = setting.limit;
+  undefined = setting.undefined;
+}
+
+-- a tree from a world on, under a bound on its rounds and on the runs within it
+abbrev pub meaning : Setting → ℕ → Statements → World → Run World
+meaning setting n tree w = run (answer (walks_of setting) n) (template_walk n tree) w
+
+-- a template that stands, over a context
+abbrev pub rendered : Setting → ℕ → Standing → Val → Run World
+rendered setting n t context = meaning setting n t.tree (first_world t.escape context)
