@@ -4,3 +4,4 @@ pub mod Replies
 pub mod Includes
 pub mod Surroundings
 pub mod Meaning
+pub mod Laws

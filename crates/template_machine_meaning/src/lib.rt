@@ -1,3 +1,16 @@
 //! Definitions and their laws: what surrounds a running template, how it answers the template's events, and what a
 //! template means.
 #![tactic(auto)]
+
+ghost use Rattle.template_machine_meaning.specs.Laws.{BoundsExtend, MeaningsExtend};
+
+/// Under a greater bound a process that goes further gives a run that extends.
+pub fn bounds_extend()
+    ensures { BoundsExtend }
+{}
+
+/// A meaning that is finished under a bound is the same under every greater one, and what is not
+/// finished has begun there.
+pub fn meanings_extend()
+    ensures { MeaningsExtend }
+{}

@@ -3,3 +3,4 @@ pub mod Containers
 pub mod Constants
 pub mod Expressions
 pub mod Statements
+pub mod Laws

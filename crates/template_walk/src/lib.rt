@@ -1,2 +1,10 @@
-//! Definitions: what the walk of a tree does, with its prices, and which trees are constants.
+//! Definitions and their laws: what the walk of a tree does, with its prices, and which trees are constants.
 #![tactic(auto)]
+
+ghost use Rattle.template_walk.specs.Laws.{WalksRise};
+
+/// Under a greater bound on rounds a template does what it does under a smaller one, as far as that
+/// goes.
+pub fn walks_rise()
+    ensures { WalksRise }
+{}

@@ -1,0 +1,27 @@
+-- The laws of meanings under bounds.
+use Rattle.std.specs.Prelude.{◌≡◌, ℕ, ◌≤◌, List, Option, None, Some}
+use Rattle.template_tree.specs.Tree.{Statements}
+use Rattle.template_process.specs.Process.{Process, Below}
+use Rattle.template_process.specs.Trace.{run}
+use Rattle.template_process.specs.Approximants.{Extends}
+use Rattle.template_machine_meaning.specs.World.{World}
+use Rattle.template_machine_meaning.specs.Surroundings.{Program, Programs, answer}
+use Rattle.template_machine_meaning.specs.Meaning.{Setting, meaning}
+
+-- the second goes further, under the same escape
+abbrev pub ProgramGoesFurther : Option Program → Option Program → Type 0
+ProgramGoesFurther None None = Unit {0}
+ProgramGoesFurther (Some p) (Some q) = (q.escape ≡ p.escape) × Below p.process q.process
+ProgramGoesFurther _ _ = ⊥
+
+-- under greater bounds the programs go further
+abbrev pub Rises : Programs → Type 0
+Rises s = (n m : ℕ) (name : List ℕ) → n ≤ m → ProgramGoesFurther (s.program n name) (s.program m name)
+
+-- Under a greater bound a process that goes further gives a run that extends.
+abbrev pub BoundsExtend : Type 0
+BoundsExtend = (s : Programs) → Rises s → (n m : ℕ) → n ≤ m → (p q : Process) (w : World) → Below p q → Extends (run (answer s n) p w) (run (answer s m) q w)
+
+-- A meaning that is finished under a bound is the same under every greater one, and what is not has begun there.
+abbrev pub MeaningsExtend : Type 0
+MeaningsExtend = (setting : Setting) (n m : ℕ) → n ≤ m → (tree : Statements) (w : World) → Extends (meaning setting n tree w) (meaning setting m tree w)

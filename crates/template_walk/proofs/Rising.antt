@@ -1,0 +1,170 @@
+-- What follows further takes a walk further, and so does a greater bound on rounds.
+use Rattle.std.proofs.Common.{◌≡◌, ℕ, ◌≤◌, zero, suc, Bool, true, false, List, [], ◌∷◌, Option, None, Some, arith}
+use Rattle.template_values_model.specs.Val.{Val}
+use Rattle.template_tree.specs.declared.operators.BinOpKind.{BinOpKind}
+use Rattle.template_tree.specs.declared.operators.BinOpKind.TheVariants.{ScAnd, ScOr}
+use Rattle.template_tree.specs.Tree.{Expression, Optional, Expressions, Links, variable, constant, slice, unary, binary, chain, conditional, attribute, item, list_literal, tuple_literal, map_literal, absent, given, no_expressions, expressions_more, no_links, links_more, Statement, Statements, Assignments, raw, print, for_loop, if_condition, with_block, set, auto_escape, include, continue_loop, break_loop, no_statements, statements_more, no_assignments, assignments_more}
+use Rattle.template_process.specs.Process as events
+use Rattle.template_process.specs.Process.{Ask, look_up, operate, compare, get_attribute, get_item, get_slice, build_list, build_tuple, build_map, store, truth_of, unpack, write_raw, write_value, open_frame, close_frame, open_loop, next_item, did_not_iterate, close_loop, open_escape, close_escape, Process, over, step, asks, cut_short, on_done, on_value, on_truth, on_item, Below}
+use Rattle.template_process.proofs.Below.{below-cut_short, below-over, below-step, below-asks_done, below-asks_value, below-asks_truth, below-asks_item, below-asks_items, below-refl}
+use Rattle.template_walk.specs.Constants.{constant_of}
+use Rattle.template_walk.specs.Expressions.{folded, unary_ask, binary_walk, expression_walk, optional_walk, expressions_walk, walks_of, entries_walk, chain_walk, linked_walk}
+use Rattle.template_walk.specs.Statements.{Exits, outside, closing, number_of, target_walk, targets_walk, assignments_walk, rounds, loop_end, past, statement_walk, statements_walk, template_walk}
+use Rattle.template_walk.specs.Laws.{WalksRise}
+
+-- the second goes further, whatever value it is given
+abbrev Follows : (Val → Process) → (Val → Process) → Type 0
+Follows go on = (v : Val) → Below (go v) (on v)
+
+-- a walk that goes further where what follows does
+abbrev Lifts : ((Val → Process) → Process) → Type 0
+Lifts walk = (go on : Val → Process) → Follows go on → Below (walk go) (walk on)
+
+data Each : List ((Val → Process) → Process) → Type 0 where
+  none_left : Each []
+  each_more : {walk : (Val → Process) → Process} {walks : List ((Val → Process) → Process)} → Lifts walk → Each walks → Each (walk ∷ walks)
+
+step_value : (e : Ask) (go on : Val → Process) → Follows go on → Below (step (asks e (on_value go))) (step (asks e (on_value on)))
+step_value e go on h = below-step (asks e (on_value go)) (asks e (on_value on)) (below-asks_value e go on h)
+
+step_truth : (e : Ask) (p q r s : Process) → Below p q → Below r s → Below (step (asks e (on_truth p r))) (step (asks e (on_truth q s)))
+step_truth e p q r s h i = below-step (asks e (on_truth p r)) (asks e (on_truth q s)) (below-asks_truth e p q r s h i)
+
+step_done : (e : Ask) (p q : Process) → Below p q → Below (step (asks e (on_done p))) (step (asks e (on_done q)))
+step_done e p q h = below-step (asks e (on_done p)) (asks e (on_done q)) (below-asks_done e p q h)
+
+lift_folded : (o : Option Val) (go on : Val → Process) (p q : Process) → Follows go on → Below p q → Below (folded o go p) (folded o on q)
+lift_folded None go on p q h i = i
+lift_folded (Some v) go on p q h i = below-step (go v) (on v) (h v)
+
+lift_binary : (op : BinOpKind) (left right : (Val → Process) → Process) → Lifts left → Lifts right → Lifts (binary_walk op left right)
+lift_binary ScAnd left right f g go on h =
+    f _ _ (λ v. step_truth (truth_of v) (right go) (right on) (go v) (on v) (g go on h) (h v))
+lift_binary ScOr left right f g go on h =
+    f _ _ (λ v. step_truth (truth_of v) (go v) (on v) (right go) (right on) (h v) (g go on h))
+lift_binary op left right f g go on h =
+    f _ _ (λ v. g _ _ (λ w. step_value (operate op v w) go on h))
+
+mutual
+  pub lift : (e : Expression) → Lifts (expression_walk e)
+  lift (variable name) go on h = step_value (look_up name) go on h
+  lift (constant v) go on h = below-step (go v) (on v) (h v)
+  lift (unary op e) go on h =
+      lift_folded (constant_of (unary op e)) go on _ _ h (lift e _ _ (λ v. step_value (unary_ask op v) go on h))
+  lift (binary op left right) go on h =
+      lift_folded (constant_of (binary op left right)) go on _ _ h (lift_binary op (expression_walk left) (expression_walk right) (lift left) (lift right) go on h)
+  lift (chain first links) go on h =
+      lift_folded (constant_of (chain first links)) go on _ _ h (lift first _ _ (λ v. lift_chain links v go on h))
+  lift (conditional test branch otherwise) go on h =
+      lift test _ _ (λ v. step_truth (truth_of v) _ _ _ _ (lift branch _ _ (λ w. below-step (go w) (on w) (h w))) (lift_optional otherwise _ go on h))
+  lift (attribute e name) go on h = lift e _ _ (λ v. step_value (get_attribute v name) go on h)
+  lift (item e key) go on h = lift e _ _ (λ v. lift key _ _ (λ k. step_value (get_item v k) go on h))
+  lift (slice e start stop by) go on h =
+      lift e _ _ (λ v. lift_optional start _ _ _ (λ a. lift_optional stop _ _ _ (λ b. lift_optional by _ _ _ (λ c. step_value (get_slice v a b c) go on h))))
+  lift (list_literal es) go on h = lift_folded (constant_of (list_literal es)) go on _ _ h (lift_all es _ _ (λ vs. step_value (build_list vs) go on h))
+  lift (tuple_literal es) go on h = lift_folded (constant_of (tuple_literal es)) go on _ _ h (lift_all es _ _ (λ vs. step_value (build_tuple vs) go on h))
+  lift (map_literal ks vs) go on h =
+      lift_folded (constant_of (map_literal ks vs)) go on _ _ h (lift_entries ks (walks_of vs) (lift_each vs) _ _ (λ entries. step_value (build_map entries) go on h))
+  lift _ go on h = below-cut_short _
+
+  lift_optional : (o : Optional) (missing : Val) → Lifts (optional_walk missing o)
+  lift_optional absent missing go on h = below-step (go missing) (on missing) (h missing)
+  lift_optional (given e) missing go on h = lift e go on h
+
+  lift_all : (es : Expressions) (go on : List Val → Process) → ((vs : List Val) → Below (go vs) (on vs)) → Below (expressions_walk es go) (expressions_walk es on)
+  lift_all no_expressions go on h = h []
+  lift_all (expressions_more e es) go on h = lift e _ _ (λ v. lift_all es _ _ (λ vs. h (v ∷ vs)))
+
+  lift_each : (es : Expressions) → Each (walks_of es)
+  lift_each no_expressions = none_left
+  lift_each (expressions_more e es) = each_more (lift e) (lift_each es)
+
+  lift_entries : (ks : Expressions) (walks : List ((Val → Process) → Process)) → Each walks → (go on : List (Val × Val) → Process)
+      → ((entries : List (Val × Val)) → Below (go entries) (on entries)) → Below (entries_walk ks walks go) (entries_walk ks walks on)
+  lift_entries no_expressions walks each go on h = h []
+  lift_entries (expressions_more k ks) [] each go on h = h []
+  lift_entries (expressions_more k ks) (walk ∷ walks) (each_more f each) go on h =
+      lift k _ _ (λ key. f _ _ (λ held. lift_entries ks walks each _ _ (λ entries. h ((key, held) ∷ entries))))
+
+  lift_chain : (links : Links) (v : Val) → Lifts (chain_walk v links)
+  lift_chain no_links v go on h = below-cut_short _
+  lift_chain (links_more op e links) v go on h = lift e _ _ (λ w. step_value (compare op v w) _ _ (λ holds. lift_linked links w holds go on h))
+
+  lift_linked : (links : Links) (v holds : Val) → Lifts (linked_walk v holds links)
+  lift_linked no_links v holds go on h = below-step (go holds) (on holds) (h holds)
+  lift_linked (links_more op e links) v holds go on h =
+      step_truth (truth_of holds) _ _ _ _ (lift e _ _ (λ w. step_value (compare op v w) _ _ (λ later. lift_linked links w later go on h))) (below-step (go holds) (on holds) (h holds))
+
+mutual
+  lift_target : (target : Expression) (v : Val) (p q : Process) → Below p q → Below (target_walk target v p) (target_walk target v q)
+  lift_target (variable name) v p q h = step_done (store name v) p q h
+  lift_target (list_literal targets) v p q h =
+      below-step _ _ (below-asks_items (unpack (number_of targets) v) (number_of targets) _ _ (λ vs. lift_targets targets vs p q h))
+  lift_target _ v p q h = below-cut_short _
+
+  lift_targets : (targets : Expressions) (vs : List Val) (p q : Process) → Below p q → Below (targets_walk targets vs p) (targets_walk targets vs q)
+  lift_targets no_expressions vs p q h = h
+  lift_targets (expressions_more target targets) [] p q h = h
+  lift_targets (expressions_more target targets) (v ∷ vs) p q h = lift_target target v _ _ (lift_targets targets vs p q h)
+
+lift_assignments : (assignments : Assignments) (p q : Process) → Below p q → Below (assignments_walk assignments p) (assignments_walk assignments q)
+lift_assignments no_assignments p q h = h
+lift_assignments (assignments_more target e more) p q h = lift e _ _ (λ v. lift_target target v _ _ (lift_assignments more p q h))
+
+-- the ways out lead further
+record Leads (x y : Exits) : Type 0 where
+  on_break : Below x.on_break y.on_break
+  on_continue : Below x.on_continue y.on_continue
+
+leads_closing : (close : Ask) (x y : Exits) → Leads x y → Leads (closing close x) (closing close y)
+leads_closing close x y leads = record { on_break = below-asks_done close _ _ leads.on_break; on_continue = below-asks_done close _ _ leads.on_continue }
+
+-- a round that goes further where all that it leads to does
+abbrev Turns : (Val → Exits → Process → Process) → (Val → Exits → Process → Process) → Type 0
+Turns round turn = (v : Val) (x y : Exits) (p q : Process) → Leads x y → Below p q → Below (round v x p) (turn v y q)
+
+lift_rounds : (n m : ℕ) → n ≤ m → (round turn : Val → Exits → Process → Process) → Turns round turn → (p q : Process) → Below p q → Below (rounds n round p) (rounds m turn q)
+lift_rounds zero m less round turn turns p q h = below-cut_short _
+lift_rounds (suc n) zero less round turn turns p q h = absurd (omega arith)
+lift_rounds (suc n) (suc m) less round turn turns p q h =
+    let again = below-step _ _ (lift_rounds n m (omega arith) round turn turns p q h) in
+    below-step _ _ (below-asks_item next_item _ _ _ _ (λ v. turns v _ _ _ _ (record { on_break = below-step p q h; on_continue = again }) again) h)
+
+lift_end : (otherwise : Statements) (p q r s : Process) → Below p q → Below r s → Below (loop_end otherwise p r) (loop_end otherwise q s)
+lift_end no_statements p q r s h i = below-asks_done close_loop r s i
+lift_end (statements_more _ _) p q r s h i =
+    below-asks_value did_not_iterate _ _ (λ flag. below-asks_done close_loop _ _ (step_truth (truth_of flag) p q r s h i))
+
+lift_past : (otherwise : Statements) (p q : Process) → Below p q → Below (past otherwise p) (past otherwise q)
+lift_past no_statements p q h = h
+lift_past (statements_more _ _) p q h = below-step p q h
+
+mutual
+  lift_statement : (n m : ℕ) → n ≤ m → (s : Statement) (x y : Exits) (p q : Process) → Leads x y → Below p q → Below (statement_walk n s x p) (statement_walk m s y q)
+  lift_statement n m less (raw text) x y p q leads h = step_done (write_raw text) p q h
+  lift_statement n m less (print e) x y p q leads h = lift e _ _ (λ v. step_done (write_value v) p q h)
+  lift_statement n m less (for_loop target e absent false body otherwise) x y p q leads h =
+      lift e _ _ (λ v. below-asks_done (open_loop v) _ _
+        (lift_rounds n m less _ _ (λ item k l r s inner i. lift_target target item _ _ (lift_statements n m less body k l r s inner i)) _ _
+          (lift_end otherwise _ _ _ _ (lift_statements n m less otherwise x y p q leads h) h)))
+  lift_statement n m less (if_condition e body otherwise) x y p q leads h =
+      lift e _ _ (λ v. step_truth (truth_of v) _ _ _ _ (lift_statements n m less body x y _ _ leads (lift_past otherwise p q h)) (lift_statements n m less otherwise x y p q leads h))
+  lift_statement n m less (with_block assignments body) x y p q leads h =
+      below-asks_done open_frame _ _ (lift_assignments assignments _ _
+        (lift_statements n m less body _ _ _ _ (leads_closing close_frame x y leads) (below-asks_done close_frame p q h)))
+  lift_statement n m less (set target e) x y p q leads h = lift e _ _ (λ v. lift_target target v p q h)
+  lift_statement n m less (auto_escape e body) x y p q leads h =
+      lift e _ _ (λ v. below-asks_done (open_escape v) _ _
+        (lift_statements n m less body _ _ _ _ (leads_closing close_escape x y leads) (below-asks_done close_escape p q h)))
+  lift_statement n m less (include e ignore_missing) x y p q leads h = lift e _ _ (λ v. step_done (events.include ignore_missing v) p q h)
+  lift_statement n m less continue_loop x y p q leads h = leads.on_continue
+  lift_statement n m less break_loop x y p q leads h = leads.on_break
+  lift_statement n m less _ x y p q leads h = below-cut_short _
+
+  lift_statements : (n m : ℕ) → n ≤ m → (ss : Statements) (x y : Exits) (p q : Process) → Leads x y → Below p q → Below (statements_walk n ss x p) (statements_walk m ss y q)
+  lift_statements n m less no_statements x y p q leads h = h
+  lift_statements n m less (statements_more s ss) x y p q leads h = lift_statement n m less s x y _ _ leads (lift_statements n m less ss x y p q leads h)
+
+pub walks_rise : WalksRise
+walks_rise tree n m less =
+    lift_statements n m less tree outside outside (over []) (over []) (record { on_break = below-cut_short _; on_continue = below-cut_short _ }) (below-over [])
