@@ -1,2 +1,5 @@
 mod Rows
 pub mod Bounds
+pub mod Settling
+pub mod Keeping
+pub mod Expressions

@@ -1,0 +1,74 @@
+-- The trees whose constructs have a walk today. What holds another construct is refused where it is added.
+use Rattle.std.specs.Prelude.{Bool, true, false, IsTrue}
+use Rattle.template_tree.specs.Tree.{Expression, Optional, Expressions, Links, variable, constant, slice, unary, binary, chain, conditional, attribute, item, list_literal, tuple_literal, map_literal, absent, given, no_expressions, expressions_more, no_links, links_more, Statement, Statements, Assignments, raw, print, for_loop, if_condition, with_block, set, auto_escape, include, continue_loop, break_loop, no_statements, statements_more, no_assignments, assignments_more}
+
+abbrev mutual
+  -- names, constants, operators, items, slices and containers; no calls, filters or tests
+  pub IsRunnable : Expression → Type 0
+  IsRunnable (variable name) = Unit {0}
+  IsRunnable (constant v) = Unit {0}
+  IsRunnable (slice e start stop by) = IsRunnable e × IsRunnableIfGiven start × IsRunnableIfGiven stop × IsRunnableIfGiven by
+  IsRunnable (unary op e) = IsRunnable e
+  IsRunnable (binary op left right) = IsRunnable left × IsRunnable right
+  IsRunnable (chain first links) = IsRunnable first × IsRunnableChain links
+  IsRunnable (conditional test branch otherwise) = IsRunnable test × IsRunnable branch × IsRunnableIfGiven otherwise
+  IsRunnable (attribute e name) = IsRunnable e
+  IsRunnable (item e key) = IsRunnable e × IsRunnable key
+  IsRunnable (list_literal es) = AreRunnable es
+  IsRunnable (tuple_literal es) = AreRunnable es
+  IsRunnable (map_literal ks vs) = AreRunnable ks × AreRunnable vs
+  IsRunnable _ = ⊥
+
+  pub IsRunnableIfGiven : Optional → Type 0
+  IsRunnableIfGiven absent = Unit {0}
+  IsRunnableIfGiven (given e) = IsRunnable e
+
+  pub AreRunnable : Expressions → Type 0
+  AreRunnable no_expressions = Unit {0}
+  AreRunnable (expressions_more e es) = IsRunnable e × AreRunnable es
+
+  -- one comparison at least
+  pub IsRunnableChain : Links → Type 0
+  IsRunnableChain no_links = ⊥
+  IsRunnableChain (links_more op e links) = IsRunnable e × AreRunnableLinks links
+
+  pub AreRunnableLinks : Links → Type 0
+  AreRunnableLinks no_links = Unit {0}
+  AreRunnableLinks (links_more op e links) = IsRunnable e × AreRunnableLinks links
+
+abbrev mutual
+  -- a name, or targets that a value is unpacked into
+  pub IsTarget : Expression → Type 0
+  IsTarget (variable name) = Unit {0}
+  IsTarget (list_literal targets) = AreTargets targets
+  IsTarget _ = ⊥
+
+  pub AreTargets : Expressions → Type 0
+  AreTargets no_expressions = Unit {0}
+  AreTargets (expressions_more target targets) = IsTarget target × AreTargets targets
+
+abbrev pub AreAssignments : Assignments → Type 0
+AreAssignments no_assignments = Unit {0}
+AreAssignments (assignments_more target e more) = IsTarget target × IsRunnable e × AreAssignments more
+
+abbrev mutual
+  -- `break` and `continue` stand in loops alone, as the first argument says
+  pub IsRunnableStatement : Bool → Statement → Type 0
+  IsRunnableStatement looping (raw text) = Unit {0}
+  IsRunnableStatement looping (print e) = IsRunnable e
+  IsRunnableStatement looping (for_loop target e absent false body otherwise) = IsTarget target × IsRunnable e × AreRunnableStatements true body × AreRunnableStatements looping otherwise
+  IsRunnableStatement looping (if_condition e body otherwise) = IsRunnable e × AreRunnableStatements looping body × AreRunnableStatements looping otherwise
+  IsRunnableStatement looping (with_block assignments body) = AreAssignments assignments × AreRunnableStatements looping body
+  IsRunnableStatement looping (set target e) = IsTarget target × IsRunnable e
+  IsRunnableStatement looping (auto_escape e body) = IsRunnable e × AreRunnableStatements looping body
+  IsRunnableStatement looping (include e ignore_missing) = IsRunnable e
+  IsRunnableStatement looping continue_loop = IsTrue looping
+  IsRunnableStatement looping break_loop = IsTrue looping
+  IsRunnableStatement looping _ = ⊥
+
+  pub AreRunnableStatements : Bool → Statements → Type 0
+  AreRunnableStatements looping no_statements = Unit {0}
+  AreRunnableStatements looping (statements_more s ss) = IsRunnableStatement looping s × AreRunnableStatements looping ss
+
+abbrev pub IsRunnableTemplate : Statements → Type 0
+IsRunnableTemplate tree = AreRunnableStatements false tree
