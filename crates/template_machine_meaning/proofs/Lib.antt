@@ -3,3 +3,8 @@ pub mod Bounds
 pub mod Settling
 pub mod Keeping
 pub mod Expressions
+pub mod Scopes
+pub mod Loops
+pub mod Included
+pub mod Statements
+pub mod Ends

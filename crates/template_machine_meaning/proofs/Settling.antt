@@ -104,9 +104,33 @@ settles_done s w after shape e shaped is = inl (record {
 })
 
 -- an event that is refused
-pub settles_refused : {O : Type 0} (s : Programs) (w : World) (shape : O → World → Type 0) (e : Ask) (kind : ErrorKind) (go : (O → Process) → Answer → Process)
-    → ((n : ℕ) → answer s n w e ≡ refused w kind) → Settles {O = O} s w shape (λ m k. asks e (go k))
-settles_refused s w shape e kind go is = inr (record {
+pub settles_refused : {O : Type 0} (s : Programs) (w : World) (shape : O → World → Type 0) (e : Ask) (kind : ErrorKind) (K : ℕ → (O → Process) → Answer → Process)
+    → ((n : ℕ) → answer s n w e ≡ refused w kind) → Settles {O = O} s w shape (λ m go. asks e (K m go))
+settles_refused s w shape e kind K is = inr (record {
   items = []; least = 0; kinds = kind ∷ []; after = w;
-  is = λ n m le ge k. answered s w e (refused w kind) go is n k;
+  is = λ n m le ge go. answered s w e (refused w kind) (K m) is n go;
 })
+
+-- what comes behind items that stand first
+pub settles_before : {O : Type 0} (s : Programs) (w z : World) (shape : O → World → Type 0) (items : List Item) (least : ℕ) (P Q : Walk O)
+    → ((n m : ℕ) → least ≤ n → least ≤ m → (go : O → Process) → run (answer s n) (P m go) w ≡ behind items (run (answer s n) (Q m go) z))
+    → Settles {O = O} s z shape Q → Settles {O = O} s w shape P
+settles_before s w z shape items least P Q leads (inl q) = inl (record {
+  items = items ++ q.items; least = least + q.least; out = q.out; after = q.after; shaped = q.shaped;
+  is = λ n m le ge go. leads n m (omega arith) (omega arith) go ∙ ap (behind items) (q.is n m (omega arith) (omega arith) go) ∙ behind-behind items q.items (run (answer s n) (go q.out) q.after);
+})
+settles_before s w z shape items least P Q leads (inr q) = inr (record {
+  items = items ++ q.items; least = least + q.least; kinds = q.kinds; after = q.after;
+  is = λ n m le ge go. leads n m (omega arith) (omega arith) go ∙ ap (behind items) (q.is n m (omega arith) (omega arith) go) ∙ behind-behind items q.items (ended (faults q.kinds) q.after);
+})
+
+-- an event that is done leads to what follows, in another world
+pub settles_to : {O : Type 0} (s : Programs) (w z : World) (shape : O → World → Type 0) (e : Ask) (Q : Walk O)
+    → ((n : ℕ) → answer s n w e ≡ changed z done) → Settles {O = O} s z shape Q → Settles {O = O} s w shape (λ m go. asks e (on_done (Q m go)))
+settles_to s w z shape e Q is q =
+    settles_before s w z shape [] 0 (λ m go. asks e (on_done (Q m go))) Q (λ n m le ge go. ap (replied (λ a t. run (answer s n) (on_done (Q m go) a) t)) (is n)) q
+
+-- less is said of what is come to
+pub settles_weaker : {O : Type 0} (s : Programs) (w : World) (shape form : O → World → Type 0) (P : Walk O) → ((o : O) (z : World) → shape o z → form o z) → Settles {O = O} s w shape P → Settles {O = O} s w form P
+settles_weaker s w shape form P less (inl p) = inl (record { items = p.items; least = p.least; out = p.out; after = p.after; shaped = less p.out p.after p.shaped; is = p.is })
+settles_weaker s w shape form P less (inr p) = inr p

@@ -1,12 +1,13 @@
 -- The laws of meanings under bounds.
-use Rattle.std.specs.Prelude.{◌≡◌, ℕ, ◌≤◌, List, Option, None, Some}
+use Rattle.std.specs.Prelude.{◌≡◌, ℕ, ◌≤◌, List, ◌∷◌, Option, None, Some}
 use Rattle.template_tree.specs.Tree.{Statements}
 use Rattle.template_process.specs.Process.{Process, Below}
 use Rattle.template_process.specs.Trace.{run}
-use Rattle.template_process.specs.Approximants.{Extends}
-use Rattle.template_machine_meaning.specs.World.{World}
+use Rattle.template_process.specs.Approximants.{Extends, IsFinished}
+use Rattle.template_walk.specs.Runnable.{IsRunnableTemplate}
+use Rattle.template_machine_meaning.specs.World.{Frame, World}
 use Rattle.template_machine_meaning.specs.Surroundings.{Program, Programs, answer}
-use Rattle.template_machine_meaning.specs.Meaning.{Setting, meaning}
+use Rattle.template_machine_meaning.specs.Meaning.{Standing, Setting, meaning}
 
 -- the second goes further, under the same escape
 abbrev pub ProgramGoesFurther : Option Program → Option Program → Type 0
@@ -25,3 +26,17 @@ BoundsExtend = (s : Programs) → Rises s → (n m : ℕ) → n ≤ m → (p q :
 -- A meaning that is finished under a bound is the same under every greater one, and what is not has begun there.
 abbrev pub MeaningsExtend : Type 0
 MeaningsExtend = (setting : Setting) (n m : ℕ) → n ≤ m → (tree : Statements) (w : World) → Extends (meaning setting n tree w) (meaning setting m tree w)
+
+-- each template that stands is made of constructs that have a walk
+abbrev pub AreAllRunnable : Setting → Type 0
+AreAllRunnable setting = (name : List ℕ) (t : Standing) → setting.templates name ≡ Some t → IsRunnableTemplate t.tree
+
+-- Every run ends: under some bound it is finished.
+abbrev pub EveryRunEnds : Type 0
+EveryRunEnds = (setting : Setting) → AreAllRunnable setting → (tree : Statements) → IsRunnableTemplate tree
+    → (w : World) (f : Frame) (fs : List Frame) → w.frames ≡ f ∷ fs → (n : ℕ) × IsFinished (meaning setting n tree w).end
+
+-- A run that is finished under two bounds is the same under both.
+abbrev pub OneMeaning : Type 0
+OneMeaning = (setting : Setting) (n m : ℕ) (tree : Statements) (w : World)
+    → IsFinished (meaning setting n tree w).end → IsFinished (meaning setting m tree w).end → meaning setting n tree w ≡ meaning setting m tree w

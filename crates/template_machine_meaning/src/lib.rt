@@ -2,7 +2,7 @@
 //! template means.
 #![tactic(auto)]
 
-ghost use Rattle.template_machine_meaning.specs.Laws.{BoundsExtend, MeaningsExtend};
+ghost use Rattle.template_machine_meaning.specs.Laws.{BoundsExtend, EveryRunEnds, MeaningsExtend, OneMeaning};
 
 /// Under a greater bound a process that goes further gives a run that extends.
 pub fn bounds_extend()
@@ -13,4 +13,14 @@ pub fn bounds_extend()
 /// finished has begun there.
 pub fn meanings_extend()
     ensures { MeaningsExtend }
+{}
+
+/// Every run of templates whose constructs have a walk ends: under some bound it is finished.
+pub fn every_run_ends()
+    ensures { EveryRunEnds }
+{}
+
+/// A run that is finished under two bounds is the same under both.
+pub fn one_meaning()
+    ensures { OneMeaning }
 {}

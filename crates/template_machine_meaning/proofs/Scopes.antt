@@ -1,0 +1,115 @@
+-- Stores, frames, loops and escapes settle, and keep what the world around them has.
+use Rattle.std.proofs.Common.{◌≡◌, ℕ, ◌+◌, ◌-◌, ◌<◌, ◌≤◌, ◌⊎◌, inl, inr, zero, suc, Bool, true, false, List, [], ◌∷◌, ◌==◌, length, slice_get, Option, None, Some, Result, Ok, Err, refl, sym, ap, subst, ◌∙◌, arith}
+use Rattle.std.specs.Prelude.{if◌then◌else◌}
+use Rattle.template_values_errors.specs.declared.ErrorKind.{ErrorKind}
+use Rattle.template_values_errors.specs.declared.ErrorKind.TheVariants.{InvalidOperation, CannotUnpack}
+use Rattle.template_values_modes.specs.declared.AutoEscape.{AutoEscape}
+use Rattle.template_values_model.specs.Val as values
+use Rattle.template_values_model.specs.Val.{Val}
+use Rattle.template_values_core.specs.Answers.{text_in}
+use Rattle.template_values_forms.specs.Known.{nothing_known}
+use Rattle.template_values_operators.specs.Iterated.{iterated}
+use Rattle.template_tree.specs.Tree.{Expression, Expressions, variable, list_literal, no_expressions, expressions_more, Assignments, no_assignments, assignments_more}
+use Rattle.template_process.specs.Process.{Ask, store, unpack, open_frame, close_frame, open_loop, close_loop, open_escape, close_escape, Answer, done, items, tells, Process, step, asks, amiss, on_done, on_items}
+use Rattle.template_process.specs.Trace.{Reply, run, replied}
+use Rattle.template_walk.specs.Statements.{number_of, target_walk, targets_walk, assignments_walk}
+use Rattle.template_walk.specs.Expressions.{expression_walk}
+use Rattle.template_walk.specs.Runnable.{IsTarget, AreTargets, AreAssignments}
+use Rattle.template_machine_meaning.specs.World.{Loop, Frame, World, put_local, has_room}
+use Rattle.template_machine_meaning.specs.Undefined.{forbids_iterating}
+use Rattle.template_machine_meaning.specs.Replies.{told, changed, refused, guarded, replied_with, changed_with}
+use Rattle.template_machine_meaning.specs.Surroundings.{Programs, unpacked, unpacked_into, pushed, empty_frame, loop_frame, opened_loop, escape_named, escape_put_back, answer}
+use Rattle.template_machine_meaning.proofs.Settling.{Walk, Settles, settles_then, settles_now, settles_step, settles_refused, settles_before, settles_to}
+use Rattle.template_machine_meaning.proofs.Keeping.{Keeps, keeps_itself, keeps_on, loops_of, Top, top, on_frames_is, on_loop_is}
+use Rattle.template_machine_meaning.proofs.Expressions.{Kept, settles_expression}
+
+-- there is a frame
+pub record IsFramed (w : World) : Type 0 where
+  pub loop : Option Loop
+  pub others : List (Option Loop)
+  pub loops : loops_of w.frames ≡ loop ∷ others
+
+pub framed_on : (base w : World) → IsFramed base → Keeps base w → IsFramed w
+framed_on base w framed kept = record { loop = framed.loop; others = framed.others; loops = kept.loops ∙ framed.loops }
+
+module _ (s : Programs) (base : World) (framed : IsFramed base) where
+  -- what settles from every world that keeps what the base has
+  abbrev Stays : Walk (Unit {0}) → Type 0
+  Stays P = (w : World) → Keeps base w → Settles {O = Unit {0}} s w (Kept base) P
+
+  stored : (name : List ℕ) (v : Val) → Stays (λ m go. step (asks (store name v) (on_done (go tt))))
+  stored name v w kept =
+      let t = top w framed.loop framed.others (kept.loops ∙ framed.loops) in
+      let z : World = record w { frames = record t.frame { locals = put_local name v t.frame.locals } ∷ t.rest } in
+      let kept_there : Keeps base z = record { loops = sym (ap loops_of t.frames) ∙ kept.loops; outer = kept.outer; saved = kept.saved } in
+      settles_step s w (Kept base) (λ m go. asks (store name v) (on_done (go tt)))
+      (settles_to s w z (Kept base) (store name v) (λ m go. go tt)
+        (λ n. on_frames_is w t.frame t.rest t.frames (λ f fs. changed (record w { frames = record f { locals = put_local name v f.locals } ∷ fs }) done))
+        (settles_now s z (Kept base) tt kept_there))
+
+  -- the items of a value, where they are as many as there are targets
+  counted_by : (n : ℕ) (v : Val) (w : World) → Keeps base w → (Q : List Val → Walk (Unit {0})) → ((vs : List Val) → Stays (Q vs)) → (vs : List Val) → unpacked v ≡ Some vs
+      → (b : Bool) → (length vs == n) ≡ b → Settles {O = Unit {0}} s w (Kept base) (λ m go. asks (unpack n v) (on_items n (λ us. Q us m go)))
+  counted_by n v w kept Q stays vs is true e =
+      settles_before s w w (Kept base) [] 0 (λ m go. asks (unpack n v) (on_items n (λ us. Q us m go))) (Q vs)
+      (λ k m le ge go.
+        ap (λ o. replied (λ a t. run (answer s k) (on_items n (λ us. Q us m go) a) t) (replied_with w items (unpacked_into n o))) is
+        ∙ ap (λ b. replied (λ a t. run (answer s k) (on_items n (λ us. Q us m go) a) t) (replied_with w items (if b then Ok vs else Err CannotUnpack))) e
+        ∙ ap (λ b. run (answer s k) (if b then Q vs m go else amiss) w) e)
+      (stays vs w kept)
+  counted_by n v w kept Q stays vs is false e =
+      settles_refused s w (Kept base) (unpack n v) CannotUnpack (λ m go. on_items n (λ us. Q us m go))
+      (λ k. ap (λ o. replied_with w items (unpacked_into n o)) is ∙ ap (λ b. replied_with w items (if b then Ok vs else Err CannotUnpack)) e)
+
+  unpacked_by : (n : ℕ) (v : Val) (w : World) → Keeps base w → (Q : List Val → Walk (Unit {0})) → ((vs : List Val) → Stays (Q vs))
+      → (o : Option (List Val)) → unpacked v ≡ o → Settles {O = Unit {0}} s w (Kept base) (λ m go. asks (unpack n v) (on_items n (λ vs. Q vs m go)))
+  unpacked_by n v w kept Q stays None is =
+      settles_refused s w (Kept base) (unpack n v) CannotUnpack (λ m go. on_items n (λ vs. Q vs m go)) (λ k. ap (λ o. replied_with w items (unpacked_into n o)) is)
+  unpacked_by n v w kept Q stays (Some vs) is = counted_by n v w kept Q stays vs is (length vs == n) refl
+
+  mutual
+    pub settles_target : (target : Expression) → IsTarget target → (v : Val) → Stays (λ m go. target_walk target v (go tt))
+    settles_target (variable name) h v w kept = stored name v w kept
+    settles_target (list_literal targets) h v w kept =
+        settles_step s w (Kept base) (λ m go. asks (unpack (number_of targets) v) (on_items (number_of targets) (λ vs. targets_walk targets vs (go tt))))
+        (unpacked_by (number_of targets) v w kept (λ vs m go. targets_walk targets vs (go tt)) (λ vs. settles_targets targets h vs) (unpacked v) refl)
+    settles_target _ h v w kept = absurd h
+
+    settles_targets : (targets : Expressions) → AreTargets targets → (vs : List Val) → Stays (λ m go. targets_walk targets vs (go tt))
+    settles_targets no_expressions h vs w kept = settles_now s w (Kept base) tt kept
+    settles_targets (expressions_more target targets) h [] w kept = settles_now s w (Kept base) tt kept
+    settles_targets (expressions_more target targets) h (v ∷ vs) w kept =
+        settles_then s w (Kept base) (Kept base) (λ m go. target_walk target v (go tt)) (λ o m go. targets_walk targets vs (go tt)) (settles_target target h.0 v w kept)
+        (λ o x k. settles_targets targets h.1 vs x k)
+
+  pub settles_assignments : (assignments : Assignments) → AreAssignments assignments → Stays (λ m go. assignments_walk assignments (go tt))
+  settles_assignments no_assignments h w kept = settles_now s w (Kept base) tt kept
+  settles_assignments (assignments_more target e more) h w kept =
+      settles_then s w (Kept base) (Kept base) (λ m go. expression_walk e go) (λ v m go. target_walk target v (assignments_walk more (go tt))) (settles_expression s base e h.1 w kept)
+      (λ v x k. settles_then s x (Kept base) (Kept base) (λ m go. target_walk target v (go tt)) (λ o m go. assignments_walk more (go tt)) (settles_target target h.0 v x k)
+        (λ o y l. settles_assignments more h.2 y l))
+
+-- a frame in front of those of a world, with a loop or none
+abbrev pub behind_frame : World → Frame → World
+behind_frame w f = record w { frames = f ∷ w.frames }
+
+-- where a frame is pushed there is room for it, or the event is refused
+pub settles_pushed : {O : Type 0} (s : Programs) (w : World) (shape : O → World → Type 0) (e : Ask) (f : Frame) (Q : Walk O) (room : Bool) → has_room s.limit 1 w ≡ room
+    → ((n : ℕ) → answer s n w e ≡ changed_with w (λ after. done) (λ after. after) (pushed s.limit w f)) → Settles {O = O} s (behind_frame w f) shape Q → Settles {O = O} s w shape (λ m go. asks e (on_done (Q m go)))
+settles_pushed s w shape e f Q true room is q =
+    settles_to s w (behind_frame w f) shape e Q (λ n. is n ∙ ap (λ b. changed_with w (λ after. done) (λ after. after) (if b then Ok (behind_frame w f) else Err InvalidOperation)) room) q
+settles_pushed s w shape e f Q false room is q =
+    settles_refused s w shape e InvalidOperation (λ m go. on_done (Q m go)) (λ n. is n ∙ ap (λ b. changed_with w (λ after. done) (λ after. after) (if b then Ok (behind_frame w f) else Err InvalidOperation)) room)
+
+-- a world behind a frame whose loop is this one, or any: what is kept there keeps the base once the frame is closed
+pub closed : (base w : World) (f : Frame) → Keeps (behind_frame base f) w → (t : Top w f.loop (loops_of base.frames)) → Keeps base (record w { frames = t.rest })
+closed base w f kept t = record { loops = t.others; outer = kept.outer; saved = kept.saved }
+
+-- a frame is closed
+pub settles_closed : {O : Type 0} (s : Programs) (base w : World) (f : Frame) → Keeps (behind_frame base f) w → (shape : O → World → Type 0) (o : O)
+    → ((z : World) → Keeps base z → shape o z) → Settles {O = O} s w shape (λ m go. asks close_frame (on_done (go o)))
+settles_closed s base w f kept shape o shaped =
+    let t = top w f.loop (loops_of base.frames) kept.loops in
+    let z : World = record w { frames = t.rest } in
+    settles_to s w z shape close_frame (λ m go. go o) (λ n. on_frames_is w t.frame t.rest t.frames (λ g gs. changed (record w { frames = gs }) done))
+    (settles_now s z shape o (shaped z (closed base w f kept t)))

@@ -1,0 +1,257 @@
+-- Each runnable statement settles.
+use Rattle.std.proofs.Common.{◌≡◌, ℕ, ◌+◌, ◌-◌, ◌<◌, ◌≤◌, ◌⊎◌, inl, inr, zero, suc, Bool, true, false, IsTrue, List, [], ◌∷◌, length, Option, None, Some, Result, Ok, Err, refl, sym, ap, subst, ◌∙◌, arith}
+use Rattle.std.specs.Prelude.{if◌then◌else◌}
+use Rattle.template_values_errors.specs.declared.ErrorKind.{ErrorKind}
+use Rattle.template_values_modes.specs.declared.AutoEscape.{AutoEscape}
+use Rattle.template_values_model.specs.Val as values
+use Rattle.template_values_model.specs.Val.{Val}
+use Rattle.template_values_core.specs.Answers.{text_in}
+use Rattle.template_values_forms.specs.Known.{nothing_known}
+use Rattle.template_values_forms.specs.Truth as truths
+use Rattle.template_values_forms.specs.Escaped.{escaped}
+use Rattle.template_values_operators.specs.Iterated.{iterated}
+use Rattle.template_tree.specs.Tree.{Expression, Statement, Statements, absent, raw, print, for_loop, if_condition, with_block, set, auto_escape, include, continue_loop, break_loop, no_statements, statements_more}
+use Rattle.template_process.specs.Process as events
+use Rattle.template_process.specs.Process.{Ask, truth_of, write_raw, write_value, open_frame, close_frame, open_loop, did_not_iterate, close_loop, open_escape, close_escape, Answer, done, value, truth, tells, Process, over, step, asks, cut_short, on_done, on_value, on_truth}
+use Rattle.template_process.specs.Trace.{Item, written, Reply, run, behind, replied}
+use Rattle.template_walk.specs.Expressions.{expression_walk}
+use Rattle.template_walk.specs.Statements.{Exits, outside, closing, target_walk, assignments_walk, rounds, loop_end, past, statement_walk, statements_walk}
+use Rattle.template_walk.specs.Runnable.{IsRunnable, IsTarget, AreAssignments, IsRunnableStatement, AreRunnableStatements, IsRunnableTemplate}
+use Rattle.template_machine_meaning.specs.World.{Loop, Frame, World, has_room}
+use Rattle.template_machine_meaning.specs.Undefined.{forbids_truth, forbids_printing, forbids_iterating}
+use Rattle.template_machine_meaning.specs.Replies.{told, changed, refused, guarded, replied_with, changed_with}
+use Rattle.template_machine_meaning.specs.Includes.{include_levels}
+use Rattle.template_machine_meaning.specs.Surroundings.{Programs, printed_reply, empty_frame, loop_frame, opened_loop, pushed, gave_none, escape_named, escape_put_back, answer}
+use Rattle.template_machine_meaning.specs.Meaning.{Setting, walks_of}
+use Rattle.template_machine_meaning.specs.Laws.{AreAllRunnable}
+use Rattle.template_machine_meaning.proofs.Settling.{Walk, Settles, settles_then, settles_now, settles_step, settles_value, settles_refused, settles_before, settles_to, settles_weaker}
+use Rattle.template_machine_meaning.proofs.Keeping.{Keeps, keeps_itself, keeps_on, loops_of, Top, top, on_loop_is}
+use Rattle.template_machine_meaning.proofs.Expressions.{Kept, settles_decided, settles_expression}
+use Rattle.template_machine_meaning.proofs.Scopes.{IsFramed, framed_on, settles_target, settles_assignments, behind_frame, settles_pushed, closed, settles_closed}
+use Rattle.template_machine_meaning.proofs.Loops.{Leave, goes, breaks_out, continues, exits_of, loop_at, frame_at, InRound, AtEnd, Round, settles_rounds}
+use Rattle.template_machine_meaning.proofs.Included.{AllSettle, TemplateSettles, settles_include}
+
+-- `break` and `continue` lead out of loops alone
+abbrev pub MayLeave : Bool → Leave → Type 0
+MayLeave looping goes = Unit {0}
+MayLeave looping breaks_out = IsTrue looping
+MayLeave looping continues = IsTrue looping
+
+-- what is come to keeps what the base has
+abbrev pub LeavesTo : Bool → World → Leave → World → Type 0
+LeavesTo looping base o w = Keeps base w × MayLeave looping o
+
+-- the walk of statements, before what follows each way out
+abbrev pub body_walk : Statements → Walk Leave
+body_walk ss m go = statements_walk m ss (exits_of go) (go goes)
+
+module _ (setting : Setting) (all : AreAllRunnable setting) (outer : ℕ) (deeper : (outer + include_levels ≤ setting.limit) → AllSettle setting (outer + include_levels)) where
+  abbrev s : Programs
+  s = walks_of setting
+
+  -- what settles from every world that keeps what the base has
+  abbrev Leads : Bool → World → Walk Leave → Type 0
+  Leads looping base P = (w : World) → Keeps base w → Settles {O = Leave} s w (LeavesTo looping base) P
+
+  abbrev Frames : World → Type 0
+  Frames base = IsFramed base × (base.outer ≡ outer)
+
+  -- a text, or a value, is written
+  written_out : (looping : Bool) (base w : World) → Keeps base w → (e : Ask) (items : List Item) → ((n : ℕ) → answer s n w e ≡ record { told = tells done; items = items; after = w })
+      → Settles {O = Leave} s w (LeavesTo looping base) (λ m go. step (asks e (on_done (go goes))))
+  written_out looping base w kept e items is =
+      settles_step s w (LeavesTo looping base) (λ m go. asks e (on_done (go goes)))
+      (settles_before s w w (LeavesTo looping base) items 0 (λ m go. asks e (on_done (go goes))) (λ m go. go goes)
+        (λ n m le ge go. ap (replied (λ a t. run (answer s n) (on_done (go goes) a) t)) (is n))
+        (settles_now s w (LeavesTo looping base) goes (kept, tt)))
+
+  printed_out : (looping : Bool) (base w : World) → Keeps base w → (v : Val) (r : Result (List ℕ) ErrorKind) → guarded (forbids_printing s.undefined v) (escaped w.escape nothing_known v) ≡ r
+      → Settles {O = Leave} s w (LeavesTo looping base) (λ m go. step (asks (write_value v) (on_done (go goes))))
+  printed_out looping base w kept v (Ok text) e = written_out looping base w kept (write_value v) (written text ∷ []) (λ n. ap (printed_reply w) e)
+  printed_out looping base w kept v (Err kind) e =
+      settles_step s w (LeavesTo looping base) (λ m go. asks (write_value v) (on_done (go goes)))
+      (settles_refused s w (LeavesTo looping base) (write_value v) kind (λ m go. on_done (go goes)) (λ n. ap (printed_reply w) e))
+
+  -- an expression first
+  valued : (looping : Bool) (base w : World) → Keeps base w → (e : Expression) → IsRunnable e → (Q : Val → Walk Leave) → ((v : Val) → Leads looping base (Q v))
+      → Settles {O = Leave} s w (LeavesTo looping base) (λ m go. expression_walk e (λ v. Q v m go))
+  valued looping base w kept e h Q next = settles_then s w (Kept base) (LeavesTo looping base) (λ m go. expression_walk e go) Q (settles_expression s base e h w kept) (λ v x k. next v x k)
+
+  -- what is tested leads to one of two
+  tested : (looping : Bool) (base w : World) (v : Val) (P Q : Walk Leave) → Settles {O = Leave} s w (LeavesTo looping base) P → Settles {O = Leave} s w (LeavesTo looping base) Q
+      → Settles {O = Leave} s w (LeavesTo looping base) (λ m go. step (asks (truth_of v) (on_truth (P m go) (Q m go))))
+  tested looping base w v P Q p q =
+      settles_step s w (LeavesTo looping base) (λ m go. asks (truth_of v) (on_truth (P m go) (Q m go)))
+      (settles_decided s w (LeavesTo looping base) (truth_of v) (guarded (forbids_truth s.undefined v) (truths.truth_of nothing_known v)) P Q (λ n. refl) p q)
+
+  -- a target last
+  targeted : (looping : Bool) (base w : World) → Keeps base w → IsFramed base → (target : Expression) → IsTarget target → (v : Val) → Settles {O = Leave} s w (LeavesTo looping base) (λ m go. target_walk target v (go goes))
+  targeted looping base w kept framed target h v =
+      settles_then s w (Kept base) (LeavesTo looping base) (λ m go. target_walk target v (go tt)) (λ o m go. go goes) (settles_target s base framed target h v w kept)
+      (λ o x k. settles_now s x (LeavesTo looping base) goes (k, tt))
+
+  -- the loop's frame is closed
+  loop_closed : {O : Type 0} (base w : World) (items : List Val) (asked : ℕ) → InRound base items asked w → (shape : O → World → Type 0) (Q : Walk O)
+      → ((z : World) → Keeps base z → Settles {O = O} s z shape Q) → Settles {O = O} s w shape (λ m go. asks close_loop (on_done (Q m go)))
+  loop_closed base w items asked inside shape Q next =
+      let t = top w (Some (loop_at items asked)) (loops_of base.frames) inside.loops in
+      let z : World = record w { frames = t.rest } in
+      settles_to s w z shape close_loop Q (λ n. on_loop_is w t.frame t.rest (loop_at items asked) t.frames t.own (λ f l fs. changed (record w { frames = fs }) done))
+      (next z (closed base w (frame_at items asked) inside t))
+
+  -- behind a loop: its else part, if it has one, where no item was given
+  ended_loop : (looping : Bool) (base w : World) (items : List Val) (asked : ℕ) → InRound base items asked w → (otherwise : Statements) (Q : Walk Leave)
+      → ((z : World) → Keeps base z → Settles {O = Leave} s z (LeavesTo looping base) Q) → Settles {O = Leave} s w (LeavesTo looping base) (λ m go. loop_end otherwise (Q m go) (go goes))
+  ended_loop looping base w items asked inside no_statements Q next =
+      loop_closed base w items asked inside (LeavesTo looping base) (λ m go. go goes) (λ z kept. settles_now s z (LeavesTo looping base) goes (kept, tt))
+  ended_loop looping base w items asked inside (statements_more s₀ ss) Q next =
+      let t = top w (Some (loop_at items asked)) (loops_of base.frames) inside.loops in
+      settles_then s w (Kept (behind_frame base (frame_at items asked))) (LeavesTo looping base) (λ m go. asks did_not_iterate (on_value go))
+      (λ flag m go. asks close_loop (on_done (step (asks (truth_of flag) (on_truth (Q m go) (go goes))))))
+      (settles_value s w (Kept (behind_frame base (frame_at items asked))) did_not_iterate (Ok (values.truth (gave_none (loop_at items asked)))) (λ v. inside)
+        (λ n. on_loop_is w t.frame t.rest (loop_at items asked) t.frames t.own (λ f l fs. told w (tells (value (values.truth (gave_none l)))))))
+      (λ flag x here. loop_closed base x items asked here (LeavesTo looping base) (λ m go. step (asks (truth_of flag) (on_truth (Q m go) (go goes))))
+        (λ z kept. tested looping base z flag Q (λ m go. go goes) (next z kept) (settles_now s z (LeavesTo looping base) goes (kept, tt))))
+
+  -- behind a branch that an else part follows
+  stepped_past : (looping : Bool) (base w : World) → Keeps base w → (otherwise : Statements) → Settles {O = Leave} s w (LeavesTo looping base) (λ m go. past otherwise (go goes))
+  stepped_past looping base w kept no_statements = settles_now s w (LeavesTo looping base) goes (kept, tt)
+  stepped_past looping base w kept (statements_more s₀ ss) = settles_step s w (LeavesTo looping base) (λ m go. go goes) (settles_now s w (LeavesTo looping base) goes (kept, tt))
+
+  -- an escape is put back
+  escape_closed : (base w : World) (fs : List AutoEscape) → w.saved ≡ fs → length fs ≡ suc (length base.saved)
+      → loops_of w.frames ≡ loops_of base.frames → w.outer ≡ base.outer → (looping : Bool) (o : Leave) → MayLeave looping o → Settles {O = Leave} s w (LeavesTo looping base) (λ m go. asks close_escape (on_done (go o)))
+  escape_closed base w [] e many loops same looping o may = absurd (cc)
+  escape_closed base w (f ∷ fs) e many loops same looping o may =
+      let z : World = record w { escape = f; saved = fs } in
+      settles_to s w z (LeavesTo looping base) close_escape (λ m go. go o) (λ n. ap (escape_put_back w) e)
+      (settles_now s z (LeavesTo looping base) o (record { loops = loops; outer = same; saved = omega arith }, may))
+
+  -- a round of a loop: the target, then the body
+  abbrev round_of : Expression → Statements → Round
+  round_of target body m item inner again = target_walk target item (statements_walk m body inner again)
+
+  -- rounds under a whole bound
+  whole_rounds : {O : Type 0} (w : World) (shape : O → World → Type 0) (round : Round) (K : ℕ → (O → Process) → Process)
+      → Settles {O = O} s w shape (λ m go. rounds (m - 0) (round m) (K m go)) → Settles {O = O} s w shape (λ m go. rounds m (round m) (K m go))
+  whole_rounds w shape round K h =
+      settles_before s w w shape [] 0 (λ m go. rounds m (round m) (K m go)) (λ m go. rounds (m - 0) (round m) (K m go))
+      (λ n m le ge go. let less : m ≡ m - 0 = omega arith in ap (λ b. run (answer s n) (rounds b (round m) (K m go)) w) less) h
+
+  -- behind a statement, and behind a branch
+  abbrev more_out : Statements → Leave → Walk Leave
+  more_out ss goes m go = statements_walk m ss (exits_of go) (go goes)
+  more_out ss breaks_out m go = go breaks_out
+  more_out ss continues m go = go continues
+
+  abbrev branch_out : Statements → Leave → Walk Leave
+  branch_out otherwise goes m go = past otherwise (go goes)
+  branch_out otherwise breaks_out m go = go breaks_out
+  branch_out otherwise continues m go = go continues
+
+  branch_settles : (looping : Bool) (base : World) (otherwise : Statements) (o : Leave) (w : World) → LeavesTo looping base o w → Settles {O = Leave} s w (LeavesTo looping base) (branch_out otherwise o)
+  branch_settles looping base otherwise goes w leaves = stepped_past looping base w leaves.0 otherwise
+  branch_settles looping base otherwise breaks_out w leaves = settles_now s w (LeavesTo looping base) breaks_out leaves
+  branch_settles looping base otherwise continues w leaves = settles_now s w (LeavesTo looping base) continues leaves
+
+  deeper_from : (base : World) → Frames base → (w : World) → Keeps base w → (w.outer + include_levels ≤ setting.limit) → AllSettle setting (w.outer + include_levels)
+  deeper_from base framed w kept =
+      let P : ℕ → Type 0 = λ n. (n + include_levels ≤ setting.limit) → AllSettle setting (n + include_levels) in
+      subst P (sym (kept.outer ∙ framed.1)) deeper
+
+  -- statements that settle from every world that keeps what a base has, for each base
+  abbrev BodySettles : Bool → Statements → Type 0
+  BodySettles looping ss = (base : World) → Frames base → Leads looping base (body_walk ss)
+
+  -- a loop over items
+  rounds_settle : (looping : Bool) (target : Expression) (body otherwise : Statements) → IsTarget target → BodySettles true body → BodySettles looping otherwise
+      → (base : World) → Frames base → (w : World) → Keeps base w → (vs : List Val)
+      → Settles {O = Leave} s (behind_frame w (loop_frame vs)) (LeavesTo looping base) (λ m go. rounds m (round_of target body m) (loop_end otherwise (statements_walk m otherwise (exits_of go) (go goes)) (go goes)))
+  rounds_settle looping target body otherwise h bodies others base framed w kept vs =
+      let inside : World = behind_frame w (loop_frame vs) in
+      whole_rounds inside (LeavesTo looping base) (round_of target body) (λ m go. loop_end otherwise (statements_walk m otherwise (exits_of go) (go goes)) (go goes))
+      (settles_then s inside (AtEnd w vs) (LeavesTo looping base) (λ m go. rounds (m - 0) (round_of target body m) (go tt)) (λ o m go. loop_end otherwise (statements_walk m otherwise (exits_of go) (go goes)) (go goes))
+        (settles_rounds s w vs (round_of target body) (length vs) 0 0 (omega arith)
+          (λ v asked y here.
+            let frame : World = behind_frame w (frame_at vs asked) in
+            let framed_there : Frames frame = (record { loop = Some (loop_at vs asked); others = loops_of w.frames; loops = refl }, kept.outer ∙ framed.1) in
+            settles_weaker s y (LeavesTo true frame) (Kept frame) (λ m go. round_of target body m v (exits_of go) (go goes)) (λ o z leaves. leaves.0)
+            (settles_then s y (Kept frame) (LeavesTo true frame) (λ m go. target_walk target v (go tt)) (λ o m go. statements_walk m body (exits_of go) (go goes)) (settles_target s frame framed_there.0 target h v y here)
+              (λ o z k. bodies frame framed_there z k)))
+          inside (keeps_itself inside))
+        (λ o y at.
+          settles_weaker s y (LeavesTo looping w) (LeavesTo looping base) (λ m go. loop_end otherwise (statements_walk m otherwise (exits_of go) (go goes)) (go goes)) (λ o z leaves. (keeps_on base w z kept leaves.0, leaves.1))
+          (ended_loop looping w y vs at.0 at.1 otherwise (body_walk otherwise)
+            (λ z k. others w (framed_on base w framed.0 kept, kept.outer ∙ framed.1) z k))))
+
+  looped : (looping : Bool) (target : Expression) (body otherwise : Statements) (v : Val) → IsTarget target → BodySettles true body → BodySettles looping otherwise
+      → (base : World) → Frames base → (w : World) → Keeps base w → (r : Result (List Val) ErrorKind) → guarded (forbids_iterating s.undefined v) (iterated nothing_known v) ≡ r
+      → Settles {O = Leave} s w (LeavesTo looping base) (λ m go. asks (open_loop v) (on_done (rounds m (round_of target body m) (loop_end otherwise (statements_walk m otherwise (exits_of go) (go goes)) (go goes)))))
+  looped looping target body otherwise v h bodies others base framed w kept (Ok vs) e =
+      settles_pushed s w (LeavesTo looping base) (open_loop v) (loop_frame vs) (λ m go. rounds m (round_of target body m) (loop_end otherwise (statements_walk m otherwise (exits_of go) (go goes)) (go goes))) (has_room s.limit 1 w) refl
+      (λ n. ap (λ r. changed_with w (λ after. done) (λ after. after) (opened_loop s.limit w r)) e)
+      (rounds_settle looping target body otherwise h bodies others base framed w kept vs)
+  looped looping target body otherwise v h bodies others base framed w kept (Err kind) e =
+      settles_refused s w (LeavesTo looping base) (open_loop v) kind (λ m go. on_done (rounds m (round_of target body m) (loop_end otherwise (statements_walk m otherwise (exits_of go) (go goes)) (go goes))))
+      (λ n. ap (λ r. changed_with w (λ after. done) (λ after. after) (opened_loop s.limit w r)) e)
+
+  -- an escape for a body
+  escaping : (looping : Bool) (body : Statements) → BodySettles looping body → (base : World) → Frames base → (w : World) → Keeps base w → (v : Val) (r : Result AutoEscape ErrorKind) → escape_named w.first v (text_in v) ≡ r
+      → Settles {O = Leave} s w (LeavesTo looping base) (λ m go. asks (open_escape v) (on_done (statements_walk m body (closing close_escape (exits_of go)) (asks close_escape (on_done (go goes))))))
+  escaping looping body bodies base framed w kept v (Err kind) e =
+      settles_refused s w (LeavesTo looping base) (open_escape v) kind (λ m go. on_done (statements_walk m body (closing close_escape (exits_of go)) (asks close_escape (on_done (go goes)))))
+      (λ n. ap (changed_with w (λ rule. done) (λ rule. record w { escape = rule; saved = w.escape ∷ w.saved })) e)
+  escaping looping body bodies base framed w kept v (Ok rule) e =
+      let inside : World = record w { escape = rule; saved = w.escape ∷ w.saved } in
+      let framed_inside : Frames inside = (record { loop = framed.0.loop; others = framed.0.others; loops = kept.loops ∙ framed.0.loops }, kept.outer ∙ framed.1) in
+      settles_to s w inside (LeavesTo looping base) (open_escape v) (λ m go. statements_walk m body (closing close_escape (exits_of go)) (asks close_escape (on_done (go goes))))
+      (λ n. ap (changed_with w (λ rule. done) (λ rule. record w { escape = rule; saved = w.escape ∷ w.saved })) e)
+      (settles_then s inside (LeavesTo looping inside) (LeavesTo looping base) (body_walk body) (λ o m go. asks close_escape (on_done (go o))) (bodies inside framed_inside inside (keeps_itself inside))
+        (λ o y l. escape_closed base y y.saved refl (omega (arith, l.0.saved, kept.saved)) (l.0.loops ∙ kept.loops) (l.0.outer ∙ kept.outer) looping o l.1))
+
+  mutual
+    pub settles_statement : (looping : Bool) (st : Statement) → IsRunnableStatement looping st → (base : World) → Frames base → Leads looping base (λ m go. statement_walk m st (exits_of go) (go goes))
+    settles_statement looping (raw text) h base framed w kept = written_out looping base w kept (write_raw text) (written text ∷ []) (λ n. refl)
+    settles_statement looping (print e) h base framed w kept =
+        valued looping base w kept e h (λ v m go. step (asks (write_value v) (on_done (go goes))))
+        (λ v x k. printed_out looping base x k v (guarded (forbids_printing s.undefined v) (escaped x.escape nothing_known v)) refl)
+    settles_statement looping (for_loop target e absent false body otherwise) h base framed w kept =
+        valued looping base w kept e h.1 (λ v m go. asks (open_loop v) (on_done (rounds m (round_of target body m) (loop_end otherwise (statements_walk m otherwise (exits_of go) (go goes)) (go goes)))))
+        (λ v x k. looped looping target body otherwise v h.0 (settles_statements true body h.2) (settles_statements looping otherwise h.3) base framed x k (guarded (forbids_iterating s.undefined v) (iterated nothing_known v)) refl)
+    settles_statement looping (if_condition e body otherwise) h base framed w kept =
+        valued looping base w kept e h.0 (λ v m go. step (asks (truth_of v) (on_truth (statements_walk m body (exits_of go) (past otherwise (go goes))) (statements_walk m otherwise (exits_of go) (go goes)))))
+        (λ v x k. tested looping base x v (λ m go. statements_walk m body (exits_of go) (past otherwise (go goes))) (body_walk otherwise)
+          (settles_then s x (LeavesTo looping base) (LeavesTo looping base) (body_walk body) (branch_out otherwise) (settles_statements looping body h.1 base framed x k) (λ o y kept. branch_settles looping base otherwise o y kept))
+          (settles_statements looping otherwise h.2 base framed x k))
+    settles_statement looping (with_block assignments body) h base framed w kept =
+        let inside : World = behind_frame w empty_frame in
+        let framed_inside : Frames inside = (record { loop = None; others = loops_of w.frames; loops = refl }, kept.outer ∙ framed.1) in
+        settles_pushed s w (LeavesTo looping base) open_frame empty_frame (λ m go. assignments_walk assignments (statements_walk m body (closing close_frame (exits_of go)) (asks close_frame (on_done (go goes))))) (has_room s.limit 1 w) refl (λ n. refl)
+        (settles_then s inside (Kept inside) (LeavesTo looping base) (λ m go. assignments_walk assignments (go tt)) (λ o m go. statements_walk m body (closing close_frame (exits_of go)) (asks close_frame (on_done (go goes))))
+          (settles_assignments s inside framed_inside.0 assignments h.0 inside (keeps_itself inside))
+          (λ o x k. settles_then s x (LeavesTo looping inside) (LeavesTo looping base) (body_walk body) (λ o m go. asks close_frame (on_done (go o))) (settles_statements looping body h.1 inside framed_inside x k)
+            (λ o y l. settles_closed s w y empty_frame l.0 (LeavesTo looping base) o (λ z i. (keeps_on base w z kept i, l.1)))))
+    settles_statement looping (set target e) h base framed w kept =
+        valued looping base w kept e h.1 (λ v m go. target_walk target v (go goes)) (λ v x k. targeted looping base x k framed.0 target h.0 v)
+    settles_statement looping (auto_escape e body) h base framed w kept =
+        valued looping base w kept e h.0 (λ v m go. asks (open_escape v) (on_done (statements_walk m body (closing close_escape (exits_of go)) (asks close_escape (on_done (go goes))))))
+        (λ v x k. escaping looping body (settles_statements looping body h.1) base framed x k v (escape_named x.first v (text_in v)) refl)
+    settles_statement looping (include e ignore_missing) h base framed w kept =
+        valued looping base w kept e h (λ v m go. step (asks (events.include ignore_missing v) (on_done (go goes))))
+        (λ v x k. settles_step s x (LeavesTo looping base) (λ m go. asks (events.include ignore_missing v) (on_done (go goes)))
+          (settles_then s x (Kept x) (LeavesTo looping base) (λ m go. asks (events.include ignore_missing v) (on_done (go tt))) (λ o m go. go goes)
+            (settles_include setting x ignore_missing v all (framed_on base x framed.0 k) (deeper_from base framed x k))
+            (λ o y l. settles_now s y (LeavesTo looping base) goes (keeps_on base x y k l, tt))))
+    settles_statement looping continue_loop h base framed w kept = settles_now s w (LeavesTo looping base) continues (kept, h)
+    settles_statement looping break_loop h base framed w kept = settles_now s w (LeavesTo looping base) breaks_out (kept, h)
+    settles_statement looping _ h base framed w kept = absurd h
+
+    pub settles_statements : (looping : Bool) (ss : Statements) → AreRunnableStatements looping ss → (base : World) → Frames base → Leads looping base (body_walk ss)
+    settles_statements looping no_statements h base framed w kept = settles_now s w (LeavesTo looping base) goes (kept, tt)
+    settles_statements looping (statements_more st ss) h base framed w kept =
+        settles_then s w (LeavesTo looping base) (LeavesTo looping base) (λ m go. statement_walk m st (exits_of go) (go goes)) (more_out ss) (settles_statement looping st h.0 base framed w kept)
+        (λ o x leaves. (elim o as (λ o. MayLeave looping o → Settles {O = Leave} s x (LeavesTo looping base) (more_out ss o)) [
+          | goes ↦ λ may. settles_statements looping ss h.1 base framed x leaves.0
+          | breaks_out ↦ λ may. settles_now s x (LeavesTo looping base) breaks_out (leaves.0, may)
+          | continues ↦ λ may. settles_now s x (LeavesTo looping base) continues (leaves.0, may)
+        ]) leaves.1)
