@@ -1,0 +1,2 @@
+//! The code of trees, and that it performs their walks.
+#![tactic(auto)]
