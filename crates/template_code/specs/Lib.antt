@@ -1,3 +1,4 @@
 pub mod Code
 pub mod Prices
 pub mod Steps
+pub mod Laws
