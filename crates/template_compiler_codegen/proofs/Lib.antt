@@ -1,0 +1,3 @@
+pub mod Standing
+pub mod Expressions
+pub mod Performing

@@ -57,6 +57,11 @@ binary_code ScAnd left right = then_code left (skipped jump_if_false_or_pop righ
 binary_code ScOr left right = then_code left (skipped jump_if_true_or_pop right)
 binary_code op left right = then_code left (then_code right (one (operate op)))
 
+-- so many keys have a value
+abbrev pub entry_count : Expressions → List Coded → ℕ
+entry_count (expressions_more k ks) (value_code ∷ later) = suc (entry_count ks later)
+entry_count _ _ = 0
+
 abbrev mutual
   pub expression_code : Expression → Coded
   expression_code (variable name) = one (lookup name)
@@ -71,7 +76,7 @@ abbrev mutual
       then_code (expression_code e) (then_code (optional_code none start) (then_code (optional_code none stop) (then_code (optional_code none by) (one slice))))
   expression_code (list_literal es) = loaded (constant_of (list_literal es)) (then_code (expressions_code es) (one (build_list (number_of es))))
   expression_code (tuple_literal es) = loaded (constant_of (tuple_literal es)) (then_code (expressions_code es) (one (build_tuple (number_of es))))
-  expression_code (map_literal ks vs) = loaded (constant_of (map_literal ks vs)) (then_code (entries_code ks (codes_of vs)) (one (build_map (number_of ks))))
+  expression_code (map_literal ks vs) = loaded (constant_of (map_literal ks vs)) (then_code (entries_code ks (codes_of vs)) (one (build_map (entry_count ks (codes_of vs)))))
   expression_code _ = one unsupported
 
   -- what is left out is a constant

@@ -1,0 +1,288 @@
+-- The code of each expression performs its walk.
+use Rattle.std.proofs.Common.{◌≡◌, ℕ, ◌+◌, ◌*◌, ◌≤◌, zero, suc, List, [], ◌∷◌, ◌++◌, length, Option, None, Some, refl, sym, ap, subst, ◌∙◌, arith}
+use Rattle.template_values_model.specs.Val.{Val, silent_undefined, none}
+use Rattle.template_tree.specs.declared.operators.UnaryOpKind.{UnaryOpKind}
+use Rattle.template_tree.specs.declared.operators.UnaryOpKind.TheVariants.{Not, Neg}
+use Rattle.template_tree.specs.declared.operators.BinOpKind.{BinOpKind}
+use Rattle.template_tree.specs.declared.operators.BinOpKind.TheVariants.{ScAnd, ScOr}
+use Rattle.template_tree.specs.declared.operators.CompareOpKind.{CompareOpKind}
+use Rattle.template_tree.specs.Tree.{Expression, Optional, Expressions, Links, variable, constant, unary, binary, chain, conditional, attribute, item, list_literal, tuple_literal, map_literal, absent, given, no_expressions, expressions_more, no_links, links_more}
+use Rattle.template_tree.specs.Tree as tree
+use Rattle.template_process.specs.Process as events
+use Rattle.template_process.specs.Process.{Ask, truth_of, Process, step, asks, cut_short, on_value, on_truth, Below}
+use Rattle.template_process.proofs.Below.{below-cut_short, below-step}
+use Rattle.template_walk.specs.Constants.{constant_of}
+use Rattle.template_walk.specs.Statements.{number_of}
+use Rattle.template_walk.specs.Expressions.{folded, unary_ask, binary_walk, expression_walk, optional_walk, expressions_walk, walks_of, entries_walk, chain_walk, linked_walk}
+use Rattle.template_code.specs.Code.{Operand, single, Code, lookup, load_const, get_attr, get_item, slice, build_map, build_list, build_tuple, operate, negate, invert, compare_and_preserve, swap, discard_top, jump_if_false_or_pop}
+use Rattle.template_code.specs.Steps.{act, exec}
+use Rattle.template_compiler_codegen.specs.Expressions.{Coded, then_code, one, nothing, dropped, loaded, skipped, either_code, unary_code, binary_code, expression_code, optional_code, expressions_code, codes_of, entry_count, entries_code, chain_code, linked_code}
+use Rattle.template_compiler_codegen.proofs.Standing.{StandsAt, behind_one, instruction_at, below_at, behind_then, stands_first, stands_second}
+use Rattle.template_compiler_codegen.proofs.Expressions.{Gives, Performs, Over, GivesAll, gives_to, behind_single, asks_at, performs_load, performs_loaded, gives_then, moved, longer, over_one, over_two, tests_at, behind_skipped, over_and, over_or, over_either, pushed, performs_built, built_list, built_tuple, builds_at, laid, built_map}
+
+looks_up : (name : List ℕ) → Performs (one (lookup name)) (λ go. step (asks (events.look_up name) (on_value go)))
+looks_up name code place h =
+    gives_to code (λ go. step (asks (events.look_up name) (on_value go))) place (suc place) (place + length (one (lookup name) place)) (behind_single place (lookup name))
+    (λ k. (suc k, λ operands go below. asks_at code place (lookup name) [] h k operands operands (events.look_up name) go refl below))
+
+over_unary : (op : UnaryOpKind) → Over (one (unary_code op)) (λ v go. step (asks (unary_ask op v) (on_value go)))
+over_unary Not = over_one invert events.invert (λ next place v operands. refl)
+over_unary Neg = over_one negate events.negate (λ next place v operands. refl)
+
+performs_binary : (op : BinOpKind) (left right : Coded) (f g : (Val → Process) → Process) → Performs left f → Performs right g → Performs (binary_code op left right) (binary_walk op f g)
+performs_binary ScAnd left right f g h i = gives_then left (skipped jump_if_false_or_pop right) f (λ v go. step (asks (truth_of v) (on_truth (g go) (go v)))) h (over_and right g i)
+performs_binary ScOr left right f g h i = gives_then left _ f (λ v go. step (asks (truth_of v) (on_truth (go v) (g go)))) h (over_or right g i)
+performs_binary op left right f g h i =
+    gives_then left (then_code right (one (operate op))) f (λ v go. g (λ w. step (asks (events.operate op v w) (on_value go)))) h
+    (over_two right g (operate op) (events.operate op) i (λ next place v w operands. refl))
+
+-- a slice, over its object
+over_slice : (first second third : Coded) (f g h : (Val → Process) → Process) → Performs first f → Performs second g → Performs third h
+    → Over (then_code first (then_code second (then_code third (one slice)))) (λ v go. f (λ a. g (λ b. h (λ c. step (asks (events.get_slice v a b c) (on_value go))))))
+over_slice first second third f g h pf pg ph code place stands k =
+    let last = then_code third (one slice) in
+    let more = then_code second last in
+    let one_at = place + length (first place) in
+    let two_at = one_at + length (second one_at) in
+    let three_at = two_at + length (third two_at) in
+    let behind_first = stands_second code place first more stands in
+    let behind_second = stands_second code one_at second last behind_first in
+    let behind_third = stands_second code two_at third (one slice) behind_second in
+    let c = ph code two_at (stands_first code two_at third (one slice) behind_second) (suc k) in
+    let b = pg code one_at (stands_first code one_at second last behind_first) c.0 in
+    let a = pf code place (stands_first code place first more stands) b.0 in
+    (a.0, λ v operands go below.
+      a.1 (single v ∷ operands) (λ x. g (λ y. h (λ z. step (asks (events.get_slice v x y z) (on_value go)))))
+      (λ x. b.1 (single x ∷ single v ∷ operands) (λ y. h (λ z. step (asks (events.get_slice v x y z) (on_value go))))
+        (λ y. c.1 (single y ∷ single x ∷ single v ∷ operands) (λ z. step (asks (events.get_slice v x y z) (on_value go)))
+          (λ z. asks_at code three_at slice [] behind_third k (single z ∷ single y ∷ single x ∷ single v ∷ operands) operands (events.get_slice v x y z) go refl
+            (λ w. moved code k (place + length (then_code first more place)) (suc three_at) (single w ∷ operands) (go w)
+              (behind_then first more place ∙ behind_then second last one_at ∙ behind_then third (one slice) two_at ∙ sym (behind_single three_at slice)) (below w))))))
+
+-- the value below the top is dropped, one step
+drops_at : (code : List Code) (place : ℕ) → StandsAt code place (dropped place) → (k : ℕ) (v w : Val) (operands : List Operand) (p : Process)
+    → Below p (exec code k (suc (suc place)) (single w ∷ operands)) → Below (step p) (exec code (suc (suc k)) place (single w ∷ single v ∷ operands))
+drops_at code place h k v w operands p below =
+    below_at code place swap (instruction_at code place swap (discard_top ∷ []) h) (suc k) (single w ∷ single v ∷ operands) (step p)
+    (below-step p _ (below_at code (suc place) discard_top (instruction_at code (suc place) discard_top [] (behind_one code place swap (discard_top ∷ []) h)) k (single v ∷ single w ∷ operands) p below))
+
+-- links behind the first, and the drop behind them all
+abbrev LinkedPerforms : Links → Type 0
+LinkedPerforms links = (code : List Code) (place at_drop : ℕ) → StandsAt code place (linked_code links place) → place + length (linked_code links place) ≡ at_drop → StandsAt code at_drop (dropped at_drop) → (k : ℕ)
+    → (j : ℕ) × ((v holds : Val) (operands : List Operand) (go : Val → Process) → ((u : Val) → Below (go u) (exec code k (suc (suc at_drop)) (single u ∷ operands)))
+      → Below (linked_walk v holds links go) (exec code j place (single holds ∷ single v ∷ operands)))
+
+abbrev compared_code : CompareOpKind → Coded → Coded
+compared_code op piece = then_code piece (one (compare_and_preserve op))
+
+-- one comparison, and the links behind it
+compares_then : (op : CompareOpKind) (piece : Coded) (walk : (Val → Process) → Process) (links : Links) → Performs piece walk → LinkedPerforms links
+    → (code : List Code) (place at_drop : ℕ) → StandsAt code place (then_code (compared_code op piece) (linked_code links) place) → place + length (then_code (compared_code op piece) (linked_code links) place) ≡ at_drop
+    → StandsAt code at_drop (dropped at_drop) → (k : ℕ)
+    → (j : ℕ) × ((v : Val) (operands : List Operand) (go : Val → Process) → ((u : Val) → Below (go u) (exec code k (suc (suc at_drop)) (single u ∷ operands)))
+      → Below (walk (λ w. step (asks (events.compare op v w) (on_value (λ holds. linked_walk w holds links go))))) (exec code j place (single v ∷ operands)))
+compares_then op piece walk links f rest code place at_drop h e drop k =
+    let first = compared_code op piece in
+    let mid = place + length (first place) in
+    let compare_at = place + length (piece place) in
+    let stands = stands_first code place first (linked_code links) h in
+    let later = rest code mid at_drop (stands_second code place first (linked_code links) h) (sym (behind_then first (linked_code links) place) ∙ e) drop k in
+    let earlier = f code place (stands_first code place piece (one (compare_and_preserve op)) stands) (suc later.0) in
+    (earlier.0, λ v operands go below.
+      earlier.1 (single v ∷ operands) (λ w. step (asks (events.compare op v w) (on_value (λ holds. linked_walk w holds links go))))
+      (λ w. asks_at code compare_at (compare_and_preserve op) [] (stands_second code place piece (one (compare_and_preserve op)) stands) later.0 (single w ∷ single v ∷ operands) (single w ∷ operands) (events.compare op v w) (λ holds. linked_walk w holds links go) refl
+        (λ holds. moved code later.0 mid (suc compare_at) (single holds ∷ single w ∷ operands) (linked_walk w holds links go)
+          (behind_then piece (one (compare_and_preserve op)) place ∙ sym (behind_single compare_at (compare_and_preserve op))) (later.1 w holds operands go below))))
+
+data EachPerforms : List Coded → List ((Val → Process) → Process) → Type 0 where
+  none_left : EachPerforms [] []
+  each_more : {piece : Coded} {walk : (Val → Process) → Process} {pieces : List Coded} {walks : List ((Val → Process) → Process)} → Performs piece walk → EachPerforms pieces walks → EachPerforms (piece ∷ pieces) (walk ∷ walks)
+
+-- the code of keys and values leaves them in turn, as many as there are
+abbrev GivesEntries : List Code → ((List (Val × Val) → Process) → Process) → ℕ → ℕ → ℕ → Type 0
+GivesEntries code walk count from to = (k : ℕ) → (j : ℕ) × ((operands : List Operand) (go : List (Val × Val) → Process)
+    → ((entries : List (Val × Val)) → length entries ≡ count → Below (go entries) (exec code k to (pushed (laid entries) operands))) → Below (walk go) (exec code j from operands))
+
+abbrev EntriesPerform : Coded → ((List (Val × Val) → Process) → Process) → ℕ → Type 0
+EntriesPerform piece walk count = (code : List Code) (place : ℕ) → StandsAt code place (piece place) → GivesEntries code walk count place (place + length (piece place))
+
+-- where nothing stands, nothing is passed
+unmoved : (code : List Code) (k place : ℕ) (operands : List Operand) (p : Process) → Below p (exec code k (place + length (nothing place)) (pushed [] operands)) → Below p (exec code k place operands)
+unfolding pushed
+unmoved code k place operands p below =
+    let same : place + length (nothing place) ≡ place = omega arith in moved code k (place + length (nothing place)) place operands p same below
+
+-- nothing at all
+no_entries : EntriesPerform nothing (λ go. go []) 0
+no_entries code place h k = (k, λ operands go below. unmoved code k place operands (go []) (below [] refl))
+
+-- a key, its value, and the later entries
+more_entries : (key value_piece more : Coded) (f g : (Val → Process) → Process) (h : (List (Val × Val) → Process) → Process) (count : ℕ) → Performs key f → Performs value_piece g → EntriesPerform more h count
+    → EntriesPerform (then_code key (then_code value_piece more)) (λ go. f (λ k. g (λ v. h (λ entries. go ((k, v) ∷ entries))))) (suc count)
+unfolding pushed
+more_entries key value_piece more f g h count pf pg ph code place stands k =
+    let later = then_code value_piece more in
+    let value_at = place + length (key place) in
+    let more_at = value_at + length (value_piece value_at) in
+    let behind = stands_second code place key later stands in
+    let c = ph code more_at (stands_second code value_at value_piece more behind) k in
+    let b = pg code value_at (stands_first code value_at value_piece more behind) c.0 in
+    let a = pf code place (stands_first code place key later stands) b.0 in
+    (a.0, λ operands go below.
+      a.1 operands (λ x. g (λ y. h (λ entries. go ((x, y) ∷ entries))))
+      (λ x. b.1 (single x ∷ operands) (λ y. h (λ entries. go ((x, y) ∷ entries)))
+        (λ y. c.1 (single y ∷ single x ∷ operands) (λ entries. go ((x, y) ∷ entries))
+          (λ entries many. moved code k (place + length (then_code key later place)) (more_at + length (more more_at)) (pushed (laid entries) (single y ∷ single x ∷ operands)) (go ((x, y) ∷ entries))
+            (behind_then key later place ∙ behind_then value_piece more value_at) (below ((x, y) ∷ entries) (ap suc many))))))
+
+performs_map : (piece : Coded) (walk : (List (Val × Val) → Process) → Process) (count : ℕ) → EntriesPerform piece walk count
+    → Performs (then_code piece (one (build_map count))) (λ go. walk (λ entries. step (asks (events.build_map entries) (on_value go))))
+performs_map piece walk count f code place h =
+    let mid = place + length (piece place) in
+    gives_to code (λ go. walk (λ entries. step (asks (events.build_map entries) (on_value go)))) place (mid + length (one (build_map count) mid)) (place + length (then_code piece (one (build_map count)) place))
+    (sym (behind_then piece (one (build_map count)) place))
+    (λ k.
+      let earlier = f code place (stands_first code place piece (one (build_map count)) h) (suc k) in
+      (earlier.0, λ operands go below. earlier.1 operands (λ entries. step (asks (events.build_map entries) (on_value go)))
+        (λ entries many. builds_at code mid (build_map count) (stands_second code place piece (one (build_map count)) h) k (laid entries) operands (events.build_map entries) go (built_map count (exec code k) mid entries operands many) below)))
+
+-- several expressions
+abbrev AllPerform : Coded → ((List Val → Process) → Process) → ℕ → Type 0
+AllPerform piece walk count = (code : List Code) (place : ℕ) → StandsAt code place (piece place) → GivesAll code walk count place (place + length (piece place))
+
+none_at_all : AllPerform nothing (λ go. go []) 0
+none_at_all code place h k = (k, λ operands go below. unmoved code k place operands (go []) (below [] refl))
+
+one_more : (first more : Coded) (f : (Val → Process) → Process) (g : (List Val → Process) → Process) (count : ℕ) → Performs first f → AllPerform more g count
+    → AllPerform (then_code first more) (λ go. f (λ v. g (λ vs. go (v ∷ vs)))) (suc count)
+unfolding pushed
+one_more first more f g count pf pg code place stands k =
+    let more_at = place + length (first place) in
+    let b = pg code more_at (stands_second code place first more stands) k in
+    let a = pf code place (stands_first code place first more stands) b.0 in
+    (a.0, λ operands go below.
+      a.1 operands (λ v. g (λ vs. go (v ∷ vs)))
+      (λ v. b.1 (single v ∷ operands) (λ vs. go (v ∷ vs))
+        (λ vs many. moved code k (place + length (then_code first more place)) (more_at + length (more more_at)) (pushed vs (single v ∷ operands)) (go (v ∷ vs)) (behind_then first more place) (below (v ∷ vs) (ap suc many)))))
+
+-- no links are left: what the last comparison gave stays
+linked_over : LinkedPerforms no_links
+linked_over code place at_drop h e drop k =
+    (suc (suc k), λ v holds operands go below.
+      let P : ℕ → Type 0 = λ n. Below (step (go holds)) (exec code (suc (suc k)) n (single holds ∷ single v ∷ operands)) in
+      let same : at_drop ≡ place = omega arith in
+      subst P same (drops_at code at_drop drop k v holds operands (go holds) (below holds)))
+
+-- one more link
+linked_on : (op : CompareOpKind) (piece : Coded) (e : Expression) (links : Links) → Performs piece (expression_walk e) → LinkedPerforms links → (code : List Code) (place at_drop : ℕ)
+    → StandsAt code place (skipped jump_if_false_or_pop (then_code (compared_code op piece) (linked_code links)) place) → place + length (skipped jump_if_false_or_pop (then_code (compared_code op piece) (linked_code links)) place) ≡ at_drop
+    → StandsAt code at_drop (dropped at_drop) → (k : ℕ)
+    → (j : ℕ) × ((v holds : Val) (operands : List Operand) (go : Val → Process) → ((u : Val) → Below (go u) (exec code k (suc (suc at_drop)) (single u ∷ operands)))
+      → Below (step (asks (truth_of holds) (on_truth (expression_walk e (λ w. step (asks (events.compare op v w) (on_value (λ later. linked_walk w later links go))))) (step (go holds))))) (exec code j place (single holds ∷ single v ∷ operands)))
+linked_on op piece e links f rest code place at_drop h same drop k =
+    let inner = then_code (compared_code op piece) (linked_code links) in
+    let behind = suc place + length (inner (suc place)) in
+    let there : behind ≡ at_drop = behind_skipped jump_if_false_or_pop inner place ∙ same in
+    let later = compares_then op piece (expression_walk e) links f rest code (suc place) at_drop (behind_one code place (jump_if_false_or_pop behind) (inner (suc place)) h) there drop k in
+    let m = later.0 + suc (suc k) in
+    (suc m, λ v holds operands go below.
+      tests_at code place (jump_if_false_or_pop behind) (inner (suc place)) h m (single holds ∷ single v ∷ operands) (truth_of holds)
+      (expression_walk e (λ w. step (asks (events.compare op v w) (on_value (λ later. linked_walk w later links go))))) (step (go holds))
+      (exec code m (suc place) (single v ∷ operands)) (exec code m behind (single holds ∷ single v ∷ operands)) refl
+      (longer code later.0 m (suc place) (single v ∷ operands) _ (omega arith) (later.1 v operands go below))
+      (longer code (suc (suc k)) m behind (single holds ∷ single v ∷ operands) (step (go holds)) (omega arith)
+        (moved code (suc (suc k)) at_drop behind (single holds ∷ single v ∷ operands) (step (go holds)) (sym there) (drops_at code at_drop drop k v holds operands (go holds) (below holds)))))
+
+-- a chain's links, over the value at their left
+over_chain : (op : CompareOpKind) (e : Expression) (links : Links) → Performs (expression_code e) (expression_walk e) → LinkedPerforms links
+    → Over (then_code (compared_code op (expression_code e)) (then_code (linked_code links) dropped)) (λ v go. expression_walk e (λ w. step (asks (events.compare op v w) (on_value (λ holds. linked_walk w holds links go)))))
+over_chain op e links f rest code place h k =
+    let first = compared_code op (expression_code e) in
+    let later = then_code (linked_code links) dropped in
+    let mid = place + length (first place) in
+    let behind = stands_second code place first later h in
+    let at_drop = mid + length (linked_code links mid) in
+    let drop = stands_second code mid (linked_code links) dropped behind in
+    let compare_at = place + length (expression_code e place) in
+    let stands = stands_first code place first later h in
+    let b = rest code mid at_drop (stands_first code mid (linked_code links) dropped behind) refl drop k in
+    let a = f code place (stands_first code place (expression_code e) (one (compare_and_preserve op)) stands) (suc b.0) in
+    (a.0, λ v operands go below.
+      let there : (u : Val) → Below (go u) (exec code k (suc (suc at_drop)) (single u ∷ operands)) =
+      λ u. moved code k (place + length (then_code first later place)) (suc (suc at_drop)) (single u ∷ operands) (go u) (behind_then first later place ∙ behind_then (linked_code links) dropped mid ∙ two_behind at_drop) (below u) in
+      a.1 (single v ∷ operands) (λ w. step (asks (events.compare op v w) (on_value (λ holds. linked_walk w holds links go))))
+      (λ w. asks_at code compare_at (compare_and_preserve op) [] (stands_second code place (expression_code e) (one (compare_and_preserve op)) stands) b.0 (single w ∷ single v ∷ operands) (single w ∷ operands) (events.compare op v w) (λ holds. linked_walk w holds links go) refl
+        (λ holds. moved code b.0 mid (suc compare_at) (single holds ∷ single w ∷ operands) (linked_walk w holds links go)
+          (behind_then (expression_code e) (one (compare_and_preserve op)) place ∙ sym (behind_single compare_at (compare_and_preserve op))) (b.1 w holds operands go there))))
+    where
+    two_behind : (n : ℕ) → n + length (dropped n) ≡ suc (suc n)
+    two_behind n = omega arith
+
+-- what has no walk
+unwalked : (piece : Coded) → Performs piece (λ go. cut_short)
+unwalked piece code place h k = (0, λ operands go below. below-cut_short _)
+
+mutual
+  pub performs : (e : Expression) → Performs (expression_code e) (expression_walk e)
+  performs (variable name) = looks_up name
+  performs (constant v) = performs_load v
+  performs (unary op e) =
+      performs_loaded (constant_of (unary op e)) (then_code (expression_code e) (one (unary_code op))) (λ go. expression_walk e (λ v. step (asks (unary_ask op v) (on_value go))))
+      (gives_then (expression_code e) (one (unary_code op)) (expression_walk e) (λ v go. step (asks (unary_ask op v) (on_value go))) (performs e) (over_unary op))
+  performs (binary op left right) =
+      performs_loaded (constant_of (binary op left right)) (binary_code op (expression_code left) (expression_code right)) (binary_walk op (expression_walk left) (expression_walk right))
+      (performs_binary op (expression_code left) (expression_code right) (expression_walk left) (expression_walk right) (performs left) (performs right))
+  performs (chain first links) =
+      performs_loaded (constant_of (chain first links)) (then_code (expression_code first) (chain_code links)) (λ go. expression_walk first (λ v. chain_walk v links go))
+      (gives_then (expression_code first) (chain_code links) (expression_walk first) (λ v go. chain_walk v links go) (performs first) (performs_chain links))
+  performs (conditional test branch otherwise) =
+      gives_then (expression_code test) (either_code (expression_code branch) (optional_code silent_undefined otherwise)) (expression_walk test)
+      (λ v go. step (asks (truth_of v) (on_truth (expression_walk branch (λ w. step (go w))) (optional_walk silent_undefined otherwise go)))) (performs test)
+      (over_either (expression_code branch) (optional_code silent_undefined otherwise) (expression_walk branch) (optional_walk silent_undefined otherwise) (performs branch) (performs_optional otherwise silent_undefined))
+  performs (attribute e name) =
+      gives_then (expression_code e) (one (get_attr name)) (expression_walk e) (λ v go. step (asks (events.get_attribute v name) (on_value go))) (performs e)
+      (over_one (get_attr name) (λ v. events.get_attribute v name) (λ next place v operands. refl))
+  performs (item e key) =
+      gives_then (expression_code e) (then_code (expression_code key) (one get_item)) (expression_walk e) (λ v go. expression_walk key (λ k. step (asks (events.get_item v k) (on_value go)))) (performs e)
+      (over_two (expression_code key) (expression_walk key) get_item events.get_item (performs key) (λ next place v w operands. refl))
+  performs (tree.slice e start stop by) =
+      gives_then (expression_code e) (then_code (optional_code none start) (then_code (optional_code none stop) (then_code (optional_code none by) (one slice)))) (expression_walk e)
+      (λ v go. optional_walk none start (λ a. optional_walk none stop (λ b. optional_walk none by (λ c. step (asks (events.get_slice v a b c) (on_value go)))))) (performs e)
+      (over_slice (optional_code none start) (optional_code none stop) (optional_code none by) (optional_walk none start) (optional_walk none stop) (optional_walk none by)
+        (performs_optional start none) (performs_optional stop none) (performs_optional by none))
+  performs (list_literal es) =
+      performs_loaded (constant_of (list_literal es)) (then_code (expressions_code es) (one (build_list (number_of es)))) (λ go. expressions_walk es (λ vs. step (asks (events.build_list vs) (on_value go))))
+      (performs_built (expressions_code es) (expressions_walk es) (number_of es) (build_list (number_of es)) events.build_list (performs_all es) (built_list (number_of es)))
+  performs (tuple_literal es) =
+      performs_loaded (constant_of (tuple_literal es)) (then_code (expressions_code es) (one (build_tuple (number_of es)))) (λ go. expressions_walk es (λ vs. step (asks (events.build_tuple vs) (on_value go))))
+      (performs_built (expressions_code es) (expressions_walk es) (number_of es) (build_tuple (number_of es)) events.build_tuple (performs_all es) (built_tuple (number_of es)))
+  performs (map_literal ks vs) =
+      performs_loaded (constant_of (map_literal ks vs)) (then_code (entries_code ks (codes_of vs)) (one (build_map (entry_count ks (codes_of vs))))) (λ go. entries_walk ks (walks_of vs) (λ entries. step (asks (events.build_map entries) (on_value go))))
+      (performs_map (entries_code ks (codes_of vs)) (entries_walk ks (walks_of vs)) (entry_count ks (codes_of vs)) (performs_entries ks (codes_of vs) (walks_of vs) (performs_each vs)))
+  performs _ = unwalked _
+
+  performs_optional : (o : Optional) (missing : Val) → Performs (optional_code missing o) (optional_walk missing o)
+  performs_optional absent missing = performs_load missing
+  performs_optional (given e) missing = performs e
+
+  performs_all : (es : Expressions) → AllPerform (expressions_code es) (expressions_walk es) (number_of es)
+  performs_all no_expressions = none_at_all
+  performs_all (expressions_more e es) = one_more (expression_code e) (expressions_code es) (expression_walk e) (expressions_walk es) (number_of es) (performs e) (performs_all es)
+
+  performs_each : (es : Expressions) → EachPerforms (codes_of es) (walks_of es)
+  performs_each no_expressions = none_left
+  performs_each (expressions_more e es) = each_more (performs e) (performs_each es)
+
+  performs_entries : (ks : Expressions) (pieces : List Coded) (walks : List ((Val → Process) → Process)) → EachPerforms pieces walks → EntriesPerform (entries_code ks pieces) (entries_walk ks walks) (entry_count ks pieces)
+  performs_entries no_expressions pieces walks each = no_entries
+  performs_entries (expressions_more key ks) _ _ none_left = no_entries
+  performs_entries (expressions_more key ks) _ _ (each_more {piece = piece} {walk = walk} {pieces = pieces} {walks = walks} f each) =
+      more_entries (expression_code key) piece (entries_code ks pieces) (expression_walk key) walk (entries_walk ks walks) (entry_count ks pieces) (performs key) f (performs_entries ks pieces walks each)
+
+  performs_chain : (links : Links) → Over (chain_code links) (λ v go. chain_walk v links go)
+  performs_chain no_links = λ code place h k. (0, λ v operands go below. below-cut_short _)
+  performs_chain (links_more op e links) = over_chain op e links (performs e) (performs_linked links)
+
+  performs_linked : (links : Links) → LinkedPerforms links
+  performs_linked no_links = linked_over
+  performs_linked (links_more op e links) = linked_on op (expression_code e) e links (performs e) (performs_linked links)
