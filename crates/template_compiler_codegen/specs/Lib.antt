@@ -1,2 +1,3 @@
 pub mod Expressions
 pub mod Statements
+pub mod Laws
