@@ -2,3 +2,5 @@ pub mod Code
 pub mod Prices
 pub mod Steps
 pub mod Laws
+pub mod View
+pub mod Listing
