@@ -22,43 +22,9 @@ use Rattle.template_machine_meaning.specs.Replies.{refused}
 use Rattle.template_machine_meaning.specs.Includes.{Runner, choices_in, standing_or, named_or, first_standing, told_of, include_levels, within, wrapped, included_run, included_by, included_from}
 use Rattle.template_machine_meaning.specs.Surroundings.{Program, Programs, runners, answer}
 use Rattle.template_machine_meaning.specs.Meaning.{Standing, Setting, walks_of, meaning}
+use Rattle.template_machine_meaning.proofs.Included.{found, with_runner, first_is, mapped}
 use Rattle.template_machine_codes.specs.Codes.{codes_of, code_meaning}
 use Rattle.template_machine_codes.specs.Laws.{CodeMeansTree}
-
--- runners that run each template that stands in one way
-abbrev RunsBy : Setting → (List ℕ → Option Runner) → (Standing → Runner) → Type 0
-RunsBy setting all one_runner = (name : List ℕ) → all name ≡ option_map one_runner (setting.templates name)
-
-abbrev standing_found : Option Standing → Result (Option Standing) ErrorKind → Result (Option Standing) ErrorKind
-standing_found None later = later
-standing_found (Some t) later = Ok (Some t)
-
-abbrev named_found : Setting → Option (List ℕ) → Result (Option Standing) ErrorKind → Result (Option Standing) ErrorKind
-named_found setting None later = Err InvalidOperation
-named_found setting (Some name) later = standing_found (setting.templates name) later
-
-abbrev found : Setting → List Val → Result (Option Standing) ErrorKind
-found setting [] = Ok None
-found setting (v ∷ vs) = named_found setting (text_in v) (found setting vs)
-
-abbrev with_runner : (Standing → Runner) → Result (Option Standing) ErrorKind → Result (Option Runner) ErrorKind
-with_runner f (Ok None) = Ok None
-with_runner f (Ok (Some t)) = Ok (Some (f t))
-with_runner f (Err kind) = Err kind
-
-standing_is : (f : Standing → Runner) (o : Option Standing) (later : Result (Option Runner) ErrorKind) (r : Result (Option Standing) ErrorKind) → later ≡ with_runner f r
-    → standing_or (option_map f o) later ≡ with_runner f (standing_found o r)
-standing_is f None later r is = is
-standing_is f (Some t) later r is = refl
-
-named_is : (setting : Setting) (all : List ℕ → Option Runner) (f : Standing → Runner) → RunsBy setting all f → (name : Option (List ℕ)) (later : Result (Option Runner) ErrorKind) (r : Result (Option Standing) ErrorKind)
-    → later ≡ with_runner f r → named_or name all later ≡ with_runner f (named_found setting name r)
-named_is setting all f by None later r is = refl
-named_is setting all f by (Some name) later r is = ap (λ o. standing_or o later) (by name) ∙ standing_is f (setting.templates name) later r is
-
-first_is : (setting : Setting) (all : List ℕ → Option Runner) (f : Standing → Runner) → RunsBy setting all f → (vs : List Val) → first_standing all vs ≡ with_runner f (found setting vs)
-first_is setting all f by [] = refl
-first_is setting all f by (v ∷ vs) = named_is setting all f by (text_in v) (first_standing all vs) (found setting vs) (first_is setting all f by vs)
 
 -- how the walks and the codes run
 abbrev walk_unfinished : Setting → Standing → Runner
@@ -69,10 +35,6 @@ walk_runner setting n t = record { escape = t.escape; runs = run (answer (walks_
 
 abbrev code_runner : Setting → ℕ → Standing → Runner
 code_runner setting m t = record { escape = t.escape; runs = run (answer (codes_of setting) m) (exec (template_code t.tree) m 0 []) }
-
-mapped : (escape_of : Standing → Program) (f : Program → Runner) (g : Standing → Runner) (o : Option Standing) → ((t : Standing) → f (escape_of t) ≡ g t) → option_map f (option_map escape_of o) ≡ option_map g o
-mapped escape_of f g None same = refl
-mapped escape_of f g (Some t) same = ap Some (same t)
 
 -- an event is answered alike, from some bound on; or what it starts does not come to its end
 abbrev AnsweredAlike : Setting → ℕ → World → Ask → Type 0

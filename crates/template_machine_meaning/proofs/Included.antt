@@ -25,46 +25,53 @@ use Rattle.template_machine_meaning.proofs.Expressions.{Kept}
 use Rattle.template_machine_meaning.proofs.Scopes.{IsFramed}
 
 -- the first of the choices that stands
-abbrev standing_found : Option Standing → Result (Option Standing) ErrorKind → Result (Option Standing) ErrorKind
+abbrev pub standing_found : Option Standing → Result (Option Standing) ErrorKind → Result (Option Standing) ErrorKind
 standing_found None later = later
 standing_found (Some t) later = Ok (Some t)
 
-abbrev named_found : Setting → Option (List ℕ) → Result (Option Standing) ErrorKind → Result (Option Standing) ErrorKind
+abbrev pub named_found : Setting → Option (List ℕ) → Result (Option Standing) ErrorKind → Result (Option Standing) ErrorKind
 named_found setting None later = Err InvalidOperation
 named_found setting (Some name) later = standing_found (setting.templates name) later
 
-abbrev found : Setting → List Val → Result (Option Standing) ErrorKind
+abbrev pub found : Setting → List Val → Result (Option Standing) ErrorKind
 found setting [] = Ok None
 found setting (v ∷ vs) = named_found setting (text_in v) (found setting vs)
 
--- how it runs, where a bound is left
-abbrev runner_of : Setting → ℕ → Standing → Runner
-runner_of setting n t = record { escape = t.escape; runs = run (answer (walks_of setting) n) (template_walk n t.tree) }
+-- runners that run each template that stands in one way
+abbrev pub RunsBy : Setting → (List ℕ → Option Runner) → (Standing → Runner) → Type 0
+RunsBy setting all runner = (name : List ℕ) → all name ≡ option_map runner (setting.templates name)
 
-abbrev with_runner : (Standing → Runner) → Result (Option Standing) ErrorKind → Result (Option Runner) ErrorKind
+abbrev pub with_runner : (Standing → Runner) → Result (Option Standing) ErrorKind → Result (Option Runner) ErrorKind
 with_runner f (Ok None) = Ok None
 with_runner f (Ok (Some t)) = Ok (Some (f t))
 with_runner f (Err kind) = Err kind
 
-mapped_twice : (setting : Setting) (n : ℕ) (o : Option Standing)
-    → option_map (λ (p : Program). record { escape = p.escape; runs = run (answer (walks_of setting) n) p.process }) (option_map (λ (t : Standing). record { escape = t.escape; process = template_walk n t.tree }) o) ≡ option_map (runner_of setting n) o
-mapped_twice setting n None = refl
-mapped_twice setting n (Some t) = refl
+standing_is : (f : Standing → Runner) (o : Option Standing) (later : Result (Option Runner) ErrorKind) (r : Result (Option Standing) ErrorKind) → later ≡ with_runner f r
+    → standing_or (option_map f o) later ≡ with_runner f (standing_found o r)
+standing_is f None later r is = is
+standing_is f (Some t) later r is = refl
 
-standing_is : (setting : Setting) (n : ℕ) (o : Option Standing) (later : Result (Option Runner) ErrorKind) (r : Result (Option Standing) ErrorKind) → later ≡ with_runner (runner_of setting n) r
-    → standing_or (option_map (runner_of setting n) o) later ≡ with_runner (runner_of setting n) (standing_found o r)
-standing_is setting n None later r is = is
-standing_is setting n (Some t) later r is = refl
+named_is : (setting : Setting) (all : List ℕ → Option Runner) (f : Standing → Runner) → RunsBy setting all f → (name : Option (List ℕ)) (later : Result (Option Runner) ErrorKind) (r : Result (Option Standing) ErrorKind)
+    → later ≡ with_runner f r → named_or name all later ≡ with_runner f (named_found setting name r)
+named_is setting all f by None later r is = refl
+named_is setting all f by (Some name) later r is = ap (λ o. standing_or o later) (by name) ∙ standing_is f (setting.templates name) later r is
 
-named_is : (setting : Setting) (n : ℕ) (name : Option (List ℕ)) (later : Result (Option Runner) ErrorKind) (r : Result (Option Standing) ErrorKind) → later ≡ with_runner (runner_of setting n) r
-    → named_or name (runners (walks_of setting) (suc n)) later ≡ with_runner (runner_of setting n) (named_found setting name r)
-named_is setting n None later r is = refl
-named_is setting n (Some name) later r is =
-    ap (λ o. standing_or o later) (mapped_twice setting n (setting.templates name)) ∙ standing_is setting n (setting.templates name) later r is
+pub first_is : (setting : Setting) (all : List ℕ → Option Runner) (f : Standing → Runner) → RunsBy setting all f → (vs : List Val) → first_standing all vs ≡ with_runner f (found setting vs)
+first_is setting all f by [] = refl
+first_is setting all f by (v ∷ vs) = named_is setting all f by (text_in v) (first_standing all vs) (found setting vs) (first_is setting all f by vs)
 
-first_is : (setting : Setting) (n : ℕ) (vs : List Val) → first_standing (runners (walks_of setting) (suc n)) vs ≡ with_runner (runner_of setting n) (found setting vs)
-first_is setting n [] = refl
-first_is setting n (v ∷ vs) = named_is setting n (text_in v) (first_standing (runners (walks_of setting) (suc n)) vs) (found setting vs) (first_is setting n vs)
+-- what runs a process of each template runs each template
+pub mapped : (f : Standing → Program) (g : Program → Runner) (h : Standing → Runner) (o : Option Standing) → ((t : Standing) → g (f t) ≡ h t) → option_map g (option_map f o) ≡ option_map h o
+mapped f g h None same = refl
+mapped f g h (Some t) same = ap Some (same t)
+
+-- how a template that stands runs, where a bound is left
+abbrev runner_of : Setting → ℕ → Standing → Runner
+runner_of setting n t = record { escape = t.escape; runs = run (answer (walks_of setting) n) (template_walk n t.tree) }
+
+walks_run : (setting : Setting) (n : ℕ) → RunsBy setting (runners (walks_of setting) (suc n)) (runner_of setting n)
+walks_run setting n name =
+    mapped (λ (t : Standing). record { escape = t.escape; process = template_walk n t.tree }) (λ (p : Program). record { escape = p.escape; runs = run (answer (walks_of setting) n) p.process }) (runner_of setting n) (setting.templates name) (λ t. refl)
 
 abbrev FoundRuns : Result (Option Standing) ErrorKind → Type 0
 FoundRuns (Ok (Some t)) = IsRunnableTemplate t.tree
@@ -183,7 +190,7 @@ module _ (setting : Setting) (w : World) (ignore_missing : Bool) (v : Val) where
   chosen_settles : AreAllRunnable setting → IsFramed w → ((w.outer + include_levels ≤ setting.limit) → AllSettle setting (w.outer + include_levels)) → (choices : Result (List Val) ErrorKind) → choices_in nothing_known v ≡ choices → IncludeSettles
   chosen_settles all framed deeper (Ok vs) e =
       found_settles vs (found setting vs) (found_runs setting all vs) framed deeper
-      (λ n. ap (reply_of (suc n)) e ∙ ap (included_by setting.limit w ignore_missing vs) (first_is setting n vs))
+      (λ n. ap (reply_of (suc n)) e ∙ ap (included_by setting.limit w ignore_missing vs) (first_is setting (runners (walks_of setting) (suc n)) (runner_of setting n) (walks_run setting n) vs))
   chosen_settles all framed deeper (Err kind) e = settles_plainly (refused w kind) (λ n. ap (reply_of (suc n)) e) (inr (kind, refl))
 
   pub settles_include : AreAllRunnable setting → IsFramed w → ((w.outer + include_levels ≤ setting.limit) → AllSettle setting (w.outer + include_levels)) → IncludeSettles
