@@ -6,4 +6,5 @@ use Rattle.template_code.specs.Steps.{exec}
 
 -- Code that may run for more instructions does what it did, as far as that went.
 abbrev pub CodeRises : Type 0
-CodeRises = (code : List Code) (k m : ℕ) → k ≤ m → (place : ℕ) (operands : List Operand) → Below (exec code k place operands) (exec code m place operands)
+CodeRises = (code : List Code) (k m : ℕ) → k ≤ m → (place : ℕ) (operands : List Operand)
+    → Below (exec code k place operands) (exec code m place operands)

@@ -67,16 +67,23 @@ abbrev mutual
   expression_code (variable name) = one (lookup name)
   expression_code (constant v) = one (load_const v)
   expression_code (unary op e) = loaded (constant_of (unary op e)) (then_code (expression_code e) (one (unary_code op)))
-  expression_code (binary op left right) = loaded (constant_of (binary op left right)) (binary_code op (expression_code left) (expression_code right))
+  expression_code (binary op left right) =
+      loaded (constant_of (binary op left right)) (binary_code op (expression_code left) (expression_code right))
   expression_code (chain first links) = loaded (constant_of (chain first links)) (then_code (expression_code first) (chain_code links))
-  expression_code (conditional test branch otherwise) = then_code (expression_code test) (either_code (expression_code branch) (optional_code silent_undefined otherwise))
+  expression_code (conditional test branch otherwise) =
+      then_code (expression_code test) (either_code (expression_code branch) (optional_code silent_undefined otherwise))
   expression_code (attribute e name) = then_code (expression_code e) (one (get_attr name))
   expression_code (item e key) = then_code (expression_code e) (then_code (expression_code key) (one get_item))
   expression_code (tree.slice e start stop by) =
-      then_code (expression_code e) (then_code (optional_code none start) (then_code (optional_code none stop) (then_code (optional_code none by) (one slice))))
-  expression_code (list_literal es) = loaded (constant_of (list_literal es)) (then_code (expressions_code es) (one (build_list (number_of es))))
-  expression_code (tuple_literal es) = loaded (constant_of (tuple_literal es)) (then_code (expressions_code es) (one (build_tuple (number_of es))))
-  expression_code (map_literal ks vs) = loaded (constant_of (map_literal ks vs)) (then_code (entries_code ks (codes_of vs)) (one (build_map (entry_count ks (codes_of vs)))))
+      then_code (expression_code e) (then_code (optional_code none start)
+        (then_code (optional_code none stop) (then_code (optional_code none by) (one slice))))
+  expression_code (list_literal es) =
+      loaded (constant_of (list_literal es)) (then_code (expressions_code es) (one (build_list (number_of es))))
+  expression_code (tuple_literal es) =
+      loaded (constant_of (tuple_literal es)) (then_code (expressions_code es) (one (build_tuple (number_of es))))
+  expression_code (map_literal ks vs) =
+      loaded (constant_of (map_literal ks vs))
+      (then_code (entries_code ks (codes_of vs)) (one (build_map (entry_count ks (codes_of vs)))))
   expression_code _ = one unsupported
 
   -- what is left out is a constant
@@ -101,9 +108,11 @@ abbrev mutual
   -- the comparisons of a chain, behind the value at their left; in the end the value below the last truth is dropped
   pub chain_code : Links → Coded
   chain_code no_links = one unsupported
-  chain_code (links_more op e links) = then_code (then_code (expression_code e) (one (compare_and_preserve op))) (then_code (linked_code links) dropped)
+  chain_code (links_more op e links) =
+      then_code (then_code (expression_code e) (one (compare_and_preserve op))) (then_code (linked_code links) dropped)
 
   -- the later ones, each of which may be leapt over with all behind it
   pub linked_code : Links → Coded
   linked_code no_links = nothing
-  linked_code (links_more op e links) = skipped jump_if_false_or_pop (then_code (then_code (expression_code e) (one (compare_and_preserve op))) (linked_code links))
+  linked_code (links_more op e links) =
+      skipped jump_if_false_or_pop (then_code (then_code (expression_code e) (one (compare_and_preserve op))) (linked_code links))

@@ -16,6 +16,10 @@ pub record Ways : Type 0 where
 abbrev pub no_ways : Ways
 no_ways = record { closings = []; break_to = 0; continue_to = 0 }
 
+-- a loop's own
+abbrev pub own_ways : ℕ → ℕ → Ways
+own_ways break_to continue_to = record { closings = []; break_to = break_to; continue_to = continue_to }
+
 -- one more thing is open
 abbrev pub closing_with : Code → Ways → Ways
 closing_with close ways = record ways { closings = close ∷ ways.closings }
@@ -51,7 +55,8 @@ rounds_code target body place =
 -- behind the rounds: the loop's frame is closed; an else part runs where no item was given
 abbrev pub loop_end_code : Statements → Coded → Coded
 loop_end_code no_statements otherwise = one pop_loop_frame
-loop_end_code (statements_more s ss) otherwise = then_code (one push_did_not_iterate) (then_code (one pop_loop_frame) (skipped jump_if_false otherwise))
+loop_end_code (statements_more s ss) otherwise =
+    then_code (one push_did_not_iterate) (then_code (one pop_loop_frame) (skipped jump_if_false otherwise))
 
 -- a branch, with an else part where one follows
 abbrev pub branches_code : Statements → Coded → Coded → Coded
@@ -67,15 +72,17 @@ abbrev mutual
   statement_code ways (print e) = then_code (expression_code e) (one emit)
   statement_code ways (for_loop target e absent false body otherwise) =
       then_code (expression_code e) (then_code (one (push_loop loop_flags))
-        (then_code (rounds_code (target_code target) (λ break_to continue_to. statements_code (record { closings = []; break_to = break_to; continue_to = continue_to }) body))
+        (then_code (rounds_code (target_code target) (λ break_to continue_to. statements_code (own_ways break_to continue_to) body))
           (loop_end_code otherwise (statements_code ways otherwise))))
   statement_code ways (if_condition e body otherwise) =
       then_code (expression_code e) (branches_code otherwise (statements_code ways body) (statements_code ways otherwise))
   statement_code ways (with_block assignments body) =
-      then_code (one push_with) (then_code (assignments_code assignments) (then_code (statements_code (closing_with pop_frame ways) body) (one pop_frame)))
+      then_code (one push_with) (then_code (assignments_code assignments)
+        (then_code (statements_code (closing_with pop_frame ways) body) (one pop_frame)))
   statement_code ways (set target e) = then_code (expression_code e) (target_code target)
   statement_code ways (auto_escape e body) =
-      then_code (expression_code e) (then_code (one push_auto_escape) (then_code (statements_code (closing_with pop_auto_escape ways) body) (one pop_auto_escape)))
+      then_code (expression_code e) (then_code (one push_auto_escape)
+        (then_code (statements_code (closing_with pop_auto_escape ways) body) (one pop_auto_escape)))
   statement_code ways (tree.include e ignore_missing) = then_code (expression_code e) (one (include ignore_missing))
   statement_code ways continue_loop = left_by ways.closings ways.continue_to
   statement_code ways break_loop = left_by ways.closings ways.break_to

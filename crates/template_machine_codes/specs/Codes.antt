@@ -6,13 +6,17 @@ use Rattle.template_code.specs.Code.{Code}
 use Rattle.template_code.specs.Steps.{exec}
 use Rattle.template_compiler_codegen.specs.Statements.{template_code}
 use Rattle.template_machine_meaning.specs.World.{World}
-use Rattle.template_machine_meaning.specs.Surroundings.{Programs, answer}
+use Rattle.template_machine_meaning.specs.Surroundings.{Program, Programs, answer}
 use Rattle.template_machine_meaning.specs.Meaning.{Standing, Setting}
+
+-- the code of a template, under a bound
+abbrev pub coded : ℕ → Standing → Program
+coded n t = record { escape = t.escape; process = exec (template_code t.tree) n 0 [] }
 
 -- the code of each template that stands
 abbrev pub codes_of : Setting → Programs
 codes_of setting = record {
-  program = λ n name. option_map (λ (t : Standing). record { escape = t.escape; process = exec (template_code t.tree) n 0 [] }) (setting.templates name);
+  program = λ n name. option_map (coded n) (setting.templates name);
   limit = setting.limit;
   undefined = setting.undefined;
 }

@@ -21,11 +21,13 @@ Rises s = (n m : ℕ) (name : List ℕ) → n ≤ m → ProgramGoesFurther (s.pr
 
 -- Under a greater bound a process that goes further gives a run that extends.
 abbrev pub BoundsExtend : Type 0
-BoundsExtend = (s : Programs) → Rises s → (n m : ℕ) → n ≤ m → (p q : Process) (w : World) → Below p q → Extends (run (answer s n) p w) (run (answer s m) q w)
+BoundsExtend = (s : Programs) → Rises s → (n m : ℕ) → n ≤ m → (p q : Process) (w : World) → Below p q
+    → Extends (run (answer s n) p w) (run (answer s m) q w)
 
 -- A meaning that is finished under a bound is the same under every greater one, and what is not has begun there.
 abbrev pub MeaningsExtend : Type 0
-MeaningsExtend = (setting : Setting) (n m : ℕ) → n ≤ m → (tree : Statements) (w : World) → Extends (meaning setting n tree w) (meaning setting m tree w)
+MeaningsExtend = (setting : Setting) (n m : ℕ) → n ≤ m → (tree : Statements) (w : World)
+    → Extends (meaning setting n tree w) (meaning setting m tree w)
 
 -- each template that stands is made of constructs that have a walk
 abbrev pub AreAllRunnable : Setting → Type 0
@@ -39,4 +41,5 @@ EveryRunEnds = (setting : Setting) → AreAllRunnable setting → (tree : Statem
 -- A run that is finished under two bounds is the same under both.
 abbrev pub OneMeaning : Type 0
 OneMeaning = (setting : Setting) (n m : ℕ) (tree : Statements) (w : World)
-    → IsFinished (meaning setting n tree w).end → IsFinished (meaning setting m tree w).end → meaning setting n tree w ≡ meaning setting m tree w
+    → IsFinished (meaning setting n tree w).end → IsFinished (meaning setting m tree w).end
+    → meaning setting n tree w ≡ meaning setting m tree w

@@ -20,10 +20,14 @@ pub record Setting : Type 0 where
   pub limit : ℕ
   pub undefined : UndefinedBehavior
 
+-- its walk, under a bound
+abbrev pub walk_of : ℕ → Standing → Program
+walk_of n t = record { escape = t.escape; process = template_walk n t.tree }
+
 -- the walk of each template that stands
 abbrev pub walks_of : Setting → Programs
 walks_of setting = record {
-  program = λ n name. option_map (λ (t : Standing). record { escape = t.escape; process = template_walk n t.tree }) (setting.templates name);
+  program = λ n name. option_map (walk_of n) (setting.templates name);
   limit = setting.limit;
   undefined = setting.undefined;
 }

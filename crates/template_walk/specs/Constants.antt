@@ -67,4 +67,5 @@ abbrev mutual
   pub chain_constant : Val → Links → Option Val
   chain_constant v no_links = None
   chain_constant v (links_more op e links) =
-      option_and_then (λ w. option_and_then (λ holds. chain_decided holds links (chain_constant w links)) (made (compared nothing_known op v w))) (constant_of e)
+      option_and_then (λ w. option_and_then (λ holds. chain_decided holds links (chain_constant w links))
+        (made (compared nothing_known op v w))) (constant_of e)

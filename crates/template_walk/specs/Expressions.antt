@@ -6,7 +6,7 @@ use Rattle.template_tree.specs.declared.operators.UnaryOpKind.TheVariants.{Not, 
 use Rattle.template_tree.specs.declared.operators.BinOpKind.{BinOpKind}
 use Rattle.template_tree.specs.declared.operators.BinOpKind.TheVariants.{ScAnd, ScOr}
 use Rattle.template_tree.specs.Tree.{Expression, Optional, Expressions, Links, variable, constant, slice, unary, binary, chain, conditional, attribute, item, list_literal, tuple_literal, map_literal, absent, given, no_expressions, expressions_more, no_links, links_more}
-use Rattle.template_process.specs.Process.{Ask, look_up, negate, invert, operate, compare, get_attribute, get_item, get_slice, build_list, build_tuple, build_map, truth_of, Process, step, asks, cut_short, on_value, on_truth}
+use Rattle.template_process.specs.Process.{Ask, look_up, negate, invert, operate, compare, get_attribute, get_item, get_slice, build_list, build_tuple, build_map, Process, step, cut_short, value_asked, truth_asked}
 use Rattle.template_walk.specs.Constants.{constant_of}
 
 -- a constant costs one step and asks nothing; what is none does its own walk
@@ -20,26 +20,31 @@ unary_ask Neg v = negate v
 
 -- both sides, and one step; of `and` and `or` the right side alone where the left one does not decide
 abbrev pub binary_walk : BinOpKind → ((Val → Process) → Process) → ((Val → Process) → Process) → (Val → Process) → Process
-binary_walk ScAnd left right go = left (λ v. step (asks (truth_of v) (on_truth (right go) (go v))))
-binary_walk ScOr left right go = left (λ v. step (asks (truth_of v) (on_truth (go v) (right go))))
-binary_walk op left right go = left (λ v. right (λ w. step (asks (operate op v w) (on_value go))))
+binary_walk ScAnd left right go = left (λ v. truth_asked v (right go) (go v))
+binary_walk ScOr left right go = left (λ v. truth_asked v (go v) (right go))
+binary_walk op left right go = left (λ v. right (λ w. value_asked (operate op v w) go))
 
 abbrev mutual
   pub expression_walk : Expression → (Val → Process) → Process
-  expression_walk (variable name) go = step (asks (look_up name) (on_value go))
+  expression_walk (variable name) go = value_asked (look_up name) go
   expression_walk (constant v) go = step (go v)
-  expression_walk (unary op e) go = folded (constant_of (unary op e)) go (expression_walk e (λ v. step (asks (unary_ask op v) (on_value go))))
-  expression_walk (binary op left right) go = folded (constant_of (binary op left right)) go (binary_walk op (expression_walk left) (expression_walk right) go)
+  expression_walk (unary op e) go = folded (constant_of (unary op e)) go (expression_walk e (λ v. value_asked (unary_ask op v) go))
+  expression_walk (binary op left right) go =
+      folded (constant_of (binary op left right)) go (binary_walk op (expression_walk left) (expression_walk right) go)
   expression_walk (chain first links) go = folded (constant_of (chain first links)) go (expression_walk first (λ v. chain_walk v links go))
   expression_walk (conditional test branch otherwise) go =
-      expression_walk test (λ v. step (asks (truth_of v) (on_truth (expression_walk branch (λ w. step (go w))) (optional_walk silent_undefined otherwise go))))
-  expression_walk (attribute e name) go = expression_walk e (λ v. step (asks (get_attribute v name) (on_value go)))
-  expression_walk (item e key) go = expression_walk e (λ v. expression_walk key (λ k. step (asks (get_item v k) (on_value go))))
+      expression_walk test (λ v. truth_asked v (expression_walk branch (λ w. step (go w))) (optional_walk silent_undefined otherwise go))
+  expression_walk (attribute e name) go = expression_walk e (λ v. value_asked (get_attribute v name) go)
+  expression_walk (item e key) go = expression_walk e (λ v. expression_walk key (λ k. value_asked (get_item v k) go))
   expression_walk (slice e start stop by) go =
-      expression_walk e (λ v. optional_walk none start (λ a. optional_walk none stop (λ b. optional_walk none by (λ c. step (asks (get_slice v a b c) (on_value go))))))
-  expression_walk (list_literal es) go = folded (constant_of (list_literal es)) go (expressions_walk es (λ vs. step (asks (build_list vs) (on_value go))))
-  expression_walk (tuple_literal es) go = folded (constant_of (tuple_literal es)) go (expressions_walk es (λ vs. step (asks (build_tuple vs) (on_value go))))
-  expression_walk (map_literal ks vs) go = folded (constant_of (map_literal ks vs)) go (entries_walk ks (walks_of vs) (λ entries. step (asks (build_map entries) (on_value go))))
+      expression_walk e (λ v. optional_walk none start (λ a. optional_walk none stop (λ b. optional_walk none by (λ c.
+        value_asked (get_slice v a b c) go))))
+  expression_walk (list_literal es) go =
+      folded (constant_of (list_literal es)) go (expressions_walk es (λ vs. value_asked (build_list vs) go))
+  expression_walk (tuple_literal es) go =
+      folded (constant_of (tuple_literal es)) go (expressions_walk es (λ vs. value_asked (build_tuple vs) go))
+  expression_walk (map_literal ks vs) go =
+      folded (constant_of (map_literal ks vs)) go (entries_walk ks (walks_of vs) (λ entries. value_asked (build_map entries) go))
   expression_walk _ go = cut_short
 
   -- what is left out is a constant
@@ -65,10 +70,11 @@ abbrev mutual
   -- the first comparison of a chain, behind the value at its left
   pub chain_walk : Val → Links → (Val → Process) → Process
   chain_walk v no_links go = cut_short
-  chain_walk v (links_more op e links) go = expression_walk e (λ w. step (asks (compare op v w) (on_value (λ holds. linked_walk w holds links go))))
+  chain_walk v (links_more op e links) go =
+      expression_walk e (λ w. value_asked (compare op v w) (λ holds. linked_walk w holds links go))
 
   -- the later ones, each behind a test that the one before holds; at the end one step
   pub linked_walk : Val → Val → Links → (Val → Process) → Process
   linked_walk v holds no_links go = step (go holds)
   linked_walk v holds (links_more op e links) go =
-      step (asks (truth_of holds) (on_truth (expression_walk e (λ w. step (asks (compare op v w) (on_value (λ later. linked_walk w later links go))))) (step (go holds))))
+      truth_asked holds (expression_walk e (λ w. value_asked (compare op v w) (λ later. linked_walk w later links go))) (step (go holds))

@@ -56,8 +56,10 @@ abbrev mutual
   pub IsRunnableStatement : Bool → Statement → Type 0
   IsRunnableStatement looping (raw text) = Unit {0}
   IsRunnableStatement looping (print e) = IsRunnable e
-  IsRunnableStatement looping (for_loop target e absent false body otherwise) = IsTarget target × IsRunnable e × AreRunnableStatements true body × AreRunnableStatements looping otherwise
-  IsRunnableStatement looping (if_condition e body otherwise) = IsRunnable e × AreRunnableStatements looping body × AreRunnableStatements looping otherwise
+  IsRunnableStatement looping (for_loop target e absent false body otherwise) =
+      IsTarget target × IsRunnable e × AreRunnableStatements true body × AreRunnableStatements looping otherwise
+  IsRunnableStatement looping (if_condition e body otherwise) =
+      IsRunnable e × AreRunnableStatements looping body × AreRunnableStatements looping otherwise
   IsRunnableStatement looping (with_block assignments body) = AreAssignments assignments × AreRunnableStatements looping body
   IsRunnableStatement looping (set target e) = IsTarget target × IsRunnable e
   IsRunnableStatement looping (auto_escape e body) = IsRunnable e × AreRunnableStatements looping body

@@ -4,7 +4,7 @@ use Rattle.std.specs.Prelude.{ℕ, zero, suc, Bool, true, false, List, [], ◌�
 use Rattle.template_values_model.specs.Val.{Val}
 use Rattle.template_tree.specs.Tree.{Expression, Expressions, Statement, Statements, Assignments, variable, list_literal, absent, no_expressions, expressions_more, raw, print, for_loop, if_condition, with_block, set, auto_escape, include, continue_loop, break_loop, no_statements, statements_more, no_assignments, assignments_more}
 use Rattle.template_process.specs.Process as events
-use Rattle.template_process.specs.Process.{Ask, store, truth_of, unpack, write_raw, write_value, open_frame, close_frame, open_loop, next_item, did_not_iterate, close_loop, open_escape, close_escape, Process, over, step, asks, cut_short, on_done, on_value, on_truth, on_item, on_items}
+use Rattle.template_process.specs.Process.{Ask, store, unpack, write_raw, write_value, open_frame, close_frame, open_loop, next_item, did_not_iterate, close_loop, open_escape, close_escape, Process, over, step, asks, cut_short, on_done, on_value, on_item, on_items, done_asked, truth_asked}
 use Rattle.template_walk.specs.Expressions.{expression_walk}
 
 -- where `break` and `continue` lead
@@ -27,8 +27,9 @@ number_of (expressions_more e es) = suc (number_of es)
 abbrev mutual
   -- a value is stored in a target: a name, or targets that it is unpacked into
   pub target_walk : Expression → Val → Process → Process
-  target_walk (variable name) v go = step (asks (store name v) (on_done go))
-  target_walk (list_literal targets) v go = step (asks (unpack (number_of targets) v) (on_items (number_of targets) (λ vs. targets_walk targets vs go)))
+  target_walk (variable name) v go = done_asked (store name v) go
+  target_walk (list_literal targets) v go =
+      let count = number_of targets in step (asks (unpack count v) (on_items count (λ vs. targets_walk targets vs go)))
   target_walk _ v go = cut_short
 
   -- from the first to the last
@@ -52,7 +53,7 @@ rounds (suc n) round finished =
 abbrev pub loop_end : Statements → Process → Process → Process
 loop_end no_statements otherwise go = asks close_loop (on_done go)
 loop_end (statements_more s ss) otherwise go =
-    asks did_not_iterate (on_value (λ flag. asks close_loop (on_done (step (asks (truth_of flag) (on_truth otherwise go))))))
+    asks did_not_iterate (on_value (λ flag. asks close_loop (on_done (truth_asked flag otherwise go))))
 
 -- behind a branch that an else part follows, one step leads past that
 abbrev pub past : Statements → Process → Process
@@ -61,18 +62,22 @@ past (statements_more s ss) go = step go
 
 abbrev mutual
   pub statement_walk : ℕ → Statement → Exits → Process → Process
-  statement_walk n (raw text) exits go = step (asks (write_raw text) (on_done go))
-  statement_walk n (print e) exits go = expression_walk e (λ v. step (asks (write_value v) (on_done go)))
+  statement_walk n (raw text) exits go = done_asked (write_raw text) go
+  statement_walk n (print e) exits go = expression_walk e (λ v. done_asked (write_value v) go)
   statement_walk n (for_loop target e absent false body otherwise) exits go =
-      expression_walk e (λ v. asks (open_loop v) (on_done (rounds n (λ item inner again. target_walk target item (statements_walk n body inner again)) (loop_end otherwise (statements_walk n otherwise exits go) go))))
+      expression_walk e (λ v. asks (open_loop v) (on_done
+        (rounds n (λ item inner again. target_walk target item (statements_walk n body inner again))
+          (loop_end otherwise (statements_walk n otherwise exits go) go))))
   statement_walk n (if_condition e body otherwise) exits go =
-      expression_walk e (λ v. step (asks (truth_of v) (on_truth (statements_walk n body exits (past otherwise go)) (statements_walk n otherwise exits go))))
+      expression_walk e (λ v. truth_asked v (statements_walk n body exits (past otherwise go)) (statements_walk n otherwise exits go))
   statement_walk n (with_block assignments body) exits go =
-      asks open_frame (on_done (assignments_walk assignments (statements_walk n body (closing close_frame exits) (asks close_frame (on_done go)))))
+      asks open_frame (on_done (assignments_walk assignments
+        (statements_walk n body (closing close_frame exits) (asks close_frame (on_done go)))))
   statement_walk n (set target e) exits go = expression_walk e (λ v. target_walk target v go)
   statement_walk n (auto_escape e body) exits go =
-      expression_walk e (λ v. asks (open_escape v) (on_done (statements_walk n body (closing close_escape exits) (asks close_escape (on_done go)))))
-  statement_walk n (include e ignore_missing) exits go = expression_walk e (λ v. step (asks (events.include ignore_missing v) (on_done go)))
+      expression_walk e (λ v. asks (open_escape v) (on_done
+        (statements_walk n body (closing close_escape exits) (asks close_escape (on_done go)))))
+  statement_walk n (include e ignore_missing) exits go = expression_walk e (λ v. done_asked (events.include ignore_missing v) go)
   statement_walk n continue_loop exits go = exits.on_continue
   statement_walk n break_loop exits go = exits.on_break
   statement_walk n _ exits go = cut_short
