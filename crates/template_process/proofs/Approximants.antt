@@ -1,8 +1,8 @@
 -- A process that goes further, under surroundings that reply more, gives a run that extends.
-use Rattle.std.proofs.Common.{◌≡◌, ◌⊎◌, inl, inr, List, [], ◌∷◌, ◌++◌, refl, sym, ap, subst, ◌∙◌, append_assoc, append-nil, arith}
-use Rattle.template_process.specs.Process.{Ask, Answer, Told, tells, fails, breaks_off, Process, over, step, asks, amiss, cut_short, stuck, Below}
-use Rattle.template_process.specs.Drive.{End, breaks, cuts}
-use Rattle.template_process.specs.Trace.{Item, paid, Reply, Run, run, behind, ended, go_on, replied}
+use Rattle.std.proofs.Common.{◌≡◌, inl, inr, List, [], ◌∷◌, ◌++◌, refl, sym, ap, subst, ◌∙◌, append_assoc, append-nil, arith}
+use Rattle.template_process.specs.Process.{Ask, Answer, Told, tells, fails, breaks_off, over, step, asks, amiss, cut_short, stuck, Below}
+use Rattle.template_process.specs.Drive.{End}
+use Rattle.template_process.specs.Trace.{Item, paid, Reply, Run, run, behind, go_on, replied}
 use Rattle.template_process.specs.Fuel.{Begins}
 use Rattle.template_process.specs.Approximants.{IsUnfinished, Extends, RepliesMore, RunsFurther}
 
@@ -46,7 +46,7 @@ runs_further S answer other more (step p) (step q) s h =
 runs_further S answer other more (asks e k) (asks f l) s h =
     let P : Ask → Type 0 = λ x. Extends (run answer (asks e k) s) (run other (asks x l) s) in
     subst P h.0 (replied_further (λ a t. run answer (k a) t) (λ a t. run other (l a) t) (answer s e) (other s e)
-      (λ a. runs_further S answer other more (k a) (l a) (answer s e).after (h.1 a)) (more s e))
+    (λ a. runs_further S answer other more (k a) (l a) (answer s e).after (h.1 a)) (more s e))
 runs_further S answer other more amiss amiss s h = inl refl
 runs_further S answer other more stuck stuck s h = inl refl
 runs_further S answer other more _ _ s h = search arith

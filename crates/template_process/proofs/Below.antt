@@ -97,10 +97,11 @@ below-trans _ _ _ h k = search arith
 -- the same, where as many items come as are wanted
 pub below-asks_items_of : (e : Ask) (n : ℕ) (k l : List Val → Process) → ((vs : List Val) → (length vs == n) ≡ true → Below (k vs) (l vs)) → Below (asks e (on_items n k)) (asks e (on_items n l))
 below-asks_items_of e n k l h = below-asks e (on_items n k) (on_items n l) (answered_by n k l h)
-    where
+  where
     counted_by : (n : ℕ) (k l : List Val → Process) (vs : List Val) (b : Bool) → (length vs == n) ≡ b → ((vs : List Val) → (length vs == n) ≡ true → Below (k vs) (l vs)) → Below (if b then k vs else amiss) (if b then l vs else amiss)
     counted_by n k l vs true e h = h vs e
     counted_by n k l vs false e h = below-amiss
+
     answered_by : (n : ℕ) (k l : List Val → Process) → ((vs : List Val) → (length vs == n) ≡ true → Below (k vs) (l vs)) → (a : Answer) → Below (on_items n k a) (on_items n l a)
     answered_by n k l h (items vs) = counted_by n k l vs (length vs == n) refl h
     answered_by n k l h _ = below-amiss

@@ -1,11 +1,11 @@
 -- The laws of fuel.
-use Rattle.std.proofs.Common.{◌≡◌, ℕ, ◌-◌, ◌≤◌, ◌⊎◌, inl, inr, true, false, nat_le, None, Some, List, ◌++◌, ◌∷◌, [], refl, sym, ◌∙◌, arith}
+use Rattle.std.proofs.Common.{ℕ, ◌-◌, ◌≤◌, inl, inr, true, false, nat_le, None, Some, List, ◌++◌, ◌∷◌, [], refl, sym, ◌∙◌, arith}
 use Rattle.std.specs.Prelude.{if◌then◌else◌}
 use Rattle.std.proofs.lemmas.Bool.Decides.{nat_tests}
 use Rattle.template_values_errors.specs.declared.ErrorKind.TheVariants.{OutOfFuel}
 use Rattle.template_process.specs.Drive.{End, faults}
 use Rattle.template_process.specs.Trace.{Item, Run, price_of}
-use Rattle.template_process.specs.Fuel.{cut, items_before, wraps_at, consumed, remaining, FuelAddsUp, Lasts, EnoughIsEnough, WritesBeginning, IsSameRun, CutAlike}
+use Rattle.template_process.specs.Fuel.{cut, items_before, wraps_at, FuelAddsUp, Lasts, EnoughIsEnough, WritesBeginning, IsSameRun, CutAlike}
 use Rattle.template_process.proofs.Cuts.{text-cut}
 use Rattle.template_process.proofs.Behind.{cut_whole}
 

@@ -1,15 +1,15 @@
 -- What follows further takes a walk further, and so does a greater bound on rounds.
-use Rattle.std.proofs.Common.{◌≡◌, ℕ, ◌≤◌, zero, suc, Bool, true, false, List, [], ◌∷◌, Option, None, Some, arith}
+use Rattle.std.proofs.Common.{ℕ, ◌≤◌, zero, suc, false, List, [], ◌∷◌, Option, None, Some, arith}
 use Rattle.template_values_model.specs.Val.{Val}
 use Rattle.template_tree.specs.declared.operators.BinOpKind.{BinOpKind}
 use Rattle.template_tree.specs.declared.operators.BinOpKind.TheVariants.{ScAnd, ScOr}
 use Rattle.template_tree.specs.Tree.{Expression, Optional, Expressions, Links, variable, constant, slice, unary, binary, chain, conditional, attribute, item, list_literal, tuple_literal, map_literal, absent, given, no_expressions, expressions_more, no_links, links_more, Statement, Statements, Assignments, raw, print, for_loop, if_condition, with_block, set, auto_escape, include, continue_loop, break_loop, no_statements, statements_more, no_assignments, assignments_more}
 use Rattle.template_process.specs.Process as events
 use Rattle.template_process.specs.Process.{Ask, look_up, operate, compare, get_attribute, get_item, get_slice, build_list, build_tuple, build_map, store, truth_of, unpack, write_raw, write_value, open_frame, close_frame, open_loop, next_item, did_not_iterate, close_loop, open_escape, close_escape, Process, over, step, asks, cut_short, on_done, on_value, on_truth, on_item, Below}
-use Rattle.template_process.proofs.Below.{below-cut_short, below-over, below-step, below-asks_done, below-asks_value, below-asks_truth, below-asks_item, below-asks_items, below-refl}
+use Rattle.template_process.proofs.Below.{below-cut_short, below-over, below-step, below-asks_done, below-asks_value, below-asks_truth, below-asks_item, below-asks_items}
 use Rattle.template_walk.specs.Constants.{constant_of}
 use Rattle.template_walk.specs.Expressions.{folded, unary_ask, binary_walk, expression_walk, optional_walk, expressions_walk, walks_of, entries_walk, chain_walk, linked_walk}
-use Rattle.template_walk.specs.Statements.{Exits, outside, closing, number_of, target_walk, targets_walk, assignments_walk, rounds, loop_end, past, statement_walk, statements_walk, template_walk}
+use Rattle.template_walk.specs.Statements.{Exits, outside, closing, number_of, target_walk, targets_walk, assignments_walk, rounds, loop_end, past, statement_walk, statements_walk}
 use Rattle.template_walk.specs.Laws.{WalksRise}
 
 -- the second goes further, whatever value it is given
@@ -145,17 +145,17 @@ mutual
   lift_statement n m less (print e) x y p q leads h = lift e _ _ (λ v. step_done (write_value v) p q h)
   lift_statement n m less (for_loop target e absent false body otherwise) x y p q leads h =
       lift e _ _ (λ v. below-asks_done (open_loop v) _ _
-        (lift_rounds n m less _ _ (λ item k l r s inner i. lift_target target item _ _ (lift_statements n m less body k l r s inner i)) _ _
-          (lift_end otherwise _ _ _ _ (lift_statements n m less otherwise x y p q leads h) h)))
+      (lift_rounds n m less _ _ (λ item k l r s inner i. lift_target target item _ _ (lift_statements n m less body k l r s inner i)) _ _
+      (lift_end otherwise _ _ _ _ (lift_statements n m less otherwise x y p q leads h) h)))
   lift_statement n m less (if_condition e body otherwise) x y p q leads h =
       lift e _ _ (λ v. step_truth (truth_of v) _ _ _ _ (lift_statements n m less body x y _ _ leads (lift_past otherwise p q h)) (lift_statements n m less otherwise x y p q leads h))
   lift_statement n m less (with_block assignments body) x y p q leads h =
       below-asks_done open_frame _ _ (lift_assignments assignments _ _
-        (lift_statements n m less body _ _ _ _ (leads_closing close_frame x y leads) (below-asks_done close_frame p q h)))
+      (lift_statements n m less body _ _ _ _ (leads_closing close_frame x y leads) (below-asks_done close_frame p q h)))
   lift_statement n m less (set target e) x y p q leads h = lift e _ _ (λ v. lift_target target v p q h)
   lift_statement n m less (auto_escape e body) x y p q leads h =
       lift e _ _ (λ v. below-asks_done (open_escape v) _ _
-        (lift_statements n m less body _ _ _ _ (leads_closing close_escape x y leads) (below-asks_done close_escape p q h)))
+      (lift_statements n m less body _ _ _ _ (leads_closing close_escape x y leads) (below-asks_done close_escape p q h)))
   lift_statement n m less (include e ignore_missing) x y p q leads h = lift e _ _ (λ v. step_done (events.include ignore_missing v) p q h)
   lift_statement n m less continue_loop x y p q leads h = leads.on_continue
   lift_statement n m less break_loop x y p q leads h = leads.on_break

@@ -1,10 +1,8 @@
 -- The constant trees, which are folded: literals, containers of literals, and what operators give for constant trees.
 -- Where an operator refuses its operands, the tree is no constant: it runs, and faults then.
-use Rattle.std.specs.Prelude.{Bool, true, false, nat_le, List, [], ◌∷◌, Option, None, Some, option_map, option_and_then, Result, Ok, Err, if◌then◌else◌}
+use Rattle.std.specs.Prelude.{List, [], ◌∷◌, Option, None, Some, option_and_then, Result, Ok, Err, if◌then◌else◌}
 use Rattle.template_values_errors.specs.declared.ErrorKind.{ErrorKind}
-use Rattle.template_values_model.specs.Val.{Val, vals_of, tuple, map}
-use Rattle.template_values_core.specs.Depth.{depth}
-use Rattle.template_values_core.specs.Maps.{collected}
+use Rattle.template_values_model.specs.Val.{Val}
 use Rattle.template_values_core.specs.Reads.{is_true}
 use Rattle.template_values_forms.specs.Known.{nothing_known}
 use Rattle.template_values_operators.specs.Kinds.{list_made}
@@ -12,8 +10,7 @@ use Rattle.template_tree.specs.declared.operators.UnaryOpKind.{UnaryOpKind}
 use Rattle.template_tree.specs.declared.operators.UnaryOpKind.TheVariants.{Not, Neg}
 use Rattle.template_tree.specs.declared.operators.BinOpKind.{BinOpKind}
 use Rattle.template_tree.specs.declared.operators.BinOpKind.TheVariants.{ScAnd, ScOr}
-use Rattle.template_tree.specs.declared.operators.CompareOpKind.{CompareOpKind}
-use Rattle.template_tree.specs.Tree.{Expression, Expressions, Links, variable, constant, unary, binary, chain, list_literal, tuple_literal, map_literal, no_expressions, expressions_more, no_links, links_more}
+use Rattle.template_tree.specs.Tree.{Expression, Expressions, Links, constant, unary, binary, chain, list_literal, tuple_literal, map_literal, no_expressions, expressions_more, no_links, links_more}
 use Rattle.template_walk.specs.Operators.{operated, compared, inverted, negated}
 use Rattle.template_walk.specs.Containers.{tuple_made, map_made, pairs_with}
 
@@ -68,4 +65,4 @@ abbrev mutual
   chain_constant v no_links = None
   chain_constant v (links_more op e links) =
       option_and_then (λ w. option_and_then (λ holds. chain_decided holds links (chain_constant w links))
-        (made (compared nothing_known op v w))) (constant_of e)
+      (made (compared nothing_known op v w))) (constant_of e)

@@ -38,7 +38,7 @@ abbrev mutual
   expression_walk (item e key) go = expression_walk e (λ v. expression_walk key (λ k. value_asked (get_item v k) go))
   expression_walk (slice e start stop by) go =
       expression_walk e (λ v. optional_walk none start (λ a. optional_walk none stop (λ b. optional_walk none by (λ c.
-        value_asked (get_slice v a b c) go))))
+      value_asked (get_slice v a b c) go))))
   expression_walk (list_literal es) go =
       folded (constant_of (list_literal es)) go (expressions_walk es (λ vs. value_asked (build_list vs) go))
   expression_walk (tuple_literal es) go =

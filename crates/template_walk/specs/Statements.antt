@@ -1,6 +1,6 @@
 -- The walk of statements: their events in the order of execution, and between them the priced steps. A loop does at
 -- most so many rounds as the bound says.
-use Rattle.std.specs.Prelude.{ℕ, zero, suc, Bool, true, false, List, [], ◌∷◌}
+use Rattle.std.specs.Prelude.{ℕ, zero, suc, false, List, [], ◌∷◌}
 use Rattle.template_values_model.specs.Val.{Val}
 use Rattle.template_tree.specs.Tree.{Expression, Expressions, Statement, Statements, Assignments, variable, list_literal, absent, no_expressions, expressions_more, raw, print, for_loop, if_condition, with_block, set, auto_escape, include, continue_loop, break_loop, no_statements, statements_more, no_assignments, assignments_more}
 use Rattle.template_process.specs.Process as events
@@ -66,17 +66,17 @@ abbrev mutual
   statement_walk n (print e) exits go = expression_walk e (λ v. done_asked (write_value v) go)
   statement_walk n (for_loop target e absent false body otherwise) exits go =
       expression_walk e (λ v. asks (open_loop v) (on_done
-        (rounds n (λ item inner again. target_walk target item (statements_walk n body inner again))
-          (loop_end otherwise (statements_walk n otherwise exits go) go))))
+      (rounds n (λ item inner again. target_walk target item (statements_walk n body inner again))
+      (loop_end otherwise (statements_walk n otherwise exits go) go))))
   statement_walk n (if_condition e body otherwise) exits go =
       expression_walk e (λ v. truth_asked v (statements_walk n body exits (past otherwise go)) (statements_walk n otherwise exits go))
   statement_walk n (with_block assignments body) exits go =
       asks open_frame (on_done (assignments_walk assignments
-        (statements_walk n body (closing close_frame exits) (asks close_frame (on_done go)))))
+      (statements_walk n body (closing close_frame exits) (asks close_frame (on_done go)))))
   statement_walk n (set target e) exits go = expression_walk e (λ v. target_walk target v go)
   statement_walk n (auto_escape e body) exits go =
       expression_walk e (λ v. asks (open_escape v) (on_done
-        (statements_walk n body (closing close_escape exits) (asks close_escape (on_done go)))))
+      (statements_walk n body (closing close_escape exits) (asks close_escape (on_done go)))))
   statement_walk n (include e ignore_missing) exits go = expression_walk e (λ v. done_asked (events.include ignore_missing v) go)
   statement_walk n continue_loop exits go = exits.on_continue
   statement_walk n break_loop exits go = exits.on_break
