@@ -1,23 +1,15 @@
 -- The code of an expression performs its walk: over any operands, and from any place.
-use Rattle.std.proofs.Common.{◌≡◌, ℕ, ◌+◌, ◌*◌, ◌≤◌, zero, suc, List, [], ◌∷◌, ◌++◌, length, Option, None, Some, slice_get, append-nil, refl, sym, ap, subst, ◌∙◌, arith}
-use Rattle.template_values_model.specs.Val.{Val, silent_undefined, none}
-use Rattle.template_tree.specs.declared.operators.UnaryOpKind.{UnaryOpKind}
-use Rattle.template_tree.specs.declared.operators.UnaryOpKind.TheVariants.{Not, Neg}
-use Rattle.template_tree.specs.declared.operators.BinOpKind.{BinOpKind}
-use Rattle.template_tree.specs.declared.operators.BinOpKind.TheVariants.{ScAnd, ScOr}
-use Rattle.template_tree.specs.Tree.{Expression, Optional, Expressions, Links, variable, constant, unary, binary, chain, conditional, attribute, item, list_literal, tuple_literal, map_literal, absent, given, no_expressions, expressions_more, no_links, links_more}
-use Rattle.template_tree.specs.Tree as tree
+use Rattle.std.proofs.Common.{◌≡◌, ℕ, ◌+◌, ◌*◌, ◌≤◌, suc, List, [], ◌∷◌, ◌++◌, length, Option, None, Some, append-nil, refl, sym, ap, subst, ◌∙◌, arith}
+use Rattle.template_values_model.specs.Val.{Val}
 use Rattle.template_process.specs.Process as events
 use Rattle.template_process.specs.Process.{Ask, truth_of, Process, step, asks, on_value, on_truth, Below}
-use Rattle.template_process.proofs.Below.{below-cut_short, below-step, below-asks_value, below-asks_truth, below-trans}
-use Rattle.template_walk.specs.Constants.{constant_of}
-use Rattle.template_walk.specs.Statements.{number_of}
-use Rattle.template_walk.specs.Expressions.{folded, unary_ask, binary_walk, expression_walk, optional_walk, expressions_walk, walks_of, entries_walk, chain_walk, linked_walk}
-use Rattle.template_code.specs.Code.{Operand, single, Code, lookup, load_const, get_attr, get_item, slice, build_map, build_list, build_tuple, operate, negate, invert, compare_and_preserve, swap, discard_top, jump, jump_if_false, jump_if_false_or_pop, jump_if_true_or_pop}
+use Rattle.template_process.proofs.Below.{below-step, below-asks_value, below-asks_truth, below-trans}
+use Rattle.template_walk.specs.Expressions.{folded}
+use Rattle.template_code.specs.Code.{Operand, single, Code, load_const, build_map, build_list, build_tuple, jump, jump_if_false, jump_if_false_or_pop, jump_if_true_or_pop}
 use Rattle.template_code.specs.Steps.{taken, on_taken, paired, act, exec}
 use Rattle.template_code.proofs.Rising.{exec_more}
-use Rattle.template_compiler_codegen.specs.Expressions.{Coded, then_code, one, nothing, dropped, loaded, skipped, either_code, unary_code, binary_code, expression_code, optional_code, expressions_code, codes_of, entries_code, chain_code, linked_code}
-use Rattle.template_compiler_codegen.proofs.Standing.{StandsAt, behind_one, instruction_at, below_at, behind_then, stands_first, stands_second, first_part, last_part, stands_either, behind_either}
+use Rattle.template_compiler_codegen.specs.Expressions.{Coded, then_code, one, loaded, skipped, either_code}
+use Rattle.template_compiler_codegen.proofs.Standing.{StandsAt, behind_one, instruction_at, below_at, behind_then, stands_first, stands_second, stands_either, behind_either}
 
 -- The code from a place to another gives what a walk gives: for any bound behind it there is one before it, under
 -- which it goes as far as the walk, over any operands, and leaves the value on top of them.
@@ -71,9 +63,9 @@ gives_then first second walk more f g code place h =
     let mid = place + length (first place) in
     gives_to code (λ go. walk (λ v. more v go)) place (mid + length (second mid)) (place + length (then_code first second place)) (sym (behind_then first second place))
     (λ k.
-      let later = g code mid (stands_second code place first second h) k in
-      let earlier = f code place (stands_first code place first second h) later.0 in
-      (earlier.0, λ operands go below. earlier.1 operands (λ v. more v go) (λ v. later.1 v operands go below)))
+    let later = g code mid (stands_second code place first second h) k in
+    let earlier = f code place (stands_first code place first second h) later.0 in
+    (earlier.0, λ operands go below. earlier.1 operands (λ v. more v go) (λ v. later.1 v operands go below)))
 
 -- what runs behind, at a place that is told in another way
 pub moved : (code : List Code) (k from to : ℕ) (operands : List Operand) (p : Process) → from ≡ to → Below p (exec code k from operands) → Below p (exec code k to operands)
@@ -85,22 +77,26 @@ longer code k m place operands p less h = below-trans p (exec code k place opera
 
 -- one instruction over one value
 pub over_one : (c : Code) (e : Val → Ask) → ((next : ℕ → List Operand → Process) (place : ℕ) (v : Val) (operands : List Operand)
-      → act next (Some c) place (single v ∷ operands) ≡ step (asks (e v) (on_value (λ w. next (suc place) (single w ∷ operands)))))
+    → act next (Some c) place (single v ∷ operands) ≡ step (asks (e v) (on_value (λ w. next (suc place) (single w ∷ operands)))))
     → Over (one c) (λ v go. step (asks (e v) (on_value go)))
-over_one c e is code place h k =
-    (suc k, λ v operands go below. asks_at code place c [] h k (single v ∷ operands) operands (e v) go (is (exec code k) place v operands)
-      (λ w. moved code k (place + length (one c place)) (suc place) (single w ∷ operands) (go w) (sym (behind_single place c)) (below w)))
+over_one c e is code place h k = (
+  suc k,
+  λ v operands go below. asks_at code place c [] h k (single v ∷ operands) operands (e v) go (is (exec code k) place v operands)
+      (λ w. moved code k (place + length (one c place)) (suc place) (single w ∷ operands) (go w) (sym (behind_single place c)) (below w)),
+)
 
 -- a piece, and one instruction over the value below and the one that the piece gives
 pub over_two : (piece : Coded) (walk : (Val → Process) → Process) (c : Code) (e : Val → Val → Ask) → Performs piece walk → ((next : ℕ → List Operand → Process) (place : ℕ) (v w : Val) (operands : List Operand)
-      → act next (Some c) place (single w ∷ single v ∷ operands) ≡ step (asks (e v w) (on_value (λ u. next (suc place) (single u ∷ operands)))))
+    → act next (Some c) place (single w ∷ single v ∷ operands) ≡ step (asks (e v w) (on_value (λ u. next (suc place) (single u ∷ operands)))))
     → Over (then_code piece (one c)) (λ v go. walk (λ w. step (asks (e v w) (on_value go))))
 over_two piece walk c e f is code place h k =
     let mid = place + length (piece place) in
-    let earlier = f code place (stands_first code place piece (one c) h) (suc k) in
-    (earlier.0, λ v operands go below. earlier.1 (single v ∷ operands) (λ w. step (asks (e v w) (on_value go)))
-      (λ w. asks_at code mid c [] (stands_second code place piece (one c) h) k (single w ∷ single v ∷ operands) operands (e v w) go (is (exec code k) mid v w operands)
-        (λ u. moved code k (place + length (then_code piece (one c) place)) (suc mid) (single u ∷ operands) (go u) (behind_then piece (one c) place ∙ sym (behind_single mid c)) (below u))))
+    let earlier = f code place (stands_first code place piece (one c) h) (suc k) in (
+      earlier.0,
+      λ v operands go below. earlier.1 (single v ∷ operands) (λ w. step (asks (e v w) (on_value go)))
+          (λ w. asks_at code mid c [] (stands_second code place piece (one c) h) k (single w ∷ single v ∷ operands) operands (e v w) go (is (exec code k) mid v w operands)
+          (λ u. moved code k (place + length (then_code piece (one c) place)) (suc mid) (single u ∷ operands) (go u) (behind_then piece (one c) place ∙ sym (behind_single mid c)) (below u))),
+    )
 
 -- a test of the value on top
 pub tests_at : (code : List Code) (place : ℕ) (c : Code) (piece : List Code) → StandsAt code place (c ∷ piece) → (k : ℕ) (operands : List Operand) (e : Ask) (p q r s : Process)
@@ -118,24 +114,28 @@ pub over_and : (right : Coded) (walk : (Val → Process) → Process) → Perfor
 over_and right walk f code place h k =
     let behind = suc place + length (right (suc place)) in
     let inner = f code (suc place) (behind_one code place (jump_if_false_or_pop behind) (right (suc place)) h) k in
-    let m = inner.0 + k in
-    (suc m, λ v operands go below.
-      let there : (w : Val) → Below (go w) (exec code k behind (single w ∷ operands)) = λ w. moved code k (place + length (skipped jump_if_false_or_pop right place)) behind (single w ∷ operands) (go w) (sym (behind_skipped jump_if_false_or_pop right place)) (below w) in
-      tests_at code place (jump_if_false_or_pop behind) (right (suc place)) h m (single v ∷ operands) (truth_of v) (walk go) (go v) (exec code m (suc place) operands) (exec code m behind (single v ∷ operands)) refl
-      (longer code inner.0 m (suc place) operands (walk go) (omega arith) (inner.1 operands go there))
-      (longer code k m behind (single v ∷ operands) (go v) (omega arith) (there v)))
+    let m = inner.0 + k in (
+      suc m,
+      λ v operands go below.
+          let there : (w : Val) → Below (go w) (exec code k behind (single w ∷ operands)) = λ w. moved code k (place + length (skipped jump_if_false_or_pop right place)) behind (single w ∷ operands) (go w) (sym (behind_skipped jump_if_false_or_pop right place)) (below w) in
+          tests_at code place (jump_if_false_or_pop behind) (right (suc place)) h m (single v ∷ operands) (truth_of v) (walk go) (go v) (exec code m (suc place) operands) (exec code m behind (single v ∷ operands)) refl
+          (longer code inner.0 m (suc place) operands (walk go) (omega arith) (inner.1 operands go there))
+          (longer code k m behind (single v ∷ operands) (go v) (omega arith) (there v)),
+    )
 
 -- `or`
 pub over_or : (right : Coded) (walk : (Val → Process) → Process) → Performs right walk → Over (skipped jump_if_true_or_pop right) (λ v go. step (asks (truth_of v) (on_truth (go v) (walk go))))
 over_or right walk f code place h k =
     let behind = suc place + length (right (suc place)) in
     let inner = f code (suc place) (behind_one code place (jump_if_true_or_pop behind) (right (suc place)) h) k in
-    let m = inner.0 + k in
-    (suc m, λ v operands go below.
-      let there : (w : Val) → Below (go w) (exec code k behind (single w ∷ operands)) = λ w. moved code k (place + length (skipped jump_if_true_or_pop right place)) behind (single w ∷ operands) (go w) (sym (behind_skipped jump_if_true_or_pop right place)) (below w) in
-      tests_at code place (jump_if_true_or_pop behind) (right (suc place)) h m (single v ∷ operands) (truth_of v) (go v) (walk go) (exec code m behind (single v ∷ operands)) (exec code m (suc place) operands) refl
-      (longer code k m behind (single v ∷ operands) (go v) (omega arith) (there v))
-      (longer code inner.0 m (suc place) operands (walk go) (omega arith) (inner.1 operands go there)))
+    let m = inner.0 + k in (
+      suc m,
+      λ v operands go below.
+          let there : (w : Val) → Below (go w) (exec code k behind (single w ∷ operands)) = λ w. moved code k (place + length (skipped jump_if_true_or_pop right place)) behind (single w ∷ operands) (go w) (sym (behind_skipped jump_if_true_or_pop right place)) (below w) in
+          tests_at code place (jump_if_true_or_pop behind) (right (suc place)) h m (single v ∷ operands) (truth_of v) (go v) (walk go) (exec code m behind (single v ∷ operands)) (exec code m (suc place) operands) refl
+          (longer code k m behind (single v ∷ operands) (go v) (omega arith) (there v))
+          (longer code inner.0 m (suc place) operands (walk go) (omega arith) (inner.1 operands go there)),
+    )
 
 -- a jump
 pub jumps_at : (code : List Code) (place to : ℕ) (piece : List Code) → StandsAt code place (jump to ∷ piece) → (k : ℕ) (operands : List Operand) (p : Process) → Below p (exec code k to operands) → Below (step p) (exec code (suc k) place operands)
@@ -152,13 +152,15 @@ over_either first second walk other f g code place h k =
     let behind = begins + length (second begins) in
     let left = f code (suc place) parts.left (suc k) in
     let right = g code begins parts.right k in
-    let m = left.0 + right.0 in
-    (suc m, λ v operands go below.
-      let there : (w : Val) → Below (go w) (exec code k behind (single w ∷ operands)) = λ w. moved code k (place + length (either_code first second place)) behind (single w ∷ operands) (go w) (sym (behind_either first second place)) (below w) in
-      tests_at code place (jump_if_false begins) parts.test parts.tests m (single v ∷ operands) (truth_of v) (walk (λ w. step (go w))) (other go) (exec code m (suc place) operands) (exec code m begins operands) refl
-      (longer code left.0 m (suc place) operands (walk (λ w. step (go w))) (omega arith)
-        (left.1 operands (λ w. step (go w)) (λ w. jumps_at code leap_at behind parts.rest parts.leaps k (single w ∷ operands) (go w) (there w))))
-      (longer code right.0 m begins operands (other go) (omega arith) (right.1 operands go there)))
+    let m = left.0 + right.0 in (
+      suc m,
+      λ v operands go below.
+          let there : (w : Val) → Below (go w) (exec code k behind (single w ∷ operands)) = λ w. moved code k (place + length (either_code first second place)) behind (single w ∷ operands) (go w) (sym (behind_either first second place)) (below w) in
+          tests_at code place (jump_if_false begins) parts.test parts.tests m (single v ∷ operands) (truth_of v) (walk (λ w. step (go w))) (other go) (exec code m (suc place) operands) (exec code m begins operands) refl
+          (longer code left.0 m (suc place) operands (walk (λ w. step (go w))) (omega arith)
+          (left.1 operands (λ w. step (go w)) (λ w. jumps_at code leap_at behind parts.rest parts.leaps k (single w ∷ operands) (go w) (there w))))
+          (longer code right.0 m begins operands (other go) (omega arith) (right.1 operands go there)),
+    )
 
 -- values on the operands, the last one on top
 unfoldable pub pushed : List Val → List Operand → List Operand
@@ -193,15 +195,17 @@ builds_at code place c h k vs operands e go is below =
 pub performs_built : (piece : Coded) (walk : (List Val → Process) → Process) (count : ℕ) (c : Code) (e : List Val → Ask)
     → ((code : List Code) (place : ℕ) → StandsAt code place (piece place) → GivesAll code walk count place (place + length (piece place)))
     → ((next : ℕ → List Operand → Process) (place : ℕ) (vs : List Val) (operands : List Operand) → length vs ≡ count
-      → act next (Some c) place (pushed vs operands) ≡ step (asks (e vs) (on_value (λ w. next (suc place) (single w ∷ operands)))))
+    → act next (Some c) place (pushed vs operands) ≡ step (asks (e vs) (on_value (λ w. next (suc place) (single w ∷ operands)))))
     → Performs (then_code piece (one c)) (λ go. walk (λ vs. step (asks (e vs) (on_value go))))
 performs_built piece walk count c e f is code place h =
     let mid = place + length (piece place) in
     gives_to code (λ go. walk (λ vs. step (asks (e vs) (on_value go)))) place (mid + length (one c mid)) (place + length (then_code piece (one c) place)) (sym (behind_then piece (one c) place))
     (λ k.
-      let earlier = f code place (stands_first code place piece (one c) h) (suc k) in
-      (earlier.0, λ operands go below. earlier.1 operands (λ vs. step (asks (e vs) (on_value go)))
-        (λ vs many. builds_at code mid c (stands_second code place piece (one c) h) k vs operands (e vs) go (is (exec code k) mid vs operands many) below)))
+    let earlier = f code place (stands_first code place piece (one c) h) (suc k) in (
+      earlier.0,
+      λ operands go below. earlier.1 operands (λ vs. step (asks (e vs) (on_value go)))
+          (λ vs many. builds_at code mid c (stands_second code place piece (one c) h) k vs operands (e vs) go (is (exec code k) mid vs operands many) below),
+    ))
 
 pub built_list : (n : ℕ) (next : ℕ → List Operand → Process) (place : ℕ) (vs : List Val) (operands : List Operand) → length vs ≡ n
     → act next (Some (build_list n)) place (pushed vs operands) ≡ step (asks (events.build_list vs) (on_value (λ w. next (suc place) (single w ∷ operands))))

@@ -1,7 +1,6 @@
 -- How long the code of statements is does not depend on where `break` and `continue` lead.
-use Rattle.std.proofs.Common.{◌≡◌, ℕ, ◌+◌, suc, true, false, List, [], ◌∷◌, ◌++◌, length, refl, sym, ap, ◌∙◌, length-append, arith}
-use Rattle.template_tree.specs.Tree.{Expression, Statement, Statements, absent, raw, print, for_loop, if_condition, with_block, set, auto_escape, continue_loop, break_loop, no_statements, statements_more}
-use Rattle.template_tree.specs.Tree as tree
+use Rattle.std.proofs.Common.{◌≡◌, ℕ, ◌+◌, suc, false, List, [], ◌∷◌, length, refl, ap, ◌∙◌, length-append, arith}
+use Rattle.template_tree.specs.Tree.{Expression, Statement, Statements, absent, for_loop, if_condition, with_block, auto_escape, continue_loop, break_loop, no_statements, statements_more}
 use Rattle.template_code.specs.Code.{Code, push_with, pop_frame, push_loop, push_did_not_iterate, pop_loop_frame, push_auto_escape, pop_auto_escape, jump, jump_if_false}
 use Rattle.template_compiler_codegen.specs.Expressions.{Coded, then_code, one, skipped, either_code, expression_code}
 use Rattle.template_compiler_codegen.specs.Statements.{Ways, closing_with, target_code, assignments_code, loop_flags, rounds_code, loop_end_code, branches_code, left_by, statement_code, statements_code}
@@ -54,8 +53,8 @@ mutual
       let pushed = λ (w : Ways). then_code (one (push_loop loop_flags)) (looped w) in
       long_then (expression_code e) (expression_code e) (pushed ways) (pushed other) (long_itself (expression_code e))
       (long_then (one (push_loop loop_flags)) (one (push_loop loop_flags)) (looped ways) (looped other) (long_itself (one (push_loop loop_flags)))
-        (long_then (rounds_of target body) (rounds_of target body) (last ways) (last other) (long_itself (rounds_of target body))
-          (long_end otherwise (statements_code ways otherwise) (statements_code other otherwise) (long_statements otherwise ways other same))))
+      (long_then (rounds_of target body) (rounds_of target body) (last ways) (last other) (long_itself (rounds_of target body))
+      (long_end otherwise (statements_code ways otherwise) (statements_code other otherwise) (long_statements otherwise ways other same))))
   long_statement (if_condition e body otherwise) ways other same =
       long_then (expression_code e) (expression_code e) (branches_code otherwise (statements_code ways body) (statements_code ways otherwise)) (branches_code otherwise (statements_code other body) (statements_code other otherwise)) (long_itself (expression_code e))
       (long_branches otherwise (statements_code ways body) (statements_code other body) (statements_code ways otherwise) (statements_code other otherwise) (long_statements body ways other same) (long_statements otherwise ways other same))
@@ -64,15 +63,15 @@ mutual
       let assigned = λ (w : Ways). then_code (assignments_code assignments) (bodied w) in
       long_then (one push_with) (one push_with) (assigned ways) (assigned other) (long_itself (one push_with))
       (long_then (assignments_code assignments) (assignments_code assignments) (bodied ways) (bodied other) (long_itself (assignments_code assignments))
-        (long_then (statements_code (closing_with pop_frame ways) body) (statements_code (closing_with pop_frame other) body) (one pop_frame) (one pop_frame)
-          (long_statements body (closing_with pop_frame ways) (closing_with pop_frame other) (ap suc same)) (long_itself (one pop_frame))))
+      (long_then (statements_code (closing_with pop_frame ways) body) (statements_code (closing_with pop_frame other) body) (one pop_frame) (one pop_frame)
+      (long_statements body (closing_with pop_frame ways) (closing_with pop_frame other) (ap suc same)) (long_itself (one pop_frame))))
   long_statement (auto_escape e body) ways other same =
       let bodied = λ (w : Ways). then_code (statements_code (closing_with pop_auto_escape w) body) (one pop_auto_escape) in
       let opened = λ (w : Ways). then_code (one push_auto_escape) (bodied w) in
       long_then (expression_code e) (expression_code e) (opened ways) (opened other) (long_itself (expression_code e))
       (long_then (one push_auto_escape) (one push_auto_escape) (bodied ways) (bodied other) (long_itself (one push_auto_escape))
-        (long_then (statements_code (closing_with pop_auto_escape ways) body) (statements_code (closing_with pop_auto_escape other) body) (one pop_auto_escape) (one pop_auto_escape)
-          (long_statements body (closing_with pop_auto_escape ways) (closing_with pop_auto_escape other) (ap suc same)) (long_itself (one pop_auto_escape))))
+      (long_then (statements_code (closing_with pop_auto_escape ways) body) (statements_code (closing_with pop_auto_escape other) body) (one pop_auto_escape) (one pop_auto_escape)
+      (long_statements body (closing_with pop_auto_escape ways) (closing_with pop_auto_escape other) (ap suc same)) (long_itself (one pop_auto_escape))))
   long_statement continue_loop ways other same = long_out ways.closings other.closings ways.continue_to other.continue_to same
   long_statement break_loop ways other same = long_out ways.closings other.closings ways.break_to other.break_to same
   long_statement _ ways other same = λ place. refl

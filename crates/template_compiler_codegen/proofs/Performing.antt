@@ -1,5 +1,5 @@
 -- The code of each expression performs its walk.
-use Rattle.std.proofs.Common.{◌≡◌, ℕ, ◌+◌, ◌*◌, ◌≤◌, zero, suc, List, [], ◌∷◌, ◌++◌, length, Option, None, Some, refl, sym, ap, subst, ◌∙◌, arith}
+use Rattle.std.proofs.Common.{◌≡◌, ℕ, ◌+◌, suc, List, [], ◌∷◌, length, refl, sym, ap, subst, ◌∙◌, arith}
 use Rattle.template_values_model.specs.Val.{Val, silent_undefined, none}
 use Rattle.template_tree.specs.declared.operators.UnaryOpKind.{UnaryOpKind}
 use Rattle.template_tree.specs.declared.operators.UnaryOpKind.TheVariants.{Not, Neg}
@@ -13,12 +13,12 @@ use Rattle.template_process.specs.Process.{Ask, truth_of, Process, step, asks, c
 use Rattle.template_process.proofs.Below.{below-cut_short, below-step}
 use Rattle.template_walk.specs.Constants.{constant_of}
 use Rattle.template_walk.specs.Statements.{number_of}
-use Rattle.template_walk.specs.Expressions.{folded, unary_ask, binary_walk, expression_walk, optional_walk, expressions_walk, walks_of, entries_walk, chain_walk, linked_walk}
-use Rattle.template_code.specs.Code.{Operand, single, Code, lookup, load_const, get_attr, get_item, slice, build_map, build_list, build_tuple, operate, negate, invert, compare_and_preserve, swap, discard_top, jump_if_false_or_pop}
-use Rattle.template_code.specs.Steps.{act, exec}
-use Rattle.template_compiler_codegen.specs.Expressions.{Coded, then_code, one, nothing, dropped, loaded, skipped, either_code, unary_code, binary_code, expression_code, optional_code, expressions_code, codes_of, entry_count, entries_code, chain_code, linked_code}
+use Rattle.template_walk.specs.Expressions.{unary_ask, binary_walk, expression_walk, optional_walk, expressions_walk, walks_of, entries_walk, chain_walk, linked_walk}
+use Rattle.template_code.specs.Code.{Operand, single, Code, lookup, get_attr, get_item, slice, build_map, build_list, build_tuple, operate, negate, invert, compare_and_preserve, swap, discard_top, jump_if_false_or_pop}
+use Rattle.template_code.specs.Steps.{exec}
+use Rattle.template_compiler_codegen.specs.Expressions.{Coded, then_code, one, nothing, dropped, skipped, either_code, unary_code, binary_code, expression_code, optional_code, expressions_code, codes_of, entry_count, entries_code, chain_code, linked_code}
 use Rattle.template_compiler_codegen.proofs.Standing.{StandsAt, behind_one, instruction_at, below_at, behind_then, stands_first, stands_second}
-use Rattle.template_compiler_codegen.proofs.Expressions.{Gives, Performs, Over, GivesAll, gives_to, behind_single, asks_at, performs_load, performs_loaded, gives_then, moved, longer, over_one, over_two, tests_at, behind_skipped, over_and, over_or, over_either, pushed, performs_built, built_list, built_tuple, builds_at, laid, built_map}
+use Rattle.template_compiler_codegen.proofs.Expressions.{Performs, Over, GivesAll, gives_to, behind_single, asks_at, performs_load, performs_loaded, gives_then, moved, longer, over_one, over_two, tests_at, behind_skipped, over_and, over_or, over_either, pushed, performs_built, built_list, built_tuple, builds_at, laid, built_map}
 
 looks_up : (name : List ℕ) → Performs (one (lookup name)) (λ go. step (asks (events.look_up name) (on_value go)))
 looks_up name code place h =
@@ -50,14 +50,16 @@ over_slice first second third f g h pf pg ph code place stands k =
     let behind_third = stands_second code two_at third (one slice) behind_second in
     let c = ph code two_at (stands_first code two_at third (one slice) behind_second) (suc k) in
     let b = pg code one_at (stands_first code one_at second last behind_first) c.0 in
-    let a = pf code place (stands_first code place first more stands) b.0 in
-    (a.0, λ v operands go below.
-      a.1 (single v ∷ operands) (λ x. g (λ y. h (λ z. step (asks (events.get_slice v x y z) (on_value go)))))
-      (λ x. b.1 (single x ∷ single v ∷ operands) (λ y. h (λ z. step (asks (events.get_slice v x y z) (on_value go))))
-        (λ y. c.1 (single y ∷ single x ∷ single v ∷ operands) (λ z. step (asks (events.get_slice v x y z) (on_value go)))
+    let a = pf code place (stands_first code place first more stands) b.0 in (
+      a.0,
+      λ v operands go below.
+          a.1 (single v ∷ operands) (λ x. g (λ y. h (λ z. step (asks (events.get_slice v x y z) (on_value go)))))
+          (λ x. b.1 (single x ∷ single v ∷ operands) (λ y. h (λ z. step (asks (events.get_slice v x y z) (on_value go))))
+          (λ y. c.1 (single y ∷ single x ∷ single v ∷ operands) (λ z. step (asks (events.get_slice v x y z) (on_value go)))
           (λ z. asks_at code three_at slice [] behind_third k (single z ∷ single y ∷ single x ∷ single v ∷ operands) operands (events.get_slice v x y z) go refl
-            (λ w. moved code k (place + length (then_code first more place)) (suc three_at) (single w ∷ operands) (go w)
-              (behind_then first more place ∙ behind_then second last one_at ∙ behind_then third (one slice) two_at ∙ sym (behind_single three_at slice)) (below w))))))
+          (λ w. moved code k (place + length (then_code first more place)) (suc three_at) (single w ∷ operands) (go w)
+          (behind_then first more place ∙ behind_then second last one_at ∙ behind_then third (one slice) two_at ∙ sym (behind_single three_at slice)) (below w))))),
+    )
 
 -- the value below the top is dropped, one step
 drops_at : (code : List Code) (place : ℕ) → StandsAt code place (dropped place) → (k : ℕ) (v w : Val) (operands : List Operand) (p : Process)
@@ -70,7 +72,7 @@ drops_at code place h k v w operands p below =
 abbrev LinkedPerforms : Links → Type 0
 LinkedPerforms links = (code : List Code) (place at_drop : ℕ) → StandsAt code place (linked_code links place) → place + length (linked_code links place) ≡ at_drop → StandsAt code at_drop (dropped at_drop) → (k : ℕ)
     → (j : ℕ) × ((v holds : Val) (operands : List Operand) (go : Val → Process) → ((u : Val) → Below (go u) (exec code k (suc (suc at_drop)) (single u ∷ operands)))
-      → Below (linked_walk v holds links go) (exec code j place (single holds ∷ single v ∷ operands)))
+    → Below (linked_walk v holds links go) (exec code j place (single holds ∷ single v ∷ operands)))
 
 abbrev compared_code : CompareOpKind → Coded → Coded
 compared_code op piece = then_code piece (one (compare_and_preserve op))
@@ -80,19 +82,21 @@ compares_then : (op : CompareOpKind) (piece : Coded) (walk : (Val → Process) �
     → (code : List Code) (place at_drop : ℕ) → StandsAt code place (then_code (compared_code op piece) (linked_code links) place) → place + length (then_code (compared_code op piece) (linked_code links) place) ≡ at_drop
     → StandsAt code at_drop (dropped at_drop) → (k : ℕ)
     → (j : ℕ) × ((v : Val) (operands : List Operand) (go : Val → Process) → ((u : Val) → Below (go u) (exec code k (suc (suc at_drop)) (single u ∷ operands)))
-      → Below (walk (λ w. step (asks (events.compare op v w) (on_value (λ holds. linked_walk w holds links go))))) (exec code j place (single v ∷ operands)))
+    → Below (walk (λ w. step (asks (events.compare op v w) (on_value (λ holds. linked_walk w holds links go))))) (exec code j place (single v ∷ operands)))
 compares_then op piece walk links f rest code place at_drop h e drop k =
     let first = compared_code op piece in
     let mid = place + length (first place) in
     let compare_at = place + length (piece place) in
     let stands = stands_first code place first (linked_code links) h in
     let later = rest code mid at_drop (stands_second code place first (linked_code links) h) (sym (behind_then first (linked_code links) place) ∙ e) drop k in
-    let earlier = f code place (stands_first code place piece (one (compare_and_preserve op)) stands) (suc later.0) in
-    (earlier.0, λ v operands go below.
-      earlier.1 (single v ∷ operands) (λ w. step (asks (events.compare op v w) (on_value (λ holds. linked_walk w holds links go))))
-      (λ w. asks_at code compare_at (compare_and_preserve op) [] (stands_second code place piece (one (compare_and_preserve op)) stands) later.0 (single w ∷ single v ∷ operands) (single w ∷ operands) (events.compare op v w) (λ holds. linked_walk w holds links go) refl
-        (λ holds. moved code later.0 mid (suc compare_at) (single holds ∷ single w ∷ operands) (linked_walk w holds links go)
-          (behind_then piece (one (compare_and_preserve op)) place ∙ sym (behind_single compare_at (compare_and_preserve op))) (later.1 w holds operands go below))))
+    let earlier = f code place (stands_first code place piece (one (compare_and_preserve op)) stands) (suc later.0) in (
+      earlier.0,
+      λ v operands go below.
+          earlier.1 (single v ∷ operands) (λ w. step (asks (events.compare op v w) (on_value (λ holds. linked_walk w holds links go))))
+          (λ w. asks_at code compare_at (compare_and_preserve op) [] (stands_second code place piece (one (compare_and_preserve op)) stands) later.0 (single w ∷ single v ∷ operands) (single w ∷ operands) (events.compare op v w) (λ holds. linked_walk w holds links go) refl
+          (λ holds. moved code later.0 mid (suc compare_at) (single holds ∷ single w ∷ operands) (linked_walk w holds links go)
+          (behind_then piece (one (compare_and_preserve op)) place ∙ sym (behind_single compare_at (compare_and_preserve op))) (later.1 w holds operands go below))),
+    )
 
 data EachPerforms : List Coded → List ((Val → Process) → Process) → Type 0 where
   none_left : EachPerforms [] []
@@ -127,13 +131,15 @@ more_entries key value_piece more f g h count pf pg ph code place stands k =
     let behind = stands_second code place key later stands in
     let c = ph code more_at (stands_second code value_at value_piece more behind) k in
     let b = pg code value_at (stands_first code value_at value_piece more behind) c.0 in
-    let a = pf code place (stands_first code place key later stands) b.0 in
-    (a.0, λ operands go below.
-      a.1 operands (λ x. g (λ y. h (λ entries. go ((x, y) ∷ entries))))
-      (λ x. b.1 (single x ∷ operands) (λ y. h (λ entries. go ((x, y) ∷ entries)))
-        (λ y. c.1 (single y ∷ single x ∷ operands) (λ entries. go ((x, y) ∷ entries))
+    let a = pf code place (stands_first code place key later stands) b.0 in (
+      a.0,
+      λ operands go below.
+          a.1 operands (λ x. g (λ y. h (λ entries. go ((x, y) ∷ entries))))
+          (λ x. b.1 (single x ∷ operands) (λ y. h (λ entries. go ((x, y) ∷ entries)))
+          (λ y. c.1 (single y ∷ single x ∷ operands) (λ entries. go ((x, y) ∷ entries))
           (λ entries many. moved code k (place + length (then_code key later place)) (more_at + length (more more_at)) (pushed (laid entries) (single y ∷ single x ∷ operands)) (go ((x, y) ∷ entries))
-            (behind_then key later place ∙ behind_then value_piece more value_at) (below ((x, y) ∷ entries) (ap suc many))))))
+          (behind_then key later place ∙ behind_then value_piece more value_at) (below ((x, y) ∷ entries) (ap suc many))))),
+    )
 
 performs_map : (piece : Coded) (walk : (List (Val × Val) → Process) → Process) (count : ℕ) → EntriesPerform piece walk count
     → Performs (then_code piece (one (build_map count))) (λ go. walk (λ entries. step (asks (events.build_map entries) (on_value go))))
@@ -142,9 +148,11 @@ performs_map piece walk count f code place h =
     gives_to code (λ go. walk (λ entries. step (asks (events.build_map entries) (on_value go)))) place (mid + length (one (build_map count) mid)) (place + length (then_code piece (one (build_map count)) place))
     (sym (behind_then piece (one (build_map count)) place))
     (λ k.
-      let earlier = f code place (stands_first code place piece (one (build_map count)) h) (suc k) in
-      (earlier.0, λ operands go below. earlier.1 operands (λ entries. step (asks (events.build_map entries) (on_value go)))
-        (λ entries many. builds_at code mid (build_map count) (stands_second code place piece (one (build_map count)) h) k (laid entries) operands (events.build_map entries) go (built_map count (exec code k) mid entries operands many) below)))
+    let earlier = f code place (stands_first code place piece (one (build_map count)) h) (suc k) in (
+      earlier.0,
+      λ operands go below. earlier.1 operands (λ entries. step (asks (events.build_map entries) (on_value go)))
+          (λ entries many. builds_at code mid (build_map count) (stands_second code place piece (one (build_map count)) h) k (laid entries) operands (events.build_map entries) go (built_map count (exec code k) mid entries operands many) below),
+    ))
 
 -- several expressions
 abbrev AllPerform : Coded → ((List Val → Process) → Process) → ℕ → Type 0
@@ -159,39 +167,45 @@ unfolding pushed
 one_more first more f g count pf pg code place stands k =
     let more_at = place + length (first place) in
     let b = pg code more_at (stands_second code place first more stands) k in
-    let a = pf code place (stands_first code place first more stands) b.0 in
-    (a.0, λ operands go below.
-      a.1 operands (λ v. g (λ vs. go (v ∷ vs)))
-      (λ v. b.1 (single v ∷ operands) (λ vs. go (v ∷ vs))
-        (λ vs many. moved code k (place + length (then_code first more place)) (more_at + length (more more_at)) (pushed vs (single v ∷ operands)) (go (v ∷ vs)) (behind_then first more place) (below (v ∷ vs) (ap suc many)))))
+    let a = pf code place (stands_first code place first more stands) b.0 in (
+      a.0,
+      λ operands go below.
+          a.1 operands (λ v. g (λ vs. go (v ∷ vs)))
+          (λ v. b.1 (single v ∷ operands) (λ vs. go (v ∷ vs))
+          (λ vs many. moved code k (place + length (then_code first more place)) (more_at + length (more more_at)) (pushed vs (single v ∷ operands)) (go (v ∷ vs)) (behind_then first more place) (below (v ∷ vs) (ap suc many)))),
+    )
 
 -- no links are left: what the last comparison gave stays
 linked_over : LinkedPerforms no_links
-linked_over code place at_drop h e drop k =
-    (suc (suc k), λ v holds operands go below.
+linked_over code place at_drop h e drop k = (
+  suc (suc k),
+  λ v holds operands go below.
       let P : ℕ → Type 0 = λ n. Below (step (go holds)) (exec code (suc (suc k)) n (single holds ∷ single v ∷ operands)) in
       let same : at_drop ≡ place = omega arith in
-      subst P same (drops_at code at_drop drop k v holds operands (go holds) (below holds)))
+      subst P same (drops_at code at_drop drop k v holds operands (go holds) (below holds)),
+)
 
 -- one more link
 linked_on : (op : CompareOpKind) (piece : Coded) (e : Expression) (links : Links) → Performs piece (expression_walk e) → LinkedPerforms links → (code : List Code) (place at_drop : ℕ)
     → StandsAt code place (skipped jump_if_false_or_pop (then_code (compared_code op piece) (linked_code links)) place) → place + length (skipped jump_if_false_or_pop (then_code (compared_code op piece) (linked_code links)) place) ≡ at_drop
     → StandsAt code at_drop (dropped at_drop) → (k : ℕ)
     → (j : ℕ) × ((v holds : Val) (operands : List Operand) (go : Val → Process) → ((u : Val) → Below (go u) (exec code k (suc (suc at_drop)) (single u ∷ operands)))
-      → Below (step (asks (truth_of holds) (on_truth (expression_walk e (λ w. step (asks (events.compare op v w) (on_value (λ later. linked_walk w later links go))))) (step (go holds))))) (exec code j place (single holds ∷ single v ∷ operands)))
+    → Below (step (asks (truth_of holds) (on_truth (expression_walk e (λ w. step (asks (events.compare op v w) (on_value (λ later. linked_walk w later links go))))) (step (go holds))))) (exec code j place (single holds ∷ single v ∷ operands)))
 linked_on op piece e links f rest code place at_drop h same drop k =
     let inner = then_code (compared_code op piece) (linked_code links) in
     let behind = suc place + length (inner (suc place)) in
     let there : behind ≡ at_drop = behind_skipped jump_if_false_or_pop inner place ∙ same in
     let later = compares_then op piece (expression_walk e) links f rest code (suc place) at_drop (behind_one code place (jump_if_false_or_pop behind) (inner (suc place)) h) there drop k in
-    let m = later.0 + suc (suc k) in
-    (suc m, λ v holds operands go below.
-      tests_at code place (jump_if_false_or_pop behind) (inner (suc place)) h m (single holds ∷ single v ∷ operands) (truth_of holds)
-      (expression_walk e (λ w. step (asks (events.compare op v w) (on_value (λ later. linked_walk w later links go))))) (step (go holds))
-      (exec code m (suc place) (single v ∷ operands)) (exec code m behind (single holds ∷ single v ∷ operands)) refl
-      (longer code later.0 m (suc place) (single v ∷ operands) _ (omega arith) (later.1 v operands go below))
-      (longer code (suc (suc k)) m behind (single holds ∷ single v ∷ operands) (step (go holds)) (omega arith)
-        (moved code (suc (suc k)) at_drop behind (single holds ∷ single v ∷ operands) (step (go holds)) (sym there) (drops_at code at_drop drop k v holds operands (go holds) (below holds)))))
+    let m = later.0 + suc (suc k) in (
+      suc m,
+      λ v holds operands go below.
+          tests_at code place (jump_if_false_or_pop behind) (inner (suc place)) h m (single holds ∷ single v ∷ operands) (truth_of holds)
+          (expression_walk e (λ w. step (asks (events.compare op v w) (on_value (λ later. linked_walk w later links go))))) (step (go holds))
+          (exec code m (suc place) (single v ∷ operands)) (exec code m behind (single holds ∷ single v ∷ operands)) refl
+          (longer code later.0 m (suc place) (single v ∷ operands) _ (omega arith) (later.1 v operands go below))
+          (longer code (suc (suc k)) m behind (single holds ∷ single v ∷ operands) (step (go holds)) (omega arith)
+          (moved code (suc (suc k)) at_drop behind (single holds ∷ single v ∷ operands) (step (go holds)) (sym there) (drops_at code at_drop drop k v holds operands (go holds) (below holds)))),
+    )
 
 -- a chain's links, over the value at their left
 over_chain : (op : CompareOpKind) (e : Expression) (links : Links) → Performs (expression_code e) (expression_walk e) → LinkedPerforms links
@@ -206,15 +220,17 @@ over_chain op e links f rest code place h k =
     let compare_at = place + length (expression_code e place) in
     let stands = stands_first code place first later h in
     let b = rest code mid at_drop (stands_first code mid (linked_code links) dropped behind) refl drop k in
-    let a = f code place (stands_first code place (expression_code e) (one (compare_and_preserve op)) stands) (suc b.0) in
-    (a.0, λ v operands go below.
-      let there : (u : Val) → Below (go u) (exec code k (suc (suc at_drop)) (single u ∷ operands)) =
-      λ u. moved code k (place + length (then_code first later place)) (suc (suc at_drop)) (single u ∷ operands) (go u) (behind_then first later place ∙ behind_then (linked_code links) dropped mid ∙ two_behind at_drop) (below u) in
-      a.1 (single v ∷ operands) (λ w. step (asks (events.compare op v w) (on_value (λ holds. linked_walk w holds links go))))
-      (λ w. asks_at code compare_at (compare_and_preserve op) [] (stands_second code place (expression_code e) (one (compare_and_preserve op)) stands) b.0 (single w ∷ single v ∷ operands) (single w ∷ operands) (events.compare op v w) (λ holds. linked_walk w holds links go) refl
-        (λ holds. moved code b.0 mid (suc compare_at) (single holds ∷ single w ∷ operands) (linked_walk w holds links go)
-          (behind_then (expression_code e) (one (compare_and_preserve op)) place ∙ sym (behind_single compare_at (compare_and_preserve op))) (b.1 w holds operands go there))))
-    where
+    let a = f code place (stands_first code place (expression_code e) (one (compare_and_preserve op)) stands) (suc b.0) in (
+      a.0,
+      λ v operands go below.
+          let there : (u : Val) → Below (go u) (exec code k (suc (suc at_drop)) (single u ∷ operands)) =
+          λ u. moved code k (place + length (then_code first later place)) (suc (suc at_drop)) (single u ∷ operands) (go u) (behind_then first later place ∙ behind_then (linked_code links) dropped mid ∙ two_behind at_drop) (below u) in
+          a.1 (single v ∷ operands) (λ w. step (asks (events.compare op v w) (on_value (λ holds. linked_walk w holds links go))))
+          (λ w. asks_at code compare_at (compare_and_preserve op) [] (stands_second code place (expression_code e) (one (compare_and_preserve op)) stands) b.0 (single w ∷ single v ∷ operands) (single w ∷ operands) (events.compare op v w) (λ holds. linked_walk w holds links go) refl
+          (λ holds. moved code b.0 mid (suc compare_at) (single holds ∷ single w ∷ operands) (linked_walk w holds links go)
+          (behind_then (expression_code e) (one (compare_and_preserve op)) place ∙ sym (behind_single compare_at (compare_and_preserve op))) (b.1 w holds operands go there))),
+    )
+  where
     two_behind : (n : ℕ) → n + length (dropped n) ≡ suc (suc n)
     two_behind n = omega arith
 
@@ -249,7 +265,7 @@ mutual
       gives_then (expression_code e) (then_code (optional_code none start) (then_code (optional_code none stop) (then_code (optional_code none by) (one slice)))) (expression_walk e)
       (λ v go. optional_walk none start (λ a. optional_walk none stop (λ b. optional_walk none by (λ c. step (asks (events.get_slice v a b c) (on_value go)))))) (performs e)
       (over_slice (optional_code none start) (optional_code none stop) (optional_code none by) (optional_walk none start) (optional_walk none stop) (optional_walk none by)
-        (performs_optional start none) (performs_optional stop none) (performs_optional by none))
+      (performs_optional start none) (performs_optional stop none) (performs_optional by none))
   performs (list_literal es) =
       performs_loaded (constant_of (list_literal es)) (then_code (expressions_code es) (one (build_list (number_of es)))) (λ go. expressions_walk es (λ vs. step (asks (events.build_list vs) (on_value go))))
       (performs_built (expressions_code es) (expressions_walk es) (number_of es) (build_list (number_of es)) events.build_list (performs_all es) (built_list (number_of es)))

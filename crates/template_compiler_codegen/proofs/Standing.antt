@@ -1,5 +1,5 @@
 -- Pieces of code, and where they stand in the whole.
-use Rattle.std.proofs.Common.{◌≡◌, ℕ, ◌+◌, suc, List, [], ◌∷◌, ◌++◌, length, Option, Some, slice_get, refl, sym, ap, subst, ◌∙◌, append_assoc, length-append, arith}
+use Rattle.std.proofs.Common.{◌≡◌, ℕ, ◌+◌, suc, List, [], ◌∷◌, ◌++◌, length, Some, slice_get, refl, sym, ap, subst, ◌∙◌, append_assoc, length-append, arith}
 use Rattle.template_process.specs.Process.{Process, Below}
 use Rattle.template_code.specs.Code.{Operand, Code, jump, jump_if_false}
 use Rattle.template_code.specs.Steps.{act, exec}

@@ -1,21 +1,20 @@
 -- The code of each statement performs its walk: from any place, over any operands, with any ways out.
-use Rattle.std.proofs.Common.{◌≡◌, ℕ, ◌+◌, ◌≤◌, ◌==◌, zero, suc, true, false, List, [], ◌∷◌, ◌++◌, length, map, Option, None, Some, refl, sym, ap, subst, ◌∙◌, length-append, arith}
+use Rattle.std.proofs.Common.{◌≡◌, ℕ, ◌+◌, ◌≤◌, ◌==◌, zero, suc, true, false, List, [], ◌∷◌, ◌++◌, length, map, Some, refl, sym, ap, subst, ◌∙◌, length-append, arith}
 use Rattle.std.proofs.lemmas.Bool.Decides.{nat_tests}
 use Rattle.template_values_model.specs.Val.{Val}
 use Rattle.template_tree.specs.Tree.{Expression, Expressions, Statement, Statements, Assignments, variable, list_literal, absent, no_expressions, expressions_more, raw, print, for_loop, if_condition, with_block, set, auto_escape, continue_loop, break_loop, no_statements, statements_more, no_assignments, assignments_more}
 use Rattle.template_tree.specs.Tree as tree
 use Rattle.template_process.specs.Process as events
 use Rattle.template_process.specs.Process.{Ask, store, truth_of, unpack, write_raw, write_value, open_frame, close_frame, open_loop, next_item, did_not_iterate, close_loop, open_escape, close_escape, Process, over, step, asks, cut_short, on_done, on_value, on_truth, on_item, on_items, Below}
-use Rattle.template_process.proofs.Below.{below-cut_short, below-over, below-step, below-asks_done, below-asks_value, below-asks_truth, below-asks_item, below-asks_items_of, below-trans}
+use Rattle.template_process.proofs.Below.{below-cut_short, below-step, below-asks_done, below-asks_value, below-asks_item, below-asks_items_of}
 use Rattle.template_walk.specs.Expressions.{expression_walk}
-use Rattle.template_walk.specs.Statements.{Exits, outside, closing, number_of, target_walk, targets_walk, assignments_walk, rounds, loop_end, past, statement_walk, statements_walk, template_walk}
+use Rattle.template_walk.specs.Statements.{Exits, closing, number_of, target_walk, targets_walk, assignments_walk, rounds, loop_end, past, statement_walk, statements_walk}
 use Rattle.template_code.specs.Code.{Operand, single, Code, emit_raw, emit, store_local, unpack_list, jump, jump_if_false, push_with, pop_frame, push_loop, iterate, push_did_not_iterate, pop_loop_frame, push_auto_escape, pop_auto_escape, include}
 use Rattle.template_code.specs.Steps.{act, exec}
-use Rattle.template_code.proofs.Rising.{exec_more}
 use Rattle.template_compiler_codegen.specs.Expressions.{Coded, then_code, one, nothing, skipped, either_code, expression_code}
-use Rattle.template_compiler_codegen.specs.Statements.{Ways, no_ways, closing_with, target_code, targets_code, assignments_code, loop_flags, rounds_code, loop_end_code, branches_code, left_by, statement_code, statements_code, template_code}
+use Rattle.template_compiler_codegen.specs.Statements.{Ways, closing_with, target_code, targets_code, assignments_code, loop_flags, rounds_code, loop_end_code, branches_code, left_by, statement_code, statements_code}
 use Rattle.template_compiler_codegen.proofs.Standing.{StandsAt, behind_one, instruction_at, below_at, behind_then, stands_first, stands_second, first_part, last_part, stands_either, behind_either}
-use Rattle.template_compiler_codegen.proofs.Expressions.{Gives, Performs, behind_single, moved, longer, asks_at, tests_at, jumps_at, behind_skipped}
+use Rattle.template_compiler_codegen.proofs.Expressions.{behind_single, moved, longer, tests_at, jumps_at, behind_skipped}
 use Rattle.template_compiler_codegen.proofs.Performing.{performs}
 use Rattle.template_compiler_codegen.proofs.Lengths.{long_statements}
 
@@ -61,11 +60,13 @@ done_then ways first second walk more f g code place h k =
     let mid = place + length (first place) in
     let later = g code mid (stands_second code place first second h) k in
     let m = later.0 + k in
-    let earlier = f code place (stands_first code place first second h) m in
-    (earlier.0, λ operands x go below outs.
-      earlier.1 operands x (more x go)
-      (longer code later.0 m mid operands (more x go) (omega arith) (later.1 operands x go (moved code k (place + length (then_code first second place)) (mid + length (second mid)) operands go (behind_then first second place) below) outs))
-      (outs_longer code ways k m x operands (omega arith) outs))
+    let earlier = f code place (stands_first code place first second h) m in (
+      earlier.0,
+      λ operands x go below outs.
+          earlier.1 operands x (more x go)
+          (longer code later.0 m mid operands (more x go) (omega arith) (later.1 operands x go (moved code k (place + length (then_code first second place)) (mid + length (second mid)) operands go (behind_then first second place) below) outs))
+          (outs_longer code ways k m x operands (omega arith) outs),
+    )
 
 -- an expression, and then what takes its value
 done_with : (ways : Ways) (e : Expression) (second : Coded) (more : Val → Walk) → TakesAs ways second more → PerformsAs ways (then_code (expression_code e) second) (λ x go. expression_walk e (λ v. more v x go))
@@ -73,10 +74,12 @@ done_with ways e second more g code place h k =
     let first = expression_code e in
     let mid = place + length (first place) in
     let later = g code mid (stands_second code place first second h) k in
-    let earlier = performs e code place (stands_first code place first second h) later.0 in
-    (earlier.0, λ operands x go below outs.
-      earlier.1 operands (λ v. more v x go)
-      (λ v. later.1 v operands x go (moved code k (place + length (then_code first second place)) (mid + length (second mid)) operands go (behind_then first second place) below) outs))
+    let earlier = performs e code place (stands_first code place first second h) later.0 in (
+      earlier.0,
+      λ operands x go below outs.
+          earlier.1 operands (λ v. more v x go)
+          (λ v. later.1 v operands x go (moved code k (place + length (then_code first second place)) (mid + length (second mid)) operands go (behind_then first second place) below) outs),
+    )
 
 -- what takes a value, and then a piece
 taken_then : (ways : Ways) (first second : Coded) (walk : Val → Walk) (more : Walk) → TakesAs ways first walk → PerformsAs ways second more → TakesAs ways (then_code first second) (λ v x go. walk v x (more x go))
@@ -84,11 +87,13 @@ taken_then ways first second walk more f g code place h k =
     let mid = place + length (first place) in
     let later = g code mid (stands_second code place first second h) k in
     let m = later.0 + k in
-    let earlier = f code place (stands_first code place first second h) m in
-    (earlier.0, λ v operands x go below outs.
-      earlier.1 v operands x (more x go)
-      (longer code later.0 m mid operands (more x go) (omega arith) (later.1 operands x go (moved code k (place + length (then_code first second place)) (mid + length (second mid)) operands go (behind_then first second place) below) outs))
-      (outs_longer code ways k m x operands (omega arith) outs))
+    let earlier = f code place (stands_first code place first second h) m in (
+      earlier.0,
+      λ v operands x go below outs.
+          earlier.1 v operands x (more x go)
+          (longer code later.0 m mid operands (more x go) (omega arith) (later.1 operands x go (moved code k (place + length (then_code first second place)) (mid + length (second mid)) operands go (behind_then first second place) below) outs))
+          (outs_longer code ways k m x operands (omega arith) outs),
+    )
 
 -- one instruction that asks for something to be done
 done_at : (code : List Code) (place : ℕ) (c : Code) (piece : List Code) → StandsAt code place (c ∷ piece) → (k : ℕ) (operands rest : List Operand) (e : Ask) (p : Process)
@@ -106,21 +111,27 @@ done_free code place c piece h k operands rest e p is below =
 
 takes_one : (ways : Ways) (c : Code) (e : Val → Ask) → ((next : ℕ → List Operand → Process) (place : ℕ) (v : Val) (operands : List Operand) → act next (Some c) place (single v ∷ operands) ≡ step (asks (e v) (on_done (next (suc place) operands))))
     → TakesAs ways (one c) (λ v x go. step (asks (e v) (on_done go)))
-takes_one ways c e is code place h k =
-    (suc k, λ v operands x go below outs. done_at code place c [] h k (single v ∷ operands) operands (e v) go (is (exec code k) place v operands)
-      (moved code k (place + length (one c place)) (suc place) operands go (sym (behind_single place c)) below))
+takes_one ways c e is code place h k = (
+  suc k,
+  λ v operands x go below outs. done_at code place c [] h k (single v ∷ operands) operands (e v) go (is (exec code k) place v operands)
+      (moved code k (place + length (one c place)) (suc place) operands go (sym (behind_single place c)) below),
+)
 
 takes_free : (ways : Ways) (c : Code) (e : Val → Ask) → ((next : ℕ → List Operand → Process) (place : ℕ) (v : Val) (operands : List Operand) → act next (Some c) place (single v ∷ operands) ≡ asks (e v) (on_done (next (suc place) operands)))
     → TakesAs ways (one c) (λ v x go. asks (e v) (on_done go))
-takes_free ways c e is code place h k =
-    (suc k, λ v operands x go below outs. done_free code place c [] h k (single v ∷ operands) operands (e v) go (is (exec code k) place v operands)
-      (moved code k (place + length (one c place)) (suc place) operands go (sym (behind_single place c)) below))
+takes_free ways c e is code place h k = (
+  suc k,
+  λ v operands x go below outs. done_free code place c [] h k (single v ∷ operands) operands (e v) go (is (exec code k) place v operands)
+      (moved code k (place + length (one c place)) (suc place) operands go (sym (behind_single place c)) below),
+)
 
 does_free : (ways : Ways) (c : Code) (e : Ask) → ((next : ℕ → List Operand → Process) (place : ℕ) (operands : List Operand) → act next (Some c) place operands ≡ asks e (on_done (next (suc place) operands)))
     → PerformsAs ways (one c) (λ x go. asks e (on_done go))
-does_free ways c e is code place h k =
-    (suc k, λ operands x go below outs. done_free code place c [] h k operands operands e go (is (exec code k) place operands)
-      (moved code k (place + length (one c place)) (suc place) operands go (sym (behind_single place c)) below))
+does_free ways c e is code place h k = (
+  suc k,
+  λ operands x go below outs. done_free code place c [] h k operands operands e go (is (exec code k) place operands)
+      (moved code k (place + length (one c place)) (suc place) operands go (sym (behind_single place c)) below),
+)
 
 -- code that takes a value and does not look at the ways out
 abbrev Stores : Coded → (Val → Process → Process) → Type 0
@@ -136,9 +147,11 @@ takes_stored : (ways : Ways) (piece : Coded) (walk : Val → Process → Process
 takes_stored ways piece walk f code place h k = let b = f code place h k in (b.0, λ v operands x go below outs. b.1 v operands go below)
 
 stores_name : (name : List ℕ) → Stores (one (store_local name)) (λ v go. step (asks (store name v) (on_done go)))
-stores_name name code place h k =
-    (suc k, λ v operands go below. done_at code place (store_local name) [] h k (single v ∷ operands) operands (store name v) go refl
-      (moved code k (place + length (one (store_local name) place)) (suc place) operands go (sym (behind_single place (store_local name))) below))
+stores_name name code place h k = (
+  suc k,
+  λ v operands go below. done_at code place (store_local name) [] h k (single v ∷ operands) operands (store name v) go refl
+      (moved code k (place + length (one (store_local name) place)) (suc place) operands go (sym (behind_single place (store_local name))) below),
+)
 
 over_none : (code : List Code) (k place : ℕ) (vs : List Val) → length vs ≡ 0 → (operands : List Operand) (go : Process) → Below go (exec code k place operands) → Below go (exec code k place (map single vs ++ operands))
 over_none code k place [] none operands go below = below
@@ -162,12 +175,14 @@ more_targets target targets f g code place h k =
     let more = targets_code targets in
     let mid = place + length (first place) in
     let b = g code mid (stands_second code place first more h) k in
-    let a = f code place (stands_first code place first more h) b.0 in
-    (a.0, λ vs many operands go below.
-      over_more code a.0 place (targets_walk (expressions_more target targets)) (number_of targets) operands go
-      (λ v us few. a.1 v (map single us ++ operands) (targets_walk targets us go)
-        (b.1 us few operands go (moved code k (place + length (then_code first more place)) (mid + length (more mid)) operands go (behind_then first more place) below)))
-      vs many)
+    let a = f code place (stands_first code place first more h) b.0 in (
+      a.0,
+      λ vs many operands go below.
+          over_more code a.0 place (targets_walk (expressions_more target targets)) (number_of targets) operands go
+          (λ v us few. a.1 v (map single us ++ operands) (targets_walk targets us go)
+          (b.1 us few operands go (moved code k (place + length (then_code first more place)) (mid + length (more mid)) operands go (behind_then first more place) below)))
+          vs many,
+    )
 
 count_of : (n m : ℕ) → (n == m) ≡ true → n ≡ m
 count_of n m e = grind (arith, nat_tests)
@@ -179,12 +194,14 @@ unpacks targets g code place h k =
     let first = one (unpack_list n) in
     let more = targets_code targets in
     let mid = place + length (first place) in
-    let b = g code mid (stands_second code place first more h) k in
-    (suc b.0, λ v operands go below.
-      below_at code place (unpack_list n) (instruction_at code place (unpack_list n) [] (stands_first code place first more h)) b.0 (single v ∷ operands) (step (asks (unpack n v) (on_items n (λ vs. targets_walk targets vs go))))
-      (below-step _ _ (below-asks_items_of (unpack n v) n (λ vs. targets_walk targets vs go) (λ vs. exec code b.0 (suc place) (map single vs ++ operands))
-        (λ vs many. moved code b.0 mid (suc place) (map single vs ++ operands) (targets_walk targets vs go) (sym (behind_single place (unpack_list n)))
-          (b.1 vs (count_of (length vs) n many) operands go (moved code k (place + length (then_code first more place)) (mid + length (more mid)) operands go (behind_then first more place) below))))))
+    let b = g code mid (stands_second code place first more h) k in (
+      suc b.0,
+      λ v operands go below.
+          below_at code place (unpack_list n) (instruction_at code place (unpack_list n) [] (stands_first code place first more h)) b.0 (single v ∷ operands) (step (asks (unpack n v) (on_items n (λ vs. targets_walk targets vs go))))
+          (below-step _ _ (below-asks_items_of (unpack n v) n (λ vs. targets_walk targets vs go) (λ vs. exec code b.0 (suc place) (map single vs ++ operands))
+          (λ vs many. moved code b.0 mid (suc place) (map single vs ++ operands) (targets_walk targets vs go) (sym (behind_single place (unpack_list n)))
+          (b.1 vs (count_of (length vs) n many) operands go (moved code k (place + length (then_code first more place)) (mid + length (more mid)) operands go (behind_then first more place) below))))),
+    )
 
 mutual
   stores : (target : Expression) → Stores (target_code target) (target_walk target)
@@ -201,19 +218,21 @@ assigns ways no_assignments = nothing_done ways
 assigns ways (assignments_more target e more) =
     done_with ways e (then_code (target_code target) (assignments_code more)) (λ v x go. target_walk target v (assignments_walk more go))
     (taken_then ways (target_code target) (assignments_code more) (λ v x go. target_walk target v go) (λ x go. assignments_walk more go)
-      (takes_stored ways (target_code target) (target_walk target) (stores target)) (assigns ways more))
+    (takes_stored ways (target_code target) (target_walk target) (stores target)) (assigns ways more))
 
 -- a branch that may be skipped
 takes_branch : (ways : Ways) (body : Coded) (walk : Walk) → PerformsAs ways body walk → TakesAs ways (skipped jump_if_false body) (λ v x go. step (asks (truth_of v) (on_truth (walk x go) go)))
 takes_branch ways body walk f code place h k =
     let behind = suc place + length (body (suc place)) in
     let inner = f code (suc place) (behind_one code place (jump_if_false behind) (body (suc place)) h) k in
-    let m = inner.0 + k in
-    (suc m, λ v operands x go below outs.
-      let there : Below go (exec code k behind operands) = moved code k (place + length (skipped jump_if_false body place)) behind operands go (sym (behind_skipped jump_if_false body place)) below in
-      tests_at code place (jump_if_false behind) (body (suc place)) h m (single v ∷ operands) (truth_of v) (walk x go) go (exec code m (suc place) operands) (exec code m behind operands) refl
-      (longer code inner.0 m (suc place) operands (walk x go) (omega arith) (inner.1 operands x go there outs))
-      (longer code k m behind operands go (omega arith) there))
+    let m = inner.0 + k in (
+      suc m,
+      λ v operands x go below outs.
+          let there : Below go (exec code k behind operands) = moved code k (place + length (skipped jump_if_false body place)) behind operands go (sym (behind_skipped jump_if_false body place)) below in
+          tests_at code place (jump_if_false behind) (body (suc place)) h m (single v ∷ operands) (truth_of v) (walk x go) go (exec code m (suc place) operands) (exec code m behind operands) refl
+          (longer code inner.0 m (suc place) operands (walk x go) (omega arith) (inner.1 operands x go there outs))
+          (longer code k m behind operands go (omega arith) there),
+    )
 
 -- two branches
 takes_either : (ways : Ways) (body other : Coded) (walk more : Walk) → PerformsAs ways body walk → PerformsAs ways other more
@@ -225,22 +244,26 @@ takes_either ways body other walk more f g code place h k =
     let behind = begins + length (other begins) in
     let left = f code (suc place) parts.left (suc k) in
     let right = g code begins parts.right k in
-    let m = left.0 + right.0 in
-    (suc m, λ v operands x go below outs.
-      let there : Below go (exec code k behind operands) = moved code k (place + length (either_code body other place)) behind operands go (sym (behind_either body other place)) below in
-      tests_at code place (jump_if_false begins) parts.test parts.tests m (single v ∷ operands) (truth_of v) (walk x (step go)) (more x go) (exec code m (suc place) operands) (exec code m begins operands) refl
-      (longer code left.0 m (suc place) operands (walk x (step go)) (omega arith)
-        (left.1 operands x (step go) (jumps_at code leap_at behind parts.rest parts.leaps k operands go there) (outs_longer code ways k (suc k) x operands (omega arith) outs)))
-      (longer code right.0 m begins operands (more x go) (omega arith) (right.1 operands x go there outs)))
+    let m = left.0 + right.0 in (
+      suc m,
+      λ v operands x go below outs.
+          let there : Below go (exec code k behind operands) = moved code k (place + length (either_code body other place)) behind operands go (sym (behind_either body other place)) below in
+          tests_at code place (jump_if_false begins) parts.test parts.tests m (single v ∷ operands) (truth_of v) (walk x (step go)) (more x go) (exec code m (suc place) operands) (exec code m begins operands) refl
+          (longer code left.0 m (suc place) operands (walk x (step go)) (omega arith)
+          (left.1 operands x (step go) (jumps_at code leap_at behind parts.rest parts.leaps k operands go there) (outs_longer code ways k (suc k) x operands (omega arith) outs)))
+          (longer code right.0 m begins operands (more x go) (omega arith) (right.1 operands x go there outs)),
+    )
 
 takes_branches : (ways : Ways) (otherwise : Statements) (body other : Coded) (walk more : Walk) → PerformsAs ways body walk → PerformsAs ways other more
     → ((x : Exits) (go : Process) → (otherwise ≡ no_statements) → more x go ≡ go)
     → TakesAs ways (branches_code otherwise body other) (λ v x go. step (asks (truth_of v) (on_truth (walk x (past otherwise go)) (more x go))))
 takes_branches ways no_statements body other walk more f g same code place h k =
-    let b = takes_branch ways body walk f code place h k in
-    (b.0, λ v operands x go below outs.
-      let P : Process → Type 0 = λ q. Below (step (asks (truth_of v) (on_truth (walk x go) q))) (exec code b.0 place (single v ∷ operands)) in
-      subst P (sym (same x go refl)) (b.1 v operands x go below outs))
+    let b = takes_branch ways body walk f code place h k in (
+      b.0,
+      λ v operands x go below outs.
+          let P : Process → Type 0 = λ q. Below (step (asks (truth_of v) (on_truth (walk x go) q))) (exec code b.0 place (single v ∷ operands)) in
+          subst P (sym (same x go refl)) (b.1 v operands x go below outs),
+    )
 takes_branches ways (statements_more s ss) body other walk more f g same code place h k = takes_either ways body other walk more f g code place h k
 
 -- a body with something open, and its closing
@@ -250,12 +273,14 @@ closed_body ways c e body walk is f code place h k =
     let mid = place + length (body place) in
     let b = f code place (stands_first code place body (one c) h) (suc k) in
     let way_out : (to : ℕ) (p : Process) (operands : List Operand) → WayOut code ways.closings to k p operands → WayOut code (c ∷ ways.closings) to (suc k) (asks e (on_done p)) operands =
-    λ to p operands out at stands. done_free code at c (left_by ways.closings to at) stands k operands operands e p (is (exec code k) at operands) (out (suc at) (behind_one code at c (left_by ways.closings to at) stands)) in
-    (b.0, λ operands x go below outs.
-      b.1 operands (closing e x) (asks e (on_done go))
-      (done_free code mid c [] (stands_second code place body (one c) h) k operands operands e go (is (exec code k) mid operands)
-        (moved code k (place + length (then_code body (one c) place)) (suc mid) operands go (behind_then body (one c) place ∙ sym (behind_single mid c)) below))
-      (record { on_break = way_out ways.break_to x.on_break operands outs.on_break; on_continue = way_out ways.continue_to x.on_continue operands outs.on_continue }))
+    λ to p operands out at stands. done_free code at c (left_by ways.closings to at) stands k operands operands e p (is (exec code k) at operands) (out (suc at) (behind_one code at c (left_by ways.closings to at) stands)) in (
+      b.0,
+      λ operands x go below outs.
+          b.1 operands (closing e x) (asks e (on_done go))
+          (done_free code mid c [] (stands_second code place body (one c) h) k operands operands e go (is (exec code k) mid operands)
+          (moved code k (place + length (then_code body (one c) place)) (suc mid) operands go (behind_then body (one c) place ∙ sym (behind_single mid c)) below))
+          (record { on_break = way_out ways.break_to x.on_break operands outs.on_break; on_continue = way_out ways.continue_to x.on_continue operands outs.on_continue }),
+    )
 
 -- a way out
 leaves : (ways : Ways) (to : ℕ) (walk : Walk) → ((code : List Code) (k : ℕ) (x : Exits) (go : Process) (operands : List Operand) → Outs code ways k x operands → WayOut code ways.closings to k (walk x go) operands)
@@ -272,14 +297,16 @@ ends_loop ways (statements_more s ss) other more f code place h k =
     let at_pop = place + length (first place) in
     let behind_first = stands_second code place first rest h in
     let at_tail = at_pop + length (one pop_loop_frame at_pop) in
-    let b = takes_branch ways other more f code at_tail (stands_second code at_pop (one pop_loop_frame) tail behind_first) k in
-    (suc (suc b.0), λ operands x go below outs.
-      below_at code place push_did_not_iterate (instruction_at code place push_did_not_iterate [] (stands_first code place first rest h)) (suc b.0) operands (loop_end (statements_more s ss) (more x go) go)
-      (below-asks_value did_not_iterate _ _ (λ flag.
-        moved code (suc b.0) at_pop (suc place) (single flag ∷ operands) (asks close_loop (on_done (step (asks (truth_of flag) (on_truth (more x go) go))))) (sym (behind_single place push_did_not_iterate))
-        (done_free code at_pop pop_loop_frame [] (stands_first code at_pop (one pop_loop_frame) tail behind_first) b.0 (single flag ∷ operands) (single flag ∷ operands) close_loop (step (asks (truth_of flag) (on_truth (more x go) go))) refl
+    let b = takes_branch ways other more f code at_tail (stands_second code at_pop (one pop_loop_frame) tail behind_first) k in (
+      suc (suc b.0),
+      λ operands x go below outs.
+          below_at code place push_did_not_iterate (instruction_at code place push_did_not_iterate [] (stands_first code place first rest h)) (suc b.0) operands (loop_end (statements_more s ss) (more x go) go)
+          (below-asks_value did_not_iterate _ _ (λ flag.
+          moved code (suc b.0) at_pop (suc place) (single flag ∷ operands) (asks close_loop (on_done (step (asks (truth_of flag) (on_truth (more x go) go))))) (sym (behind_single place push_did_not_iterate))
+          (done_free code at_pop pop_loop_frame [] (stands_first code at_pop (one pop_loop_frame) tail behind_first) b.0 (single flag ∷ operands) (single flag ∷ operands) close_loop (step (asks (truth_of flag) (on_truth (more x go) go))) refl
           (moved code b.0 at_tail (suc at_pop) (single flag ∷ operands) (step (asks (truth_of flag) (on_truth (more x go) go))) (sym (behind_single at_pop pop_loop_frame))
-            (b.1 flag operands x go (moved code k (place + length (then_code first rest place)) (at_tail + length (tail at_tail)) operands go (behind_then first rest place ∙ behind_then (one pop_loop_frame) tail at_pop) below) outs))))))
+          (b.1 flag operands x go (moved code k (place + length (then_code first rest place)) (at_tail + length (tail at_tail)) operands go (behind_then first rest place ∙ behind_then (one pop_loop_frame) tail at_pop) below) outs))))),
+    )
 
 -- a loop's own ways out
 abbrev loop_ways : ℕ → ℕ → Ways
@@ -306,21 +333,23 @@ turns code place begins jump_at ends_at target walk at (suc n) k =
     let m = later.0 + k in
     let body = at.does_there (suc m) in
     let stored = at.stores_there body.0 in
-    let all = stored.0 + k in
-    (suc all, λ operands finished below.
-      let round : Round = λ v inner again. target_walk target v (walk inner again) in
-      let again = step (rounds n round finished) in
-      let next : Below (rounds n round finished) (exec code m place operands) = longer code later.0 m place operands (rounds n round finished) (omega arith) (later.1 operands finished below) in
-      let inner : Exits = record { on_break = step finished; on_continue = again } in
-      let outs : Outs code (loop_ways ends_at place) (suc m) inner operands = record {
-        on_break = λ at_break h. jumps_at code at_break ends_at [] h m operands finished (longer code k m ends_at operands finished (omega arith) below);
-        on_continue = λ at_continue h. jumps_at code at_continue place [] h m operands (rounds n round finished) next;
-      } in
-      below_at code place (iterate ends_at) (instruction_at code place (iterate ends_at) at.rest at.asks_there) all operands (step (asks next_item (on_item (λ v. round v inner again) finished)))
-      (below-step _ _ (below-asks_item next_item (λ v. round v inner again) (λ v. exec code all (suc place) (single v ∷ operands)) finished (exec code all ends_at operands)
-        (λ v. longer code stored.0 all (suc place) (single v ∷ operands) (round v inner again) (omega arith)
+    let all = stored.0 + k in (
+      suc all,
+      λ operands finished below.
+          let round : Round = λ v inner again. target_walk target v (walk inner again) in
+          let again = step (rounds n round finished) in
+          let next : Below (rounds n round finished) (exec code m place operands) = longer code later.0 m place operands (rounds n round finished) (omega arith) (later.1 operands finished below) in
+          let inner : Exits = record { on_break = step finished; on_continue = again } in
+          let outs : Outs code (loop_ways ends_at place) (suc m) inner operands = record {
+            on_break = λ at_break h. jumps_at code at_break ends_at [] h m operands finished (longer code k m ends_at operands finished (omega arith) below);
+            on_continue = λ at_continue h. jumps_at code at_continue place [] h m operands (rounds n round finished) next;
+          } in
+          below_at code place (iterate ends_at) (instruction_at code place (iterate ends_at) at.rest at.asks_there) all operands (step (asks next_item (on_item (λ v. round v inner again) finished)))
+          (below-step _ _ (below-asks_item next_item (λ v. round v inner again) (λ v. exec code all (suc place) (single v ∷ operands)) finished (exec code all ends_at operands)
+          (λ v. longer code stored.0 all (suc place) (single v ∷ operands) (round v inner again) (omega arith)
           (stored.1 v operands (walk inner again) (body.1 operands inner again (jumps_at code jump_at place [] at.leads_back m operands (rounds n round finished) next) outs)))
-        (longer code k all ends_at operands finished (omega arith) below))))
+          (longer code k all ends_at operands finished (omega arith) below))),
+    )
 
 -- the rounds of a loop
 does_rounds : (n : ℕ) (target : Expression) (ss : Statements) (walk : Walk) → ((ways : Ways) → PerformsAs ways (statements_code ways ss) walk) → (ways : Ways)
@@ -349,9 +378,11 @@ otherwise_over : (n : ℕ) (otherwise : Statements) (x : Exits) (go : Process) �
 otherwise_over n otherwise x go e = ap (λ ss. statements_walk n ss x go) e
 
 writes : (ways : Ways) (text : List ℕ) → PerformsAs ways (one (emit_raw text)) (λ x go. step (asks (write_raw text) (on_done go)))
-writes ways text code place h k =
-    (suc k, λ operands x go below outs. done_at code place (emit_raw text) [] h k operands operands (write_raw text) go refl
-      (moved code k (place + length (one (emit_raw text) place)) (suc place) operands go (sym (behind_single place (emit_raw text))) below))
+writes ways text code place h k = (
+  suc k,
+  λ operands x go below outs. done_at code place (emit_raw text) [] h k operands operands (write_raw text) go refl
+      (moved code k (place + length (one (emit_raw text) place)) (suc place) operands go (sym (behind_single place (emit_raw text))) below),
+)
 
 mutual
   performs_statement : (n : ℕ) (s : Statement) (ways : Ways) → PerformsAs ways (statement_code ways s) (statement_walk n s)
@@ -363,29 +394,29 @@ mutual
       let round : Round = λ v inner again. target_walk target v (statements_walk n body inner again) in
       done_with ways e (then_code (one (push_loop loop_flags)) (then_code looped last)) (λ v x go. asks (open_loop v) (on_done (rounds n round (loop_end otherwise (statements_walk n otherwise x go) go))))
       (taken_then ways (one (push_loop loop_flags)) (then_code looped last) (λ v x go. asks (open_loop v) (on_done go)) (λ x go. rounds n round (loop_end otherwise (statements_walk n otherwise x go) go))
-        (takes_free ways (push_loop loop_flags) open_loop (λ next place v operands. refl))
-        (done_then ways looped last (λ x finished. rounds n round finished) (λ x go. loop_end otherwise (statements_walk n otherwise x go) go)
-          (does_rounds n target body (statements_walk n body) (λ w. performs_statements n body w) ways)
-          (ends_loop ways otherwise (statements_code ways otherwise) (statements_walk n otherwise) (performs_statements n otherwise ways))))
+      (takes_free ways (push_loop loop_flags) open_loop (λ next place v operands. refl))
+      (done_then ways looped last (λ x finished. rounds n round finished) (λ x go. loop_end otherwise (statements_walk n otherwise x go) go)
+      (does_rounds n target body (statements_walk n body) (λ w. performs_statements n body w) ways)
+      (ends_loop ways otherwise (statements_code ways otherwise) (statements_walk n otherwise) (performs_statements n otherwise ways))))
   performs_statement n (if_condition e body otherwise) ways =
       done_with ways e (branches_code otherwise (statements_code ways body) (statements_code ways otherwise))
       (λ v x go. step (asks (truth_of v) (on_truth (statements_walk n body x (past otherwise go)) (statements_walk n otherwise x go))))
       (takes_branches ways otherwise (statements_code ways body) (statements_code ways otherwise) (statements_walk n body) (statements_walk n otherwise) (performs_statements n body ways) (performs_statements n otherwise ways)
-        (λ x go e. otherwise_over n otherwise x go e))
+      (λ x go e. otherwise_over n otherwise x go e))
   performs_statement n (with_block assignments body) ways =
       let bodied = then_code (statements_code (closing_with pop_frame ways) body) (one pop_frame) in
       done_then ways (one push_with) (then_code (assignments_code assignments) bodied) (λ x go. asks open_frame (on_done go))
       (λ x go. assignments_walk assignments (statements_walk n body (closing close_frame x) (asks close_frame (on_done go)))) (does_free ways push_with open_frame (λ next place operands. refl))
       (done_then ways (assignments_code assignments) bodied (λ x go. assignments_walk assignments go) (λ x go. statements_walk n body (closing close_frame x) (asks close_frame (on_done go))) (assigns ways assignments)
-        (closed_body ways pop_frame close_frame (statements_code (closing_with pop_frame ways) body) (statements_walk n body) (λ next place operands. refl) (performs_statements n body (closing_with pop_frame ways))))
+      (closed_body ways pop_frame close_frame (statements_code (closing_with pop_frame ways) body) (statements_walk n body) (λ next place operands. refl) (performs_statements n body (closing_with pop_frame ways))))
   performs_statement n (set target e) ways =
       done_with ways e (target_code target) (λ v x go. target_walk target v go) (takes_stored ways (target_code target) (target_walk target) (stores target))
   performs_statement n (auto_escape e body) ways =
       let bodied = then_code (statements_code (closing_with pop_auto_escape ways) body) (one pop_auto_escape) in
       done_with ways e (then_code (one push_auto_escape) bodied) (λ v x go. asks (open_escape v) (on_done (statements_walk n body (closing close_escape x) (asks close_escape (on_done go)))))
       (taken_then ways (one push_auto_escape) bodied (λ v x go. asks (open_escape v) (on_done go)) (λ x go. statements_walk n body (closing close_escape x) (asks close_escape (on_done go)))
-        (takes_free ways push_auto_escape open_escape (λ next place v operands. refl))
-        (closed_body ways pop_auto_escape close_escape (statements_code (closing_with pop_auto_escape ways) body) (statements_walk n body) (λ next place operands. refl) (performs_statements n body (closing_with pop_auto_escape ways))))
+      (takes_free ways push_auto_escape open_escape (λ next place v operands. refl))
+      (closed_body ways pop_auto_escape close_escape (statements_code (closing_with pop_auto_escape ways) body) (statements_walk n body) (λ next place operands. refl) (performs_statements n body (closing_with pop_auto_escape ways))))
   performs_statement n (tree.include e ignore_missing) ways =
       done_with ways e (one (include ignore_missing)) (λ v x go. step (asks (events.include ignore_missing v) (on_done go))) (takes_one ways (include ignore_missing) (events.include ignore_missing) (λ next place v operands. refl))
   performs_statement n continue_loop ways = leaves ways ways.continue_to (λ x go. x.on_continue) (λ code k x go operands outs. outs.on_continue)

@@ -76,7 +76,7 @@ abbrev mutual
   expression_code (item e key) = then_code (expression_code e) (then_code (expression_code key) (one get_item))
   expression_code (tree.slice e start stop by) =
       then_code (expression_code e) (then_code (optional_code none start)
-        (then_code (optional_code none stop) (then_code (optional_code none by) (one slice))))
+      (then_code (optional_code none stop) (then_code (optional_code none by) (one slice))))
   expression_code (list_literal es) =
       loaded (constant_of (list_literal es)) (then_code (expressions_code es) (one (build_list (number_of es))))
   expression_code (tuple_literal es) =

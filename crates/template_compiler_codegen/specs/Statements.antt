@@ -1,5 +1,5 @@
 -- The code of statements, from the place where they begin.
-use Rattle.std.specs.Prelude.{ℕ, ◌+◌, suc, true, false, List, [], ◌∷◌, ◌++◌, length}
+use Rattle.std.specs.Prelude.{ℕ, ◌+◌, suc, false, List, [], ◌∷◌, ◌++◌, length}
 use Rattle.template_tree.specs.Tree.{Expression, Expressions, Statement, Statements, Assignments, variable, list_literal, absent, no_expressions, expressions_more, raw, print, for_loop, if_condition, with_block, set, auto_escape, continue_loop, break_loop, no_statements, statements_more, no_assignments, assignments_more}
 use Rattle.template_tree.specs.Tree as tree
 use Rattle.template_walk.specs.Statements.{number_of}
@@ -72,17 +72,17 @@ abbrev mutual
   statement_code ways (print e) = then_code (expression_code e) (one emit)
   statement_code ways (for_loop target e absent false body otherwise) =
       then_code (expression_code e) (then_code (one (push_loop loop_flags))
-        (then_code (rounds_code (target_code target) (λ break_to continue_to. statements_code (own_ways break_to continue_to) body))
-          (loop_end_code otherwise (statements_code ways otherwise))))
+      (then_code (rounds_code (target_code target) (λ break_to continue_to. statements_code (own_ways break_to continue_to) body))
+      (loop_end_code otherwise (statements_code ways otherwise))))
   statement_code ways (if_condition e body otherwise) =
       then_code (expression_code e) (branches_code otherwise (statements_code ways body) (statements_code ways otherwise))
   statement_code ways (with_block assignments body) =
       then_code (one push_with) (then_code (assignments_code assignments)
-        (then_code (statements_code (closing_with pop_frame ways) body) (one pop_frame)))
+      (then_code (statements_code (closing_with pop_frame ways) body) (one pop_frame)))
   statement_code ways (set target e) = then_code (expression_code e) (target_code target)
   statement_code ways (auto_escape e body) =
       then_code (expression_code e) (then_code (one push_auto_escape)
-        (then_code (statements_code (closing_with pop_auto_escape ways) body) (one pop_auto_escape)))
+      (then_code (statements_code (closing_with pop_auto_escape ways) body) (one pop_auto_escape)))
   statement_code ways (tree.include e ignore_missing) = then_code (expression_code e) (one (include ignore_missing))
   statement_code ways continue_loop = left_by ways.closings ways.continue_to
   statement_code ways break_loop = left_by ways.closings ways.break_to

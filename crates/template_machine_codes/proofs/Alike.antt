@@ -1,15 +1,13 @@
 -- A run of trees that is finished is the run of their codes, and of whatever goes as far.
-use Rattle.std.proofs.Common.{◌≡◌, ℕ, ◌+◌, ◌≤◌, ◌⊎◌, inl, inr, zero, suc, Bool, true, false, List, [], ◌∷◌, Option, None, Some, option_map, Result, Ok, Err, map, refl, sym, ap, subst, ◌∙◌, arith}
+use Rattle.std.proofs.Common.{◌≡◌, ℕ, ◌+◌, ◌≤◌, ◌⊎◌, inl, inr, zero, suc, Bool, true, false, List, [], ◌∷◌, Option, None, Some, Result, Ok, Err, refl, sym, ap, subst, ◌∙◌, arith}
 use Rattle.std.specs.Prelude.{if◌then◌else◌}
 use Rattle.template_values_errors.specs.declared.ErrorKind.{ErrorKind}
 use Rattle.template_values_errors.specs.declared.ErrorKind.TheVariants.{InvalidOperation}
 use Rattle.template_values_model.specs.Val.{Val}
-use Rattle.template_values_core.specs.Answers.{text_in}
 use Rattle.template_values_forms.specs.Known.{nothing_known}
-use Rattle.template_tree.specs.Tree.{Statements}
 use Rattle.template_process.specs.Process.{Ask, include, Answer, Told, tells, fails, breaks_off, Process, over, step, asks, amiss, cut_short, stuck, Below}
 use Rattle.template_process.specs.Drive.{End, ends, faults, breaks, waits, mistaken, cuts, sticks}
-use Rattle.template_process.specs.Trace.{Item, paid, Reply, Run, run, behind, ended, go_on, replied}
+use Rattle.template_process.specs.Trace.{paid, Reply, Run, run, behind, ended, go_on, replied}
 use Rattle.template_process.specs.Approximants.{IsFinished}
 use Rattle.template_process.proofs.Below.{below-trans}
 use Rattle.template_walk.specs.Statements.{template_walk}
@@ -19,11 +17,11 @@ use Rattle.template_compiler_codegen.specs.Statements.{template_code}
 use Rattle.template_compiler_codegen.proofs.Whole.{templates_perform}
 use Rattle.template_machine_meaning.specs.World.{World, has_room}
 use Rattle.template_machine_meaning.specs.Replies.{refused}
-use Rattle.template_machine_meaning.specs.Includes.{Runner, choices_in, standing_or, named_or, first_standing, told_of, include_levels, within, wrapped, included_run, included_by, included_from}
-use Rattle.template_machine_meaning.specs.Surroundings.{Program, Programs, runners, answer}
-use Rattle.template_machine_meaning.specs.Meaning.{Standing, Setting, walks_of, meaning}
+use Rattle.template_machine_meaning.specs.Includes.{Runner, choices_in, first_standing, told_of, include_levels, wrapped, included_run, included_by, included_from}
+use Rattle.template_machine_meaning.specs.Surroundings.{Program, runners, answer}
+use Rattle.template_machine_meaning.specs.Meaning.{Standing, Setting, walks_of}
 use Rattle.template_machine_meaning.proofs.Included.{found, with_runner, first_is, mapped}
-use Rattle.template_machine_codes.specs.Codes.{codes_of, code_meaning}
+use Rattle.template_machine_codes.specs.Codes.{codes_of}
 use Rattle.template_machine_codes.specs.Laws.{CodeMeansTree}
 
 -- how the walks and the codes run
@@ -65,7 +63,7 @@ module _ (setting : Setting) (w : World) (ignore_missing : Bool) (v : Val) where
   -- a reply that both give from a bound on
   plainly : (n least : ℕ) (r : Reply World) → walked n ≡ r → ((m : ℕ) → least ≤ m → coded (suc m) ≡ r) → AnsweredAlike setting n w (include ignore_missing v)
   plainly n least r is same = inr (suc least, λ m le. at_bound m le)
-      where
+    where
       at_bound : (m : ℕ) → suc least ≤ m → coded m ≡ walked n
       at_bound zero le = absurd (omega arith)
       at_bound (suc m) le = same m (omega arith) ∙ sym is
@@ -87,7 +85,7 @@ module _ (setting : Setting) (w : World) (ignore_missing : Bool) (v : Val) where
   running n t run_of alike is same true room =
       elim (finished_or (run_of (inner t)).end) [
         | inl finished ↦ plainly n (alike finished).0 (wrapped w (run_of (inner t))) (is ∙ ap (λ b. if b then wrapped w (run_of (inner t)) else refused w InvalidOperation) room)
-          (λ m le. same m ∙ ap (λ b. if b then wrapped w (run (answer (codes_of setting) m) (exec (template_code t.tree) m 0 []) (inner t)) else refused w InvalidOperation) room ∙ ap (wrapped w) ((alike finished).1 m le))
+            (λ m le. same m ∙ ap (λ b. if b then wrapped w (run (answer (codes_of setting) m) (exec (template_code t.tree) m 0 []) (inner t)) else refused w InvalidOperation) room ∙ ap (wrapped w) ((alike finished).1 m le))
         | inr unfinished ↦ inl (ap (λ (r : Reply World). r.told) (is ∙ ap (λ b. if b then wrapped w (run_of (inner t)) else refused w InvalidOperation) room) ∙ unfinished)
       ]
 
@@ -121,12 +119,12 @@ include_alike : (setting : Setting) (n : ℕ) → ((k : ℕ) → n ≡ suc k →
 include_alike setting zero below w ignore_missing v =
     chosen_alike setting w ignore_missing v 0 (walk_unfinished setting) (λ t. refl) (λ t finished. absurd finished)
     (λ vs. first_is setting (runners (walks_of setting) 0) (walk_unfinished setting)
-      (λ name. mapped (λ (t : Standing). record { escape = t.escape; process = template_walk 0 t.tree }) (λ (p : Program). record { escape = p.escape; runs = ended breaks }) (walk_unfinished setting) (setting.templates name) (λ t. refl)) vs)
+    (λ name. mapped (λ (t : Standing). record { escape = t.escape; process = template_walk 0 t.tree }) (λ (p : Program). record { escape = p.escape; runs = ended breaks }) (walk_unfinished setting) (setting.templates name) (λ t. refl)) vs)
     (choices_in nothing_known v) refl
 include_alike setting (suc n) below w ignore_missing v =
     chosen_alike setting w ignore_missing v (suc n) (walk_runner setting n) (λ t. refl) (λ t finished. below n refl t _ finished)
     (λ vs. first_is setting (runners (walks_of setting) (suc n)) (walk_runner setting n)
-      (λ name. mapped (λ (t : Standing). record { escape = t.escape; process = template_walk n t.tree }) (λ (p : Program). record { escape = p.escape; runs = run (answer (walks_of setting) n) p.process }) (walk_runner setting n) (setting.templates name) (λ t. refl)) vs)
+    (λ name. mapped (λ (t : Standing). record { escape = t.escape; process = template_walk n t.tree }) (λ (p : Program). record { escape = p.escape; runs = run (answer (walks_of setting) n) p.process }) (walk_runner setting n) (setting.templates name) (λ t. refl)) vs)
     (choices_in nothing_known v) refl
 
 answered_alike : (setting : Setting) (n : ℕ) → ((k : ℕ) → n ≡ suc k → TemplateAlike setting k) → (w : World) (e : Ask) → AnsweredAlike setting n w e
@@ -191,10 +189,12 @@ run_alike setting n below stuck w finished = absurd finished
 template_alike : (setting : Setting) (n : ℕ) → ((k : ℕ) → n ≡ suc k → TemplateAlike setting k) → TemplateAlike setting n
 template_alike setting n below t w finished =
     let same = run_alike setting n below (template_walk n t.tree) w finished in
-    let performed = templates_perform t.tree n in
-    (same.0 + performed.0, λ m le.
-      same.1 m (omega arith) (exec (template_code t.tree) m 0 [])
-      (below-trans (template_walk n t.tree) (exec (template_code t.tree) performed.0 0 []) (exec (template_code t.tree) m 0 []) performed.1 (exec_more (template_code t.tree) performed.0 m (omega arith) 0 [])))
+    let performed = templates_perform t.tree n in (
+      same.0 + performed.0,
+      λ m le.
+          same.1 m (omega arith) (exec (template_code t.tree) m 0 [])
+          (below-trans (template_walk n t.tree) (exec (template_code t.tree) performed.0 0 []) (exec (template_code t.tree) m 0 []) performed.1 (exec_more (template_code t.tree) performed.0 m (omega arith) 0 [])),
+    )
 
 all_alike : (setting : Setting) (n : ℕ) → TemplateAlike setting n
 all_alike setting zero = template_alike setting zero (λ k e. absurd (omega (arith, e)))

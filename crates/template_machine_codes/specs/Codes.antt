@@ -1,6 +1,5 @@
 -- What code means under the surroundings of a machine.
 use Rattle.std.specs.Prelude.{ℕ, [], List, option_map}
-use Rattle.template_tree.specs.Tree.{Statements}
 use Rattle.template_process.specs.Trace.{Run, run}
 use Rattle.template_code.specs.Code.{Code}
 use Rattle.template_code.specs.Steps.{exec}

@@ -1,25 +1,23 @@
 -- Greater bounds give runs that extend.
-use Rattle.std.proofs.Common.{◌≡◌, ℕ, ◌+◌, ◌≤◌, ◌⊎◌, inl, inr, zero, suc, Bool, true, false, List, [], ◌∷◌, ◌++◌, Option, None, Some, option_map, Result, Ok, Err, map, refl, sym, ap, subst, ◌∙◌, arith}
+use Rattle.std.proofs.Common.{◌≡◌, ℕ, ◌+◌, ◌≤◌, inl, inr, zero, suc, Bool, true, false, List, [], ◌∷◌, ◌++◌, Option, None, Some, option_map, Result, Ok, Err, map, refl, sym, ap, subst, ◌∙◌, arith}
 use Rattle.std.specs.Prelude.{if◌then◌else◌}
 use Rattle.template_values_errors.specs.declared.ErrorKind.{ErrorKind}
 use Rattle.template_values_errors.specs.declared.ErrorKind.TheVariants.{InvalidOperation}
 use Rattle.template_values_model.specs.Val.{Val}
 use Rattle.template_values_core.specs.Answers.{text_in}
-use Rattle.template_values_forms.specs.Known.{Known, nothing_known}
-use Rattle.template_tree.specs.Tree.{Statements}
-use Rattle.template_process.specs.Process.{Ask, include, Told, breaks_off, Process, Below}
+use Rattle.template_values_forms.specs.Known.{nothing_known}
+use Rattle.template_process.specs.Process.{Ask, include, breaks_off, Process, Below}
 use Rattle.template_process.specs.Drive.{End, breaks, cuts}
-use Rattle.template_process.specs.Fuel.{Begins}
-use Rattle.template_process.specs.Trace.{Item, Reply, Run, run, ended}
+use Rattle.template_process.specs.Trace.{Item, Run, run, ended}
 use Rattle.template_process.specs.Approximants.{IsUnfinished, Extends, RepliesMore}
 use Rattle.template_process.proofs.Approximants.{runs_further}
 use Rattle.template_walk.specs.Statements.{template_walk}
 use Rattle.template_walk.proofs.Rising.{walks_rise}
 use Rattle.template_machine_meaning.specs.World.{World, has_room}
 use Rattle.template_machine_meaning.specs.Replies.{refused}
-use Rattle.template_machine_meaning.specs.Includes.{Runner, choices_in, standing_or, named_or, first_standing, wrap, told_of, include_levels, within, put_back, wrapped, included_run, not_found, included_by, included_from, include_reply}
+use Rattle.template_machine_meaning.specs.Includes.{Runner, choices_in, standing_or, named_or, first_standing, wrap, told_of, include_levels, within, wrapped, included_run, included_by, included_from}
 use Rattle.template_machine_meaning.specs.Surroundings.{Program, Programs, respond, runners, answer}
-use Rattle.template_machine_meaning.specs.Meaning.{Standing, Setting, walks_of, meaning}
+use Rattle.template_machine_meaning.specs.Meaning.{Standing, Setting, walks_of}
 use Rattle.template_machine_meaning.specs.Laws.{ProgramGoesFurther, Rises, BoundsExtend, MeaningsExtend}
 
 -- the second runs further, under the same escape

@@ -1,24 +1,20 @@
 -- Every run ends, in one way.
-use Rattle.std.proofs.Common.{◌≡◌, ℕ, ◌+◌, ◌<◌, ◌≤◌, ◌⊎◌, inl, inr, zero, suc, true, false, IsTrue, nat_le, List, [], ◌∷◌, ◌++◌, refl, sym, ap, subst, ◌∙◌, arith}
+use Rattle.std.proofs.Common.{◌≡◌, ℕ, ◌+◌, ◌<◌, ◌≤◌, ◌⊎◌, inl, inr, zero, suc, false, IsTrue, [], refl, sym, ap, subst, arith}
 use Rattle.template_tree.specs.Tree.{Statements}
-use Rattle.template_process.specs.Process.{Process, over, cut_short}
-use Rattle.template_process.specs.Drive.{End, ends, faults, breaks, cuts}
-use Rattle.template_process.specs.Trace.{Run, run, behind, ended}
-use Rattle.template_process.specs.Approximants.{IsFinished, IsUnfinished, Extends}
-use Rattle.template_walk.specs.Statements.{outside, statements_walk}
-use Rattle.template_walk.specs.Runnable.{IsRunnableTemplate}
-use Rattle.template_machine_meaning.specs.World.{Frame, World}
+use Rattle.template_process.specs.Process.{over, cut_short}
+use Rattle.template_process.specs.Drive.{End, ends, faults}
+use Rattle.template_process.specs.Trace.{Run}
+use Rattle.template_process.specs.Approximants.{IsFinished, IsUnfinished}
+use Rattle.template_machine_meaning.specs.World.{World}
 use Rattle.template_machine_meaning.specs.Includes.{include_levels}
-use Rattle.template_machine_meaning.specs.Surroundings.{answer}
 use Rattle.template_machine_meaning.specs.Meaning.{Setting, walks_of, meaning}
 use Rattle.template_machine_meaning.specs.Laws.{AreAllRunnable, EveryRunEnds, OneMeaning}
 use Rattle.template_machine_meaning.proofs.Bounds.{meanings_extend}
 use Rattle.template_machine_meaning.proofs.Settling.{Walk, Settles, settles_then, settles_now}
-use Rattle.template_machine_meaning.proofs.Keeping.{Keeps, keeps_itself, loops_of}
+use Rattle.template_machine_meaning.proofs.Keeping.{keeps_itself, loops_of}
 use Rattle.template_machine_meaning.proofs.Expressions.{Kept}
-use Rattle.template_machine_meaning.proofs.Scopes.{IsFramed}
 use Rattle.template_machine_meaning.proofs.Loops.{Leave, goes, breaks_out, continues}
-use Rattle.template_machine_meaning.proofs.Statements.{MayLeave, LeavesTo, body_walk, settles_statements}
+use Rattle.template_machine_meaning.proofs.Statements.{LeavesTo, body_walk, settles_statements}
 use Rattle.template_machine_meaning.proofs.Included.{AllSettle, TemplateSettles}
 
 -- outside of loops there is one way out

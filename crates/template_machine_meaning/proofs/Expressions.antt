@@ -1,5 +1,5 @@
 -- Each runnable expression settles.
-use Rattle.std.proofs.Common.{◌≡◌, ℕ, ◌⊎◌, inl, inr, Bool, true, false, List, [], ◌∷◌, Option, None, Some, Result, Ok, Err, refl, ap, ◌∙◌}
+use Rattle.std.proofs.Common.{◌≡◌, ℕ, inl, inr, Bool, true, false, List, [], ◌∷◌, Option, None, Some, Result, Ok, Err, refl, ap, ◌∙◌}
 use Rattle.template_values_errors.specs.declared.ErrorKind.{ErrorKind}
 use Rattle.template_values_model.specs.Val.{Val, silent_undefined, none}
 use Rattle.template_values_forms.specs.Known.{nothing_known}
@@ -11,7 +11,7 @@ use Rattle.template_tree.specs.declared.operators.UnaryOpKind.TheVariants.{Not, 
 use Rattle.template_tree.specs.declared.operators.BinOpKind.{BinOpKind}
 use Rattle.template_tree.specs.declared.operators.BinOpKind.TheVariants.{ScAnd, ScOr}
 use Rattle.template_tree.specs.Tree.{Expression, Optional, Expressions, Links, variable, constant, slice, unary, binary, chain, conditional, attribute, item, list_literal, tuple_literal, map_literal, absent, given, no_expressions, expressions_more, no_links, links_more}
-use Rattle.template_process.specs.Process.{Ask, look_up, operate, compare, get_attribute, get_item, get_slice, build_list, build_tuple, build_map, truth_of, Answer, value, truth, tells, Process, step, asks, on_value, on_truth}
+use Rattle.template_process.specs.Process.{Ask, look_up, operate, compare, get_attribute, get_item, get_slice, build_list, build_tuple, build_map, truth_of, value, truth, Process, step, asks, on_value, on_truth}
 use Rattle.template_process.specs.Trace.{run, replied}
 use Rattle.template_walk.specs.Constants.{constant_of}
 use Rattle.template_walk.specs.Containers.{tuple_made, map_made}
@@ -20,9 +20,9 @@ use Rattle.template_walk.specs.Operators.{operated, compared, inverted, negated}
 use Rattle.template_walk.specs.Runnable.{IsRunnable, IsRunnableIfGiven, AreRunnable, IsRunnableChain, AreRunnableLinks}
 use Rattle.template_machine_meaning.specs.World.{World, lookup}
 use Rattle.template_machine_meaning.specs.Undefined.{forbids_truth, forbids_operator, forbids_link, forbids_slicing}
-use Rattle.template_machine_meaning.specs.Replies.{told, guarded, refused, replied_with}
+use Rattle.template_machine_meaning.specs.Replies.{guarded, replied_with}
 use Rattle.template_machine_meaning.specs.Surroundings.{Programs, attribute_given, item_given, answer}
-use Rattle.template_machine_meaning.proofs.Settling.{Walk, Settles, settles_then, settles_now, settles_step, settles_value, settles_refused}
+use Rattle.template_machine_meaning.proofs.Settling.{Walk, Settles, settles_then, settles_now, settles_step, settles_value}
 use Rattle.template_machine_meaning.proofs.Keeping.{Keeps}
 
 -- what is given leaves a world that keeps what the base has
@@ -85,7 +85,7 @@ module _ (s : Programs) (base : World) where
   binary_given op left right f g w kept =
       given_then w (λ m go. left go) (λ v m go. right (λ u. step (asks (operate op v u) (on_value go)))) (f w kept)
       (λ v x k. given_then x (λ m go. right go) (λ u m go. step (asks (operate op v u) (on_value go))) (g x k)
-        (λ u y l. given_by y l (operate op v u) (guarded (forbids_operator s.undefined op v u) (operated nothing_known op v u)) (λ n. refl)))
+      (λ u y l. given_by y l (operate op v u) (guarded (forbids_operator s.undefined op v u) (operated nothing_known op v u)) (λ n. refl)))
 
   data EachGives : List ((Val → Process) → Process) → Type 0 where
     none_left : EachGives []
@@ -107,33 +107,33 @@ module _ (s : Programs) (base : World) where
     settles_expression (conditional test branch otherwise) h w kept =
         given_then w (walk_of test) (λ v m go. step (asks (truth_of v) (on_truth (expression_walk branch (λ u. step (go u))) (optional_walk silent_undefined otherwise go)))) (settles_expression test h.0 w kept)
         (λ v x k. decided_by x v (λ m go. expression_walk branch (λ u. step (go u))) (λ m go. optional_walk silent_undefined otherwise go)
-          (given_then x (walk_of branch) (λ u m go. step (go u)) (settles_expression branch h.1 x k) (λ u y l. given_now y l u))
-          (settles_optional otherwise h.2 silent_undefined x k))
+        (given_then x (walk_of branch) (λ u m go. step (go u)) (settles_expression branch h.1 x k) (λ u y l. given_now y l u))
+        (settles_optional otherwise h.2 silent_undefined x k))
     settles_expression (attribute e name) h w kept =
         given_then w (walk_of e) (λ v m go. step (asks (get_attribute v name) (on_value go))) (settles_expression e h w kept)
         (λ v x k. given_by x k (get_attribute v name) (attribute_given s.undefined nothing_known v name) (λ n. refl))
     settles_expression (item e key) h w kept =
         given_then w (walk_of e) (λ v m go. expression_walk key (λ u. step (asks (get_item v u) (on_value go)))) (settles_expression e h.0 w kept)
         (λ v x k. given_then x (walk_of key) (λ u m go. step (asks (get_item v u) (on_value go))) (settles_expression key h.1 x k)
-          (λ u y l. given_by y l (get_item v u) (item_given s.undefined nothing_known v u) (λ n. refl)))
+        (λ u y l. given_by y l (get_item v u) (item_given s.undefined nothing_known v u) (λ n. refl)))
     settles_expression (slice e start stop by) h w kept =
         given_then w (walk_of e) (λ v m go. optional_walk none start (λ a. optional_walk none stop (λ b. optional_walk none by (λ c. step (asks (get_slice v a b c) (on_value go)))))) (settles_expression e h.0 w kept)
         (λ v x k. given_then x (λ m go. optional_walk none start go) (λ a m go. optional_walk none stop (λ b. optional_walk none by (λ c. step (asks (get_slice v a b c) (on_value go))))) (settles_optional start h.1 none x k)
-          (λ a y l. given_then y (λ m go. optional_walk none stop go) (λ b m go. optional_walk none by (λ c. step (asks (get_slice v a b c) (on_value go)))) (settles_optional stop h.2 none y l)
-            (λ b z i. given_then z (λ m go. optional_walk none by go) (λ c m go. step (asks (get_slice v a b c) (on_value go))) (settles_optional by h.3 none z i)
-              (λ c u j. given_by u j (get_slice v a b c) (guarded (forbids_slicing s.undefined v) (slice_of v a b c)) (λ n. refl)))))
+        (λ a y l. given_then y (λ m go. optional_walk none stop go) (λ b m go. optional_walk none by (λ c. step (asks (get_slice v a b c) (on_value go)))) (settles_optional stop h.2 none y l)
+        (λ b z i. given_then z (λ m go. optional_walk none by go) (λ c m go. step (asks (get_slice v a b c) (on_value go))) (settles_optional by h.3 none z i)
+        (λ c u j. given_by u j (get_slice v a b c) (guarded (forbids_slicing s.undefined v) (slice_of v a b c)) (λ n. refl)))))
     settles_expression (list_literal es) h w kept =
         given_folded (constant_of (list_literal es)) w kept (λ m go. expressions_walk es (λ vs. step (asks (build_list vs) (on_value go))))
         (settles_then s w (Kept base) (Kept base) (λ m go. expressions_walk es go) (λ vs m go. step (asks (build_list vs) (on_value go))) (settles_all es h w kept)
-          (λ vs x k. given_by x k (build_list vs) (list_made vs) (λ n. refl)))
+        (λ vs x k. given_by x k (build_list vs) (list_made vs) (λ n. refl)))
     settles_expression (tuple_literal es) h w kept =
         given_folded (constant_of (tuple_literal es)) w kept (λ m go. expressions_walk es (λ vs. step (asks (build_tuple vs) (on_value go))))
         (settles_then s w (Kept base) (Kept base) (λ m go. expressions_walk es go) (λ vs m go. step (asks (build_tuple vs) (on_value go))) (settles_all es h w kept)
-          (λ vs x k. given_by x k (build_tuple vs) (tuple_made vs) (λ n. refl)))
+        (λ vs x k. given_by x k (build_tuple vs) (tuple_made vs) (λ n. refl)))
     settles_expression (map_literal ks vs) h w kept =
         given_folded (constant_of (map_literal ks vs)) w kept (λ m go. entries_walk ks (walks_of vs) (λ entries. step (asks (build_map entries) (on_value go))))
         (settles_then s w (Kept base) (Kept base) (λ m go. entries_walk ks (walks_of vs) go) (λ entries m go. step (asks (build_map entries) (on_value go))) (settles_entries ks h.0 (walks_of vs) (settles_each vs h.1) w kept)
-          (λ entries x k. given_by x k (build_map entries) (map_made entries) (λ n. refl)))
+        (λ entries x k. given_by x k (build_map entries) (map_made entries) (λ n. refl)))
     settles_expression _ h w kept = absurd h
 
     settles_optional : (o : Optional) → IsRunnableIfGiven o → (missing : Val) → Always (λ m go. optional_walk missing o go)
@@ -145,7 +145,7 @@ module _ (s : Programs) (base : World) where
     settles_all (expressions_more e es) h w kept =
         settles_then s w (Kept base) (Kept base) (walk_of e) (λ v m go. expressions_walk es (λ vs. go (v ∷ vs))) (settles_expression e h.0 w kept)
         (λ v x k. settles_then s x (Kept base) (Kept base) (λ m go. expressions_walk es go) (λ vs m go. go (v ∷ vs)) (settles_all es h.1 x k)
-          (λ vs y l. settles_now s y (Kept base) (v ∷ vs) l))
+        (λ vs y l. settles_now s y (Kept base) (v ∷ vs) l))
 
     settles_each : (es : Expressions) → AreRunnable es → EachGives (walks_of es)
     settles_each no_expressions h = none_left
@@ -158,23 +158,23 @@ module _ (s : Programs) (base : World) where
     settles_entries (expressions_more key ks) h (walk ∷ walks) (each_more f each) w kept =
         settles_then s w (Kept base) (Kept base) (walk_of key) (λ u m go. walk (λ held. entries_walk ks walks (λ entries. go ((u, held) ∷ entries)))) (settles_expression key h.0 w kept)
         (λ u x k. settles_then s x (Kept base) (Kept base) (λ m go. walk go) (λ held m go. entries_walk ks walks (λ entries. go ((u, held) ∷ entries))) (f x k)
-          (λ held y l. settles_then s y (Kept base) (Kept base) (λ m go. entries_walk ks walks go) (λ entries m go. go ((u, held) ∷ entries)) (settles_entries ks h.1 walks each y l)
-            (λ entries z i. settles_now s z (Kept base) ((u, held) ∷ entries) i)))
+        (λ held y l. settles_then s y (Kept base) (Kept base) (λ m go. entries_walk ks walks go) (λ entries m go. go ((u, held) ∷ entries)) (settles_entries ks h.1 walks each y l)
+        (λ entries z i. settles_now s z (Kept base) ((u, held) ∷ entries) i)))
 
     settles_chain : (links : Links) → IsRunnableChain links → (v : Val) → Always (λ m go. chain_walk v links go)
     settles_chain no_links h v w kept = absurd h
     settles_chain (links_more op e links) h v w kept =
         given_then w (walk_of e) (λ u m go. step (asks (compare op v u) (on_value (λ holds. linked_walk u holds links go)))) (settles_expression e h.0 w kept)
         (λ u x k. given_then x (λ m go. step (asks (compare op v u) (on_value go))) (λ holds m go. linked_walk u holds links go)
-          (given_by x k (compare op v u) (guarded (forbids_link s.undefined op v u) (compared nothing_known op v u)) (λ n. refl))
-          (λ holds. settles_linked links h.1 u holds))
+        (given_by x k (compare op v u) (guarded (forbids_link s.undefined op v u) (compared nothing_known op v u)) (λ n. refl))
+        (λ holds. settles_linked links h.1 u holds))
 
     settles_linked : (links : Links) → AreRunnableLinks links → (v holds : Val) → Always (λ m go. linked_walk v holds links go)
     settles_linked no_links h v holds w kept = given_now w kept holds
     settles_linked (links_more op e links) h v holds w kept =
         decided_by w holds (λ m go. expression_walk e (λ u. step (asks (compare op v u) (on_value (λ later. linked_walk u later links go))))) (λ m go. step (go holds))
         (given_then w (walk_of e) (λ u m go. step (asks (compare op v u) (on_value (λ later. linked_walk u later links go)))) (settles_expression e h.0 w kept)
-          (λ u x k. given_then x (λ m go. step (asks (compare op v u) (on_value go))) (λ later m go. linked_walk u later links go)
-            (given_by x k (compare op v u) (guarded (forbids_link s.undefined op v u) (compared nothing_known op v u)) (λ n. refl))
-            (λ later. settles_linked links h.1 u later)))
+        (λ u x k. given_then x (λ m go. step (asks (compare op v u) (on_value go))) (λ later m go. linked_walk u later links go)
+        (given_by x k (compare op v u) (guarded (forbids_link s.undefined op v u) (compared nothing_known op v u)) (λ n. refl))
+        (λ later. settles_linked links h.1 u later)))
         (given_now w kept holds)

@@ -1,5 +1,5 @@
 -- An include settles, where the templates that stand settle one include deeper.
-use Rattle.std.proofs.Common.{◌≡◌, ℕ, ◌+◌, ◌≤◌, ◌⊎◌, inl, inr, zero, suc, Bool, true, false, nat_le, List, [], ◌∷◌, ◌++◌, length, map, Option, None, Some, option_map, Result, Ok, Err, refl, sym, ap, ◌∙◌, arith}
+use Rattle.std.proofs.Common.{◌≡◌, ℕ, ◌+◌, ◌≤◌, ◌⊎◌, inl, inr, zero, suc, Bool, true, false, List, [], ◌∷◌, ◌++◌, map, Option, None, Some, option_map, Result, Ok, Err, refl, ap, ◌∙◌, arith}
 use Rattle.std.specs.Prelude.{if◌then◌else◌}
 use Rattle.std.proofs.lemmas.Bool.Decides.{nat_tests}
 use Rattle.template_values_errors.specs.declared.ErrorKind.{ErrorKind}
@@ -8,19 +8,19 @@ use Rattle.template_values_model.specs.Val.{Val}
 use Rattle.template_values_core.specs.Answers.{text_in}
 use Rattle.template_values_forms.specs.Known.{nothing_known}
 use Rattle.template_tree.specs.Tree.{Statements}
-use Rattle.template_process.specs.Process.{Ask, include, done, tells, Process, over, asks, cut_short, on_done}
+use Rattle.template_process.specs.Process.{Ask, include, done, Process, over, asks, on_done}
 use Rattle.template_process.specs.Drive.{ends, faults}
-use Rattle.template_process.specs.Trace.{Item, Reply, Run, run, behind, ended, replied}
+use Rattle.template_process.specs.Trace.{Item, Reply, run, behind, ended, replied}
 use Rattle.template_walk.specs.Statements.{outside, statements_walk, template_walk}
 use Rattle.template_walk.specs.Runnable.{IsRunnableTemplate}
-use Rattle.template_machine_meaning.specs.World.{World, has_room, depth_of}
-use Rattle.template_machine_meaning.specs.Replies.{told, changed, refused}
+use Rattle.template_machine_meaning.specs.World.{World, has_room}
+use Rattle.template_machine_meaning.specs.Replies.{changed, refused}
 use Rattle.template_machine_meaning.specs.Includes.{Runner, choices_in, standing_or, named_or, first_standing, wrap, include_levels, put_back, wrapped, included_run, not_found, included_by, included_from}
-use Rattle.template_machine_meaning.specs.Surroundings.{Program, Programs, runners, answer}
+use Rattle.template_machine_meaning.specs.Surroundings.{Program, runners, answer}
 use Rattle.template_machine_meaning.specs.Meaning.{Standing, Setting, walks_of}
 use Rattle.template_machine_meaning.specs.Laws.{AreAllRunnable}
-use Rattle.template_machine_meaning.proofs.Settling.{Walk, Settles, Passes, Stops, settles_now, settles_refused, settles_before, settles_to}
-use Rattle.template_machine_meaning.proofs.Keeping.{Keeps, keeps_itself, keeps_on}
+use Rattle.template_machine_meaning.proofs.Settling.{Settles}
+use Rattle.template_machine_meaning.proofs.Keeping.{keeps_itself}
 use Rattle.template_machine_meaning.proofs.Expressions.{Kept}
 use Rattle.template_machine_meaning.proofs.Scopes.{IsFramed}
 
@@ -121,18 +121,25 @@ module _ (setting : Setting) (w : World) (ignore_missing : Bool) (v : Val) where
   settles_plainly : (r : Reply World) → ((n : ℕ) → answer (walks_of setting) (suc n) w asked_for ≡ r)
       → ((r ≡ changed w done) ⊎ ((kind : ErrorKind) × (r ≡ refused w kind))) → IncludeSettles
   settles_plainly r is (inl well) = inl (record {
-    items = []; least = 1; out = tt; after = w; shaped = keeps_itself w;
+    items = [];
+    least = 1;
+    out = tt;
+    after = w;
+    shaped = keeps_itself w;
     is = λ n m le ge go. plain_at n m le go;
   })
-      where
+    where
       plain_at : (n m : ℕ) → 1 ≤ n → (go : Unit {0} → Process) → run (answer (walks_of setting) n) (asks asked_for (on_done (go tt))) w ≡ behind [] (run (answer (walks_of setting) n) (go tt) w)
       plain_at zero m le go = absurd (omega arith)
       plain_at (suc n) m le go = ap (replied (λ a x. run (answer (walks_of setting) (suc n)) (on_done (go tt) a) x)) (is n ∙ well)
   settles_plainly r is (inr refusal) = inr (record {
-    items = []; least = 1; kinds = refusal.0 ∷ []; after = w;
+    items = [];
+    least = 1;
+    kinds = refusal.0 ∷ [];
+    after = w;
     is = λ n m le ge go. refused_at n m le go;
   })
-      where
+    where
       refused_at : (n m : ℕ) → 1 ≤ n → (go : Unit {0} → Process) → run (answer (walks_of setting) n) (asks asked_for (on_done (go tt))) w ≡ behind [] (ended (faults (refusal.0 ∷ [])) w)
       refused_at zero m le go = absurd (omega arith)
       refused_at (suc n) m le go = ap (replied (λ a x. run (answer (walks_of setting) (suc n)) (on_done (go tt) a) x)) (is n ∙ refusal.1)
@@ -141,21 +148,27 @@ module _ (setting : Setting) (w : World) (ignore_missing : Bool) (v : Val) where
   settles_running : (t : Standing) → TemplateSettles setting (inner w t) t.tree
       → ((n : ℕ) → answer (walks_of setting) (suc n) w asked_for ≡ wrapped w (run (answer (walks_of setting) n) (template_walk n t.tree) (inner w t))) → IncludeSettles
   settles_running t (inl p) is = inl (record {
-    items = map wrap (p.items ++ []); least = suc p.least; out = tt; after = put_back w p.after;
+    items = map wrap (p.items ++ []);
+    least = suc p.least;
+    out = tt;
+    after = put_back w p.after;
     shaped = record { loops = p.shaped.loops; outer = refl; saved = refl };
     is = λ n m le ge go. running_at n le go;
   })
-      where
+    where
       running_at : (n : ℕ) → suc p.least ≤ n → (go : Unit {0} → Process)
           → run (answer (walks_of setting) n) (asks asked_for (on_done (go tt))) w ≡ behind (map wrap (p.items ++ [])) (run (answer (walks_of setting) n) (go tt) (put_back w p.after))
       running_at zero le go = absurd (omega arith)
       running_at (suc n) le go =
           ap (replied (λ a x. run (answer (walks_of setting) (suc n)) (on_done (go tt) a) x)) (is n ∙ ap (wrapped w) (p.is n n (omega arith) (omega arith) (λ o. over [])))
   settles_running t (inr p) is = inr (record {
-    items = map wrap (p.items ++ []); least = suc p.least; kinds = BadInclude ∷ p.kinds; after = put_back w p.after;
+    items = map wrap (p.items ++ []);
+    least = suc p.least;
+    kinds = BadInclude ∷ p.kinds;
+    after = put_back w p.after;
     is = λ n m le ge go. failing_at n le go;
   })
-      where
+    where
       failing_at : (n : ℕ) → suc p.least ≤ n → (go : Unit {0} → Process)
           → run (answer (walks_of setting) n) (asks asked_for (on_done (go tt))) w ≡ behind (map wrap (p.items ++ [])) (ended (faults (BadInclude ∷ p.kinds)) (put_back w p.after))
       failing_at zero le go = absurd (omega arith)

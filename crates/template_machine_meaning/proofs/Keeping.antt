@@ -1,5 +1,5 @@
 -- What walks keep of the world: the loops of its frames, what else counts as depth, and how many escapes are put back.
-use Rattle.std.proofs.Common.{◌≡◌, ℕ, List, [], ◌∷◌, length, map, Option, None, Some, refl, sym, subst, ◌∙◌}
+use Rattle.std.proofs.Common.{◌≡◌, List, [], ◌∷◌, length, map, Option, None, Some, refl, sym, subst, ◌∙◌}
 use Rattle.template_process.specs.Process.{breaks_off}
 use Rattle.template_process.specs.Trace.{Reply}
 use Rattle.template_machine_meaning.specs.World.{Loop, Frame, World}

@@ -1,16 +1,16 @@
 -- A loop's rounds settle: there are as many as it has items, at most.
-use Rattle.std.proofs.Common.{◌≡◌, ℕ, ◌+◌, ◌-◌, ◌<◌, ◌≤◌, zero, suc, List, [], ◌∷◌, length, slice_get, Option, None, Some, refl, sym, ap, ◌∙◌, arith}
+use Rattle.std.proofs.Common.{◌≡◌, ℕ, ◌+◌, ◌-◌, ◌≤◌, zero, suc, List, [], ◌∷◌, length, slice_get, Option, None, Some, refl, ap, ◌∙◌, arith}
 use Rattle.std.proofs.lemmas.Option.{slice_get_within}
 use Rattle.template_values_model.specs.Val as values
 use Rattle.template_values_model.specs.Val.{Val}
-use Rattle.template_process.specs.Process.{next_item, item, no_item, tells, Process, step, asks, on_item}
+use Rattle.template_process.specs.Process.{next_item, item, no_item, Process, step, on_item}
 use Rattle.template_process.specs.Trace.{paid, run, behind, replied}
 use Rattle.template_walk.specs.Statements.{Exits, rounds}
 use Rattle.template_machine_meaning.specs.World.{Loop, Frame, World}
 use Rattle.template_machine_meaning.specs.Replies.{changed}
-use Rattle.template_machine_meaning.specs.Surroundings.{Programs, asked_once, next_reply, answer}
+use Rattle.template_machine_meaning.specs.Surroundings.{Programs, next_reply, answer}
 use Rattle.template_machine_meaning.proofs.Settling.{Walk, Settles, settles_then, settles_now, settles_step, settles_before}
-use Rattle.template_machine_meaning.proofs.Keeping.{Keeps, keeps_itself, loops_of, Top, top, on_loop_is}
+use Rattle.template_machine_meaning.proofs.Keeping.{Keeps, loops_of, Top, top, on_loop_is}
 use Rattle.template_machine_meaning.proofs.Expressions.{Kept}
 use Rattle.template_machine_meaning.proofs.Scopes.{behind_frame}
 
@@ -71,18 +71,18 @@ module _ (s : Programs) (base : World) (items : List Val) (round : Round) where
       settles_before s w z (AtEnd base items) (paid [] ∷ []) (suc j) (λ m go. rounds (m - j) (round m) (go tt))
       (λ m go. round m v (exits_of (λ o. after_round round (suc j) o m go)) (after_round round (suc j) goes m go))
       (λ n m le ge go.
-        let more : m - j ≡ suc (m - suc j) = omega arith in
-        ap (λ b. run (answer s n) (rounds b (round m) (go tt)) w) more
-        ∙ ap (λ r. behind (paid [] ∷ []) (replied (λ a t. run (answer s n) (on_item (λ u. round m u (exits_of (λ o. after_round round (suc j) o m go)) (after_round round (suc j) goes m go)) (go tt) a) t) r)) (is n))
+      let more : m - j ≡ suc (m - suc j) = omega arith in
+      ap (λ b. run (answer s n) (rounds b (round m) (go tt)) w) more
+      ∙ ap (λ r. behind (paid [] ∷ []) (replied (λ a t. run (answer s n) (on_item (λ u. round m u (exits_of (λ o. after_round round (suc j) o m go)) (after_round round (suc j) goes m go)) (go tt) a) t) r)) (is n))
       turn
 
   last_round : (j asked : ℕ) (w z : World) → InRound base items asked z → ((n : ℕ) → answer s n w next_item ≡ changed z no_item) → Ends j w
   last_round j asked w z inside is =
       settles_before s w z (AtEnd base items) (paid [] ∷ []) (suc j) (λ m go. rounds (m - j) (round m) (go tt)) (λ m go. go tt)
       (λ n m le ge go.
-        let more : m - j ≡ suc (m - suc j) = omega arith in
-        ap (λ b. run (answer s n) (rounds b (round m) (go tt)) w) more
-        ∙ ap (λ r. behind (paid [] ∷ []) (replied (λ a t. run (answer s n) (on_item (λ u. round m u (exits_of (λ o. after_round round (suc j) o m go)) (after_round round (suc j) goes m go)) (go tt) a) t) r)) (is n))
+      let more : m - j ≡ suc (m - suc j) = omega arith in
+      ap (λ b. run (answer s n) (rounds b (round m) (go tt)) w) more
+      ∙ ap (λ r. behind (paid [] ∷ []) (replied (λ a t. run (answer s n) (on_item (λ u. round m u (exits_of (λ o. after_round round (suc j) o m go)) (after_round round (suc j) goes m go)) (go tt) a) t) r)) (is n))
       (settles_now s z (AtEnd base items) tt (asked, inside))
 
   rounds_by : (d j asked : ℕ) → length items ≤ asked + d → Turns → (w : World) → InRound base items asked w → Top w (Some (loop_at items asked)) (loops_of base.frames)
@@ -91,14 +91,14 @@ module _ (s : Programs) (base : World) (items : List Val) (round : Round) where
       let z : World = record w { frames = record t.frame { loop = Some (loop_at items (asked + 1)) } ∷ t.rest } in
       last_round j (asked + 1) w z (record { loops = ap (λ ls. Some (loop_at items (asked + 1)) ∷ ls) t.others; outer = inside.outer; saved = inside.saved })
       (λ n. on_loop_is w t.frame t.rest (loop_at items asked) t.frames t.own (λ f l fs. next_reply w f l fs (slice_get l.items l.asked))
-        ∙ ap (next_reply w t.frame (loop_at items asked) t.rest) none)
+      ∙ ap (next_reply w t.frame (loop_at items asked) t.rest) none)
   rounds_by zero j asked few turns w inside t (Some v) some = absurd (omega (arith, slice_get_within items asked v some))
   rounds_by (suc d) j asked few turns w inside t (Some v) some =
       let z : World = record w { frames = record t.frame { locals = []; loop = Some (loop_at items (asked + 1)) } ∷ t.rest } in
       next_round j (asked + 1) w z v (record { loops = ap (λ ls. Some (loop_at items (asked + 1)) ∷ ls) t.others; outer = inside.outer; saved = inside.saved }) turns
       (λ u kept. rounds_by d (suc j) (asked + 1) (omega arith) turns u kept (top u (Some (loop_at items (asked + 1))) (loops_of base.frames) kept.loops) (slice_get items (asked + 1)) refl)
       (λ n. on_loop_is w t.frame t.rest (loop_at items asked) t.frames t.own (λ f l fs. next_reply w f l fs (slice_get l.items l.asked))
-        ∙ ap (next_reply w t.frame (loop_at items asked) t.rest) some)
+      ∙ ap (next_reply w t.frame (loop_at items asked) t.rest) some)
 
   pub settles_rounds : (d j asked : ℕ) → length items ≤ asked + d → Turns → (w : World) → InRound base items asked w → Ends j w
   settles_rounds d j asked few turns w inside =

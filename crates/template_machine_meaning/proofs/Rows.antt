@@ -1,18 +1,17 @@
 -- Worked rows, computed: texts, prices and ends.
-use Rattle.std.proofs.Common.{◌≡◌, ℕ, pos, true, false, List, [], ◌∷◌, None, Some, Option, codes, bytes_eq, refl}
+use Rattle.std.proofs.Common.{◌≡◌, ℕ, pos, false, List, [], ◌∷◌, None, Some, Option, codes, bytes_eq, refl}
 use Rattle.std.specs.Prelude.{if◌then◌else◌}
-use Rattle.template_values_errors.specs.declared.ErrorKind.TheVariants.{InvalidOperation, BadInclude, OutOfFuel, TemplateNotFound, UndefinedError}
+use Rattle.template_values_errors.specs.declared.ErrorKind.TheVariants.{BadInclude, OutOfFuel}
 use Rattle.template_values_modes.specs.declared.AutoEscape.TheVariants as escapes
 use Rattle.template_values_modes.specs.declared.UndefinedBehavior.{UndefinedBehavior}
 use Rattle.template_values_modes.specs.declared.UndefinedBehavior.TheVariants.{Lenient, Strict}
 use Rattle.template_values_model.specs.Val.{Val, int, text, map, no_pairs, pairs_more}
-use Rattle.template_tree.specs.declared.operators.BinOpKind.TheVariants as binary_operators
 use Rattle.template_tree.specs.declared.operators.CompareOpKind.TheVariants.{Lt, Gt}
 use Rattle.std.specs.Fmt as fmt
 use Rattle.template_values_forms.specs.Printed as printed_forms
 use Rattle.template_tree.specs.Tree as tree
 use Rattle.template_tree.specs.Tree.{Expression, Expressions, Statement, Statements, variable, constant, chain, list_literal, absent, no_expressions, expressions_more, no_links, links_more, raw, print, for_loop, if_condition, set, no_statements, statements_more}
-use Rattle.template_process.specs.Drive.{End, ends, faults}
+use Rattle.template_process.specs.Drive.{faults}
 use Rattle.template_process.specs.Trace.{Run, text_of, price_of}
 use Rattle.template_process.specs.Fuel.{under}
 use Rattle.template_machine_meaning.specs.World.{World}

@@ -1,26 +1,19 @@
 -- Stores, frames, loops and escapes settle, and keep what the world around them has.
-use Rattle.std.proofs.Common.{◌≡◌, ℕ, ◌+◌, ◌-◌, ◌<◌, ◌≤◌, ◌⊎◌, inl, inr, zero, suc, Bool, true, false, List, [], ◌∷◌, ◌==◌, length, slice_get, Option, None, Some, Result, Ok, Err, refl, sym, ap, subst, ◌∙◌, arith}
+use Rattle.std.proofs.Common.{◌≡◌, ℕ, Bool, true, false, List, [], ◌∷◌, ◌==◌, length, Option, None, Some, Ok, Err, refl, sym, ap, ◌∙◌}
 use Rattle.std.specs.Prelude.{if◌then◌else◌}
-use Rattle.template_values_errors.specs.declared.ErrorKind.{ErrorKind}
 use Rattle.template_values_errors.specs.declared.ErrorKind.TheVariants.{InvalidOperation, CannotUnpack}
-use Rattle.template_values_modes.specs.declared.AutoEscape.{AutoEscape}
-use Rattle.template_values_model.specs.Val as values
 use Rattle.template_values_model.specs.Val.{Val}
-use Rattle.template_values_core.specs.Answers.{text_in}
-use Rattle.template_values_forms.specs.Known.{nothing_known}
-use Rattle.template_values_operators.specs.Iterated.{iterated}
 use Rattle.template_tree.specs.Tree.{Expression, Expressions, variable, list_literal, no_expressions, expressions_more, Assignments, no_assignments, assignments_more}
-use Rattle.template_process.specs.Process.{Ask, store, unpack, open_frame, close_frame, open_loop, close_loop, open_escape, close_escape, Answer, done, items, tells, Process, step, asks, amiss, on_done, on_items}
-use Rattle.template_process.specs.Trace.{Reply, run, replied}
+use Rattle.template_process.specs.Process.{Ask, store, unpack, close_frame, done, items, step, asks, amiss, on_done, on_items}
+use Rattle.template_process.specs.Trace.{run, replied}
 use Rattle.template_walk.specs.Statements.{number_of, target_walk, targets_walk, assignments_walk}
 use Rattle.template_walk.specs.Expressions.{expression_walk}
 use Rattle.template_walk.specs.Runnable.{IsTarget, AreTargets, AreAssignments}
 use Rattle.template_machine_meaning.specs.World.{Loop, Frame, World, put_local, has_room}
-use Rattle.template_machine_meaning.specs.Undefined.{forbids_iterating}
-use Rattle.template_machine_meaning.specs.Replies.{told, changed, refused, guarded, replied_with, changed_with}
-use Rattle.template_machine_meaning.specs.Surroundings.{Programs, unpacked, unpacked_into, pushed, empty_frame, loop_frame, opened_loop, escape_named, escape_put_back, answer}
+use Rattle.template_machine_meaning.specs.Replies.{changed, replied_with, changed_with}
+use Rattle.template_machine_meaning.specs.Surroundings.{Programs, unpacked, unpacked_into, pushed, answer}
 use Rattle.template_machine_meaning.proofs.Settling.{Walk, Settles, settles_then, settles_now, settles_step, settles_refused, settles_before, settles_to}
-use Rattle.template_machine_meaning.proofs.Keeping.{Keeps, keeps_itself, keeps_on, loops_of, Top, top, on_frames_is, on_loop_is}
+use Rattle.template_machine_meaning.proofs.Keeping.{Keeps, loops_of, Top, top, on_frames_is}
 use Rattle.template_machine_meaning.proofs.Expressions.{Kept, settles_expression}
 
 -- there is a frame
@@ -44,8 +37,8 @@ module _ (s : Programs) (base : World) (framed : IsFramed base) where
       let kept_there : Keeps base z = record { loops = sym (ap loops_of t.frames) ∙ kept.loops; outer = kept.outer; saved = kept.saved } in
       settles_step s w (Kept base) (λ m go. asks (store name v) (on_done (go tt)))
       (settles_to s w z (Kept base) (store name v) (λ m go. go tt)
-        (λ n. on_frames_is w t.frame t.rest t.frames (λ f fs. changed (record w { frames = record f { locals = put_local name v f.locals } ∷ fs }) done))
-        (settles_now s z (Kept base) tt kept_there))
+      (λ n. on_frames_is w t.frame t.rest t.frames (λ f fs. changed (record w { frames = record f { locals = put_local name v f.locals } ∷ fs }) done))
+      (settles_now s z (Kept base) tt kept_there))
 
   -- the items of a value, where they are as many as there are targets
   counted_by : (n : ℕ) (v : Val) (w : World) → Keeps base w → (Q : List Val → Walk (Unit {0})) → ((vs : List Val) → Stays (Q vs)) → (vs : List Val) → unpacked v ≡ Some vs
@@ -53,9 +46,9 @@ module _ (s : Programs) (base : World) (framed : IsFramed base) where
   counted_by n v w kept Q stays vs is true e =
       settles_before s w w (Kept base) [] 0 (λ m go. asks (unpack n v) (on_items n (λ us. Q us m go))) (Q vs)
       (λ k m le ge go.
-        ap (λ o. replied (λ a t. run (answer s k) (on_items n (λ us. Q us m go) a) t) (replied_with w items (unpacked_into n o))) is
-        ∙ ap (λ b. replied (λ a t. run (answer s k) (on_items n (λ us. Q us m go) a) t) (replied_with w items (if b then Ok vs else Err CannotUnpack))) e
-        ∙ ap (λ b. run (answer s k) (if b then Q vs m go else amiss) w) e)
+      ap (λ o. replied (λ a t. run (answer s k) (on_items n (λ us. Q us m go) a) t) (replied_with w items (unpacked_into n o))) is
+      ∙ ap (λ b. replied (λ a t. run (answer s k) (on_items n (λ us. Q us m go) a) t) (replied_with w items (if b then Ok vs else Err CannotUnpack))) e
+      ∙ ap (λ b. run (answer s k) (if b then Q vs m go else amiss) w) e)
       (stays vs w kept)
   counted_by n v w kept Q stays vs is false e =
       settles_refused s w (Kept base) (unpack n v) CannotUnpack (λ m go. on_items n (λ us. Q us m go))
@@ -87,7 +80,7 @@ module _ (s : Programs) (base : World) (framed : IsFramed base) where
   settles_assignments (assignments_more target e more) h w kept =
       settles_then s w (Kept base) (Kept base) (λ m go. expression_walk e go) (λ v m go. target_walk target v (assignments_walk more (go tt))) (settles_expression s base e h.1 w kept)
       (λ v x k. settles_then s x (Kept base) (Kept base) (λ m go. target_walk target v (go tt)) (λ o m go. assignments_walk more (go tt)) (settles_target target h.0 v x k)
-        (λ o y l. settles_assignments more h.2 y l))
+      (λ o y l. settles_assignments more h.2 y l))
 
 -- a frame in front of those of a world, with a loop or none
 abbrev pub behind_frame : World → Frame → World

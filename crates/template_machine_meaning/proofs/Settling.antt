@@ -1,13 +1,13 @@
 -- What a walk comes to from a world on, under every bound that is great enough: it passes on to what follows, or it
 -- stops with a fault.
-use Rattle.std.proofs.Common.{◌≡◌, ℕ, ◌+◌, ◌≤◌, ◌⊎◌, inl, inr, zero, suc, List, [], ◌∷◌, ◌++◌, Option, length, map, Result, Ok, Err, refl, sym, ap, ◌∙◌, append_assoc, arith}
+use Rattle.std.proofs.Common.{◌≡◌, ℕ, ◌+◌, ◌≤◌, ◌⊎◌, inl, inr, List, [], ◌∷◌, ◌++◌, Result, Ok, Err, refl, sym, ap, ◌∙◌, append_assoc, arith}
 use Rattle.template_values_errors.specs.declared.ErrorKind.{ErrorKind}
 use Rattle.template_values_model.specs.Val.{Val}
-use Rattle.template_process.specs.Process.{Ask, Answer, done, value, Told, tells, fails, Process, step, asks, on_done, on_value}
+use Rattle.template_process.specs.Process.{Ask, Answer, done, value, tells, Process, step, asks, on_done, on_value}
 use Rattle.template_process.specs.Drive.{faults}
 use Rattle.template_process.specs.Trace.{Item, paid, Reply, Run, run, behind, ended, replied}
-use Rattle.template_machine_meaning.specs.World.{Loop, Frame, World}
-use Rattle.template_machine_meaning.specs.Replies.{told, changed, refused, replied_with, changed_with}
+use Rattle.template_machine_meaning.specs.World.{World}
+use Rattle.template_machine_meaning.specs.Replies.{told, changed, refused, replied_with}
 use Rattle.template_machine_meaning.specs.Surroundings.{Programs, answer}
 
 -- a walk, under a bound on its rounds, before what follows each of its outcomes
@@ -58,7 +58,10 @@ pub settles_then : {O U : Type 0} (s : Programs) (w : World) (shape : O → Worl
     → Settles {O = O} s w shape P → ((o : O) (v : World) → shape o v → Settles {O = U} s v form (Q o)) → Settles {O = U} s w form (λ m go. P m (λ o. Q o m go))
 settles_then s w shape form P Q (inl p) next = then_passes s w shape form P Q p (next p.out p.after p.shaped)
 settles_then s w shape form P Q (inr p) next = inr (record {
-  items = p.items; least = p.least; kinds = p.kinds; after = p.after;
+  items = p.items;
+  least = p.least;
+  kinds = p.kinds;
+  after = p.after;
   is = λ n m le ge go. p.is n m le ge (λ o. Q o m go);
 })
 
@@ -69,11 +72,18 @@ settles_now s w shape o shaped = inl (record { items = []; least = 0; out = o; a
 -- one priced step first
 pub settles_step : {O : Type 0} (s : Programs) (w : World) (shape : O → World → Type 0) (P : Walk O) → Settles {O = O} s w shape P → Settles {O = O} s w shape (λ m go. step (P m go))
 settles_step s w shape P (inl p) = inl (record {
-  items = paid [] ∷ p.items; least = p.least; out = p.out; after = p.after; shaped = p.shaped;
+  items = paid [] ∷ p.items;
+  least = p.least;
+  out = p.out;
+  after = p.after;
+  shaped = p.shaped;
   is = λ n m le ge go. ap (behind (paid [] ∷ [])) (p.is n m le ge go);
 })
 settles_step s w shape P (inr p) = inr (record {
-  items = paid [] ∷ p.items; least = p.least; kinds = p.kinds; after = p.after;
+  items = paid [] ∷ p.items;
+  least = p.least;
+  kinds = p.kinds;
+  after = p.after;
   is = λ n m le ge go. ap (behind (paid [] ∷ [])) (p.is n m le ge go);
 })
 
@@ -87,11 +97,18 @@ answered s w e r go is n k = ap (replied (λ a t. run (answer s n) (go k a) t)) 
 pub settles_value : (s : Programs) (w : World) (shape : Val → World → Type 0) (e : Ask) (r : Result Val ErrorKind)
     → ((v : Val) → shape v w) → ((n : ℕ) → answer s n w e ≡ replied_with w value r) → Settles {O = Val} s w shape (λ m go. asks e (on_value go))
 settles_value s w shape e (Ok v) shaped is = inl (record {
-  items = []; least = 0; out = v; after = w; shaped = shaped v;
+  items = [];
+  least = 0;
+  out = v;
+  after = w;
+  shaped = shaped v;
   is = λ n m le ge go. answered s w e (told w (tells (value v))) on_value is n go;
 })
 settles_value s w shape e (Err kind) shaped is = inr (record {
-  items = []; least = 0; kinds = kind ∷ []; after = w;
+  items = [];
+  least = 0;
+  kinds = kind ∷ [];
+  after = w;
   is = λ n m le ge go. answered s w e (refused w kind) on_value is n go;
 })
 
@@ -99,7 +116,11 @@ settles_value s w shape e (Err kind) shaped is = inr (record {
 pub settles_done : (s : Programs) (w after : World) (shape : Unit {0} → World → Type 0) (e : Ask)
     → shape tt after → ((n : ℕ) → answer s n w e ≡ changed after done) → Settles {O = Unit {0}} s w shape (λ m go. asks e (on_done (go tt)))
 settles_done s w after shape e shaped is = inl (record {
-  items = []; least = 0; out = tt; after = after; shaped = shaped;
+  items = [];
+  least = 0;
+  out = tt;
+  after = after;
+  shaped = shaped;
   is = λ n m le ge go. ap (replied (λ a t. run (answer s n) (on_done (go tt) a) t)) (is n);
 })
 
@@ -107,7 +128,10 @@ settles_done s w after shape e shaped is = inl (record {
 pub settles_refused : {O : Type 0} (s : Programs) (w : World) (shape : O → World → Type 0) (e : Ask) (kind : ErrorKind) (K : ℕ → (O → Process) → Answer → Process)
     → ((n : ℕ) → answer s n w e ≡ refused w kind) → Settles {O = O} s w shape (λ m go. asks e (K m go))
 settles_refused s w shape e kind K is = inr (record {
-  items = []; least = 0; kinds = kind ∷ []; after = w;
+  items = [];
+  least = 0;
+  kinds = kind ∷ [];
+  after = w;
   is = λ n m le ge go. answered s w e (refused w kind) (K m) is n go;
 })
 
@@ -116,11 +140,18 @@ pub settles_before : {O : Type 0} (s : Programs) (w z : World) (shape : O → Wo
     → ((n m : ℕ) → least ≤ n → least ≤ m → (go : O → Process) → run (answer s n) (P m go) w ≡ behind items (run (answer s n) (Q m go) z))
     → Settles {O = O} s z shape Q → Settles {O = O} s w shape P
 settles_before s w z shape items least P Q leads (inl q) = inl (record {
-  items = items ++ q.items; least = least + q.least; out = q.out; after = q.after; shaped = q.shaped;
+  items = items ++ q.items;
+  least = least + q.least;
+  out = q.out;
+  after = q.after;
+  shaped = q.shaped;
   is = λ n m le ge go. leads n m (omega arith) (omega arith) go ∙ ap (behind items) (q.is n m (omega arith) (omega arith) go) ∙ behind-behind items q.items (run (answer s n) (go q.out) q.after);
 })
 settles_before s w z shape items least P Q leads (inr q) = inr (record {
-  items = items ++ q.items; least = least + q.least; kinds = q.kinds; after = q.after;
+  items = items ++ q.items;
+  least = least + q.least;
+  kinds = q.kinds;
+  after = q.after;
   is = λ n m le ge go. leads n m (omega arith) (omega arith) go ∙ ap (behind items) (q.is n m (omega arith) (omega arith) go) ∙ behind-behind items q.items (ended (faults q.kinds) q.after);
 })
 

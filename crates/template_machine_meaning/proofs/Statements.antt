@@ -1,6 +1,5 @@
 -- Each runnable statement settles.
-use Rattle.std.proofs.Common.{◌≡◌, ℕ, ◌+◌, ◌-◌, ◌<◌, ◌≤◌, ◌⊎◌, inl, inr, zero, suc, Bool, true, false, IsTrue, List, [], ◌∷◌, length, Option, None, Some, Result, Ok, Err, refl, sym, ap, subst, ◌∙◌, arith}
-use Rattle.std.specs.Prelude.{if◌then◌else◌}
+use Rattle.std.proofs.Common.{◌≡◌, ℕ, ◌+◌, ◌-◌, ◌≤◌, suc, Bool, true, false, IsTrue, List, [], ◌∷◌, length, None, Some, Result, Ok, Err, refl, sym, ap, subst, ◌∙◌, arith}
 use Rattle.template_values_errors.specs.declared.ErrorKind.{ErrorKind}
 use Rattle.template_values_modes.specs.declared.AutoEscape.{AutoEscape}
 use Rattle.template_values_model.specs.Val as values
@@ -13,23 +12,23 @@ use Rattle.template_values_operators.specs.Iterated.{iterated}
 use Rattle.template_tree.specs.Tree.{Expression, Statement, Statements, absent, raw, print, for_loop, if_condition, with_block, set, auto_escape, include, continue_loop, break_loop, no_statements, statements_more}
 use Rattle.template_process.specs.Process as events
 use Rattle.template_process.specs.Process.{Ask, truth_of, write_raw, write_value, open_frame, close_frame, open_loop, did_not_iterate, close_loop, open_escape, close_escape, Answer, done, value, truth, tells, Process, over, step, asks, cut_short, on_done, on_value, on_truth}
-use Rattle.template_process.specs.Trace.{Item, written, Reply, run, behind, replied}
+use Rattle.template_process.specs.Trace.{Item, written, run, replied}
 use Rattle.template_walk.specs.Expressions.{expression_walk}
-use Rattle.template_walk.specs.Statements.{Exits, outside, closing, target_walk, assignments_walk, rounds, loop_end, past, statement_walk, statements_walk}
-use Rattle.template_walk.specs.Runnable.{IsRunnable, IsTarget, AreAssignments, IsRunnableStatement, AreRunnableStatements, IsRunnableTemplate}
-use Rattle.template_machine_meaning.specs.World.{Loop, Frame, World, has_room}
+use Rattle.template_walk.specs.Statements.{closing, target_walk, assignments_walk, rounds, loop_end, past, statement_walk, statements_walk}
+use Rattle.template_walk.specs.Runnable.{IsRunnable, IsTarget, IsRunnableStatement, AreRunnableStatements}
+use Rattle.template_machine_meaning.specs.World.{World, has_room}
 use Rattle.template_machine_meaning.specs.Undefined.{forbids_truth, forbids_printing, forbids_iterating}
-use Rattle.template_machine_meaning.specs.Replies.{told, changed, refused, guarded, replied_with, changed_with}
+use Rattle.template_machine_meaning.specs.Replies.{told, changed, guarded, changed_with}
 use Rattle.template_machine_meaning.specs.Includes.{include_levels}
-use Rattle.template_machine_meaning.specs.Surroundings.{Programs, printed_reply, empty_frame, loop_frame, opened_loop, pushed, gave_none, escape_named, escape_put_back, answer}
+use Rattle.template_machine_meaning.specs.Surroundings.{Programs, printed_reply, empty_frame, loop_frame, opened_loop, gave_none, escape_named, escape_put_back, answer}
 use Rattle.template_machine_meaning.specs.Meaning.{Setting, walks_of}
 use Rattle.template_machine_meaning.specs.Laws.{AreAllRunnable}
 use Rattle.template_machine_meaning.proofs.Settling.{Walk, Settles, settles_then, settles_now, settles_step, settles_value, settles_refused, settles_before, settles_to, settles_weaker}
-use Rattle.template_machine_meaning.proofs.Keeping.{Keeps, keeps_itself, keeps_on, loops_of, Top, top, on_loop_is}
+use Rattle.template_machine_meaning.proofs.Keeping.{Keeps, keeps_itself, keeps_on, loops_of, top, on_loop_is}
 use Rattle.template_machine_meaning.proofs.Expressions.{Kept, settles_decided, settles_expression}
 use Rattle.template_machine_meaning.proofs.Scopes.{IsFramed, framed_on, settles_target, settles_assignments, behind_frame, settles_pushed, closed, settles_closed}
 use Rattle.template_machine_meaning.proofs.Loops.{Leave, goes, breaks_out, continues, exits_of, loop_at, frame_at, InRound, AtEnd, Round, settles_rounds}
-use Rattle.template_machine_meaning.proofs.Included.{AllSettle, TemplateSettles, settles_include}
+use Rattle.template_machine_meaning.proofs.Included.{AllSettle, settles_include}
 
 -- `break` and `continue` lead out of loops alone
 abbrev pub MayLeave : Bool → Leave → Type 0
@@ -62,8 +61,8 @@ module _ (setting : Setting) (all : AreAllRunnable setting) (outer : ℕ) (deepe
   written_out looping base w kept e items is =
       settles_step s w (LeavesTo looping base) (λ m go. asks e (on_done (go goes)))
       (settles_before s w w (LeavesTo looping base) items 0 (λ m go. asks e (on_done (go goes))) (λ m go. go goes)
-        (λ n m le ge go. ap (replied (λ a t. run (answer s n) (on_done (go goes) a) t)) (is n))
-        (settles_now s w (LeavesTo looping base) goes (kept, tt)))
+      (λ n m le ge go. ap (replied (λ a t. run (answer s n) (on_done (go goes) a) t)) (is n))
+      (settles_now s w (LeavesTo looping base) goes (kept, tt)))
 
   printed_out : (looping : Bool) (base w : World) → Keeps base w → (v : Val) (r : Result (List ℕ) ErrorKind) → guarded (forbids_printing s.undefined v) (escaped w.escape nothing_known v) ≡ r
       → Settles {O = Leave} s w (LeavesTo looping base) (λ m go. step (asks (write_value v) (on_done (go goes))))
@@ -109,9 +108,9 @@ module _ (setting : Setting) (all : AreAllRunnable setting) (outer : ℕ) (deepe
       settles_then s w (Kept (behind_frame base (frame_at items asked))) (LeavesTo looping base) (λ m go. asks did_not_iterate (on_value go))
       (λ flag m go. asks close_loop (on_done (step (asks (truth_of flag) (on_truth (Q m go) (go goes))))))
       (settles_value s w (Kept (behind_frame base (frame_at items asked))) did_not_iterate (Ok (values.truth (gave_none (loop_at items asked)))) (λ v. inside)
-        (λ n. on_loop_is w t.frame t.rest (loop_at items asked) t.frames t.own (λ f l fs. told w (tells (value (values.truth (gave_none l)))))))
+      (λ n. on_loop_is w t.frame t.rest (loop_at items asked) t.frames t.own (λ f l fs. told w (tells (value (values.truth (gave_none l)))))))
       (λ flag x here. loop_closed base x items asked here (LeavesTo looping base) (λ m go. step (asks (truth_of flag) (on_truth (Q m go) (go goes))))
-        (λ z kept. tested looping base z flag Q (λ m go. go goes) (next z kept) (settles_now s z (LeavesTo looping base) goes (kept, tt))))
+      (λ z kept. tested looping base z flag Q (λ m go. go goes) (next z kept) (settles_now s z (LeavesTo looping base) goes (kept, tt))))
 
   -- behind a branch that an else part follows
   stepped_past : (looping : Bool) (base w : World) → Keeps base w → (otherwise : Statements) → Settles {O = Leave} s w (LeavesTo looping base) (λ m go. past otherwise (go goes))
@@ -171,18 +170,18 @@ module _ (setting : Setting) (all : AreAllRunnable setting) (outer : ℕ) (deepe
       let inside : World = behind_frame w (loop_frame vs) in
       whole_rounds inside (LeavesTo looping base) (round_of target body) (λ m go. loop_end otherwise (statements_walk m otherwise (exits_of go) (go goes)) (go goes))
       (settles_then s inside (AtEnd w vs) (LeavesTo looping base) (λ m go. rounds (m - 0) (round_of target body m) (go tt)) (λ o m go. loop_end otherwise (statements_walk m otherwise (exits_of go) (go goes)) (go goes))
-        (settles_rounds s w vs (round_of target body) (length vs) 0 0 (omega arith)
-          (λ v asked y here.
-            let frame : World = behind_frame w (frame_at vs asked) in
-            let framed_there : Frames frame = (record { loop = Some (loop_at vs asked); others = loops_of w.frames; loops = refl }, kept.outer ∙ framed.1) in
-            settles_weaker s y (LeavesTo true frame) (Kept frame) (λ m go. round_of target body m v (exits_of go) (go goes)) (λ o z leaves. leaves.0)
-            (settles_then s y (Kept frame) (LeavesTo true frame) (λ m go. target_walk target v (go tt)) (λ o m go. statements_walk m body (exits_of go) (go goes)) (settles_target s frame framed_there.0 target h v y here)
-              (λ o z k. bodies frame framed_there z k)))
-          inside (keeps_itself inside))
-        (λ o y at.
-          settles_weaker s y (LeavesTo looping w) (LeavesTo looping base) (λ m go. loop_end otherwise (statements_walk m otherwise (exits_of go) (go goes)) (go goes)) (λ o z leaves. (keeps_on base w z kept leaves.0, leaves.1))
-          (ended_loop looping w y vs at.0 at.1 otherwise (body_walk otherwise)
-            (λ z k. others w (framed_on base w framed.0 kept, kept.outer ∙ framed.1) z k))))
+      (settles_rounds s w vs (round_of target body) (length vs) 0 0 (omega arith)
+      (λ v asked y here.
+      let frame : World = behind_frame w (frame_at vs asked) in
+      let framed_there : Frames frame = (record { loop = Some (loop_at vs asked); others = loops_of w.frames; loops = refl }, kept.outer ∙ framed.1) in
+      settles_weaker s y (LeavesTo true frame) (Kept frame) (λ m go. round_of target body m v (exits_of go) (go goes)) (λ o z leaves. leaves.0)
+      (settles_then s y (Kept frame) (LeavesTo true frame) (λ m go. target_walk target v (go tt)) (λ o m go. statements_walk m body (exits_of go) (go goes)) (settles_target s frame framed_there.0 target h v y here)
+      (λ o z k. bodies frame framed_there z k)))
+      inside (keeps_itself inside))
+      (λ o y at.
+      settles_weaker s y (LeavesTo looping w) (LeavesTo looping base) (λ m go. loop_end otherwise (statements_walk m otherwise (exits_of go) (go goes)) (go goes)) (λ o z leaves. (keeps_on base w z kept leaves.0, leaves.1))
+      (ended_loop looping w y vs at.0 at.1 otherwise (body_walk otherwise)
+      (λ z k. others w (framed_on base w framed.0 kept, kept.outer ∙ framed.1) z k))))
 
   looped : (looping : Bool) (target : Expression) (body otherwise : Statements) (v : Val) → IsTarget target → BodySettles true body → BodySettles looping otherwise
       → (base : World) → Frames base → (w : World) → Keeps base w → (r : Result (List Val) ErrorKind) → guarded (forbids_iterating s.undefined v) (iterated nothing_known v) ≡ r
@@ -207,7 +206,7 @@ module _ (setting : Setting) (all : AreAllRunnable setting) (outer : ℕ) (deepe
       settles_to s w inside (LeavesTo looping base) (open_escape v) (λ m go. statements_walk m body (closing close_escape (exits_of go)) (asks close_escape (on_done (go goes))))
       (λ n. ap (changed_with w (λ rule. done) (λ rule. record w { escape = rule; saved = w.escape ∷ w.saved })) e)
       (settles_then s inside (LeavesTo looping inside) (LeavesTo looping base) (body_walk body) (λ o m go. asks close_escape (on_done (go o))) (bodies inside framed_inside inside (keeps_itself inside))
-        (λ o y l. escape_closed base y y.saved refl (omega (arith, l.0.saved, kept.saved)) (l.0.loops ∙ kept.loops) (l.0.outer ∙ kept.outer) looping o l.1))
+      (λ o y l. escape_closed base y y.saved refl (omega (arith, l.0.saved, kept.saved)) (l.0.loops ∙ kept.loops) (l.0.outer ∙ kept.outer) looping o l.1))
 
   mutual
     pub settles_statement : (looping : Bool) (st : Statement) → IsRunnableStatement looping st → (base : World) → Frames base → Leads looping base (λ m go. statement_walk m st (exits_of go) (go goes))
@@ -221,16 +220,16 @@ module _ (setting : Setting) (all : AreAllRunnable setting) (outer : ℕ) (deepe
     settles_statement looping (if_condition e body otherwise) h base framed w kept =
         valued looping base w kept e h.0 (λ v m go. step (asks (truth_of v) (on_truth (statements_walk m body (exits_of go) (past otherwise (go goes))) (statements_walk m otherwise (exits_of go) (go goes)))))
         (λ v x k. tested looping base x v (λ m go. statements_walk m body (exits_of go) (past otherwise (go goes))) (body_walk otherwise)
-          (settles_then s x (LeavesTo looping base) (LeavesTo looping base) (body_walk body) (branch_out otherwise) (settles_statements looping body h.1 base framed x k) (λ o y kept. branch_settles looping base otherwise o y kept))
-          (settles_statements looping otherwise h.2 base framed x k))
+        (settles_then s x (LeavesTo looping base) (LeavesTo looping base) (body_walk body) (branch_out otherwise) (settles_statements looping body h.1 base framed x k) (λ o y kept. branch_settles looping base otherwise o y kept))
+        (settles_statements looping otherwise h.2 base framed x k))
     settles_statement looping (with_block assignments body) h base framed w kept =
         let inside : World = behind_frame w empty_frame in
         let framed_inside : Frames inside = (record { loop = None; others = loops_of w.frames; loops = refl }, kept.outer ∙ framed.1) in
         settles_pushed s w (LeavesTo looping base) open_frame empty_frame (λ m go. assignments_walk assignments (statements_walk m body (closing close_frame (exits_of go)) (asks close_frame (on_done (go goes))))) (has_room s.limit 1 w) refl (λ n. refl)
         (settles_then s inside (Kept inside) (LeavesTo looping base) (λ m go. assignments_walk assignments (go tt)) (λ o m go. statements_walk m body (closing close_frame (exits_of go)) (asks close_frame (on_done (go goes))))
-          (settles_assignments s inside framed_inside.0 assignments h.0 inside (keeps_itself inside))
-          (λ o x k. settles_then s x (LeavesTo looping inside) (LeavesTo looping base) (body_walk body) (λ o m go. asks close_frame (on_done (go o))) (settles_statements looping body h.1 inside framed_inside x k)
-            (λ o y l. settles_closed s w y empty_frame l.0 (LeavesTo looping base) o (λ z i. (keeps_on base w z kept i, l.1)))))
+        (settles_assignments s inside framed_inside.0 assignments h.0 inside (keeps_itself inside))
+        (λ o x k. settles_then s x (LeavesTo looping inside) (LeavesTo looping base) (body_walk body) (λ o m go. asks close_frame (on_done (go o))) (settles_statements looping body h.1 inside framed_inside x k)
+        (λ o y l. settles_closed s w y empty_frame l.0 (LeavesTo looping base) o (λ z i. (keeps_on base w z kept i, l.1)))))
     settles_statement looping (set target e) h base framed w kept =
         valued looping base w kept e h.1 (λ v m go. target_walk target v (go goes)) (λ v x k. targeted looping base x k framed.0 target h.0 v)
     settles_statement looping (auto_escape e body) h base framed w kept =
@@ -239,9 +238,9 @@ module _ (setting : Setting) (all : AreAllRunnable setting) (outer : ℕ) (deepe
     settles_statement looping (include e ignore_missing) h base framed w kept =
         valued looping base w kept e h (λ v m go. step (asks (events.include ignore_missing v) (on_done (go goes))))
         (λ v x k. settles_step s x (LeavesTo looping base) (λ m go. asks (events.include ignore_missing v) (on_done (go goes)))
-          (settles_then s x (Kept x) (LeavesTo looping base) (λ m go. asks (events.include ignore_missing v) (on_done (go tt))) (λ o m go. go goes)
-            (settles_include setting x ignore_missing v all (framed_on base x framed.0 k) (deeper_from base framed x k))
-            (λ o y l. settles_now s y (LeavesTo looping base) goes (keeps_on base x y k l, tt))))
+        (settles_then s x (Kept x) (LeavesTo looping base) (λ m go. asks (events.include ignore_missing v) (on_done (go tt))) (λ o m go. go goes)
+        (settles_include setting x ignore_missing v all (framed_on base x framed.0 k) (deeper_from base framed x k))
+        (λ o y l. settles_now s y (LeavesTo looping base) goes (keeps_on base x y k l, tt))))
     settles_statement looping continue_loop h base framed w kept = settles_now s w (LeavesTo looping base) continues (kept, h)
     settles_statement looping break_loop h base framed w kept = settles_now s w (LeavesTo looping base) breaks_out (kept, h)
     settles_statement looping _ h base framed w kept = absurd h

@@ -1,8 +1,8 @@
 -- What may be done with an undefined value under each behaviour.
 use Rattle.std.specs.Prelude.{Bool, true, false, ◌&&◌, ◌||◌}
 use Rattle.template_values_modes.specs.declared.UndefinedBehavior.{UndefinedBehavior}
-use Rattle.template_values_modes.specs.declared.UndefinedBehavior.TheVariants.{Lenient, Chainable, SemiStrict, Strict}
-use Rattle.template_values_model.specs.Val.{Val, undefined, silent_undefined}
+use Rattle.template_values_modes.specs.declared.UndefinedBehavior.TheVariants.{Chainable, SemiStrict, Strict}
+use Rattle.template_values_model.specs.Val.{Val, undefined}
 use Rattle.template_values_operators.specs.Kinds.{is_undefined}
 use Rattle.template_tree.specs.declared.operators.BinOpKind.{BinOpKind}
 use Rattle.template_tree.specs.declared.operators.BinOpKind.TheVariants.{Eq, Ne, Lt, Lte, Gt, Gte, Concat, In}
