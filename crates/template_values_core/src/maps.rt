@@ -79,13 +79,10 @@ impl Value {
     {
         let shared = shared_entries(alloc, entries)?;
         let SharedEntries { levels, entries } = shared;
-        match RcStr::from_string(text) {
-            Ok(text) => Ok(Value {
-                levels,
-                repr: Repr::Module(entries, text),
-            }),
-            Err(_) => Err(Error::new(ErrorKind::OutOfMemory)),
-        }
+        Ok(Value {
+            levels,
+            repr: Repr::Module(entries, RcStr::from_string(text)?),
+        })
     }
 }
 
@@ -93,17 +90,15 @@ fn shared_entries(alloc: Global, entries: Vec<Entry>) -> Result<SharedEntries, E
     ensures made { IfOk result (λ s. HoldsPairs s (put_all [] (pairs_in entries.items))) }
     ensures refused { IfErr result (TooDeep (map (collected (pairs_in entries.items)))) }
 {
-    let Ok(kept) = sorted(entries) else {
-        return Err(Error::new(ErrorKind::OutOfMemory));
-    };
+    let kept = sorted(entries)?;
     let levels = deepest_of(kept.as_slice()) + 1;
     if DEPTH_LIMIT < levels {
         return Err(Error::new(ErrorKind::InvalidOperation));
     }
-    match Rc::new(alloc, kept) {
-        Ok(entries) => Ok(SharedEntries { levels, entries }),
-        Err(_) => Err(Error::new(ErrorKind::OutOfMemory)),
-    }
+    Ok(SharedEntries {
+        levels,
+        entries: Rc::new(alloc, kept)?,
+    })
 }
 
 // In the order of keys. Of equal keys the first stays, with the last one's value.

@@ -10,7 +10,7 @@ ghost use Rattle.template_values_operators.specs.Contains.{namespace_contains};
 ghost use Rattle.template_values_operators.specs.Records.{is_last, item_before, loop_attribute, loop_value, macro_attribute, macro_value, namespace_attribute, namespace_item};
 
 use crate::arithmetic::refusal;
-use crate::growth::{copies, copy_or_undefined, no_memory};
+use crate::growth::{copies, copy_or_undefined};
 use crate::kinds::list_made;
 use std::alloc::Global;
 use template_values_core::{Entry, Value};
@@ -212,5 +212,5 @@ fn macro_value(alloc: Global, name: &str, view: MacroView<'_>) -> Result<Value, 
 fn text_value(alloc: Global, text: &str) -> Result<Value, Error>
     ensures { Gives result (Ok (Val.text text.now)) }
 {
-    Value::from_text(String::from_str(alloc, text).map_err(no_memory)?)
+    Value::from_text(String::from_str(alloc, text)?)
 }
