@@ -6,7 +6,7 @@ ghost use Rattle.template_values_core.specs.Answers.{TooDeep};
 ghost use Rattle.template_values_core.specs.Depth.{depth, pairs_depth};
 ghost use Rattle.template_values_core.specs.Kept.{IsRising};
 ghost use Rattle.template_values_core.specs.Held.{HoldsPairs};
-ghost use Rattle.template_values_core.specs.Maps.{collected, last_at, last_under, merged, pairs_of, put_all};
+ghost use Rattle.template_values_core.specs.Maps.{collected, last_at, last_under, merged, named_pairs, pairs_of, put_all};
 ghost use Rattle.template_values_core.specs.Order.{val_cmp};
 ghost use Rattle.template_values_core.specs.Reads.{value_under};
 ghost use Rattle.template_values_core.specs.Shape.{pairs_in};
@@ -45,6 +45,27 @@ impl Value {
             levels,
             repr: Repr::Map(entries),
         })
+    }
+
+    /// A map from names to values, as a context is; of equal names the last one's value stays.
+    /// The names are copied. Takes n log n comparisons for n pairs, and n where they are in order.
+    ///
+    /// # Errors
+    ///
+    /// - [`ErrorKind::InvalidOperation`], if the map would nest deeper than 500 levels.
+    /// - [`ErrorKind::OutOfMemory`]
+    pub fn from_pairs(alloc: Global, pairs: Vec<(&str, Value)>) -> Result<Value, Error>
+        ensures made { IfOk result (λ v. v ≡ map (collected (named_pairs pairs.entry.items))) }
+        ensures bound { IfOk result (λ v. depth v ≤ 500) }
+        ensures last { IfOk result (λ v. (name : List ℕ) → value_at name v ≡ last_at name (named_pairs pairs.entry.items)) }
+        ensures refused { IfErr result (TooDeep (map (collected (named_pairs pairs.entry.items)))) }
+    {
+        let mut entries = Vec::with_capacity(alloc, pairs.len())?;
+        for (name, value) in pairs {
+            let key = Value::from_str(alloc, name)?;
+            entries.push(Entry { key, value })?;
+        }
+        Value::from_map(alloc, entries)
     }
 
     /// A keyword map of the entries, kept as [`Value::from_map`] does.

@@ -146,6 +146,18 @@ impl Value {
         })
     }
 
+    /// A plain text, copied from a `&str`. Linear in its length.
+    ///
+    /// # Errors
+    ///
+    /// [`ErrorKind::OutOfMemory`]
+    pub fn from_str(alloc: Global, text: &str) -> Result<Value, Error>
+        ensures made { IfOk result (λ v. v ≡ Val.text text.now) }
+        ensures refused { IfErr result NoMemory }
+    {
+        Value::from_text(String::from_str(alloc, text)?)
+    }
+
     /// A text that is written without escapes. Its bytes are not copied.
     ///
     /// # Errors
