@@ -1,6 +1,7 @@
 //! `*`.
 ghost use Rattle.std.specs.Prelude.{◌≡◌, ◌<◌, ◌≤◌, ◌*◌, [], ◌∷◌, Err, IfErr, IfSome, IfNone, OnSome};
 ghost use Rattle.template_values_core.specs.Depth.{vals_depth};
+ghost use Rattle.template_values_model.specs.Fault.{kind_of};
 ghost use Rattle.template_values_model.specs.Gives.{Gives};
 ghost use Rattle.template_values_model.specs.Val.{vals_of};
 ghost use Rattle.template_values_operators.specs.Rounds.{IsAsOften};
@@ -33,7 +34,7 @@ const MOST_ITEMS: usize = 100000;
 /// [`ErrorKind::OutOfMemory`]: template_values_errors::ErrorKind::OutOfMemory
 pub fn mul(alloc: Global, left: &Value, right: &Value) -> Result<Value, Error>
     ensures gives { Gives result (product_of left.now right.now) }
-    ensures refused { IfErr (product_of left.now right.now) (λ kind. result ≡ Err (kind ∷ [])) }
+    ensures refused { IfErr (product_of left.now right.now) (λ fault. result ≡ Err (kind_of fault ∷ [])) }
 {
     match (left.as_number(), right.as_number()) {
         (Some(left), Some(right)) => number_or_refusal(numbers::product(left, right)),
@@ -45,7 +46,7 @@ pub fn mul(alloc: Global, left: &Value, right: &Value) -> Result<Value, Error>
 
 fn repetition(alloc: Global, count: i128, value: &Value) -> Result<Value, Error>
     ensures gives { Gives result (repetition_of count value.now) }
-    ensures refused { IfErr (repetition_of count value.now) (λ kind. result ≡ Err (kind ∷ [])) }
+    ensures refused { IfErr (repetition_of count value.now) (λ fault. result ≡ Err (kind_of fault ∷ [])) }
 {
     let Some(count) = count_of(count) else {
         return refusal();
@@ -67,7 +68,7 @@ fn count_of(number: i128) -> Option<u128>
 
 fn repeated_text(alloc: Global, count: u128, text: &str) -> Result<Value, Error>
     ensures gives { Gives result (text_repeated count text.now) }
-    ensures refused { IfErr (text_repeated count text.now) (λ kind. result ≡ Err (kind ∷ [])) }
+    ensures refused { IfErr (text_repeated count text.now) (λ fault. result ≡ Err (kind_of fault ∷ [])) }
 {
     let Some(rounds) = rounds(count, text.len(), MOST_BYTES) else {
         return refusal();
@@ -82,7 +83,7 @@ fn repeated_text(alloc: Global, count: u128, text: &str) -> Result<Value, Error>
 fn repeated_list(alloc: Global, count: u128, items: &[Value]) -> Result<Value, Error>
     requires { vals_depth (vals_of items.now) < 500 }
     ensures gives { Gives result (list_repeated count items.now) }
-    ensures refused { IfErr (list_repeated count items.now) (λ kind. result ≡ Err (kind ∷ [])) }
+    ensures refused { IfErr (list_repeated count items.now) (λ fault. result ≡ Err (kind_of fault ∷ [])) }
 {
     let Some(rounds) = rounds(count, items.len(), MOST_ITEMS) else {
         return refusal();
