@@ -6,8 +6,8 @@ use Rattle.std.specs.Cmp.{int_cmp_is, ranks, tied_itself}
 use Rattle.std.specs.Cmp.Lexicographic.{slice_cmp}
 use Rattle.std.specs.Ordering.{MatchOrdering, int_cmp, nat_cmp, ordering_then}
 use Rattle.template_values_model.specs.Val.{Val, undefined, silent_undefined, none, truth, int, text, safe_text, bytes, list, tuple, map, keyword_map, «module», function, namespace, loop_record, macro_record}
-use Rattle.template_values_core.specs.Order.{Key, leaf, branch, key, key_cmp, vals_key, val_cmp, val_total}
-use Rattle.template_values_core.specs.OrderLaws.{rank_of, KindsFirst, Alike, WithinKinds}
+use Rattle.template_values_core.specs.Order.{Key, leaf, branch, key, key_cmp, rank_of, vals_key, val_cmp, val_total}
+use Rattle.template_values_core.specs.OrderLaws.{KindsFirst, Alike, WithinKinds}
 
 then_end : (o : Ordering) → ordering_then o Equal ≡ o
 then_end Less = refl

@@ -15,6 +15,26 @@ pub data Key : Type 0 where
   leaf : ℤ → List ℕ → Key
   branch : Key → Key → Key
 
+-- where a kind stands among the kinds
+abbrev pub rank_of : Val → ℕ
+rank_of undefined = 0
+rank_of silent_undefined = 0
+rank_of none = 1
+rank_of (truth b) = 2
+rank_of (int n) = 2
+rank_of (text s) = 3
+rank_of (safe_text s) = 3
+rank_of (bytes s) = 4
+rank_of (list vs) = 5
+rank_of (tuple vs) = 5
+rank_of (map ps) = 6
+rank_of (keyword_map ps) = 6
+rank_of («module» ps s) = 6
+rank_of (function e n) = 7
+rank_of (namespace e n) = 8
+rank_of (loop_record e n) = 9
+rank_of (macro_record e n) = 10
+
 -- no further items
 abbrev pub end : Key
 end = leaf (pos 0) []
@@ -26,24 +46,24 @@ ranked rank number second s items pairs =
 
 abbrev mutual
   pub key : Val → Key
-  key undefined = ranked (pos 0) (pos 0) (pos 0) [] end end
-  key silent_undefined = ranked (pos 0) (pos 0) (pos 0) [] end end
-  key none = ranked (pos 1) (pos 0) (pos 0) [] end end
-  key (truth false) = ranked (pos 2) (pos 0) (pos 0) [] end end
-  key (truth true) = ranked (pos 2) (pos 1) (pos 0) [] end end
-  key (int n) = ranked (pos 2) n (pos 0) [] end end
-  key (text s) = ranked (pos 3) (pos 0) (pos 0) s end end
-  key (safe_text s) = ranked (pos 3) (pos 0) (pos 0) s end end
-  key (bytes s) = ranked (pos 4) (pos 0) (pos 0) s end end
-  key (list vs) = ranked (pos 5) (pos 0) (pos 0) [] (vals_key vs) end
-  key (tuple vs) = ranked (pos 5) (pos 0) (pos 0) [] (vals_key vs) end
-  key (map ps) = ranked (pos 6) (pos 0) (pos 0) [] end (pairs_key ps)
-  key (keyword_map ps) = ranked (pos 6) (pos 0) (pos 0) [] end (pairs_key ps)
-  key («module» ps s) = ranked (pos 6) (pos 0) (pos 0) [] end (pairs_key ps)
-  key (function e n) = ranked (pos 7) (pos e) (pos n) [] end end
-  key (namespace e n) = ranked (pos 8) (pos e) (pos n) [] end end
-  key (loop_record e n) = ranked (pos 9) (pos e) (pos n) [] end end
-  key (macro_record e n) = ranked (pos 10) (pos e) (pos n) [] end end
+  key undefined = ranked (pos (rank_of undefined)) (pos 0) (pos 0) [] end end
+  key silent_undefined = ranked (pos (rank_of silent_undefined)) (pos 0) (pos 0) [] end end
+  key none = ranked (pos (rank_of none)) (pos 0) (pos 0) [] end end
+  key (truth false) = ranked (pos (rank_of (truth false))) (pos 0) (pos 0) [] end end
+  key (truth true) = ranked (pos (rank_of (truth true))) (pos 1) (pos 0) [] end end
+  key (int n) = ranked (pos (rank_of (int n))) n (pos 0) [] end end
+  key (text s) = ranked (pos (rank_of (text s))) (pos 0) (pos 0) s end end
+  key (safe_text s) = ranked (pos (rank_of (safe_text s))) (pos 0) (pos 0) s end end
+  key (bytes s) = ranked (pos (rank_of (bytes s))) (pos 0) (pos 0) s end end
+  key (list vs) = ranked (pos (rank_of (list vs))) (pos 0) (pos 0) [] (vals_key vs) end
+  key (tuple vs) = ranked (pos (rank_of (tuple vs))) (pos 0) (pos 0) [] (vals_key vs) end
+  key (map ps) = ranked (pos (rank_of (map ps))) (pos 0) (pos 0) [] end (pairs_key ps)
+  key (keyword_map ps) = ranked (pos (rank_of (keyword_map ps))) (pos 0) (pos 0) [] end (pairs_key ps)
+  key («module» ps s) = ranked (pos (rank_of («module» ps s))) (pos 0) (pos 0) [] end (pairs_key ps)
+  key (function e n) = ranked (pos (rank_of (function e n))) (pos e) (pos n) [] end end
+  key (namespace e n) = ranked (pos (rank_of (namespace e n))) (pos e) (pos n) [] end end
+  key (loop_record e n) = ranked (pos (rank_of (loop_record e n))) (pos e) (pos n) [] end end
+  key (macro_record e n) = ranked (pos (rank_of (macro_record e n))) (pos e) (pos n) [] end end
 
   pub vals_key : Vals → Key
   vals_key no_vals = end

@@ -4,27 +4,7 @@ use Rattle.std.specs.declared.cmp.Ordering.TheVariants.{Less, Equal}
 use Rattle.std.specs.Ordering.{int_cmp, nat_cmp, ordering_then}
 use Rattle.std.specs.Cmp.Lexicographic.{slice_cmp}
 use Rattle.template_values_model.specs.Val.{Val, Vals, Pairs, undefined, silent_undefined, none, truth, int, text, safe_text, bytes, list, tuple, map, keyword_map, «module», function, namespace, loop_record, macro_record, no_vals, vals_more, no_pairs, pairs_more}
-use Rattle.template_values_core.specs.Order.{val_cmp}
-
--- where a kind stands among the kinds
-abbrev pub rank_of : Val → ℕ
-rank_of undefined = 0
-rank_of silent_undefined = 0
-rank_of none = 1
-rank_of (truth b) = 2
-rank_of (int n) = 2
-rank_of (text s) = 3
-rank_of (safe_text s) = 3
-rank_of (bytes s) = 4
-rank_of (list vs) = 5
-rank_of (tuple vs) = 5
-rank_of (map ps) = 6
-rank_of (keyword_map ps) = 6
-rank_of («module» ps s) = 6
-rank_of (function e n) = 7
-rank_of (namespace e n) = 8
-rank_of (loop_record e n) = 9
-rank_of (macro_record e n) = 10
+use Rattle.template_values_core.specs.Order.{rank_of, val_cmp}
 
 -- values of different kinds stand by their kinds
 abbrev pub KindsFirst : Type 0

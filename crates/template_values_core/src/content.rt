@@ -1,12 +1,15 @@
 //! What a value holds, for those that go by its kind.
-ghost use Rattle.std.specs.Prelude.{◌≡◌, IfSome, option_copied, option_map};
+ghost use Rattle.std.specs.Prelude.{◌≡◌, ◌<◌, IfSome, option_copied, option_map};
+ghost use Rattle.template_values_model.specs.Val.{vals_of};
 ghost use Rattle.template_values_core.specs.Content.{value_of};
+ghost use Rattle.template_values_core.specs.Depth.{vals_depth};
 ghost use Rattle.template_values_core.specs.Kept.{IsRising};
 ghost use Rattle.template_values_core.specs.Maps.{pairs_of};
 ghost use Rattle.template_values_core.specs.Reads.{is_true, items_in, number_of, pairs_held, whole_number};
 ghost use Rattle.template_values_core.specs.Shape.{pairs_in};
 
 use crate::value::{Entry, Repr, Value};
+use template_values_model::DEPTH_LIMIT;
 
 /// The kind of a value with its content. The entries of maps, keyword maps and modules stand in
 /// the order of their keys. Functions have the id of their environment and a number in it;
@@ -101,14 +104,15 @@ impl Value {
         }
     }
 
-    /// The items of a list or a tuple.
+    /// The items of a list or a tuple. They nest less deep than the value may.
     #[tactic(auto, using(crate::proofs::ReadLemmas::reading))]
     pub fn items(&self) -> Option<&[Value]>
-        ensures { option_copied result ≡ items_in self.now }
+        ensures items { option_copied result ≡ items_in self.now }
+        ensures shallow { IfSome result (λ items. vals_depth (vals_of items.now) < DEPTH_LIMIT) }
     {
-        match self.content() {
-            Content::List(items) => Some(items),
-            Content::Tuple(items) => Some(items),
+        match &self.repr {
+            Repr::List(items) => Some(items.as_ref().as_slice()),
+            Repr::Tuple(items) => Some(items.as_ref().as_slice()),
             _ => None,
         }
     }

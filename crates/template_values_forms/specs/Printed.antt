@@ -4,6 +4,7 @@ use Rattle.std.specs.Fmt.{signed_decimal}
 use Rattle.std.specs.List.{flat_map}
 use Rattle.std.specs.Str.{is_utf8}
 use Rattle.template_values_model.specs.Fault.{Fault, invalid_operation}
+use Rattle.template_values_model.specs.declared.TheConstants.{DEPTH_LIMIT}
 use Rattle.template_values_model.specs.Val.{Val, Vals, Pairs, undefined, silent_undefined, none, truth, int, text, safe_text, bytes, list, tuple, map, keyword_map, «module», function, namespace, loop_record, macro_record, no_vals, vals_more, no_pairs, pairs_more}
 use Rattle.template_values_core.specs.Maps.{pairs_of}
 use Rattle.template_values_forms.specs.Answers.{joined}
@@ -86,7 +87,7 @@ inner_text known (suc n) v = nested_text known (inner_text known n) v
 
 -- how deep the values may nest that are printed
 unfoldable pub level_limit : ℕ
-level_limit = 500
+level_limit = DEPTH_LIMIT
 
 abbrev pub printed : Known → Val → Result (List ℕ) Fault
 printed known undefined = Ok []
