@@ -1,6 +1,7 @@
 -- `*`: numbers multiply; with a number from 0 on, on either side, a text or a list repeats; all else is refused.
-use Rattle.std.specs.Prelude.{ℕ, zero, suc, ℤ, pos, negsuc, ◌*◌, ◌^◌, nat_le, if◌then◌else◌, List, [], ◌++◌, length, Option, None, Some, Result, Ok, Err}
+use Rattle.std.specs.Prelude.{ℕ, zero, suc, ℤ, pos, negsuc, ◌*◌, nat_le, if◌then◌else◌, List, [], ◌++◌, length, Option, None, Some, Result, Ok, Err}
 use Rattle.template_values_model.specs.Fault.{Fault, invalid_operation}
+use Rattle.template_values_model.specs.declared.TheConstants.{REPEATED_TEXT_LIMIT, REPEATED_LIST_LIMIT}
 use Rattle.template_values_model.specs.Val.{Val, text}
 use Rattle.template_values_core.specs.Answers.{text_in}
 use Rattle.template_values_core.specs.Reads.{number_of}
@@ -18,13 +19,13 @@ abbrev pub count_of : ℤ → Option ℕ
 count_of (pos n) = Some n
 count_of (negsuc n) = None
 
--- a plain text of at most 2^24 bytes
+-- a plain text within the limit
 abbrev pub text_repeated : ℕ → List ℕ → Result Val Fault
-text_repeated n s = if nat_le (n * length s) (2 ^ 24) then Ok (text (repeated n s)) else Err invalid_operation
+text_repeated n s = if nat_le (n * length s) REPEATED_TEXT_LIMIT then Ok (text (repeated n s)) else Err invalid_operation
 
--- a list of at most 100000 items
+-- a list within the limit
 abbrev pub list_repeated : ℕ → List Val → Result Val Fault
-list_repeated n vs = if nat_le (n * length vs) 100000 then list_made (repeated n vs) else Err invalid_operation
+list_repeated n vs = if nat_le (n * length vs) REPEATED_LIST_LIMIT then list_made (repeated n vs) else Err invalid_operation
 
 -- by the count, and by the text or the items that repeat
 abbrev pub repetition_by : Option ℕ → Option (List ℕ) → Option (List Val) → Result Val Fault
