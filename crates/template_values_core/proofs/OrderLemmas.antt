@@ -17,7 +17,8 @@ then_end Greater = refl
 below_pos : (n m : ℕ) → n < m → pos n <ℤ pos m
 below_pos n m h = omega (arith, ints)
 
-lifted : (n m : ℕ) (o : Ordering) → MatchOrdering o (n < m) (n ≡ m) (m < n) → MatchOrdering o (pos n <ℤ pos m) (pos n ≡ pos m) (pos m <ℤ pos n)
+lifted : (n m : ℕ) (o : Ordering) → MatchOrdering o (n < m) (n ≡ m) (m < n)
+    → MatchOrdering o (pos n <ℤ pos m) (pos n ≡ pos m) (pos m <ℤ pos n)
 lifted n m Less h = below_pos n m h
 lifted n m Equal h = ap pos h
 lifted n m Greater h = below_pos m n h
@@ -81,8 +82,10 @@ alike = record {
   modules = λ ps s. tied_itself val_total (map ps);
 }
 
-by_numbers : (d e n m : ℕ) → ordering_then (ordering_then (int_cmp (pos d) (pos e)) Equal) (ordering_then (ordering_then (int_cmp (pos n) (pos m)) Equal) Equal) ≡ ordering_then (nat_cmp d e) (nat_cmp n m)
-by_numbers d e n m = λ i. ordering_then ((then_end (int_cmp (pos d) (pos e)) ∙ signed d e) i) ((then_end (ordering_then (int_cmp (pos n) (pos m)) Equal) ∙ then_end (int_cmp (pos n) (pos m)) ∙ signed n m) i)
+by_numbers : (d e n m : ℕ) → ordering_then (ordering_then (int_cmp (pos d) (pos e)) Equal)
+    (ordering_then (ordering_then (int_cmp (pos n) (pos m)) Equal) Equal) ≡ ordering_then (nat_cmp d e) (nat_cmp n m)
+by_numbers d e n m = λ i. ordering_then ((then_end (int_cmp (pos d) (pos e)) ∙ signed d e) i)
+    ((then_end (ordering_then (int_cmp (pos n) (pos m)) Equal) ∙ then_end (int_cmp (pos n) (pos m)) ∙ signed n m) i)
 
 pub within_kinds : WithinKinds
 within_kinds = record {

@@ -101,9 +101,11 @@ key_antisymm : (x y : Key) → key_cmp x y ≡ ordering_reverse (key_cmp y x)
 key_antisymm (leaf n s) (leaf m t) = leaf_total.antisymm (n, s) (m, t)
 key_antisymm (leaf n s) (branch c d) = refl
 key_antisymm (branch a b) (leaf m t) = refl
-key_antisymm (branch a b) (branch c d) = (λ i. ordering_then (key_antisymm a c i) (key_antisymm b d i)) ∙ then_reverse (key_cmp c a) (key_cmp d b)
+key_antisymm (branch a b) (branch c d) = (λ i. ordering_then (key_antisymm a c i) (key_antisymm b d i))
+    ∙ then_reverse (key_cmp c a) (key_cmp d b)
 
-then_congr : (p q p' q' r s : Ordering) → (p ≡ Equal → p' ≡ r) → (q ≡ Equal → q' ≡ s) → ordering_then p q ≡ Equal → ordering_then p' q' ≡ ordering_then r s
+then_congr : (p q p' q' r s : Ordering) → (p ≡ Equal → p' ≡ r) → (q ≡ Equal → q' ≡ s) → ordering_then p q ≡ Equal → ordering_then p' q'
+    ≡ ordering_then r s
 then_congr Less q p' q' r s f g e = absurd (cc)
 then_congr Equal q p' q' r s f g e = λ i. ordering_then (f refl i) (g e i)
 then_congr Greater q p' q' r s f g e = absurd (cc)
@@ -121,7 +123,8 @@ key_alike : (x y z : Key) → key_cmp x y ≡ Equal → key_cmp z x ≡ key_cmp 
 key_alike x y z e = key_antisymm z x ∙ ap ordering_reverse (key_congr x y z e) ∙ sym (key_antisymm z y)
 
 -- of three parts' comparisons
-then_trans : (p r t q s u : Ordering) → (p ≡ Less → r ≡ Less → t ≡ Less) → (p ≡ Equal → t ≡ r) → (r ≡ Equal → p ≡ t) → (q ≡ Less → s ≡ Less → u ≡ Less) → ordering_then p q ≡ Less → ordering_then r s ≡ Less → ordering_then t u ≡ Less
+then_trans : (p r t q s u : Ordering) → (p ≡ Less → r ≡ Less → t ≡ Less) → (p ≡ Equal → t ≡ r) → (r ≡ Equal → p ≡ t)
+    → (q ≡ Less → s ≡ Less → u ≡ Less) → ordering_then p q ≡ Less → ordering_then r s ≡ Less → ordering_then t u ≡ Less
 then_trans Less Less t q s u f g h k a b = ap (λ o. ordering_then o u) (f refl refl)
 then_trans Less Equal t q s u f g h k a b = ap (λ o. ordering_then o u) (sym (h refl))
 then_trans Less Greater t q s u f g h k a b = absurd (cc)
@@ -137,7 +140,8 @@ key_trans (leaf n s) (branch a b) (leaf k u) e f = absurd (cc)
 key_trans (branch a b) (leaf m t) z e f = absurd (cc)
 key_trans (branch a b) (branch c d) (leaf k u) e f = absurd (cc)
 key_trans (branch a b) (branch c d) (branch g h) e f =
-    then_trans (key_cmp a c) (key_cmp c g) (key_cmp a g) (key_cmp b d) (key_cmp d h) (key_cmp b h) (key_trans a c g) (key_congr a c g) (key_alike c g a) (key_trans b d h) e f
+    then_trans (key_cmp a c) (key_cmp c g) (key_cmp a g) (key_cmp b d) (key_cmp d h) (key_cmp b h) (key_trans a c g) (key_congr a c g)
+    (key_alike c g a) (key_trans b d h) e f
 
 pub val_total : IsTotalOrder val_cmp
 val_total = on_total key (record { antisymm = key_antisymm; trans = key_trans; congr = key_congr })

@@ -26,9 +26,11 @@ pub record WithinKinds : Type 0 where
   pub numbers : (n m : ℤ) → val_cmp (int n) (int m) ≡ int_cmp n m
   pub texts : (s t : List ℕ) → val_cmp (text s) (text t) ≡ slice_cmp nat_cmp s t
   pub byte_strings : (s t : List ℕ) → val_cmp (bytes s) (bytes t) ≡ slice_cmp nat_cmp s t
-  pub items : (v w : Val) (vs ws : Vals) → val_cmp (list (vals_more v vs)) (list (vals_more w ws)) ≡ ordering_then (val_cmp v w) (val_cmp (list vs) (list ws))
+  pub items : (v w : Val) (vs ws : Vals) → val_cmp (list (vals_more v vs)) (list (vals_more w ws))
+      ≡ ordering_then (val_cmp v w) (val_cmp (list vs) (list ws))
   pub shorter : (v : Val) (vs : Vals) → val_cmp (list no_vals) (list (vals_more v vs)) ≡ Less
-  pub pairs : (j k v w : Val) (ps qs : Pairs) → val_cmp (map (pairs_more j v ps)) (map (pairs_more k w qs)) ≡ ordering_then (val_cmp j k) (ordering_then (val_cmp v w) (val_cmp (map ps) (map qs)))
+  pub pairs : (j k v w : Val) (ps qs : Pairs) → val_cmp (map (pairs_more j v ps)) (map (pairs_more k w qs))
+      ≡ ordering_then (val_cmp j k) (ordering_then (val_cmp v w) (val_cmp (map ps) (map qs)))
   pub fewer : (k v : Val) (ps : Pairs) → val_cmp (map no_pairs) (map (pairs_more k v ps)) ≡ Less
   pub functions : (d e n m : ℕ) → val_cmp (function d n) (function e m) ≡ ordering_then (nat_cmp d e) (nat_cmp n m)
   pub namespaces : (d e n m : ℕ) → val_cmp (namespace d n) (namespace e m) ≡ ordering_then (nat_cmp d e) (nat_cmp n m)

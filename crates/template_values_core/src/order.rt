@@ -81,7 +81,8 @@ fn items<'a>(items: &'a Rc<Vec<Value>>) -> Parts<'a>
 }
 
 fn entries<'a>(entries: &'a Rc<Vec<Entry>>) -> Parts<'a>
-    ensures { IsKeyOf result (key (map (pairs_of (pairs_in entries.now.value.items)))) (pairs_depth (pairs_of (pairs_in entries.now.value.items)) + 1) }
+    ensures { let pairs = pairs_of (pairs_in entries.now.value.items) in
+        IsKeyOf result (key (map pairs)) (pairs_depth pairs + 1) }
 {
     Parts {
         rank: Rank::Map as u8,

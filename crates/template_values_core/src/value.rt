@@ -49,7 +49,9 @@ pub(crate) enum Repr {
 #[cycle(value)]
 #[derive(Drop)]
 pub struct Entry {
+    /// What the value is looked up by.
     pub key: Value,
+    /// What stands under the key.
     pub value: Value,
 }
 

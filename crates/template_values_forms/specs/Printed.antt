@@ -44,7 +44,8 @@ namespace_text f (Some ps) = map_text f (pairs_of ps)
 
 -- where a loop is among its items
 abbrev pub place_text : ℕ → ℕ → Result (List ℕ) Fault
-place_text place count = joined (Ok (codes "<loop ")) (joined (Ok (decimal place)) (joined (Ok (codes "/")) (joined (Ok (decimal count)) (Ok (codes ">")))))
+place_text place count = joined (Ok (codes "<loop "))
+    (joined (Ok (decimal place)) (joined (Ok (codes "/")) (joined (Ok (decimal count)) (Ok (codes ">")))))
 
 abbrev pub loop_text : Option LoopSeen → Result (List ℕ) Fault
 loop_text None = Err invalid_operation

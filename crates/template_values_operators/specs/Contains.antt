@@ -5,7 +5,7 @@ use Rattle.std.specs.Ordering.{eq_by_cmp}
 use Rattle.template_values_model.specs.Fault.{Fault, invalid_operation}
 use Rattle.template_values_model.specs.Val.{Val, Pairs, namespace}
 use Rattle.template_values_core.specs.Answers.{text_in}
-use Rattle.template_values_core.specs.Maps.{pairs_of, under}
+use Rattle.template_values_core.specs.Maps.{pairs_of, entry_under}
 use Rattle.template_values_core.specs.Reads.{items_in, pairs_held, value_under}
 use Rattle.template_values_forms.specs.Known.{Known}
 use Rattle.template_values_operators.specs.Kinds.{is_undefined}
@@ -37,7 +37,7 @@ held_in container value =
 -- whether a namespace has something under the key; a foreign one is refused
 abbrev pub namespace_contains : Val → Option (List (Val × Val)) → Result Bool Fault
 namespace_contains key None = Err invalid_operation
-namespace_contains key (Some ps) = Ok (is_some (under key (pairs_of ps)))
+namespace_contains key (Some ps) = Ok (is_some (entry_under key (pairs_of ps)))
 
 abbrev pub contained : Known → Val → Val → Result Bool Fault
 contained known (namespace id number) value = namespace_contains value (known.namespaces id number)

@@ -4,7 +4,7 @@ use Rattle.std.specs.Str.{bytes_eq}
 use Rattle.template_values_model.specs.Fault.{Fault, invalid_operation}
 use Rattle.template_values_model.specs.Val.{Val, undefined, truth, int, text}
 use Rattle.template_values_model.specs.Lookup.{entry_at}
-use Rattle.template_values_core.specs.Maps.{pairs_of, under}
+use Rattle.template_values_core.specs.Maps.{pairs_of, entry_under}
 use Rattle.template_values_forms.specs.Known.{LoopSeen, MacroSeen}
 use Rattle.template_values_operators.specs.Kinds.{list_made}
 
@@ -16,7 +16,7 @@ namespace_attribute name (Some ps) = Ok (unwrap_or (entry_at name (pairs_of ps))
 -- what a namespace has under a key
 abbrev pub namespace_item : Val → Option (List (Val × Val)) → Result Val Fault
 namespace_item key None = Err invalid_operation
-namespace_item key (Some ps) = Ok (unwrap_or (under key (pairs_of ps)) undefined)
+namespace_item key (Some ps) = Ok (unwrap_or (entry_under key (pairs_of ps)) undefined)
 
 -- the item before the one at a place; none is before the first
 abbrev pub item_before : ℕ → List Val → Option Val

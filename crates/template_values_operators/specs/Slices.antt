@@ -62,7 +62,8 @@ picked xs start step (suc k) = picked xs start step k ++ option_to_list (item_at
 -- the slice of a list
 abbrev pub sliced : {X : Type 0} → Option ℤ → Option ℤ → ℤ → List X → List X
 sliced start stop step xs =
-    picked xs (start_place start step (length xs)) step (step_count (start_place start step (length xs)) (stop_place stop step (length xs)) step)
+    picked xs (start_place start step (length xs)) step (step_count (start_place start step (length xs))
+    (stop_place stop step (length xs)) step)
 
 -- a bound is a number or none
 abbrev pub bound_by : Bool → Option ℤ → Result (Option ℤ) Fault
@@ -84,7 +85,8 @@ slice_in None None None false start stop step = Err invalid_operation
 -- a step of 0 is refused
 abbrev pub slice_with : Val → Option ℤ → Option ℤ → ℤ → Result Val Fault
 slice_with value start stop step =
-    if unsigned_abs step == 0 then Err invalid_operation else slice_in (items_in value) (bytes_of value) (text_in value) (is_nothing value) start stop step
+    if unsigned_abs step == 0 then Err invalid_operation else slice_in (items_in value) (bytes_of value) (text_in value)
+    (is_nothing value) start stop step
 
 -- the bounds and the step are tested before the value; the step is 1 where it is none
 abbrev pub slice_by : Val → Result (Option ℤ) Fault → Result (Option ℤ) Fault → Result (Option ℤ) Fault → Result Val Fault

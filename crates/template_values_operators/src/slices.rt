@@ -71,8 +71,10 @@ fn slice_by_kind(
     step: i128,
 ) -> Result<Value, Error>
     requires { step ≢ pos 0 }
-    ensures gives { Gives result (slice_in (items_in value.now) (bytes_of value.now) (text_in value.now) (is_nothing value.now) start stop step) }
-    ensures refused { TellsFault result (slice_in (items_in value.now) (bytes_of value.now) (text_in value.now) (is_nothing value.now) start stop step) }
+    ensures gives { let slice = slice_in (items_in value.now) (bytes_of value.now) (text_in value.now) (is_nothing value.now) in
+        Gives result (slice start stop step) }
+    ensures refused { let slice = slice_in (items_in value.now) (bytes_of value.now) (text_in value.now) (is_nothing value.now) in
+        TellsFault result (slice start stop step) }
 {
     if let Some(items) = value.items() {
         return slice_items(alloc, items, start, stop, step);
