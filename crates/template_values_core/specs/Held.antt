@@ -1,5 +1,5 @@
 -- What shared items and entries hold.
-use Rattle.std.specs.Prelude.{◌≡◌, ℕ, ◌+◌, ◌≤◌, List}
+use Rattle.std.specs.Prelude.{◌≡◌, ◌+◌, ◌≤◌, List}
 use Rattle.template_values_model.specs.declared.TheConstants.{DEPTH_LIMIT}
 use Rattle.template_values_model.specs.Val.{Val, vals_of}
 use Rattle.template_values_core.specs.Depth.{vals_depth, pairs_depth}

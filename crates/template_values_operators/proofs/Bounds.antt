@@ -1,5 +1,5 @@
 -- A bound that was taken is the bound that the value means.
-use Rattle.std.proofs.Common.{◌≡◌, Result, Ok, Err, sym, ap}
+use Rattle.std.proofs.Common.{◌≡◌, Result, Ok, Err, ap}
 use Rattle.template_values_model.specs.Fault.{Fault}
 use Rattle.template_values_model.specs.Gives.{alone}
 

@@ -1,4 +1,4 @@
-use Rattle.std.proofs.Common.{◌∙◌, sym, rules}
+use Rattle.std.proofs.Common.{sym, rules}
 use Rattle.std.proofs.lemmas.Fn.{always_returns_same}
 use Rattle.template_values_core.specs.Order.{val_cmp}
 use Rattle.template_values_core.specs.declared.value.Entry.{Entry}
