@@ -1,7 +1,6 @@
 -- Contexts that agree on the used names give the same run.
 use Rattle.std.proofs.Common.{◌≡◌, ℕ, ◌-◌, ◌++◌, true, false, nat_le, List, [], ◌∷◌, None, Some, unwrap_or, Result, Ok, Err, refl, sym, ap, subst, ◌∙◌}
 use Rattle.std.specs.Prelude.{if◌then◌else◌}
-use Rattle.template_values_errors.specs.declared.ErrorKind.{ErrorKind}
 use Rattle.template_values_model.specs.Fault.{Fault}
 use Rattle.template_values_errors.specs.declared.ErrorKind.TheVariants.{OutOfFuel}
 use Rattle.template_values_modes.specs.declared.AutoEscape.{AutoEscape}
