@@ -1,10 +1,11 @@
 -- Lemmas on texts that are written piece by piece.
-use Rattle.std.proofs.Common.{◌≡◌, ℕ, zero, suc, ◌-◌, ◌<◌, ◌≤◌, List, [], ◌∷◌, ◌++◌, length, take, drop, get_or, refl, sym, ◌∙◌, ap, append_assoc, append-nil, length-append, length-drop, subst, arith, inr, Result, Ok, Err}
+use Rattle.std.proofs.Common.{◌≡◌, ℕ, zero, suc, ◌-◌, ◌<◌, ◌≤◌, List, [], ◌∷◌, ◌++◌, length, take, drop, get_or, refl, sym, ◌∙◌, ap, append_assoc, append-nil, length-append, length-drop, subst, arith, inr, Bool, true, false, if◌then◌else◌, ◌==◌, codes, Result, Ok, Err}
 use Rattle.std.proofs.Math.Seq.{take-suc}
 use native.Mathlib.Numerals.{unary_clauses}
 use Rattle.std.specs.List.{flat_map}
 use Rattle.std.specs.Str.{IsUtf8, IsCharBoundary}
 use Rattle.std.proofs.lemmas.Str.{IsUtf8-from_ascii, IsCharBoundary-from_take}
+use Rattle.json.proofs.Printed.Utf8.{IsUtf8-are_ascii}
 use Rattle.std.proofs.lemmas.List.Concat.{flat_map-append}
 use Rattle.template_values_errors.specs.declared.ErrorKind.{ErrorKind}
 use Rattle.template_values_forms.specs.Answers.{Appends, joined, mapped}
@@ -126,6 +127,28 @@ one_is_ascii b h (suc i) = omega arith
 
 pub IsUtf8-one : (b : ℕ) → b < 128 → IsUtf8 (b ∷ [])
 IsUtf8-one b h = IsUtf8-from_ascii (b ∷ []) (one_is_ascii b h)
+
+pub IsUtf8-nil : IsUtf8 []
+IsUtf8-nil = IsUtf8-are_ascii [] refl
+
+either_is_text : (c : Bool) (s t : List ℕ) → IsUtf8 s → IsUtf8 t → IsUtf8 (if c then s else t)
+either_is_text true s t x y = x
+either_is_text false s t x y = y
+
+-- what stands for a byte that is a character
+pub html_byte-utf8 : (b : ℕ) → b < 128 → IsUtf8 (html_byte b)
+html_byte-utf8 b h =
+    either_is_text (b == 60) (codes "&lt;") _ (IsUtf8-are_ascii (codes "&lt;") refl)
+    (either_is_text (b == 62) (codes "&gt;") _ (IsUtf8-are_ascii (codes "&gt;") refl)
+    (either_is_text (b == 38) (codes "&amp;") _ (IsUtf8-are_ascii (codes "&amp;") refl)
+    (either_is_text (b == 34) (codes "&quot;") _ (IsUtf8-are_ascii (codes "&quot;") refl)
+    (either_is_text (b == 39) (codes "&#x27;") _ (IsUtf8-are_ascii (codes "&#x27;") refl)
+    (either_is_text (b == 47) (codes "&#x2f;") _ (IsUtf8-are_ascii (codes "&#x2f;") refl) (IsUtf8-one b h))))))
+
+-- a text that waits, and one more behind it
+pub waits_behind : (out waits after before more : List ℕ) → out ++ waits ≡ before → after ≡ waits ++ more → out ++ after ≡ before ++ more
+waits_behind out waits after before more x y =
+    ap (λ (z : List ℕ). out ++ z) y ∙ sym (append_assoc out waits more) ∙ ap (λ (z : List ℕ). z ++ more) x
 
 take-front : (b more : List ℕ) → take (length b) (b ++ more) ≡ b
 take-front [] more = refl
