@@ -1,34 +1,26 @@
 //! Texts with references for what HTML reads as markup.
-ghost use Rattle.std.specs.Prelude.{◌≡◌, ◌+◌, ◌<◌, ◌≤◌, ◌∷◌, [], ◌++◌, Ok, IfErr, IfOk, IsTrue, IsUtf8, false, string_bytes, take};
+ghost use Rattle.std.specs.Prelude.{◌≡◌, ◌+◌, ◌<◌, ◌≤◌, ◌∷◌, [], ◌++◌, Ok, IfSome, IsUtf8, MatchOption, OnSome, length, string_bytes, take};
+ghost use Rattle.template_values_errors.specs.Memory.{NoMemory};
 ghost use Rattle.template_values_forms.specs.Escapes.{html_byte};
 ghost use Rattle.template_values_text.specs.Pieces.{Begins, Writes};
 ghost use Rattle.template_values_text.specs.declared.pieces.Markup.TheVariants.{Html, Plain};
 
 use crate::pieces::push_plain;
 use std::str;
-use template_values_errors::{Error, ErrorKind};
+use template_values_errors::Error;
 
 // References wait in a block, so that many of them are written at once.
 const BLOCK: usize = 128;
 
-// The length of the longest reference.
-const REFERENCE: usize = 6;
+// How many bytes a reference takes with what pads it.
+const REFERENCE: usize = 8;
 
 /// Writes a text with references for HTML's markup.
 pub(crate) fn push_html(out: &mut String, piece: &str) -> Result<(), Error>
     ensures { Writes Html (string_bytes out.old) (Ok piece.now) result (string_bytes out.new) }
 {
-    reserve(out, piece.len())?;
+    out.reserve(piece.len())?;
     push_references(out, piece)
-}
-
-fn reserve(out: &mut String, length: usize) -> Result<(), Error>
-    ensures { Writes Html (string_bytes out.old) (Ok []) result (string_bytes out.new) }
-{
-    match out.reserve(length) {
-        Ok(()) => Ok(()),
-        Err(_) => Err(Error::new(ErrorKind::OutOfMemory)),
-    }
 }
 
 fn push_references(out: &mut String, piece: &str) -> Result<(), Error>
@@ -38,45 +30,41 @@ fn push_references(out: &mut String, piece: &str) -> Result<(), Error>
     let mut used = 0;
     let mut start = 0;
     for (i, byte) in piece.as_bytes().iter().enumerate() {
-        if !is_markup(*byte) {
+        let Some(reference) = reference_of(*byte) else {
             continue;
+        };
+        if start < i || used + REFERENCE > BLOCK {
+            push_block(out, &block[..used], &piece[start..i])?;
+            used = 0;
         }
-        let left = make_room(out, &block, used, &piece[start..i])?;
-        used = put_reference(&mut block, left, *byte);
+        used = put(&mut block, used, reference);
         start = i + 1;
     }
     push_block(out, &block[..used], &piece[start..])
 }
 
-fn is_markup(byte: u8) -> bool
-    ensures plain { result ≡ false → html_byte byte ≡ byte ∷ [] }
-    ensures ascii { IsTrue result → byte < 128 }
-{
-    matches!(byte, b'<' | b'>' | b'&' | b'"' | b'\'' | b'/')
+// A reference, and bytes behind it that mean nothing: each is put by one move, since all have one size.
+#[derive(Clone, Copy)]
+struct Reference {
+    padded: &'static [u8; REFERENCE],
+    length: usize,
 }
 
-// Writes the piece behind what waits in the block, unless there is no piece and room for a reference more.
-// The answer tells how many bytes still wait.
-#[inline(always)]
-fn make_room(
-    out: &mut String,
-    block: &[u8; BLOCK],
-    used: usize,
-    piece: &str,
-) -> Result<usize, Error>
-    requires fits { used ≤ BLOCK }
-    requires text { IsUtf8 (take used block.now) }
-    ensures written { IfOk result (λ left. string_bytes out.new ++ take left block.now ≡ (string_bytes out.old ++ take used block.now) ++ piece.now) }
-    ensures room { IfOk result (λ left. left + REFERENCE ≤ BLOCK) }
-    ensures text { IfOk result (λ left. IsUtf8 (take left block.now)) }
-    ensures memory { IfErr result (λ kinds. kinds ≡ ErrorKind.OutOfMemory ∷ []) }
-    ensures begins { Begins (string_bytes out.old) (string_bytes out.new) }
+fn reference_of(byte: u8) -> Option<Reference>
+    ensures is { MatchOption result (html_byte byte ≡ byte ∷ []) (λ r. take r.length r.padded.now ≡ html_byte byte) }
+    ensures fits { IfSome result (λ r. r.length ≤ REFERENCE) }
+    ensures ascii { OnSome result (byte < 128) }
 {
-    if piece.is_empty() && used + REFERENCE <= BLOCK {
-        return Ok(used);
-    }
-    push_block(out, &block[..used], piece)?;
-    Ok(0)
+    let (padded, length) = match byte {
+        b'<' => (b"&lt;....", 4),
+        b'>' => (b"&gt;....", 4),
+        b'&' => (b"&amp;...", 5),
+        b'"' => (b"&quot;..", 6),
+        b'\'' => (b"&#x27;..", 6),
+        b'/' => (b"&#x2f;..", 6),
+        _ => return None,
+    };
+    Some(Reference { padded, length })
 }
 
 // Writes the block, and the piece behind it.
@@ -88,32 +76,21 @@ fn push_block(out: &mut String, block: &[u8], piece: &str) -> Result<(), Error>
     push_plain(out, piece)
 }
 
-// Puts what stands for the byte behind the bytes that wait, and tells how many then do.
-#[inline(always)]
-fn put_reference(block: &mut [u8; BLOCK], used: usize, byte: u8) -> usize
-    requires { used + REFERENCE ≤ BLOCK }
-    ensures put { take result block.new ≡ take used block.old ++ html_byte byte }
-    ensures fits { result ≤ BLOCK }
+// Puts the reference behind the bytes that wait, and tells how many then do.
+fn put(block: &mut [u8; BLOCK], used: usize, reference: Reference) -> usize
+    requires room { used + REFERENCE ≤ BLOCK }
+    requires fits { reference.length ≤ REFERENCE }
+    ensures length { result ≡ used + reference.length }
+    ensures put { take result block.new ≡ take used block.old ++ take reference.length reference.padded.now }
 {
-    match byte {
-        b'<' => put(block, used, b"&lt;"),
-        b'>' => put(block, used, b"&gt;"),
-        b'&' => put(block, used, b"&amp;"),
-        b'"' => put(block, used, b"&quot;"),
-        b'\'' => put(block, used, b"&#x27;"),
-        b'/' => put(block, used, b"&#x2f;"),
-        _ => put(block, used, &[byte]),
-    }
+    put_padded(block, used, reference.padded);
+    used + reference.length
 }
 
-// The length is known where this is compiled, so that a copy is one or two moves.
-#[inline(always)]
-fn put<const N: usize>(block: &mut [u8; BLOCK], used: usize, text: &[u8; N]) -> usize
-    requires { used + N ≤ BLOCK }
-    ensures length { result ≡ used + N }
-    ensures put { take result block.new ≡ take used block.old ++ text.now }
+fn put_padded(block: &mut [u8; BLOCK], used: usize, padded: &[u8; REFERENCE])
+    requires { used + REFERENCE ≤ BLOCK }
+    ensures length { length block.new ≡ BLOCK }
+    ensures put { take (used + REFERENCE) block.new ≡ take used block.old ++ padded.now }
 {
-    let end = used + N;
-    block[used..end].copy_from_slice(text);
-    end
+    block[used..used + REFERENCE].copy_from_slice(padded);
 }

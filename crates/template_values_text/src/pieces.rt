@@ -9,7 +9,7 @@ ghost use Rattle.template_values_forms.specs.Printed.{bytes_text};
 
 use crate::html::push_html;
 use std::slice;
-use template_values_errors::{Error, ErrorKind};
+use template_values_errors::Error;
 
 /// Whether pieces are written as they are, or with references for HTML's markup.
 #[derive(Clone, Copy)]
@@ -32,10 +32,7 @@ pub(crate) fn push(out: &mut String, markup: Markup, piece: &str) -> Result<(), 
 pub(crate) fn push_plain(out: &mut String, piece: &str) -> Result<(), Error>
     ensures { Writes Markup.Plain (string_bytes out.old) (Ok piece.now) result (string_bytes out.new) }
 {
-    match out.push_str(piece) {
-        Ok(()) => Ok(()),
-        Err(_) => Err(Error::new(ErrorKind::OutOfMemory)),
-    }
+    Ok(out.push_str(piece)?)
 }
 
 /// Whether a text is quoted as values print, or as JSON has it.
