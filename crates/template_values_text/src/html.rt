@@ -10,7 +10,7 @@ use std::str;
 use template_values_errors::Error;
 
 // References wait in a block, so that many of them are written at once.
-const BLOCK: usize = 128;
+const BLOCK: usize = 256;
 
 // How many bytes a reference takes with what pads it.
 const REFERENCE: usize = 8;
@@ -33,12 +33,16 @@ fn push_references(out: &mut String, piece: &str) -> Result<(), Error>
         let Some(reference) = reference_of(*byte) else {
             continue;
         };
-        if start < i || used + REFERENCE > BLOCK {
+        if start < i {
             push_block(out, &block[..used], &piece[start..i])?;
             used = 0;
         }
         used = put(&mut block, used, reference);
         start = i + 1;
+        if used > BLOCK - REFERENCE {
+            push_block(out, &block[..used], "")?;
+            used = 0;
+        }
     }
     push_block(out, &block[..used], &piece[start..])
 }

@@ -1,4 +1,4 @@
-use Rattle.std.proofs.Common.{◌≡◌, ◌-◌, ◌≤◌, ◌++◌, take, drop, string_bytes}
+use Rattle.std.proofs.Common.{◌≡◌, ◌-◌, ◌≤◌, ◌+◌, ◌++◌, take, drop, string_bytes}
 use Rattle.std.specs.Str.{IsCharBoundary, IsUtf8}
 use Rattle.template_values_forms.specs.Escapes.{html}
 use Rattle.template_values_text.specs.Pieces.{Begins}
@@ -10,7 +10,7 @@ invariant-loop-i l = record {
   within : l.start ≤ l.i;
   boundary : IsCharBoundary l.piece l.start;
   begins : Begins (string_bytes l.initial.out) (string_bytes l.out);
-  fits : l.used ≤ 128;
+  room : l.used + 8 ≤ 256;
   text : IsUtf8 (take l.used l.block);
   done : (string_bytes l.out ++ take l.used l.block) ++ take (l.i - l.start) (drop l.start l.piece) ≡ string_bytes l.initial.out ++ html (take l.i l.piece);
 }
