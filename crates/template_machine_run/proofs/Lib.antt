@@ -1,5 +1,4 @@
 pub mod Depths
-pub mod Refusals
 pub mod Acting
 pub mod Printing
 pub mod Showing

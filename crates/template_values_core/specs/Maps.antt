@@ -42,9 +42,9 @@ last_at name [] = None
 last_at name (p ∷ given) = option_or (last_at name given) (if is_text name p.0 then Some p.1 else None)
 
 -- the value of the first pair whose key is equal to this one
-abbrev pub under : Val → Pairs → Option Val
-under k no_pairs = None
-under k (pairs_more j v ps) = if is_eq (val_cmp j k) then Some v else under k ps
+abbrev pub entry_under : Val → Pairs → Option Val
+entry_under k no_pairs = None
+entry_under k (pairs_more j v ps) = if is_eq (val_cmp j k) then Some v else entry_under k ps
 
 -- the value of the last pair given whose key is equal to this one
 abbrev pub last_under : Val → List (Val × Val) → Option Val

@@ -11,11 +11,12 @@ ghost use Rattle.template_values_core.specs.Order.{val_cmp};
 ghost use Rattle.template_values_core.specs.Reads.{value_under};
 ghost use Rattle.template_values_core.specs.Shape.{pairs_in};
 
-use crate::value::{DEPTH_LIMIT, Entry, Repr, Value, larger};
+use crate::value::{Entry, Repr, Value, larger};
 use std::alloc::{AllocError, Global};
 use std::mem::swap;
 use std::rc::{Rc, RcStr};
 use template_values_errors::{Error, ErrorKind};
+use template_values_model::DEPTH_LIMIT;
 
 /// Entries that are shared, in the order of their keys, and the depth of a container of them.
 struct SharedEntries {
@@ -29,12 +30,12 @@ impl Value {
     ///
     /// # Errors
     ///
-    /// - [`ErrorKind::InvalidOperation`], if the map would nest deeper than 500 levels.
+    /// - [`ErrorKind::InvalidOperation`], if the map would nest deeper than [`DEPTH_LIMIT`] levels.
     /// - [`ErrorKind::OutOfMemory`]
     #[tactic(auto, using(crate::proofs::LastGiven::from_pairs))]
     pub fn from_map(alloc: Global, entries: Vec<Entry>) -> Result<Value, Error>
         ensures made { IfOk result (λ v. v ≡ map (collected (pairs_in entries.items))) }
-        ensures bound { IfOk result (λ v. depth v ≤ 500) }
+        ensures bound { IfOk result (λ v. depth v ≤ DEPTH_LIMIT) }
         ensures last { IfOk result (λ v. (name : List ℕ) → value_at name v ≡ last_at name (pairs_in entries.items)) }
         ensures each { IfOk result (λ v. (k : Val) → value_under k v ≡ last_under k (pairs_in entries.items)) }
         ensures refused { IfErr result (TooDeep (map (collected (pairs_in entries.items)))) }
@@ -52,11 +53,11 @@ impl Value {
     ///
     /// # Errors
     ///
-    /// - [`ErrorKind::InvalidOperation`], if the map would nest deeper than 500 levels.
+    /// - [`ErrorKind::InvalidOperation`], if the map would nest deeper than [`DEPTH_LIMIT`] levels.
     /// - [`ErrorKind::OutOfMemory`]
     pub fn from_pairs(alloc: Global, pairs: Vec<(&str, Value)>) -> Result<Value, Error>
         ensures made { IfOk result (λ v. v ≡ map (collected (named_pairs pairs.entry.items))) }
-        ensures bound { IfOk result (λ v. depth v ≤ 500) }
+        ensures bound { IfOk result (λ v. depth v ≤ DEPTH_LIMIT) }
         ensures last { IfOk result (λ v. (name : List ℕ) → value_at name v ≡ last_at name (named_pairs pairs.entry.items)) }
         ensures refused { IfErr result (TooDeep (map (collected (named_pairs pairs.entry.items)))) }
     {
@@ -72,11 +73,11 @@ impl Value {
     ///
     /// # Errors
     ///
-    /// - [`ErrorKind::InvalidOperation`], if it would nest deeper than 500 levels.
+    /// - [`ErrorKind::InvalidOperation`], if it would nest deeper than [`DEPTH_LIMIT`] levels.
     /// - [`ErrorKind::OutOfMemory`]
     pub fn from_kwargs(alloc: Global, entries: Vec<Entry>) -> Result<Value, Error>
         ensures made { IfOk result (λ v. v ≡ keyword_map (collected (pairs_in entries.items))) }
-        ensures bound { IfOk result (λ v. depth v ≤ 500) }
+        ensures bound { IfOk result (λ v. depth v ≤ DEPTH_LIMIT) }
         ensures refused { IfErr result (TooDeep (keyword_map (collected (pairs_in entries.items)))) }
     {
         let shared = shared_entries(alloc, entries)?;
@@ -91,11 +92,11 @@ impl Value {
     ///
     /// # Errors
     ///
-    /// - [`ErrorKind::InvalidOperation`], if it would nest deeper than 500 levels.
+    /// - [`ErrorKind::InvalidOperation`], if it would nest deeper than [`DEPTH_LIMIT`] levels.
     /// - [`ErrorKind::OutOfMemory`]
     pub fn from_module(alloc: Global, entries: Vec<Entry>, text: String) -> Result<Value, Error>
         ensures made { IfOk result (λ v. v ≡ Val.«module» (collected (pairs_in entries.items)) (string_bytes text)) }
-        ensures bound { IfOk result (λ v. depth v ≤ 500) }
+        ensures bound { IfOk result (λ v. depth v ≤ DEPTH_LIMIT) }
         ensures refused { IfErr result (TooDeep (Val.«module» (collected (pairs_in entries.items)) (string_bytes text))) }
     {
         let shared = shared_entries(alloc, entries)?;
@@ -147,7 +148,7 @@ fn merge_equal_keys(entries: &mut Vec<Entry>)
 
 fn deepest_of(entries: &[Entry]) -> u32
     ensures is { result ≡ pairs_depth (pairs_of (pairs_in entries.now)) }
-    ensures bound { result ≤ 500 }
+    ensures bound { result ≤ DEPTH_LIMIT }
 {
     let mut deepest = 0;
     for entry in entries {

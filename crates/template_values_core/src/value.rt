@@ -10,12 +10,10 @@ use std::alloc::{AllocError, Global};
 use std::marker::Model;
 use std::rc::{Rc, RcStr};
 use template_values_errors::Error;
-
-/// The deepest that a value may nest.
-pub(crate) const DEPTH_LIMIT: u32 = 500;
+use template_values_model::DEPTH_LIMIT;
 
 /// A value of the template language. A contract sees it as the mathematical value; its depth is
-/// at most 500. The contents of texts, bytes, lists, tuples, maps and modules are shared by the
+/// at most [`DEPTH_LIMIT`]. The contents of texts, bytes, lists, tuples, maps and modules are shared by the
 /// copies of a value.
 #[cycle(value)]
 #[derive(Drop)]
@@ -51,12 +49,15 @@ pub(crate) enum Repr {
 #[cycle(value)]
 #[derive(Drop)]
 pub struct Entry {
+    /// What the value is looked up by.
     pub key: Value,
+    /// What stands under the key.
     pub value: Value,
 }
 
 impl Model for Value {
     ghost use Rattle.std.specs.Prelude.{◌≡◌, ◌≤◌};
+    ghost use Rattle.template_values_model.specs.declared.TheConstants.{DEPTH_LIMIT};
     ghost use Rattle.template_values_model.specs.Val.{Val};
     ghost use Rattle.template_values_core.specs.Code.{val_code};
     ghost use Rattle.template_values_core.specs.Depth.{depth};
@@ -70,7 +71,7 @@ impl Model for Value {
 
     ghost view = { λ a. repr_view a.repr };
 
-    ghost invariant = { λ a. (a.levels ≡ depth (repr_view a.repr)) × (a.levels ≤ 500) × IsKept a.repr };
+    ghost invariant = { λ a. (a.levels ≡ depth (repr_view a.repr)) × (a.levels ≤ DEPTH_LIMIT) × IsKept a.repr };
 
     ghost size = { depth };
 
@@ -247,7 +248,7 @@ impl Value {
     /// How deep the value nests: 0 for scalars, one more than the deepest item for containers.
     pub fn levels(&self) -> u32
         ensures is { result ≡ depth self.now }
-        ensures bound { depth self.now ≤ 500 }
+        ensures bound { depth self.now ≤ DEPTH_LIMIT }
     {
         self.levels
     }

@@ -2,7 +2,7 @@
 ghost use Rattle.std.specs.Prelude.{◌≡◌, ℕ, List, ◌||◌, Ok, IfErr, IfOk, OnOk, bytes_eq};
 ghost use Rattle.std.specs.BTreeSet.{contains_text};
 ghost use Rattle.template_values_errors.specs.Memory.{NoMemory};
-ghost use Rattle.template_values_model.specs.Gives.{Gives};
+ghost use Rattle.template_values_model.specs.Gives.{Gives, TellsFault};
 ghost use Rattle.template_values_model.specs.Lookup.{is_text};
 ghost use Rattle.template_values_core.specs.Maps.{pairs_of};
 ghost use Rattle.template_values_core.specs.Shape.{pairs_in};
@@ -58,7 +58,8 @@ impl Kwargs {
     /// - [`ErrorKind::MissingArgument`], if no key is this text.
     /// - [`ErrorKind::OutOfMemory`]
     pub fn get(&self, name: &str) -> Result<Value, Error>
-        ensures { Gives result (argument name.now self.now) }
+        ensures gives { Gives result (argument name.now self.now) }
+        ensures missing { TellsFault result (argument name.now self.now) }
     {
         match self.map.value_at(name) {
             Some(value) => value.copy(),

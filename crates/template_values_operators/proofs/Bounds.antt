@@ -1,11 +1,12 @@
 -- A slice whose bounds were taken is the slice with those bounds.
 use Rattle.std.proofs.Common.{◌≡◌, ℤ, pos, Option, Result, Ok, Err, unwrap_or}
-use Rattle.template_values_errors.specs.declared.ErrorKind.{ErrorKind}
+use Rattle.template_values_model.specs.Fault.{Fault}
 use Rattle.template_values_model.specs.Val.{Val}
 use Rattle.template_values_model.specs.Gives.{alone}
 use Rattle.template_values_operators.specs.Slices.{slice_by, slice_with}
 
-pub slice_by_taken : (value : Val) (s e k : Result (Option ℤ) ErrorKind) (start stop step : Option ℤ) → Ok start ≡ alone s → Ok stop ≡ alone e → Ok step ≡ alone k
+pub slice_by_taken : (value : Val) (s e k : Result (Option ℤ) Fault) (start stop step : Option ℤ) → Ok start ≡ alone s → Ok stop ≡ alone e
+    → Ok step ≡ alone k
     → slice_by value s e k ≡ slice_with value start stop (unwrap_or step (pos 1))
 slice_by_taken value (Ok s) (Ok e) (Ok k) start stop step p q r =
     let a : s ≡ start = cc in

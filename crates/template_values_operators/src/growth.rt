@@ -38,4 +38,3 @@ pub(crate) fn copy_or_undefined(value: Option<&Value>) -> Result<Value, Error>
         None => Ok(Value::undefined()),
     }
 }
-

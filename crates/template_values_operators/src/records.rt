@@ -3,7 +3,7 @@ ghost use Rattle.std.specs.Prelude.{◌≡◌, suc, pos, Ok, option_copied, slic
 ghost use Rattle.template_values_model.specs.Gives.{Gives, alone};
 ghost use Rattle.template_values_model.specs.Lookup.{entry_at, is_text};
 ghost use Rattle.template_values_model.specs.Val.{int};
-ghost use Rattle.template_values_core.specs.Maps.{pairs_of, under};
+ghost use Rattle.template_values_core.specs.Maps.{pairs_of, entry_under};
 ghost use Rattle.template_values_core.specs.Shape.{pairs_in};
 ghost use Rattle.template_values_records.specs.Views.{macro_seen};
 ghost use Rattle.template_values_operators.specs.Contains.{namespace_contains};
@@ -83,7 +83,7 @@ fn is_text(value: &Value, name: &str) -> bool
 }
 
 fn entry_under<'a>(entries: &'a [Entry], key: &Value) -> Option<&'a Value>
-    ensures { option_copied result ≡ under key.now (pairs_of (pairs_in entries.now)) }
+    ensures { option_copied result ≡ entry_under key.now (pairs_of (pairs_in entries.now)) }
 {
     for entry in entries {
         if entry.key == *key {

@@ -8,6 +8,7 @@ use Rattle.std.proofs.lemmas.Str.{IsUtf8-from_ascii, IsCharBoundary-from_take}
 use Rattle.json.proofs.Printed.Utf8.{IsUtf8-are_ascii}
 use Rattle.std.proofs.lemmas.List.Concat.{flat_map-append}
 use Rattle.template_values_errors.specs.declared.ErrorKind.{ErrorKind}
+use Rattle.template_values_model.specs.Fault.{Fault}
 use Rattle.template_values_forms.specs.Answers.{Appends, joined, mapped}
 use Rattle.template_values_forms.specs.Escapes.{html_byte, html}
 use Rattle.template_values_text.specs.Pieces.{encoded, Begins, Writes}
@@ -31,7 +32,7 @@ pub Begins-trans : (b m a : List ℕ) → Begins b m → Begins m a → Begins b
 Begins-trans b m a (more, is) (rest, ends) = (more ++ rest, ends ∙ ap (λ (x : List ℕ). x ++ rest) is ∙ append_assoc b more rest)
 
 -- a text after a text
-pub Writes-then : (k : Markup) (b m a : List ℕ) (r q : Result (List ℕ) ErrorKind) (res : Result (Unit {0}) (List ErrorKind)) → Writes k b r (Ok tt) m → Writes k m q res a → Writes k b (joined r q) res a
+pub Writes-then : (k : Markup) (b m a : List ℕ) (r q : Result (List ℕ) Fault) (res : Result (Unit {0}) (List ErrorKind)) → Writes k b r (Ok tt) m → Writes k m q res a → Writes k b (joined r q) res a
 Writes-then k b m a (Ok s) (Ok t) (Ok u) x y = y ∙ ap (λ (z : List ℕ). z ++ encoded k t) x ∙ append_assoc b (encoded k s) (encoded k t) ∙ ap (λ (z : List ℕ). b ++ z) (sym (encoded-append k s t))
 Writes-then k b m a (Ok s) (Ok t) (Err ks) x (memory, begins) = (memory, Begins-trans b m a (encoded k s, x) begins)
 Writes-then k b m a (Ok s) (Err kind) (Ok u) x y = y
@@ -39,7 +40,7 @@ Writes-then k b m a (Ok s) (Err kind) (Err ks) x (why, begins) = (why, Begins-tr
 Writes-then k b m a (Err kind) q res x y = absurd x
 
 -- a refusal before the second text
-pub Writes-stop : (k : Markup) (b a : List ℕ) (r q : Result (List ℕ) ErrorKind) (ks : List ErrorKind) → Writes k b r (Err ks) a → Writes k b (joined r q) (Err ks) a
+pub Writes-stop : (k : Markup) (b a : List ℕ) (r q : Result (List ℕ) Fault) (ks : List ErrorKind) → Writes k b r (Err ks) a → Writes k b (joined r q) (Err ks) a
 Writes-stop k b a (Ok s) (Ok t) ks x = x
 Writes-stop k b a (Ok s) (Err kind) ks (memory, begins) = (inr memory, begins)
 Writes-stop k b a (Err kind) q ks x = x
@@ -165,22 +166,22 @@ Begins-boundary b a text whole begins =
     within : Begins b a → length b ≤ length a
     within (more, is) = omega (arith, ap length is, length-append b more)
 
-pub Writes-begins : (k : Markup) (b a : List ℕ) (r : Result (List ℕ) ErrorKind) (ks : List ErrorKind) → Writes k b r (Err ks) a → Begins b a
+pub Writes-begins : (k : Markup) (b a : List ℕ) (r : Result (List ℕ) Fault) (ks : List ErrorKind) → Writes k b r (Err ks) a → Begins b a
 Writes-begins k b a (Ok s) ks (memory, begins) = begins
 Writes-begins k b a (Err kind) ks (why, begins) = begins
 
 -- a whole text is appended
-pub Appends-whole : (b a : List ℕ) (r : Result (List ℕ) ErrorKind) (u : Unit {0}) → Writes Plain b r (Ok u) a → Appends b r (Ok u) a
+pub Appends-whole : (b a : List ℕ) (r : Result (List ℕ) Fault) (u : Unit {0}) → Writes Plain b r (Ok u) a → Appends b r (Ok u) a
 Appends-whole b a (Ok s) u w = w
 Appends-whole b a (Err kind) u w = w
 
 -- what was written is cut off
-pub Appends-cut : (b m a : List ℕ) (r : Result (List ℕ) ErrorKind) (ks : List ErrorKind) → Writes Plain b r (Err ks) m → a ≡ take (length b) m → Appends b r (Err ks) a
+pub Appends-cut : (b m a : List ℕ) (r : Result (List ℕ) Fault) (ks : List ErrorKind) → Writes Plain b r (Err ks) m → a ≡ take (length b) m → Appends b r (Err ks) a
 Appends-cut b m a (Ok s) ks (memory, begins) cut = (memory, cut ∙ Begins-take b m begins)
 Appends-cut b m a (Err kind) ks (why, begins) cut = (why, cut ∙ Begins-take b m begins)
 
 -- a text written with references is the text of the references
-pub Writes-html : (b a : List ℕ) (r : Result (List ℕ) ErrorKind) (res : Result (Unit {0}) (List ErrorKind)) → Writes Html b r res a → Writes Plain b (mapped html r) res a
+pub Writes-html : (b a : List ℕ) (r : Result (List ℕ) Fault) (res : Result (Unit {0}) (List ErrorKind)) → Writes Html b r res a → Writes Plain b (mapped html r) res a
 Writes-html b a (Ok s) (Ok u) w = w
 Writes-html b a (Ok s) (Err ks) w = w
 Writes-html b a (Err kind) (Ok u) w = w

@@ -3,6 +3,7 @@ use Rattle.std.proofs.Common.{◌≡◌, ℕ, zero, suc, ◌-◌, ◌<◌, ◌�
 use Rattle.std.specs.Str.{IsUtf8}
 use Rattle.std.proofs.lemmas.Str.{IsUtf8-append}
 use Rattle.template_values_errors.specs.declared.ErrorKind.{ErrorKind}
+use Rattle.template_values_model.specs.Fault.{Fault}
 use Rattle.template_values_model.specs.Val.{Val, Vals, Pairs, vals_of, no_vals, vals_more, no_pairs, pairs_more}
 use Rattle.template_values_core.specs.Maps.{pairs_of}
 use Rattle.template_values_core.specs.Shape.{pairs_in}
@@ -61,12 +62,12 @@ tuple_end-other (v ∷ []) h = absurd (h refl)
 tuple_end-other (v ∷ w ∷ vs) h = refl
 
 -- what is written for the first of the values that are left, and for the others behind it
-pub writes_next_val : (k : Markup) (before out written after : List ℕ) (f : Val → Result (List ℕ) ErrorKind) (vs : List Val) (i j : ℕ) (v : Val) (res : Result (Unit {0}) (List ErrorKind)) → j ≡ suc i → i < length vs → v ≡ get_or vs i v → Writes k out (joined (Ok before) (f v)) (Ok tt) written → Writes k written (vals_text (codes ", ") f (vals_of (drop j vs))) res after → Writes k out (vals_text before f (vals_of (drop i vs))) res after
+pub writes_next_val : (k : Markup) (before out written after : List ℕ) (f : Val → Result (List ℕ) Fault) (vs : List Val) (i j : ℕ) (v : Val) (res : Result (Unit {0}) (List ErrorKind)) → j ≡ suc i → i < length vs → v ≡ get_or vs i v → Writes k out (joined (Ok before) (f v)) (Ok tt) written → Writes k written (vals_text (codes ", ") f (vals_of (drop j vs))) res after → Writes k out (vals_text before f (vals_of (drop i vs))) res after
 writes_next_val k before out written after f vs i j v res e h is w rest =
     let P : Vals → Type 0 = λ x. Writes k out (vals_text before f x) res after in
     subst P (sym (vals_of-drop vs i j v e h is)) (Writes-then k out written after (joined (Ok before) (f v)) (vals_text (codes ", ") f (vals_of (drop j vs))) res w rest)
 
-pub writes_next_pair : (k : Markup) (before out written after : List ℕ) (f : Val → Result (List ℕ) ErrorKind) (es : List Entry) (i j : ℕ) (e : Entry) (res : Result (Unit {0}) (List ErrorKind)) → j ≡ suc i → i < length es → e ≡ get_or es i e → Writes k out (joined (Ok before) (pair_text f e.key e.value)) (Ok tt) written → Writes k written (pairs_text (codes ", ") f (pairs_of (pairs_in (drop j es)))) res after → Writes k out (pairs_text before f (pairs_of (pairs_in (drop i es)))) res after
+pub writes_next_pair : (k : Markup) (before out written after : List ℕ) (f : Val → Result (List ℕ) Fault) (es : List Entry) (i j : ℕ) (e : Entry) (res : Result (Unit {0}) (List ErrorKind)) → j ≡ suc i → i < length es → e ≡ get_or es i e → Writes k out (joined (Ok before) (pair_text f e.key e.value)) (Ok tt) written → Writes k written (pairs_text (codes ", ") f (pairs_of (pairs_in (drop j es)))) res after → Writes k out (pairs_text before f (pairs_of (pairs_in (drop i es)))) res after
 writes_next_pair k before out written after f es i j e res is_next h is w rest =
     let P : Pairs → Type 0 = λ x. Writes k out (pairs_text before f x) res after in
     subst P (sym (pairs_of-drop es i j e is_next h is)) (Writes-then k out written after (joined (Ok before) (pair_text f e.key e.value)) (pairs_text (codes ", ") f (pairs_of (pairs_in (drop j es)))) res w rest)

@@ -14,4 +14,5 @@ returns-clause-added c = λ q.
     let key = c.in_ok-from_str.field-0 in
     let updated = btree_set_updates_text (string_bytes key) c.args.names.now c.insert.new.self true c.in_ok-insert.ensures.updates q in
     let same : string_bytes key ≡ c.args.name.now = c.in_ok-from_str.ensures.ok in
-    updated ∙ cond_or (bytes_eq (string_bytes key) q) (contains_text c.args.names.now q) ∙ ap (λ bs. contains_text c.args.names.now q || bytes_eq bs q) same
+    updated ∙ cond_or (bytes_eq (string_bytes key) q) (contains_text c.args.names.now q)
+    ∙ ap (λ bs. contains_text c.args.names.now q || bytes_eq bs q) same
