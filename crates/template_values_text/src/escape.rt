@@ -69,7 +69,8 @@ fn html_outer<R: Records>(value: &Value, records: &R, out: &mut String) -> Resul
 }
 
 fn print_html<R: Records>(value: &Value, records: &R, out: &mut String) -> Result<(), Error>
-    ensures { Writes Markup.Plain (string_bytes out.old) (mapped html (printed (R.known records.now) value.now)) result (string_bytes out.new) }
+    ensures { Writes Markup.Plain (string_bytes out.old) (mapped html (printed (R.known records.now) value.now))
+        result (string_bytes out.new) }
 {
     print_outer(value, Markup::Html, records, out)
 }

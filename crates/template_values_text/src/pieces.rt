@@ -118,7 +118,8 @@ fn hex_digit(digit: u8) -> &'static str
 }
 
 fn push_digits(out: &mut String, markup: Markup, byte: u8) -> Result<(), Error>
-    ensures { Writes markup (string_bytes out.old) (Ok (digit_char (byte / 16) ∷ digit_char (byte % 16) ∷ [])) result (string_bytes out.new) }
+    ensures { Writes markup (string_bytes out.old) (Ok (digit_char (byte / 16) ∷ digit_char (byte % 16) ∷ []))
+        result (string_bytes out.new) }
 {
     push(out, markup, hex_digit(byte / 16))?;
     push(out, markup, hex_digit(byte % 16))
@@ -181,7 +182,8 @@ pub(crate) fn push_quoted(
     quoting: Quoting,
     text: &str,
 ) -> Result<(), Error>
-    ensures { Writes markup (string_bytes out.old) (Ok (codes "\"" ++ (flat_map (escaped_byte quoting) text.now ++ codes "\""))) result (string_bytes out.new) }
+    ensures { Writes markup (string_bytes out.old) (Ok (codes "\"" ++ (flat_map (escaped_byte quoting) text.now ++ codes "\"")))
+        result (string_bytes out.new) }
 {
     push(out, markup, "\"")?;
     push_escaped(out, markup, quoting, text)?;

@@ -11,6 +11,7 @@ use crate::pieces::{Markup, Quoting, push, push_bytes, push_quoted};
 use itoa::Buffer;
 use template_values_core::{Content, Entry, Value};
 use template_values_errors::{Error, ErrorKind};
+use template_values_model::DEPTH_LIMIT;
 use template_values_records::Records;
 
 /// Appends the text that the value prints to `out`, which a refusal leaves as it was. Namespaces are
@@ -19,7 +20,7 @@ use template_values_records::Records;
 /// # Errors
 ///
 /// - [`ErrorKind::InvalidOperation`], if a record is foreign, or if the value with the records that it
-///   leads to nests deeper than 500 levels.
+///   leads to nests deeper than [`DEPTH_LIMIT`] levels.
 /// - [`ErrorKind::OutOfMemory`]
 pub fn print_to<R: Records>(value: &Value, records: &R, out: &mut String) -> Result<(), Error>
     ensures { Appends (string_bytes out.old) (printed (R.known records.now) value.now) result (string_bytes out.new) }
@@ -63,7 +64,7 @@ pub(crate) fn print_outer<R: Records>(
 pub(crate) fn deepest() -> u32
     ensures { result ≡ level_limit }
 {
-    500
+    DEPTH_LIMIT
 }
 
 // How a value inside of a container prints: whether with references for markup, what is known of
@@ -123,7 +124,8 @@ fn print_list<R: Records>(
 ) -> Result<(), Error>
     ensures { let known = R.known inside.entry.records.now in
         let text = inner_text known inside.entry.left in
-        Writes inside.entry.markup (string_bytes out.old) (enclosed first.now (vals_text [] text (vals_of items.now)) last.now) result (string_bytes out.new) }
+        Writes inside.entry.markup (string_bytes out.old) (enclosed first.now (vals_text [] text (vals_of items.now)) last.now)
+        result (string_bytes out.new) }
 {
     push(out, inside.markup, first)?;
     print_items(items, inside, out)?;
@@ -203,7 +205,8 @@ fn print_entries<R: Records>(
 ) -> Result<(), Error>
     ensures { let known = R.known inside.entry.records.now in
         let text = inner_text known inside.entry.left in
-        Writes inside.entry.markup (string_bytes out.old) (pairs_text [] text (pairs_of (pairs_in entries.now))) result (string_bytes out.new) }
+        Writes inside.entry.markup (string_bytes out.old) (pairs_text [] text (pairs_of (pairs_in entries.now)))
+        result (string_bytes out.new) }
 {
     let mut before = "";
     for entry in entries {
@@ -222,7 +225,8 @@ fn print_entry<R: Records>(
 ) -> Result<(), Error>
     ensures { let known = R.known inside.entry.records.now in
         let text = inner_text known inside.entry.left in
-        Writes inside.entry.markup (string_bytes out.old) (joined (Ok before.now) (pair_text text entry.now.key entry.now.value)) result (string_bytes out.new) }
+        Writes inside.entry.markup (string_bytes out.old) (joined (Ok before.now) (pair_text text entry.now.key entry.now.value))
+        result (string_bytes out.new) }
 {
     push(out, inside.markup, before)?;
     print_inner(&entry.key, inside, out)?;
