@@ -180,6 +180,11 @@ pub Appends-cut : (b m a : List ℕ) (r : Result (List ℕ) Fault) (ks : List Er
 Appends-cut b m a (Ok s) ks (memory, begins) cut = (memory, cut ∙ Begins-take b m begins)
 Appends-cut b m a (Err kind) ks (why, begins) cut = (why, cut ∙ Begins-take b m begins)
 
+-- a text with no markup
+pub Writes-unmarked : (b a s : List ℕ) (res : Result (Unit {0}) (List ErrorKind)) → html s ≡ s → Writes Plain b (Ok s) res a → Writes Html b (Ok s) res a
+Writes-unmarked b a s (Ok u) same w = w ∙ ap (λ (z : List ℕ). b ++ z) (sym same)
+Writes-unmarked b a s (Err ks) same w = w
+
 -- a text written with references is the text of the references
 pub Writes-html : (b a : List ℕ) (r : Result (List ℕ) Fault) (res : Result (Unit {0}) (List ErrorKind)) → Writes Html b r res a → Writes Plain b (mapped html r) res a
 Writes-html b a (Ok s) (Ok u) w = w

@@ -1,7 +1,8 @@
 //! Texts with references for what HTML reads as markup.
 ghost use Rattle.std.specs.Prelude.{◌≡◌, ◌+◌, ◌<◌, ◌≤◌, ◌∷◌, [], ◌++◌, Ok, IfSome, IsUtf8, MatchOption, OnSome, length, string_bytes, take};
+ghost use Rattle.std.specs.Str.{IsCharBoundary};
 ghost use Rattle.template_values_errors.specs.Memory.{NoMemory};
-ghost use Rattle.template_values_forms.specs.Escapes.{html_byte};
+ghost use Rattle.template_values_forms.specs.Escapes.{html, html_byte};
 ghost use Rattle.template_values_text.specs.Pieces.{Begins, Writes};
 ghost use Rattle.template_values_text.specs.declared.pieces.Markup.TheVariants.{Html, Plain};
 
@@ -19,6 +20,37 @@ const REFERENCE: usize = 8;
 pub(crate) fn push_html(out: &mut String, piece: &str) -> Result<(), Error>
     ensures { Writes Html (string_bytes out.old) (Ok piece.now) result (string_bytes out.new) }
 {
+    let plain = plain_length(piece);
+    push_unmarked(out, &piece[..plain])?;
+    push_marked(out, &piece[plain..])
+}
+
+// How many bytes stand before the first that HTML reads as markup.
+fn plain_length(piece: &str) -> usize
+    ensures plain { html (take result piece.now) ≡ take result piece.now }
+    ensures boundary { IsCharBoundary piece.now result }
+{
+    for (i, byte) in piece.as_bytes().iter().enumerate() {
+        if reference_of(*byte).is_some() {
+            return i;
+        }
+    }
+    piece.len()
+}
+
+fn push_unmarked(out: &mut String, piece: &str) -> Result<(), Error>
+    requires { html piece.now ≡ piece.now }
+    ensures { Writes Html (string_bytes out.old) (Ok piece.now) result (string_bytes out.new) }
+{
+    push_plain(out, piece)
+}
+
+fn push_marked(out: &mut String, piece: &str) -> Result<(), Error>
+    ensures { Writes Html (string_bytes out.old) (Ok piece.now) result (string_bytes out.new) }
+{
+    if piece.is_empty() {
+        return Ok(());
+    }
     out.reserve(piece.len())?;
     push_references(out, piece)
 }

@@ -15,12 +15,15 @@ use template_values_model::DEPTH_LIMIT;
 use template_values_records::Records;
 
 /// Appends the text that the value prints to `out`, which a refusal leaves as it was. Namespaces are
-/// followed. Takes time linear in the text.
+/// followed. Inside of containers texts stand between quotes, with `\n`, `\r`, `\t`, and `\u{..}` for the
+/// other control characters below U+0020 and for U+007F; those from U+0080 on stand for themselves.
+/// Takes time linear in the text.
 ///
 /// # Errors
 ///
-/// - [`ErrorKind::InvalidOperation`], if a record is foreign, or if the value with the records that it
-///   leads to nests deeper than [`DEPTH_LIMIT`] levels.
+/// - [`ErrorKind::InvalidOperation`], if a foreign namespace, loop or macro is met, or if the value with
+///   the records that it leads to nests deeper than [`DEPTH_LIMIT`] levels. A module prints as its text:
+///   what it holds is not met.
 /// - [`ErrorKind::OutOfMemory`]
 pub fn print_to<R: Records>(value: &Value, records: &R, out: &mut String) -> Result<(), Error>
     ensures { Appends (string_bytes out.old) (printed (R.known records.now) value.now) result (string_bytes out.new) }
