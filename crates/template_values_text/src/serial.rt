@@ -231,10 +231,16 @@ fn json_flat(value: &Value, out: &mut String) -> Result<(), Error>
     }
 }
 
+// The least number that JSON has.
+const LEAST_NUMBER: i128 = -9223372036854775808;
+
+// The greatest number that JSON has.
+const GREATEST_NUMBER: i128 = 18446744073709551615;
+
 fn json_number(number: i128, out: &mut String) -> Result<(), Error>
     ensures { Writes Markup.Plain (string_bytes out.old) (mapped compact_text (number_data number)) result (string_bytes out.new) }
 {
-    if number < -9223372036854775808 || 18446744073709551615 < number {
+    if number < LEAST_NUMBER || GREATEST_NUMBER < number {
         return Err(Error::new(ErrorKind::BadSerialization));
     }
     push(out, Markup::Plain, Buffer::new().format(number))
