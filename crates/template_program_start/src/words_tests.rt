@@ -1,7 +1,7 @@
 //! What `clap` makes of words, and what it refuses.
-use crate::*;
 use std::alloc::Global;
 use std::test::Fail;
+use template_program_words::{Definition, NamesWords, RenderWords, Words, WordsFault, read_words};
 
 fn rendered<'a>(alloc: Global, words: &'a [&'a str]) -> Option<RenderWords<'a>> {
     match read_words(alloc, words) {
@@ -123,7 +123,8 @@ fn refuses_what_it_does_not_take(rt: HostRuntime) {
         fault_word(read_words(rt.alloc(), none.as_slice())),
         "usage"
     );
-    let refused: [&[&str]; 19] = [
+    let refused: [&[&str]; 20] = [
+        &["render", "--version"],
         &["paint"],
         &["--main", "a"],
         &["render", "--main", "a", "--main", "b"],
@@ -155,7 +156,9 @@ fn refuses_what_it_does_not_take(rt: HostRuntime) {
 
 #[test]
 fn shows_help(rt: HostRuntime) {
-    let asked: [&[&str]; 7] = [
+    let asked: [&[&str]; 9] = [
+        &["--version"],
+        &["-V"],
         &["help"],
         &["-h"],
         &["--help"],
@@ -209,6 +212,7 @@ fn tells_what_it_refused(rt: HostRuntime) -> Result<(), Fail> {
     match read_words(rt.alloc(), ["help"].as_slice()) {
         Err(WordsFault::Help(text)) => {
             assert!(rt; text.as_str().contains("Usage: template <COMMAND>"));
+            assert!(rt; text.as_str().contains("  6  memory was refused"));
         }
         _ => panic!(rt; "it shows no help"),
     }

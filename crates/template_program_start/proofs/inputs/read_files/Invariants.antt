@@ -1,0 +1,8 @@
+-- The templates so far have the paths so far as their names.
+use Rattle.std.proofs.Common.{◌≡◌, map, take}
+use Rattle.template_program_context.specs.Context.{texts_in}
+use Rattle.template_program_start.specs.Starts.{names_in}
+use Rattle.template_program_start.proofs.inputs.read_files.Given as goal
+
+abbrev pub invariant-loop-path : goal.invariant-loop-path
+invariant-loop-path g l = names_in (texts_in l.templates.items) ≡ map (λ path. path.now) (take l.path-index l.paths)
