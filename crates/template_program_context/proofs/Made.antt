@@ -4,7 +4,8 @@ use Rattle.std.proofs.lemmas.List.Elements.{All-nil}
 use Rattle.template_values_errors.specs.declared.ErrorKind.{ErrorKind}
 use Rattle.template_values_model.specs.Val.{Val, map}
 use Rattle.template_values_model.specs.Lookup.{value_at}
-use Rattle.template_values_core.specs.Answers.{NoMemory, TooDeep}
+use Rattle.template_values_errors.specs.Memory.{NoMemory}
+use Rattle.template_values_core.specs.Answers.{TooDeep}
 use Rattle.template_values_core.specs.Depth.{depth}
 use Rattle.template_values_core.specs.Maps.{collected, put_all, last_at}
 use Rattle.template_values_core.specs.Shape.{pairs_in}

@@ -13,7 +13,7 @@ use Rattle.template_values_errors.specs.declared.ErrorKind.{ErrorKind}
 use Rattle.template_values_errors.specs.declared.ErrorKind.TheVariants.{SyntaxError, InvalidOperation, NoFloats}
 use Rattle.template_values_model.specs.Val.{Val, Vals, undefined, none, truth, int, text, list, map, no_vals, vals_more}
 use Rattle.template_values_model.specs.Lookup.{value_at}
-use Rattle.template_values_core.specs.Answers.{NoMemory}
+use Rattle.template_values_errors.specs.Memory.{NoMemory}
 use Rattle.template_values_core.specs.Maps.{pairs_of, collected}
 
 -- what the bytes say as JSON, where they are a text that can be read

@@ -3,7 +3,7 @@
 
 ghost use Rattle.std.specs.Prelude.{◌≡◌, None, IfOk, IfErr, string_bytes, option_copied};
 ghost use Rattle.template_values_model.specs.Val.{text};
-ghost use Rattle.template_values_core.specs.Answers.{NoMemory};
+ghost use Rattle.template_values_errors.specs.Memory.{NoMemory};
 ghost use Rattle.template_program_context.specs.Context.{fault_of_json, texts_in, IsContext, IsRefusal};
 ghost use Rattle.template_program_context.specs.Entries.{SayJson, SayContext, ArePlain};
 

@@ -5,7 +5,7 @@ ghost use Rattle.serde_json.specs.Errors.{IsMemory};
 ghost use Rattle.serde_json.specs.Read.{max_depth};
 ghost use Rattle.serde_json.specs.View.{view};
 ghost use Rattle.serde_json.specs.Written.{has_float};
-ghost use Rattle.template_values_core.specs.Answers.{NoMemory};
+ghost use Rattle.template_values_errors.specs.Memory.{NoMemory};
 ghost use Rattle.template_program_context.specs.Context.{data_in, fault_of_top, fault_of_json, IsRefusal};
 ghost use Rattle.template_program_context.specs.Entries.{SayData, SayJson, ArePlain};
 

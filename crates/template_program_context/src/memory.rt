@@ -1,6 +1,6 @@
 //! Growth that is refused with want of memory alone.
 ghost use Rattle.std.specs.Prelude.{◌≡◌, ◌++◌, [], ◌∷◌, IfErr, OnOk};
-ghost use Rattle.template_values_core.specs.Answers.{NoMemory};
+ghost use Rattle.template_values_errors.specs.Memory.{NoMemory};
 
 use template_values_errors::{Error, ErrorKind};
 

@@ -5,7 +5,7 @@ ghost use Rattle.serde_json.specs.Read.{max_depth};
 ghost use Rattle.serde_json.specs.View.{view, items_view, members_view};
 ghost use Rattle.serde_json.specs.Written.{has_float, items_have_float, members_have_float};
 ghost use Rattle.template_values_model.specs.Val.{vals_of};
-ghost use Rattle.template_values_core.specs.Answers.{NoMemory};
+ghost use Rattle.template_values_errors.specs.Memory.{NoMemory};
 ghost use Rattle.template_values_core.specs.Shape.{pairs_in};
 ghost use Rattle.template_program_context.specs.Context.{value_of, values_of, named_values};
 ghost use Rattle.template_program_context.specs.Entries.{SayData};

@@ -1,9 +1,10 @@
 -- The pairs of a map that is made from pairs.
-use Rattle.std.specs.Prelude.{ℕ, List, [], ◌∷◌, Option, None, Some, if◌then◌else◌}
+use Rattle.std.specs.Prelude.{ℕ, List, map, [], ◌∷◌, Option, None, Some, if◌then◌else◌}
+use Rattle.std.specs.Borrow.{Bor}
 use Rattle.std.specs.Option.{option_or}
 use Rattle.std.specs.Ordering.{is_eq}
 use Rattle.std.specs.BTreeMap.{insert_entry}
-use Rattle.template_values_model.specs.Val.{Val, Pairs, no_pairs, pairs_more}
+use Rattle.template_values_model.specs.Val.{Val, Pairs, text, no_pairs, pairs_more}
 use Rattle.template_values_model.specs.Lookup.{is_text}
 use Rattle.template_values_core.specs.Order.{val_cmp}
 
@@ -30,6 +31,10 @@ merged_after p (q ∷ given) = if is_eq (val_cmp q.0 p.0) then merged_after (p.0
 abbrev pub merged : List (Val × Val) → List (Val × Val)
 merged [] = []
 merged (p ∷ given) = merged_after p given
+
+-- the pairs of names and values, each under the name's plain text
+abbrev pub named_pairs : List (Bor (List ℕ) × Val) → List (Val × Val)
+named_pairs = map (λ p. (text p.0.now, p.1))
 
 -- the value of the last pair given whose key is this text
 abbrev pub last_at : List ℕ → List (Val × Val) → Option Val

@@ -64,10 +64,10 @@ fn shared_items(alloc: Global, items: Vec<Value>) -> Result<SharedItems, Error>
     if DEPTH_LIMIT < levels {
         return Err(Error::new(ErrorKind::InvalidOperation));
     }
-    match Rc::new(alloc, items) {
-        Ok(items) => Ok(SharedItems { levels, items }),
-        Err(_) => Err(Error::new(ErrorKind::OutOfMemory)),
-    }
+    Ok(SharedItems {
+        levels,
+        items: Rc::new(alloc, items)?,
+    })
 }
 
 fn deepest_of(items: &[Value]) -> u32

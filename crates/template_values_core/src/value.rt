@@ -1,14 +1,15 @@
 //! A value, and how it is made, shared and read.
 ghost use Rattle.std.specs.Prelude.{◌≡◌, ◌≤◌, max, IfOk, IfErr, string_bytes, option_copied};
+ghost use Rattle.template_values_errors.specs.Memory.{NoMemory};
 ghost use Rattle.template_values_model.specs.Val.{Val, undefined, silent_undefined, none, truth, int, text};
-ghost use Rattle.template_values_core.specs.Answers.{NoMemory, text_in};
+ghost use Rattle.template_values_core.specs.Answers.{text_in};
 ghost use Rattle.template_values_core.specs.Depth.{depth};
 ghost use Rattle.template_values_core.specs.Kept.{IsShared};
 
 use std::alloc::{AllocError, Global};
 use std::marker::Model;
 use std::rc::{Rc, RcStr};
-use template_values_errors::{Error, ErrorKind};
+use template_values_errors::Error;
 
 /// The deepest that a value may nest.
 pub(crate) const DEPTH_LIMIT: u32 = 500;
@@ -139,13 +140,22 @@ impl Value {
         ensures made { IfOk result (λ v. v ≡ Val.text (string_bytes text)) }
         ensures refused { IfErr result NoMemory }
     {
-        match RcStr::from_string(text) {
-            Ok(shared) => Ok(Value {
-                levels: 0,
-                repr: Repr::Text(shared),
-            }),
-            Err(_) => Err(Error::new(ErrorKind::OutOfMemory)),
-        }
+        Ok(Value {
+            levels: 0,
+            repr: Repr::Text(RcStr::from_string(text)?),
+        })
+    }
+
+    /// A plain text, copied from a `&str`. Linear in its length.
+    ///
+    /// # Errors
+    ///
+    /// [`ErrorKind::OutOfMemory`]
+    pub fn from_str(alloc: Global, text: &str) -> Result<Value, Error>
+        ensures made { IfOk result (λ v. v ≡ Val.text text.now) }
+        ensures refused { IfErr result NoMemory }
+    {
+        Value::from_text(String::from_str(alloc, text)?)
     }
 
     /// A text that is written without escapes. Its bytes are not copied.
@@ -157,13 +167,10 @@ impl Value {
         ensures made { IfOk result (λ v. v ≡ Val.safe_text (string_bytes text)) }
         ensures refused { IfErr result NoMemory }
     {
-        match RcStr::from_string(text) {
-            Ok(shared) => Ok(Value {
-                levels: 0,
-                repr: Repr::SafeText(shared),
-            }),
-            Err(_) => Err(Error::new(ErrorKind::OutOfMemory)),
-        }
+        Ok(Value {
+            levels: 0,
+            repr: Repr::SafeText(RcStr::from_string(text)?),
+        })
     }
 
     /// Bytes, which need be no text. They are not copied.
@@ -175,13 +182,10 @@ impl Value {
         ensures made { IfOk result (λ v. v ≡ Val.bytes bytes.items) }
         ensures refused { IfErr result NoMemory }
     {
-        match Rc::new(alloc, bytes) {
-            Ok(shared) => Ok(Value {
-                levels: 0,
-                repr: Repr::Bytes(shared),
-            }),
-            Err(_) => Err(Error::new(ErrorKind::OutOfMemory)),
-        }
+        Ok(Value {
+            levels: 0,
+            repr: Repr::Bytes(Rc::new(alloc, bytes)?),
+        })
     }
 
     /// The function of a number in the environment of an id.
@@ -224,7 +228,8 @@ impl Value {
         }
     }
 
-    /// The same value, whose contents are shared.
+    /// The same value, whose contents are shared: nothing of them is copied, however large they
+    /// are.
     ///
     /// # Errors
     ///
@@ -233,13 +238,10 @@ impl Value {
         ensures same { IfOk result (λ v. v ≡ self.now) }
         ensures refused { IfErr result NoMemory }
     {
-        match self.repr.share() {
-            Ok(repr) => Ok(Value {
-                levels: self.levels(),
-                repr,
-            }),
-            Err(_) => Err(Error::new(ErrorKind::OutOfMemory)),
-        }
+        Ok(Value {
+            levels: self.levels(),
+            repr: self.repr.share()?,
+        })
     }
 
     /// How deep the value nests: 0 for scalars, one more than the deepest item for containers.

@@ -9,7 +9,7 @@ ghost use Rattle.template_values_operators.specs.Iterated.{iterated, held_items,
 ghost use Rattle.template_values_operators.specs.Items.{item_of, held_item, attribute_of, place, element, character_value};
 
 use crate::arithmetic::refusal;
-use crate::growth::{copies, copy_or_undefined, no_memory, push};
+use crate::growth::{copies, copy_or_undefined};
 use crate::kinds::{bytes_of, is_nothing};
 use crate::records::{loop_attribute, macro_attribute, namespace_attribute, namespace_item};
 use std::alloc::Global;
@@ -139,7 +139,7 @@ fn characters(alloc: Global, text: &str) -> Result<Vec<Value>, Error>
 {
     let mut values = Vec::new(alloc);
     for character in text.chars() {
-        push(&mut values, character_value(alloc, character)?)?;
+        values.push(character_value(alloc, character)?)?;
     }
     Ok(values)
 }
@@ -163,9 +163,9 @@ fn namespace_keys<R: Records>(
 fn keys(alloc: Global, entries: &[Entry]) -> Result<Vec<Value>, Error>
     ensures { Gives (items_given result) (Ok (keys_in (pairs_of (pairs_in entries.now)))) }
 {
-    let mut keys = Vec::with_capacity(alloc, entries.len()).map_err(no_memory)?;
+    let mut keys = Vec::with_capacity(alloc, entries.len())?;
     for entry in entries {
-        push(&mut keys, entry.key.copy()?)?;
+        keys.push(entry.key.copy()?)?;
     }
     Ok(keys)
 }
@@ -214,6 +214,6 @@ fn character_value(alloc: Global, character: char) -> Result<Value, Error>
     ensures { Gives result (Ok (character_value character)) }
 {
     let mut text = String::new(alloc);
-    text.push(character).map_err(no_memory)?;
+    text.push(character)?;
     Value::from_text(text)
 }

@@ -7,7 +7,7 @@ ghost use Rattle.template_values_operators.specs.Rounds.{IsAsOften};
 ghost use Rattle.template_values_operators.specs.Products.{product_of, repetition_of, text_repeated, list_repeated, count_of};
 
 use crate::arithmetic::{number_or_refusal, refusal};
-use crate::growth::{no_memory, push_copies};
+use crate::growth::push_copies;
 use crate::kinds::{list_made, list_of};
 use crate::numbers;
 use std::alloc::Global;
@@ -72,9 +72,9 @@ fn repeated_text(alloc: Global, count: u128, text: &str) -> Result<Value, Error>
     let Some(rounds) = rounds(count, text.len(), MOST_BYTES) else {
         return refusal();
     };
-    let mut repeated = String::with_capacity(alloc, rounds * text.len()).map_err(no_memory)?;
+    let mut repeated = String::with_capacity(alloc, rounds * text.len())?;
     for _round in 0..rounds {
-        repeated.push_str(text).map_err(no_memory)?;
+        repeated.push_str(text)?;
     }
     Value::from_text(repeated)
 }
@@ -87,7 +87,7 @@ fn repeated_list(alloc: Global, count: u128, items: &[Value]) -> Result<Value, E
     let Some(rounds) = rounds(count, items.len(), MOST_ITEMS) else {
         return refusal();
     };
-    let mut repeated = Vec::with_capacity(alloc, rounds * items.len()).map_err(no_memory)?;
+    let mut repeated = Vec::with_capacity(alloc, rounds * items.len())?;
     for _round in 0..rounds {
         push_copies(&mut repeated, items)?;
     }

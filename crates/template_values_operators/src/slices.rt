@@ -1,16 +1,16 @@
 //! Slices, by Python's index rule.
 ghost use Rattle.std.specs.Prelude.{◌≡◌, ◌≢◌, ◌<◌, ◌≤ℤ◌, ◌<ℤ◌, ◌+ℤ◌, ◌*ℤ◌, pos, Ok, Some, length, IfOk, IfErr, encode_utf8_all};
 ghost use Rattle.std.specs.Str.{chars};
+ghost use Rattle.template_values_errors.specs.Memory.{NoMemory};
 ghost use Rattle.template_values_model.specs.Gives.{Gives, alone};
 ghost use Rattle.template_values_model.specs.Val.{Val};
-ghost use Rattle.template_values_core.specs.Answers.{NoMemory, text_in};
+ghost use Rattle.template_values_core.specs.Answers.{text_in};
 ghost use Rattle.template_values_core.specs.Reads.{items_in};
 ghost use Rattle.template_values_operators.specs.Kinds.{list_made, bytes_of, is_nothing};
 ghost use Rattle.template_values_operators.specs.Places.{AreWithin, place_at};
 ghost use Rattle.template_values_operators.specs.Slices.{slice_of, item_at, slice_with, slice_in, sliced, bound_of, from_end, lowest, highest, bound_at, start_place, stop_place, step_count, distance, steps_within};
 
 use crate::arithmetic::refusal;
-use crate::growth::{no_memory, push, push_byte};
 use crate::kinds::{bytes_of, is_none, is_nothing, list_made};
 use std::alloc::Global;
 use template_values_core::Value;
@@ -108,10 +108,10 @@ fn slice_items(
     ensures { Gives result (list_made (sliced start stop step items.now)) }
 {
     let places = picked_places(start, stop, step, items.len());
-    let mut slice = Vec::with_capacity(alloc, places.count).map_err(no_memory)?;
+    let mut slice = Vec::with_capacity(alloc, places.count)?;
     for round in 0..places.count {
         let item = pick(items, places, round);
-        push(&mut slice, item.copy()?)?;
+        slice.push(item.copy()?)?;
     }
     list_made(alloc, slice)
 }
@@ -128,9 +128,9 @@ fn slice_bytes(
     ensures { Gives result (Ok (Val.bytes (sliced start stop step bytes.now))) }
 {
     let places = picked_places(start, stop, step, bytes.len());
-    let mut slice = Vec::with_capacity(alloc, places.count).map_err(no_memory)?;
+    let mut slice = Vec::with_capacity(alloc, places.count)?;
     for round in 0..places.count {
-        push_byte(&mut slice, *pick(bytes, places, round))?;
+        slice.push(*pick(bytes, places, round))?;
     }
     Value::from_bytes(alloc, slice)
 }
@@ -151,7 +151,7 @@ fn slice_text(
     let mut slice = String::new(alloc);
     for round in 0..places.count {
         let character = *pick(characters.as_slice(), places, round);
-        slice.push(character).map_err(no_memory)?;
+        slice.push(character)?;
     }
     Value::from_text(slice)
 }
@@ -160,7 +160,7 @@ fn characters(alloc: Global, text: &str) -> Result<Vec<char>, Error>
     ensures made { IfOk result (λ v. v.items ≡ chars text.now) }
     ensures refused { IfErr result NoMemory }
 {
-    text.chars().collect(alloc).map_err(no_memory)
+    Ok(text.chars().collect(alloc)?)
 }
 
 /// The places that a slice picks: `count` of them, from `start` on, `step` apart.

@@ -6,7 +6,7 @@ ghost use Rattle.template_values_operators.specs.Kinds.{list_made};
 ghost use Rattle.template_values_operators.specs.Sums.{sum_of};
 
 use crate::arithmetic::{number_or_refusal, refusal};
-use crate::growth::{no_memory, push_copies};
+use crate::growth::push_copies;
 use crate::kinds::list_made;
 use crate::numbers;
 use std::alloc::Global;
@@ -42,9 +42,9 @@ fn joined_texts(alloc: Global, left: &str, right: &str) -> Result<Value, Error>
     ensures { Gives result (Ok (text (left.now ++ right.now))) }
 {
     let length = left.len().saturating_add(right.len());
-    let mut joined = String::with_capacity(alloc, length).map_err(no_memory)?;
-    joined.push_str(left).map_err(no_memory)?;
-    joined.push_str(right).map_err(no_memory)?;
+    let mut joined = String::with_capacity(alloc, length)?;
+    joined.push_str(left)?;
+    joined.push_str(right)?;
     Value::from_text(joined)
 }
 
@@ -52,7 +52,7 @@ fn joined_items(alloc: Global, left: &[Value], right: &[Value]) -> Result<Value,
     ensures { Gives result (list_made (left.now ++ right.now)) }
 {
     let length = left.len().saturating_add(right.len());
-    let mut joined = Vec::with_capacity(alloc, length).map_err(no_memory)?;
+    let mut joined = Vec::with_capacity(alloc, length)?;
     push_copies(&mut joined, left)?;
     push_copies(&mut joined, right)?;
     list_made(alloc, joined)
