@@ -19,7 +19,8 @@ use Rattle.template_machine_environment.specs.Rendering.{Renders}
 use Rattle.template_machine_environment.specs.Names.{IsListed}
 use Rattle.template_machine_environment.specs.Standing.{source_at}
 use Rattle.template_machine_environment.specs.declared.environment.Environment.{Environment}
-use Rattle.template_program_context.specs.Context.{fault_of_json, IsContext, IsRefusal, texts_in}
+use Rattle.template_program_context.specs.Context.{fault_of_json, IsContext, texts_in}
+use Rattle.template_values_json.specs.Json.{IsRefusal}
 use Rattle.template_program_run.specs.Additions.{AllAreAccepted, IsRefusedAddition}
 use Rattle.template_program_run.specs.Ids.{IsLastId}
 use Rattle.template_program_run.specs.Lines.{lines_of}

@@ -2,9 +2,9 @@ use Rattle.std.proofs.Common.{◌<◌, arith}
 use Rattle.std.proofs.lemmas.Result.{IfOk-weaker}
 use Rattle.serde_json.specs.Data.{members_depth}
 use Rattle.serde_json.specs.View.{members_view}
-use Rattle.template_program_context.proofs.Levels.{members_within}
-use Rattle.template_program_context.proofs.Plain.{plain_members}
-use Rattle.template_program_context.proofs.members.object_entries.Goals as goal
+use Rattle.template_values_json.proofs.Levels.{members_within}
+use Rattle.template_values_json.proofs.Plain.{plain_members}
+use Rattle.template_values_json.proofs.members.object_entries.Goals as goal
 
 pub returns-in-Object-clause-plain : goal.returns-in-Object-clause-plain
 returns-in-Object-clause-plain c =

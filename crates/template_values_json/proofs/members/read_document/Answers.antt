@@ -1,6 +1,6 @@
 use Rattle.std.proofs.Common.{inl, inr}
-use Rattle.template_program_context.proofs.Documents.{data_in_text, no_data_in}
-use Rattle.template_program_context.proofs.members.read_document.Goals as goal
+use Rattle.template_values_json.proofs.Documents.{data_in_text, no_data_in}
+use Rattle.template_values_json.proofs.members.read_document.Goals as goal
 
 pub returns-in-Ok-clause-is : goal.returns-in-Ok-clause-is
 returns-in-Ok-clause-is c = data_in_text _ _ c.in-Ok.ensures.ok.0 c.in-Ok.ensures.ok.1

@@ -8,7 +8,7 @@ use Rattle.template_values_model.specs.Val.{Val, Vals, no_vals, vals_more, text,
 use Rattle.template_values_core.proofs.PairLemmas.{pairs_in_push}
 use Rattle.template_values_core.specs.Shape.{pairs_in}
 use Rattle.template_values_core.specs.declared.value.Entry.{Entry}
-use Rattle.template_program_context.specs.Context.{value_of, values_of, named_values}
+use Rattle.template_values_json.specs.Json.{value_of, values_of, named_values}
 
 vals_of-items_of : (vs : Vals) → vals_of (items_of vs) ≡ vs
 vals_of-items_of no_vals = refl

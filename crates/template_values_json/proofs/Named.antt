@@ -13,8 +13,8 @@ use Rattle.serde_json.specs.View.{view, members_view}
 use Rattle.serde_json.proofs.Views.{Entry as Member, member_here, member_later}
 use Rattle.template_values_model.specs.Val.{Val}
 use Rattle.template_values_core.specs.Maps.{last_at}
-use Rattle.template_program_context.specs.Context.{value_of, named_values}
-use Rattle.template_program_context.proofs.Last.{or_none}
+use Rattle.template_values_json.specs.Json.{value_of, named_values}
+use Rattle.template_values_json.proofs.Last.{or_none}
 
 unequal : Less ≡ Equal → ⊥
 unequal e = cc

@@ -1,7 +1,7 @@
 use Rattle.std.proofs.Common.{◌≡◌, drop}
 use Rattle.serde_json.specs.View.{items_view, members_view}
 use Rattle.serde_json.specs.Written.{items_have_float, members_have_float}
-use Rattle.template_program_context.proofs.floats.+floats.Given as goal
+use Rattle.template_values_json.proofs.floats.+floats.Given as goal
 
 abbrev pub invariant-items_hold_float-loop-item : goal.invariant-items_hold_float-loop-item
 invariant-items_hold_float-loop-item l =

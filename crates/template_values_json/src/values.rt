@@ -7,10 +7,9 @@ ghost use Rattle.serde_json.specs.Written.{has_float, items_have_float, members_
 ghost use Rattle.template_values_model.specs.Val.{vals_of};
 ghost use Rattle.template_values_errors.specs.Memory.{NoMemory};
 ghost use Rattle.template_values_core.specs.Shape.{pairs_in};
-ghost use Rattle.template_program_context.specs.Context.{value_of, values_of, named_values};
-ghost use Rattle.template_program_context.specs.Entries.{SayData};
+ghost use Rattle.template_values_json.specs.Json.{value_of, values_of, named_values};
+ghost use Rattle.template_values_json.specs.Entries.{SayData};
 
-use crate::memory::{out_of_memory, push};
 use serde_json::{Map, Value as Json};
 use std::alloc::Global;
 use template_values_core::{Entry, Value};
@@ -18,7 +17,7 @@ use template_values_errors::{Error, ErrorKind};
 
 /// The value that the JSON stands for, moving its texts.
 #[cycle(values)]
-fn value_from(alloc: Global, json: Json) -> Result<Value, Error>
+pub(crate) fn value_from(alloc: Global, json: Json) -> Result<Value, Error>
     requires whole { has_float (view json) ≡ false }
     requires shallow { depth (view json) ≤ max_depth }
     ensures is { IfOk result (λ v. v ≡ value_of (view json)) }
@@ -45,9 +44,9 @@ fn values_from(alloc: Global, items: Vec<Json>) -> Result<Vec<Value>, Error>
     ensures are { IfOk result (λ vs. vals_of vs.items ≡ values_of (items_view items.items)) }
     ensures refused { IfErr result NoMemory }
 {
-    let mut values = Vec::with_capacity(alloc, items.len()).map_err(out_of_memory)?;
+    let mut values = Vec::with_capacity(alloc, items.len())?;
     for item in items {
-        push(&mut values, value_from(alloc, item)?)?;
+        values.push(value_from(alloc, item)?)?;
     }
     Ok(values)
 }
@@ -61,11 +60,11 @@ pub(crate) fn entries_from(alloc: Global, members: Map<String, Json>) -> Result<
     ensures says { IfOk result (λ es. SayData (object (members_view members.entries)) es.items) }
     ensures refused { IfErr result NoMemory }
 {
-    let mut entries = Vec::with_capacity(alloc, members.len()).map_err(out_of_memory)?;
+    let mut entries = Vec::with_capacity(alloc, members.len())?;
     for (name, member) in members {
         let key = Value::from_text(name)?;
         let value = value_from(alloc, member)?;
-        push(&mut entries, Entry { key, value })?;
+        entries.push(Entry { key, value })?;
     }
     Ok(entries)
 }

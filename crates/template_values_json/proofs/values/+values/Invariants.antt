@@ -5,8 +5,8 @@ use Rattle.serde_json.specs.View.{view, items_view, members_view}
 use Rattle.serde_json.specs.Written.{items_have_float, members_have_float}
 use Rattle.template_values_model.specs.Val.{items_of}
 use Rattle.template_values_core.specs.Shape.{pairs_in}
-use Rattle.template_program_context.specs.Context.{values_of, named_values}
-use Rattle.template_program_context.proofs.values.+values.Given as goal
+use Rattle.template_values_json.specs.Json.{values_of, named_values}
+use Rattle.template_values_json.proofs.values.+values.Given as goal
 
 abbrev pub decreases-value_from : goal.decreases-value_from
 decreases-value_from l = 2 * depth (view l.json)

@@ -10,7 +10,7 @@ use Rattle.template_values_model.specs.Val.{Val}
 use Rattle.template_values_core.specs.Depth.{depth, vals_depth, pairs_depth}
 use Rattle.template_values_core.specs.Maps.{pairs_of, put_all}
 use Rattle.template_values_core.specs.Order.{val_cmp}
-use Rattle.template_program_context.specs.Context.{value_of, values_of, named_values}
+use Rattle.template_values_json.specs.Json.{value_of, values_of, named_values}
 
 insert_at : (o : Ordering) (k v : Val) (p : Val × Val) (ps more : List (Val × Val)) → pairs_depth (pairs_of more) ≤ max (max (depth k) (depth v)) (pairs_depth (pairs_of ps))
     → pairs_depth (pairs_of (match_ordering o ((k, v) ∷ p ∷ ps) ((p.0, v) ∷ ps) (p ∷ more))) ≤ max (max (depth k) (depth v)) (pairs_depth (pairs_of (p ∷ ps)))

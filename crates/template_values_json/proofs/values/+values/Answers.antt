@@ -8,12 +8,12 @@ use Rattle.template_values_model.specs.Val.{list, map, vals_of}
 use Rattle.template_values_core.specs.Maps.{collected}
 use Rattle.template_values_core.specs.Shape.{pairs_in}
 use Rattle.template_values_core.specs.declared.value.Entry.{Entry}
-use Rattle.template_program_context.specs.Context.{values_of, named_values}
-use Rattle.template_program_context.proofs.Levels.{vals_depth-values_of, pairs_depth-named_values, put_within, items_within, members_within}
-use Rattle.template_program_context.proofs.Made.{never_deep}
-use Rattle.template_program_context.proofs.Named.{names_say}
-use Rattle.template_program_context.proofs.Steps.{all_values, entry_more}
-use Rattle.template_program_context.proofs.values.+values.Goals as goal
+use Rattle.template_values_json.specs.Json.{values_of, named_values}
+use Rattle.template_values_json.proofs.Levels.{vals_depth-values_of, pairs_depth-named_values, put_within, items_within, members_within}
+use Rattle.template_values_json.proofs.Made.{never_deep}
+use Rattle.template_values_json.proofs.Named.{names_say}
+use Rattle.template_values_json.proofs.Steps.{all_values, entry_more}
+use Rattle.template_values_json.proofs.values.+values.Goals as goal
 
 pub value_from-returns-in_ok-values_from-in-Array-clause-refused : goal.value_from-returns-in_ok-values_from-in-Array-clause-refused
 value_from-returns-in_ok-values_from-in-Array-clause-refused t c =
@@ -47,7 +47,7 @@ entries_from-loop-name-preserved t c =
     record {
       whole = search rules;
       shallow = search rules;
-      all = rw c.in_ok-push.ensures.pushed (entry_more c.loop-name.entries.items e m left _ c.in_ok-key.ensures.made c.in_ok-value.ensures.is (rw steps at c.loop-name.invariant.all));
+      all = rw c.in_ok-push.ensures.items (entry_more c.loop-name.entries.items e m left _ c.in_ok-key.ensures.made c.in_ok-value.ensures.is (rw steps at c.loop-name.invariant.all));
     }
 
 pub entries_from-returns-clause-says : goal.entries_from-returns-clause-says

@@ -4,7 +4,7 @@ use Rattle.std.specs.Str.{is_utf8, IsUtf8}
 use Rattle.std.proofs.lemmas.Str.{IsUtf8-from_is_utf8, is_utf8-from_IsUtf8}
 use Rattle.serde_json.specs.Data.{Data}
 use Rattle.serde_json.specs.Read.{read}
-use Rattle.template_program_context.specs.Context.{data_in}
+use Rattle.template_values_json.specs.Json.{data_in}
 
 pub data_in_text : (bytes : List ℕ) (d : Data) → IsUtf8 bytes → read bytes ≡ Some d → data_in bytes ≡ Some d
 data_in_text bytes d utf8 h = rw (is_utf8-from_IsUtf8 bytes utf8) h

@@ -11,9 +11,10 @@ use Rattle.template_values_core.specs.Maps.{pairs_of, put_all, collected}
 use Rattle.template_values_core.specs.Order.{val_cmp}
 use Rattle.template_values_core.specs.Shape.{pairs_in}
 use Rattle.template_values_core.specs.declared.value.Entry.{Entry}
-use Rattle.template_program_context.specs.Context.{value_of, named_values, IsPlainText}
-use Rattle.template_program_context.specs.Entries.{ArePlain}
-use Rattle.template_program_context.proofs.Levels.{depth-value_of, put_within}
+use Rattle.template_values_json.specs.Json.{value_of, named_values}
+use Rattle.template_values_json.specs.Entries.{IsPlainText}
+use Rattle.template_values_json.specs.Entries.{ArePlain}
+use Rattle.template_values_json.proofs.Levels.{depth-value_of, put_within}
 
 pub plain_push : (es : List Entry) (e : Entry) → IsPlainText e.key → depth e.value < 500 → ArePlain es → ArePlain (es ++ e ∷ [])
 plain_push [] e key value h = (key, value, tt)
