@@ -1,5 +1,5 @@
 -- How the program's body ends, by its words.
-use Rattle.std.specs.Prelude.{◌≡◌, ◌⊎◌, ℕ, List, [], ◌∷◌, map, codes, Option, Result, option_map, unwrap_or, string_bytes}
+use Rattle.std.specs.Prelude.{◌≡◌, ◌⊎◌, ℕ, List, [], ◌∷◌, map, codes, All, IfSome, IsSomeAnd, Option, None, Some, Result, option_map, unwrap_or, string_bytes}
 use Rattle.std.specs.Io.KnownBytes.{append_known}
 use Rattle.std.specs.declared.io.Error.{Error}
 use Rattle.clap.specs.Words.{Kinds, Row}
@@ -51,6 +51,32 @@ IsAsked (asks.Render read) request additions = (request.command ≡ asked.Render
 IsAsked (asks.Names read) request additions = (request.command ≡ asked.Names)
     × IsNamed (option_map (λ name. name.now) read.main) (map (λ path. path.now) read.files.items) request additions
 
+-- a template holds what stands under its name, where that is told
+abbrev pub IsReadFrom : (List ℕ → Option (List ℕ)) → List ℕ × List ℕ → Type 0
+IsReadFrom content template = IfSome (content template.0) (λ all. template.1 ≡ all)
+
+-- the input is the one template, where its bytes are told
+abbrev pub IsInput : Option (List ℕ) → List (List ℕ × List ℕ) → Type 0
+IsInput input additions = IfSome input (λ all. additions ≡ (codes "<stdin>", all) ∷ [])
+
+-- the templates are the files of these paths, or the input where there are none
+abbrev pub AreTemplates : (List ℕ → Option (List ℕ)) → Option (List ℕ) → List (List ℕ) → List (List ℕ × List ℕ) → Type 0
+AreTemplates content input [] additions = IsInput input additions
+AreTemplates content input (path ∷ paths) additions = All (IsReadFrom content) additions
+
+-- the context is the file of this path, if one is given
+abbrev pub IsContextFile : (List ℕ → Option (List ℕ)) → Option (List ℕ) → Option (List ℕ) → Type 0
+IsContextFile content None json = json ≡ None
+IsContextFile content (Some path) json = IsSomeAnd json (λ bytes. IfSome (content path) (λ all. bytes ≡ all))
+
+-- the templates and the context are those of the files that the words name; names are told without a context
+abbrev pub AreRead : (List ℕ → Option (List ℕ)) → Option (List ℕ) → Words → List (List ℕ × List ℕ) → Option (List ℕ) → Type 0
+AreRead content input (asks.Render read) additions json =
+    AreTemplates content input (map (λ path. path.now) read.files.items) additions
+    × IsContextFile content (option_map (λ path. path.now) read.context) json
+AreRead content input (asks.Names read) additions json =
+    AreTemplates content input (map (λ path. path.now) read.files.items) additions × (json ≡ None)
+
 -- The request is run over an output that held these bytes, and the output is flushed.
 abbrev pub RunsFlushed : Request → List (List ℕ × List ℕ) → Option (List ℕ) → Option (List ℕ) → Outcome → Type 0
 RunsFlushed request additions json before outcome =
@@ -64,9 +90,10 @@ Performs request additions json before result = (result ≡ 6)
 
 -- Words that are refused have their status. Else the files are read, or refused with 3 or 6, and what the words
 -- ask for is done with them.
-abbrev pub Starts : Kinds → Option (List ℕ × List Row) → Option (List ℕ) → ℕ → Type 0
-Starts kinds found before result =
+abbrev pub Starts : Kinds → Option (List ℕ × List Row) → (List ℕ → Option (List ℕ)) → Option (List ℕ) → Option (List ℕ) → ℕ → Type 0
+Starts kinds found content input before result =
     ((fault : WordsFault) × Refuses kinds found fault × (result ≡ words_status fault))
     ⊎ ((words : Words) × Reads found words × (kinds ≡ []) × ((result ≡ 3) ⊎ (result ≡ 6)
     ⊎ ((request : Request) × (additions : List (List ℕ × List ℕ)) × (json : Option (List ℕ))
-    × IsAsked words request additions × Performs request additions json before result)))
+    × IsAsked words request additions × AreRead content input words additions json
+    × Performs request additions json before result)))

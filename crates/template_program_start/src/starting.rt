@@ -8,9 +8,8 @@ use crate::faults::{write_error, write_fault};
 use crate::inputs::{Inputs, read_inputs};
 use crate::performing::perform;
 use crate::status::{DONE, FILE, MEMORY, WORDS};
-use std::io::{self, Read, Write};
-use std::rt::Files;
-use template_program_files::FileFault;
+use std::io::{self, Write};
+use template_program_files::{FileFault, FileSystem, Reader};
 use template_program_words::{WordsFault, read_words};
 use template_values_errors::ErrorKind;
 
@@ -24,7 +23,7 @@ use template_values_errors::ErrorKind;
 /// or a main one that does not stand, and 6 where memory was refused.
 ///
 /// Holds all templates, the context and the output's buffer of 8 KiB in memory.
-pub fn start<R: Files + AllocGlobal, I: Read, O: Write + Drop, F: Write>(
+pub fn start<R: FileSystem + AllocGlobal, I: Reader, O: Write + Drop, F: Write>(
     rt: &R,
     words: &[&str],
     input: &mut I,
@@ -32,7 +31,8 @@ pub fn start<R: Files + AllocGlobal, I: Read, O: Write + Drop, F: Write>(
     fault: &mut F,
 ) -> u8
     ensures { Starts (fault_of program (map (λ word. word.now) words.now))
-        (subcommand_of program (map (λ word. word.now) words.now)) (O.contents out.old) result }
+        (subcommand_of program (map (λ word. word.now) words.now))
+        (R.content rt.now) (I.remaining input.old) (O.contents out.old) result }
 {
     match read_words(rt.alloc(), words) {
         Ok(words) => match read_inputs(rt, &words, input) {
