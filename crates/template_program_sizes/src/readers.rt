@@ -9,13 +9,19 @@ const PATH: &str = "sizes.txt";
 
 pub(crate) fn read_slice(alloc: Global, text: &str) -> anyhow::Result<Came> {
     let mut source = text.as_bytes();
-    came_of(read_text(alloc, &mut source, text.len().saturating_add(1)), text)
+    came_of(
+        read_text(alloc, &mut source, text.len().saturating_add(1)),
+        text,
+    )
 }
 
 pub(crate) fn read_wrapped(alloc: Global, text: &str) -> anyhow::Result<Came> {
     let mut reader = text.as_bytes();
     let mut source = ReadWrapper::new(&mut reader);
-    came_of(read_text(alloc, &mut source, text.len().saturating_add(1)), text)
+    came_of(
+        read_text(alloc, &mut source, text.len().saturating_add(1)),
+        text,
+    )
 }
 
 // The file is written, read, refused by a limit that it reaches, and removed.
