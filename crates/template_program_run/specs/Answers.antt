@@ -65,7 +65,8 @@ Rendered name source fuel context next outcome before after failed fails =
 
 -- The set has just the names that can matter to a render of the source.
 abbrev pub HasNames : Environment → List ℕ → BTreeSet (String Global) → Type 0
-HasNames environment source names = IsOrdered string_cmp names × ((name : List ℕ) → IsTrue (contains_text names name) ↔ IsListed environment source name)
+HasNames environment source names = IsOrdered string_cmp names
+    × ((name : List ℕ) → IsTrue (contains_text names name) ↔ IsListed environment source name)
 
 -- The names that can matter are written in their order, one a line; or a beginning of that, for want of
 -- memory or of a sink that works. Where they cannot be found for want of memory, nothing is written.
@@ -81,7 +82,8 @@ Told environment source (Template kinds) before after failed fails =
 Told environment source _ before after failed fails = ⊥
 
 -- what is done with the main template, once it stands
-abbrev pub Performed : Command → Request → List (List ℕ × List ℕ) → Option (List ℕ) → ℕ → Outcome → Option (List ℕ) → Option (List ℕ) → ℕ → ℕ → Type 0
+abbrev pub Performed : Command → Request → List (List ℕ × List ℕ) → Option (List ℕ) → ℕ → Outcome
+    → Option (List ℕ) → Option (List ℕ) → ℕ → ℕ → Type 0
 Performed asked.Render request additions json next outcome before after failed fails =
     (source : List ℕ) × (standing additions (string_bytes request.main) ≡ Some source)
     × ((context : Val) × IsContext json (definitions_of request) context
@@ -95,9 +97,12 @@ Performed asked.Names request additions json next outcome before after failed fa
 -- what is asked is done. With no state id left the additions are refused.
 abbrev pub Answers : Request → List (List ℕ × List ℕ) → Option (List ℕ) → ℕ → Outcome → Option (List ℕ) → Option (List ℕ) → ℕ → ℕ → Type 0
 Answers request additions json next outcome before after failed fails =
-    ((kinds : List ErrorKind) × (outcome ≡ Context kinds) × IsRefusedContext request.command json kinds × IsUntouched before after failed fails)
+    ((kinds : List ErrorKind) × (outcome ≡ Context kinds) × IsRefusedContext request.command json kinds
+    × IsUntouched before after failed fails)
     ⊎ (((context : Val) × HasContext request.command json (definitions_of request) context)
-    × (((kinds : List ErrorKind) × (outcome ≡ Template kinds) × IsRefusedAddition additions next kinds × IsUntouched before after failed fails)
+    × (((kinds : List ErrorKind) × (outcome ≡ Template kinds) × IsRefusedAddition additions next kinds
+    × IsUntouched before after failed fails)
     ⊎ (¬ IsLastId next × AllAreAccepted additions
-    × (((outcome ≡ Template (TemplateNotFound ∷ [])) × (standing additions (string_bytes request.main) ≡ None) × IsUntouched before after failed fails)
+    × (((outcome ≡ Template (TemplateNotFound ∷ [])) × (standing additions (string_bytes request.main) ≡ None)
+    × IsUntouched before after failed fails)
     ⊎ Performed request.command request additions json next outcome before after failed fails))))

@@ -113,6 +113,6 @@ fn files<'a>(alloc: Global) -> Arg<'a>
         .num_args(0..)
         .action(ArgAction::Append)
         .help(
-            "The templates, named by their paths, a later one in place of an earlier one of its name; standard input, named <stdin>, where none is given",
+            "The templates; a later one of the same path replaces; standard input, as <stdin>, where none is given",
         )
 }

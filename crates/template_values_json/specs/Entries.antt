@@ -23,4 +23,5 @@ SayData d entries = (name : List ℕ) → last_at name (pairs_in entries) ≡ op
 
 -- the entries say the same as the members of the JSON
 abbrev pub SayMembers : List ℕ → List Entry → Type 0
-SayMembers bytes entries = (name : List ℕ) → last_at name (pairs_in entries) ≡ option_map value_of (option_and_then (get name) (data_in bytes))
+SayMembers bytes entries = (name : List ℕ)
+    → last_at name (pairs_in entries) ≡ option_map value_of (option_and_then (get name) (data_in bytes))
