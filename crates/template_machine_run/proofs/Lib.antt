@@ -1,3 +1,4 @@
+pub mod StreamKinds
 pub mod Depths
 pub mod Refusals
 pub mod Acting

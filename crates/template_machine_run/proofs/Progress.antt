@@ -1,5 +1,5 @@
 -- How far the loop over the instructions has come.
-use Rattle.std.proofs.Common.{◌≡◌, ℕ, ◌+◌, ◌-◌, zero, suc, List, [], ◌∷◌, Option, None, Some, Result, Ok, Err, length, refl, sym, ap, subst, ◌∙◌, inl, inr, arith}
+use Rattle.std.proofs.Common.{◌≡◌, ℕ, ◌+◌, ◌-◌, zero, suc, List, [], ◌∷◌, Option, None, Some, Result, Ok, Err, IsErrAnd, length, refl, sym, ap, subst, ◌∙◌, inl, inr, arith}
 use Rattle.std.specs.List.{slice_get}
 use Rattle.std.specs.Option.{option_map}
 use Rattle.std.proofs.lemmas.Option.{slice_get_within}
@@ -24,8 +24,8 @@ use Rattle.template_machine_world.specs.Surroundings.{answer}
 use Rattle.template_machine_run.specs.Acts.{Acts, run_at}
 use Rattle.template_machine_run.specs.Outcomes.{IsWant, TellsFailures}
 use Rattle.template_machine_run.specs.Runs.{free_run, code_run, code_leaves, ComesOut, EndsAs, IsOver}
-use Rattle.template_machine_run.specs.Tanks.{Pays}
-use Rattle.template_machine_run.proofs.Showing.{Paid, Shown, Concluded, pays_step, shown_more, shown_ended, shown_refused, shown_begun}
+use Rattle.template_machine_run.specs.Tanks.{Pays, PaysBeginning}
+use Rattle.template_machine_run.proofs.Showing.{Paid, Shown, Concluded, pays_step, shown_more, shown_ended, shown_refused, shown_begun, shown_charged}
 use Rattle.template_machine_run.proofs.Wants.{under_no_want}
 
 -- what is to come: so many instructions are left behind the place
@@ -131,6 +131,7 @@ pub record Outcome {X : Type 0} (result : Result X (List ErrorKind)) (escape : A
   pub text : EndsAs result (code_run escape fuel code context) → Appends before after (text_of (code_run escape fuel code context).items)
   pub beginning : AppendsBeginning before after (text_of (code_run escape fuel code context).items)
   pub left : EndsAs result (code_run escape fuel code context) → later ≡ code_leaves escape fuel code context
+  pub charged : IsErrAnd result IsWant → PaysBeginning fuel later (code_run escape fuel code context)
 
 pub outcome_over : {X : Type 0} (x : X) (escape : AutoEscape) (code : List Code) (context : Val) (fuel left : Option ℕ) (before after : Option (List ℕ)) (operands : List Val)
     → Concluded (free_run escape code context) fuel left before after (ends operands) → Outcome (Ok x) escape code context fuel left before after
@@ -139,28 +140,33 @@ outcome_over x escape code context fuel left before after operands concluded = r
   text = λ ends. concluded.text;
   beginning = beginning_whole before after (text_of (code_run escape fuel code context).items) concluded.text;
   left = λ ends. concluded.leaves;
+  charged = λ want. absurd want;
 }
 
 pub outcome_fault : {X : Type 0} (result : Result X (List ErrorKind)) (kinds : List ErrorKind) (escape : AutoEscape) (code : List Code) (context : Val) (fuel left : Option ℕ) (before after : Option (List ℕ))
     → result ≡ Err kinds → Concluded (free_run escape code context) fuel left before after (faults kinds) → Outcome result escape code context fuel left before after
 outcome_fault {X} result kinds escape code context fuel left before after is concluded =
+    let never : IsWant kinds → ⊥ = λ want. under_no_want fuel (exec code (length code + 1) 0 []) (first_world escape context) kinds concluded.end want in
     let at : Outcome {X = X} (Err kinds) escape code context fuel left before after = record {
       outcome = inl concluded.end;
       text = λ ends. concluded.text;
       beginning = beginning_whole before after (text_of (code_run escape fuel code context).items) concluded.text;
       left = λ ends. concluded.leaves;
+      charged = λ want. absurd (never want);
     } in
     subst (λ (r : Result X (List ErrorKind)). Outcome r escape code context fuel left before after) (sym is) at
 
 pub outcome_want : {X : Type 0} (result : Result X (List ErrorKind)) (kinds : List ErrorKind) (escape : AutoEscape) (code : List Code) (context : Val) (fuel left : Option ℕ) (before after : Option (List ℕ))
-    → result ≡ Err kinds → IsWant kinds → AppendsBeginning before after (text_of (code_run escape fuel code context).items) → Outcome result escape code context fuel left before after
-outcome_want {X} result kinds escape code context fuel left before after is want begun =
+    → result ≡ Err kinds → IsWant kinds → AppendsBeginning before after (text_of (code_run escape fuel code context).items)
+    → PaysBeginning fuel left (code_run escape fuel code context) → Outcome result escape code context fuel left before after
+outcome_want {X} result kinds escape code context fuel left before after is want begun charged =
     let never : (code_run escape fuel code context).end ≡ faults kinds → ⊥ = λ e. under_no_want fuel (exec code (length code + 1) 0 []) (first_world escape context) kinds e want in
     let at : Outcome {X = X} (Err kinds) escape code context fuel left before after = record {
       outcome = inr want;
       text = λ ends. absurd (never ends);
       beginning = begun;
       left = λ ends. absurd (never ends);
+      charged = λ _. charged;
     } in
     subst (λ (r : Result X (List ErrorKind)). Outcome r escape code context fuel left before after) (sym is) at
 
@@ -179,10 +185,13 @@ progress_failed escape code context fuel left later before mid after place opera
           (pays_instruction c left later [] refl pays is) (subst (λ (a : Option (List ℕ)). Appends mid a []) (sym fault.1) (Appends-nil mid)) in
           outcome_fault result kinds escape code context fuel later before after is_err (shown_ended whole fuel later before after (faults kinds) (first_world escape context) shown)
       | inr want ↦
-          let items = want.1.0 in
+          let items = paid [] ∷ want.1.0 in
           let begins = want.1.2 (exec code progress.bound) place in
+          let at_front = known ∙ begins.1 in
+          let pays_front = pays_instruction c left later want.1.0 want.1.1 pays is in
           outcome_want result kinds escape code context fuel later before after is_err want.0
-          (shown_begun whole fuel left later before mid after here begins.0 (paid [] ∷ items) progress.shown (known ∙ begins.1) (pays_instruction c left later items want.1.1 pays is) want.1.3)
+          (shown_begun whole fuel left later before mid after here begins.0 items progress.shown at_front pays_front want.1.3)
+          (shown_charged whole fuel left later before mid here begins.0 items progress.shown at_front pays_front)
     ]
 
 -- the same code under another name

@@ -99,8 +99,23 @@ fn render<S: Sink>(
     fuel: &mut Option<FuelTracker>,
     sink: &mut S,
 ) -> Result<(), Error> {
-    match verify(hello(alloc)?) {
-        Ok(code) => run_code(alloc, &code, escape, context, fuel, sink),
+    run(alloc, hello(alloc)?, escape, context, fuel, sink)
+}
+
+// Runs the code of a template, and refuses any other.
+fn run<S: Sink>(
+    alloc: Global,
+    code: Instructions<'_>,
+    escape: AutoEscape,
+    context: &Value,
+    fuel: &mut Option<FuelTracker>,
+    sink: &mut S,
+) -> Result<(), Error> {
+    match verify(code) {
+        Ok(code) => match code.kind() {
+            StreamKind::Template => run_code(alloc, &code, escape, context, fuel, sink),
+            StreamKind::Expression => Err(Error::new(ErrorKind::BadStream)),
+        },
         Err((error, _code)) => Err(error),
     }
 }
@@ -294,19 +309,14 @@ fn a_print_keeps_nothing_of_the_one_before(rt: HostRuntime) -> Result<(), Fail> 
     let code = kind_of(with(code, Instruction::Emit))?;
     let context = kind_of(context(alloc, "name", Value::from_int(7)))?;
     let mut out = String::new(alloc);
-    match verify(code) {
-        Ok(code) => {
-            kind_of(run_code(
-                alloc,
-                &code,
-                AutoEscape::Html,
-                &context,
-                &mut None,
-                &mut out,
-            ))?;
-        }
-        Err((error, _code)) => return Err(error.kind().into()),
-    }
+    kind_of(run(
+        alloc,
+        code,
+        AutoEscape::Html,
+        &context,
+        &mut None,
+        &mut out,
+    ))?;
     assert_eq!(rt; out.as_str(), "77");
     Ok(())
 }
@@ -342,19 +352,14 @@ fn an_empty_code_needs_no_fuel(rt: HostRuntime) -> Result<(), Fail> {
     let alloc = rt.alloc();
     let mut tank = Some(FuelTracker::new(0));
     let mut out = String::new(alloc);
-    match verify(empty(alloc)) {
-        Ok(code) => {
-            kind_of(run_code(
-                alloc,
-                &code,
-                AutoEscape::None,
-                &Value::undefined(),
-                &mut tank,
-                &mut out,
-            ))?;
-        }
-        Err((error, _code)) => return Err(error.kind().into()),
-    }
+    kind_of(run(
+        alloc,
+        empty(alloc),
+        AutoEscape::None,
+        &Value::undefined(),
+        &mut tank,
+        &mut out,
+    ))?;
     assert_eq!(rt; out.as_str(), "");
     Ok(())
 }

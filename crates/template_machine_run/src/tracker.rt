@@ -3,6 +3,7 @@ ghost use Rattle.std.specs.Prelude.{◌≡◌, ◌+◌, ◌-◌, ◌<◌, ◌≤
 ghost use Rattle.template_compiler_code.specs.View.{code_of};
 ghost use Rattle.template_compiler_code.specs.Prices.{price_of};
 
+use std::marker::Model;
 use template_compiler_code::Instruction;
 use template_values_errors::{Error, ErrorKind};
 
@@ -11,7 +12,17 @@ use template_values_errors::{Error, ErrorKind};
 pub struct FuelTracker {
     fuel: u64,
     left: u64,
-    ghost within: { left ≤ fuel },
+}
+
+impl Model for FuelTracker {
+    ghost use Rattle.std.specs.Prelude.{◌≤◌};
+    ghost use Rattle.template_machine_run.specs.Tanks.{Tank};
+
+    ghost Value = { Tank };
+
+    ghost view = { λ t. record { fuel = t.fuel; left = t.left } };
+
+    ghost invariant = { λ t. t.left ≤ t.fuel };
 }
 
 impl FuelTracker {
