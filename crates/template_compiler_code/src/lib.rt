@@ -11,9 +11,6 @@ use std::borrow::CowStr;
 use std::marker::Model;
 use template_values_errors::{Error, ErrorKind};
 
-#[cfg(test)]
-mod tests;
-
 /// An instruction of the virtual machine.
 #[derive(Drop)]
 pub enum Instruction<'source> {

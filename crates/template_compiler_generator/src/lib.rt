@@ -16,9 +16,6 @@ use template_compiler_code::{Instruction, Instructions};
 use template_compiler_tree::{Expr, Stmt, Template};
 use template_values_errors::{Error, ErrorKind};
 
-#[cfg(test)]
-mod tests;
-
 /// Gathers the instructions of a template. Once refused, it keeps the refusal: every further call
 /// answers that kind and changes nothing, and [`CodeGenerator::finish`] gives no instructions.
 #[derive(Drop)]

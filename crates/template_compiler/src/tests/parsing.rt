@@ -1,8 +1,7 @@
-use super::parse;
+//! The trees and the spans of texts.
+use crate::{Expr, Span, Spanned, Stmt, Template, parse};
 use std::alloc::{AllocError, Global};
 use std::test::Fail;
-use template_compiler_tree::{Expr, Span, Spanned, Stmt, Template};
-use template_values_errors::ErrorKind;
 
 // Data as `[text]`, a print as `(name)`, a refusal as its kind.
 fn shown(alloc: Global, source: &str) -> Result<String, AllocError> {

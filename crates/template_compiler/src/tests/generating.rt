@@ -1,10 +1,11 @@
 //! The code of `Hello {{ name }}!`.
-use crate::{CodeGenerator, compile};
+use crate::{
+    CodeGenerator, EmitExpr, EmitRaw, Expr, Instruction, Instructions, Span, Spanned, Stmt,
+    Template, Var, compile,
+};
 use std::alloc::Global;
 use std::borrow::CowStr;
 use std::test::Fail;
-use template_compiler_code::{Instruction, Instructions};
-use template_compiler_tree::{EmitExpr, EmitRaw, Expr, Span, Spanned, Stmt, Template, Var};
 
 fn raw(raw: &str) -> Stmt<'_> {
     Stmt::EmitRaw(Spanned::new(EmitRaw { raw }, Span::default()))

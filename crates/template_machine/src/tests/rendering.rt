@@ -1,10 +1,8 @@
-//! What no clause says: that additions and renders succeed, and what they write.
-use crate::*;
+//! Additions, renders and the names of contexts.
+use crate::{Environment, Error, ErrorKind, StateIds};
 use std::alloc::Global;
 use std::test::Fail;
-use template_machine_ids::StateIds;
 use template_values_core::{Entry, Value};
-use template_values_errors::{Error, ErrorKind};
 
 const HELLO: &str = "Hello {{ name }}!";
 

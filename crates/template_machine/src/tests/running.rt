@@ -1,15 +1,15 @@
+//! Instructions that are verified and run.
 ghost use Rattle.std.specs.Prelude.{Some};
 
-use super::*;
+use crate::{
+    AutoEscape, Error, ErrorKind, FuelTracker, Sink, SinkFault, StreamKind, run_code, verify,
+};
 use std::alloc::Global;
 use std::borrow::CowStr;
 use std::process::Abort;
 use std::test::Fail;
 use template_compiler_code::{Instruction, Instructions};
-use template_machine_output::{Sink, SinkFault};
 use template_values_core::{Entry, Value};
-use template_values_errors::{Error, ErrorKind};
-use template_values_modes::AutoEscape;
 
 // Takes `room` bytes, and then fails.
 #[derive(Drop)]
