@@ -309,14 +309,7 @@ fn a_print_keeps_nothing_of_the_one_before(rt: HostRuntime) -> Result<(), Fail> 
     let code = kind_of(with(code, Instruction::Emit))?;
     let context = kind_of(context(alloc, "name", Value::from_int(7)))?;
     let mut out = String::new(alloc);
-    kind_of(run(
-        alloc,
-        code,
-        AutoEscape::Html,
-        &context,
-        &mut None,
-        &mut out,
-    ))?;
+    kind_of(run(alloc, code, AutoEscape::Html, &context, &mut None, &mut out))?;
     assert_eq!(rt; out.as_str(), "77");
     Ok(())
 }
