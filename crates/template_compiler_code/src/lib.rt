@@ -3,8 +3,8 @@
 
 ghost use Rattle.std.specs.Prelude.{◌≡◌, ◌^◌, ◌<◌, ◌++◌, ◌∷◌, [], ◌↔◌, IsTrue, IfOk, IfErr, OnErr, IsErrAnd, length, slice_get, option_map};
 ghost use Rattle.template_compiler_code.specs.View.{code_of};
-ghost use Rattle.template_compiler_code.specs.Prices.{price_of, ChargesFirst};
-ghost use Rattle.template_compiler_code.specs.Listing.{IsFull, IsRefusal};
+ghost use Rattle.template_compiler_code.specs.Prices.{charge_of, ChargesFirst};
+ghost use Rattle.template_compiler_code.specs.Listing.{IsFull, RefusesInstruction};
 
 use std::alloc::Global;
 use std::borrow::CowStr;
@@ -25,7 +25,7 @@ pub enum Instruction<'source> {
 impl<'source> Instruction<'source> {
     /// What the instruction costs of a run's fuel. The charge comes before what the instruction does.
     pub fn price(&self) -> u64
-        ensures { result ≡ price_of (code_of self.now) }
+        ensures { result ≡ charge_of (code_of self.now) }
     {
         match self {
             Instruction::EmitRaw(_) => 1,
@@ -111,7 +111,7 @@ impl<'source> Instructions<'source> {
     pub fn add(&mut self, instruction: Instruction<'source>) -> Result<u32, Error>
         ensures place { IfOk result (λ place. place ≡ length self.old.code) }
         ensures added { IfOk result (λ _. self.new ≡ record self.old { code = self.old.code ++ code_of instruction.entry ∷ [] }) }
-        ensures refused { IfErr result (IsRefusal self.old.code) }
+        ensures refused { IfErr result (RefusesInstruction self.old.code) }
         ensures full { IsFull self.old.code → IsErrAnd result (λ kinds. kinds ≡ ErrorKind.TooLarge ∷ []) }
         ensures unchanged { OnErr result (self.new ≡ self.old) }
     {

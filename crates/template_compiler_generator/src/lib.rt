@@ -7,7 +7,7 @@ ghost use Rattle.template_compiler_code.specs.View.{code_of};
 ghost use Rattle.template_compiler_code.specs.Listing.{too_many};
 ghost use Rattle.template_compiler_generator.specs.Generated.{expression_code, statement_code, template_code};
 ghost use Rattle.template_compiler_generator.specs.Performs.{Performs, TemplatesPerform, RunsAlike, TemplatesBalance};
-ghost use Rattle.template_compiler_generator.specs.Progress.{IsKept, IsRefusal};
+ghost use Rattle.template_compiler_generator.specs.Progress.{KeepsRefusal, RefusesCode};
 
 use std::alloc::Global;
 use std::borrow::CowStr;
@@ -53,9 +53,9 @@ impl<'source> CodeGenerator<'source> {
         ensures place { IfOk result (λ place. place ≡ length self.old.code) }
         ensures added { OnOk result (self.new ≡ record self.old { code = self.old.code ++ code_of instruction.entry ∷ [] }) }
         ensures open { OnOk result (self.old.refused ≡ None) }
-        ensures kept { IfErr result (IsKept self.new.refused) }
+        ensures kept { IfErr result (KeepsRefusal self.new.refused) }
         ensures stays { IsSome self.old.refused → self.new ≡ self.old }
-        ensures reason { self.old.refused ≡ None → IfErr result (IsRefusal (length self.old.code + 1)) }
+        ensures reason { self.old.refused ≡ None → IfErr result (RefusesCode (length self.old.code + 1)) }
         ensures full { too_many ≤ length self.old.code + 1 → IsErr result }
     {
         if let Some(kind) = self.refused {
@@ -75,9 +75,9 @@ impl<'source> CodeGenerator<'source> {
     pub fn compile_expr(&mut self, expr: &Expr<'source>) -> Result<(), Error>
         ensures compiled { OnOk result (self.new ≡ record self.old { code = self.old.code ++ expression_code (expression_of expr.now) }) }
         ensures open { OnOk result (self.old.refused ≡ None) }
-        ensures kept { IfErr result (IsKept self.new.refused) }
+        ensures kept { IfErr result (KeepsRefusal self.new.refused) }
         ensures stays { IsSome self.old.refused → self.new ≡ self.old }
-        ensures reason { self.old.refused ≡ None → IfErr result (IsRefusal (length self.old.code + length (expression_code (expression_of expr.now)))) }
+        ensures reason { self.old.refused ≡ None → IfErr result (RefusesCode (length self.old.code + length (expression_code (expression_of expr.now)))) }
         ensures full { too_many ≤ length self.old.code + length (expression_code (expression_of expr.now)) → IsErr result }
     {
         match expr {
@@ -92,9 +92,9 @@ impl<'source> CodeGenerator<'source> {
     pub fn compile_stmt(&mut self, stmt: &Stmt<'source>) -> Result<(), Error>
         ensures compiled { OnOk result (self.new ≡ record self.old { code = self.old.code ++ statement_code (statement_of stmt.now) }) }
         ensures open { OnOk result (self.old.refused ≡ None) }
-        ensures kept { IfErr result (IsKept self.new.refused) }
+        ensures kept { IfErr result (KeepsRefusal self.new.refused) }
         ensures stays { IsSome self.old.refused → self.new ≡ self.old }
-        ensures reason { self.old.refused ≡ None → IfErr result (IsRefusal (length self.old.code + length (statement_code (statement_of stmt.now)))) }
+        ensures reason { self.old.refused ≡ None → IfErr result (RefusesCode (length self.old.code + length (statement_code (statement_of stmt.now)))) }
         ensures full { too_many ≤ length self.old.code + length (statement_code (statement_of stmt.now)) → IsErr result }
     {
         match stmt {
@@ -115,9 +115,9 @@ impl<'source> CodeGenerator<'source> {
     pub fn compile_template(&mut self, template: &Template<'source>) -> Result<(), Error>
         ensures compiled { OnOk result (self.new ≡ record self.old { code = self.old.code ++ template_code (tree_of template.now) }) }
         ensures open { OnOk result (self.old.refused ≡ None) }
-        ensures kept { IfErr result (IsKept self.new.refused) }
+        ensures kept { IfErr result (KeepsRefusal self.new.refused) }
         ensures stays { IsSome self.old.refused → self.new ≡ self.old }
-        ensures reason { self.old.refused ≡ None → IfErr result (IsRefusal (length self.old.code + length (template_code (tree_of template.now)))) }
+        ensures reason { self.old.refused ≡ None → IfErr result (RefusesCode (length self.old.code + length (template_code (tree_of template.now)))) }
         ensures full { too_many ≤ length self.old.code + length (template_code (tree_of template.now)) → IsErr result }
     {
         if let Some(kind) = self.refused {
@@ -133,7 +133,7 @@ impl<'source> CodeGenerator<'source> {
     pub fn finish(self) -> Result<Instructions<'source>, Error>
         ensures given { IfOk result (λ i. i ≡ record { name = self.entry.name; source = self.entry.source; code = self.entry.code }) }
         ensures open { OnOk result (self.entry.refused ≡ None) }
-        ensures kept { IfErr result (IsKept self.entry.refused) }
+        ensures kept { IfErr result (KeepsRefusal self.entry.refused) }
     {
         match self.refused {
             Some(kind) => Err(Error::new(kind)),
@@ -152,7 +152,7 @@ pub fn compile<'source>(
 ) -> Result<Instructions<'source>, Error>
     ensures compiled { IfOk result (λ i. i ≡ record { name = name.now; source = source.now; code = template_code (tree_of template.now) }) }
     ensures performs { IfOk result (λ i. Performs (tree_of template.now) i.code) }
-    ensures reason { IfErr result (IsRefusal (length (template_code (tree_of template.now)))) }
+    ensures reason { IfErr result (RefusesCode (length (template_code (tree_of template.now)))) }
     ensures full { too_many ≤ length (template_code (tree_of template.now)) → IsErr result }
 {
     let mut generator = CodeGenerator::new(alloc, name, source);

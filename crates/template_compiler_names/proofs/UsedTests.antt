@@ -11,17 +11,12 @@ use Rattle.template_compiler_tree.specs.View.{statement_of}
 use Rattle.template_compiler_tree.specs.declared.Stmt.{Stmt}
 use Rattle.std.specs.BTreeSet.{BTreeSet, contains_text}
 use Rattle.std.specs.Prelude.{String}
+use Rattle.template_compiler_tree.proofs.UseLemmas.{used_here, used_later}
 use Rattle.template_compiler_names.specs.Used.{GrowsBy, uses}
 
 Decides-uses : (name : List ℕ) (s : Statement) → Decides (uses name s) (Uses name s)
 Decides-uses name (raw text) = (λ h. cc, λ h. absurd h)
 Decides-uses name (print (variable id)) = bytes_eq-Decides id name
-
-used_here : (name : List ℕ) (s : Statement) (ss : List Statement) → Uses name s → IsUsed name (s ∷ ss)
-used_here name s ss holds = (0, s, omega arith, refl, holds)
-
-used_later : (name : List ℕ) (s : Statement) (ss : List Statement) → IsUsed name ss → IsUsed name (s ∷ ss)
-used_later name s ss used = (suc used.0, used.1, omega (arith, used.2), used.3, used.4)
 
 -- a use is here or later
 used_where : (name : List ℕ) (s : Statement) (ss : List Statement) (k : ℕ) (x : Statement)

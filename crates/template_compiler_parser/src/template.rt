@@ -4,7 +4,7 @@ ghost use Rattle.std.specs.Str.{IsCharBoundary};
 ghost use Rattle.template_compiler_grammar.specs.Grammar.{IsTemplate, data_statements};
 ghost use Rattle.template_compiler_grammar.specs.Reader.{inside_of, step_of, read_from};
 ghost use Rattle.template_compiler_grammar.specs.Segments.{IsFirstStart, plain, sign_text, strip_end, strip_start};
-ghost use Rattle.template_compiler_parser.specs.Refusals.{IsAlone, IsRefusal};
+ghost use Rattle.template_compiler_parser.specs.Refusals.{IsAlone, RefusesSource};
 ghost use Rattle.template_compiler_parser.specs.Signs.{sign_view};
 ghost use Rattle.template_compiler_parser.specs.Steps.{IsRefused, TakesPrint, TakesStep};
 ghost use Rattle.template_compiler_tree.specs.Tree.{Statement};
@@ -30,7 +30,7 @@ pub fn parse<'source>(
     ensures found { IfOk result (λ template. IsTemplate source.now (tree_of template.node)) }
     ensures complete { (tree : List Statement) → IsTemplate source.now tree → length source.now < 2 ^ 32 →
         MatchResult result (λ template. tree_of template.node ≡ tree) (IsAlone ErrorKind.OutOfMemory) }
-    ensures refused { IfErr result (IsRefusal source.now) }
+    ensures refused { IfErr result (RefusesSource source.now) }
     ensures too_large { 2 ^ 32 ≤ length source.now → IsErrAnd result (IsAlone ErrorKind.TooLarge) }
 {
     if source.len() > u32::MAX as usize {

@@ -16,7 +16,7 @@ use Rattle.template_compiler_process.specs.Trace as trace
 use Rattle.template_compiler_process.specs.Trace.{Item, paid, Run, run, behind, ended, text_of}
 use Rattle.template_compiler_code.specs.Code.{Code, emit_raw, lookup, emit}
 use Rattle.template_compiler_code.specs.Steps.{act, exec}
-use Rattle.template_compiler_code.specs.Prices.{price_of}
+use Rattle.template_compiler_code.specs.Prices.{charge_of}
 use Rattle.template_machine_output.specs.Writes.{AppendsBeginning}
 use Rattle.template_machine_output.proofs.Beginnings.{beginning_whole}
 use Rattle.template_machine_world.specs.World.{World, first_world}
@@ -55,7 +55,7 @@ progress_start escape code context fuel before =
       };
     }
 
-price_one : (c : Code) → price_of c ≡ 1
+price_one : (c : Code) → charge_of c ≡ 1
 price_one (emit_raw text) = refl
 price_one (lookup name) = refl
 price_one emit = refl
@@ -74,7 +74,7 @@ first_paid emit world [] next place = (_, refl)
 first_paid emit world (v ∷ operands) next place = (_, refl)
 
 -- the charge of an instruction, with items that cost nothing
-pays_instruction : (c : Code) (left later : Option ℕ) (items : List Item) → trace.price_of items ≡ 0 → Pays left (price_of c) → later ≡ option_map (λ n. n - price_of c) left → Paid left later (trace.price_of (paid [] ∷ items))
+pays_instruction : (c : Code) (left later : Option ℕ) (items : List Item) → trace.price_of items ≡ 0 → Pays left (charge_of c) → later ≡ option_map (λ n. n - charge_of c) left → Paid left later (trace.price_of (paid [] ∷ items))
 pays_instruction c left later items free pays is =
     let one : trace.price_of (paid [] ∷ items) ≡ 1 = omega (arith, free) in
     subst (Paid left later) (sym one) (pays_step left later (subst (Pays left) (price_one c) pays) (is ∙ ap (λ p. option_map (λ n. n - p) left) (price_one c)))
@@ -84,7 +84,7 @@ more_bound code place zero c at places = let within = slice_get_within code plac
 more_bound code place (suc b) c at places = (b, refl)
 
 pub progress_more : (escape : AutoEscape) (code : List Code) (context : Val) (fuel left later : Option ℕ) (before mid after : Option (List ℕ)) (place : ℕ) (operands operands' : List Val) (c : Code)
-    → Progress escape code context fuel left before mid place operands → slice_get code place ≡ Some c → Pays left (price_of c) → later ≡ option_map (λ n. n - price_of c) left
+    → Progress escape code context fuel left before mid place operands → slice_get code place ≡ Some c → Pays left (charge_of c) → later ≡ option_map (λ n. n - charge_of c) left
     → Acts {X = Unit {0}} c (first_world escape context) operands operands' (Ok tt) mid after → Progress escape code context fuel later before after (place + 1) operands'
 progress_more escape code context fuel left later before mid after place operands operands' c progress at pays is acts =
     let more = more_bound code place progress.bound c at progress.places in
@@ -118,7 +118,7 @@ refused_at {S} whole fuel (Some m) later before after rest owes is shown =
     ]
 
 pub progress_refused : (escape : AutoEscape) (code : List Code) (context : Val) (fuel left later : Option ℕ) (before after : Option (List ℕ)) (place : ℕ) (operands : List Val) (c : Code)
-    → Progress escape code context fuel left before after place operands → slice_get code place ≡ Some c → (Pays left (price_of c) → ⊥) → later ≡ option_map (λ n. n - price_of c) left
+    → Progress escape code context fuel left before after place operands → slice_get code place ≡ Some c → (Pays left (charge_of c) → ⊥) → later ≡ option_map (λ n. n - charge_of c) left
     → Concluded (free_run escape code context) fuel later before after (faults (OutOfFuel ∷ []))
 progress_refused escape code context fuel left later before after place operands c progress at owes is =
     let first = first_paid c (first_world escape context) operands (exec code progress.bound) place in
@@ -172,7 +172,7 @@ outcome_want {X} result kinds escape code context fuel left before after is want
 
 pub progress_failed : {Y : Type 0} (escape : AutoEscape) (code : List Code) (context : Val) (fuel left later : Option ℕ) (before mid after : Option (List ℕ)) (place : ℕ) (operands operands' : List Val) (c : Code)
     (kinds : List ErrorKind) (result : Result Y (List ErrorKind)) → result ≡ Err kinds
-    → Progress escape code context fuel left before mid place operands → slice_get code place ≡ Some c → Pays left (price_of c) → later ≡ option_map (λ n. n - price_of c) left
+    → Progress escape code context fuel left before mid place operands → slice_get code place ≡ Some c → Pays left (charge_of c) → later ≡ option_map (λ n. n - charge_of c) left
     → Acts {X = Unit {0}} c (first_world escape context) operands operands' (Err kinds) mid after → Outcome result escape code context fuel later before after
 progress_failed escape code context fuel left later before mid after place operands operands' c kinds result is_err progress at pays is acts =
     let whole = free_run escape code context in

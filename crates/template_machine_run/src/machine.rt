@@ -2,7 +2,7 @@
 ghost use Rattle.std.specs.Prelude.{◌≡◌, ◌∷◌, [], ◌↔◌, ◌-◌, IsOk, IsSome, IfErr, OnOk, Some, reverse, vec_len, IsErrAnd};
 ghost use Rattle.std.specs.Option.{option_map};
 ghost use Rattle.template_compiler_code.specs.View.{code_of};
-ghost use Rattle.template_compiler_code.specs.Prices.{price_of};
+ghost use Rattle.template_compiler_code.specs.Prices.{charge_of};
 ghost use Rattle.template_compiler_code.specs.Shapes.{depth_after};
 ghost use Rattle.template_compiler_process.specs.Trace.{text_of};
 ghost use Rattle.std.specs.Io.KnownBytes.{Appends};
@@ -26,9 +26,9 @@ use template_values_modes::AutoEscape;
 
 // Takes an instruction's price of the fuel, if one is set.
 fn charge(fuel: &mut Option<FuelTracker>, instruction: &Instruction<'_>) -> Result<(), Error>
-    ensures left { fuel_left fuel.new ≡ option_map (λ n. n - price_of (code_of instruction.now)) (fuel_left fuel.old) }
+    ensures left { fuel_left fuel.new ≡ option_map (λ n. n - charge_of (code_of instruction.now)) (fuel_left fuel.old) }
     ensures set { fuel_set fuel.new ≡ fuel_set fuel.old }
-    ensures runs { IsOk result ↔ Pays (fuel_left fuel.old) (price_of (code_of instruction.now)) }
+    ensures runs { IsOk result ↔ Pays (fuel_left fuel.old) (charge_of (code_of instruction.now)) }
     ensures kind { IfErr result (λ kinds. kinds ≡ ErrorKind.OutOfFuel ∷ []) }
 {
     match fuel {

@@ -1,7 +1,7 @@
 //! A fuel, and what a run has taken of it.
 ghost use Rattle.std.specs.Prelude.{◌≡◌, ◌+◌, ◌-◌, ◌<◌, ◌≤◌, ◌∷◌, [], ◌↔◌, IsOk, IfErr};
 ghost use Rattle.template_compiler_code.specs.View.{code_of};
-ghost use Rattle.template_compiler_code.specs.Prices.{price_of};
+ghost use Rattle.template_compiler_code.specs.Prices.{charge_of};
 
 use std::marker::Model;
 use template_compiler_code::Instruction;
@@ -41,9 +41,9 @@ impl FuelTracker {
     ///
     /// [`ErrorKind::OutOfFuel`] where the instruction has a price and nothing is left behind it.
     pub fn track(&mut self, instruction: &Instruction<'_>) -> Result<(), Error>
-        ensures taken { self.new.left ≡ self.old.left - price_of (code_of instruction.now) }
+        ensures taken { self.new.left ≡ self.old.left - charge_of (code_of instruction.now) }
         ensures set { self.new.fuel ≡ self.old.fuel }
-        ensures runs { IsOk result ↔ (0 < price_of (code_of instruction.now) → 0 < self.new.left) }
+        ensures runs { IsOk result ↔ (0 < charge_of (code_of instruction.now) → 0 < self.new.left) }
         ensures kind { IfErr result (λ kinds. kinds ≡ ErrorKind.OutOfFuel ∷ []) }
     {
         let price = instruction.price();
