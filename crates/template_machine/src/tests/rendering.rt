@@ -53,11 +53,16 @@ fn rendered(
 #[test]
 fn a_fuel_of_five_leaves_one(rt: HostRuntime) {
     let mut out = String::new(rt.alloc());
-    match rendered(rt.alloc(), Some(5), &mut out) {
-        Ok(levels) => assert!(rt; levels == Some((4, 1))),
-        Err(_refused) => panic!(rt; "refused"),
+    let levels = kind_of(rendered(rt.alloc(), Some(5), &mut out));
+    assert_eq!(rt; levels, Ok(Some((4, 1))));
+    assert_eq!(rt; out.as_str(), "Hello World!");
+}
+
+fn kind_of<T>(answer: Result<T, Error>) -> Result<T, ErrorKind> {
+    match answer {
+        Ok(value) => Ok(value),
+        Err(error) => Err(error.kind()),
     }
-    assert!(rt; out.as_str() == "Hello World!");
 }
 
 #[test]
@@ -70,55 +75,52 @@ fn fuels_cut_the_text(rt: HostRuntime) {
         (0, ""),
     ] {
         let mut out = String::new(rt.alloc());
-        match rendered(rt.alloc(), Some(fuel), &mut out) {
-            Ok(_levels) => panic!(rt; "done under {fuel}"),
-            Err(error) => assert!(rt; error.kind() == ErrorKind::OutOfFuel, "under {fuel}"),
-        }
-        assert!(rt; out.as_str() == text, "under {fuel}");
+        let levels = kind_of(rendered(rt.alloc(), Some(fuel), &mut out));
+        assert_eq!(rt; levels, Err(ErrorKind::OutOfFuel), "under {fuel}");
+        assert_eq!(rt; out.as_str(), text, "under {fuel}");
     }
 }
 
+fn add(environment: &mut Environment<'static>, source: &'static str) -> Result<(), ErrorKind> {
+    kind_of(environment.add_template("t.txt", source))
+}
+
+// The source that stands under a name.
+fn source_at(environment: &Environment<'static>, name: &str) -> Result<&'static str, ErrorKind> {
+    Ok(kind_of(environment.get_template(name))?.source())
+}
+
 #[test]
-fn additions_replace_and_refuse(rt: HostRuntime) {
+fn additions_replace_and_refuse(rt: HostRuntime) -> Result<(), Fail> {
     let mut ids = StateIds::new(0);
-    let Ok(mut environment) = hello(rt.alloc(), &mut ids, None) else {
-        panic!(rt; "refused")
-    };
-    match environment.add_template("t.txt", "{{") {
-        Ok(()) => panic!(rt; "accepted"),
-        Err(error) => assert!(rt; error.kind() == ErrorKind::SyntaxError),
+    let mut environment = kind_of(hello(rt.alloc(), &mut ids, None))?;
+    assert_eq!(rt; add(&mut environment, "{{"), Err(ErrorKind::SyntaxError));
+    assert_eq!(rt; source_at(&environment, "t.txt")?, HELLO);
+    assert_eq!(rt; add(&mut environment, "a"), Ok(()));
+    assert_eq!(rt; source_at(&environment, "t.txt")?, "a");
+    let missing = source_at(&environment, "u.txt").err();
+    assert_eq!(rt; missing, Some(ErrorKind::TemplateNotFound));
+    Ok(())
+}
+
+// The names that a render of a template can want, a space behind each.
+fn names_of(alloc: Global, environment: &Environment<'static>, name: &str) -> Result<String, Fail> {
+    let template = kind_of(environment.get_template(name))?;
+    let names = kind_of(environment.context_names(&template))?;
+    let mut told = String::new(alloc);
+    for name in &names {
+        told.push_str(name.as_str())?;
+        told.push_str(" ")?;
     }
-    match environment.get_template("t.txt") {
-        Ok(template) => assert!(rt; template.source() == HELLO),
-        Err(_missing) => panic!(rt; "missing"),
-    }
-    assert!(rt; environment.add_template("t.txt", "a").is_ok());
-    match environment.get_template("t.txt") {
-        Ok(template) => assert!(rt; template.source() == "a"),
-        Err(_missing) => panic!(rt; "missing"),
-    }
-    match environment.get_template("u.txt") {
-        Ok(_template) => panic!(rt; "there"),
-        Err(error) => assert!(rt; error.kind() == ErrorKind::TemplateNotFound),
-    }
+    Ok(told)
 }
 
 #[test]
 fn names_of_all_that_stand(rt: HostRuntime) -> Result<(), Fail> {
     let mut ids = StateIds::new(0);
-    let Ok(mut environment) = hello(rt.alloc(), &mut ids, None) else {
-        panic!(rt; "refused")
-    };
-    assert!(rt; environment.add_template("u", "{{ b }}").is_ok());
-    let mut told = String::new(rt.alloc());
-    if let Ok(template) = environment.get_template("t.txt") {
-        if let Ok(names) = environment.context_names(&template) {
-            for name in &names {
-                told.push_str(name.as_str())?;
-                told.push_str(" ")?;
-            }
-        }
-    }
-    assert!(rt; told.as_str() == "b caller loop name self super ");
+    let mut environment = kind_of(hello(rt.alloc(), &mut ids, None))?;
+    kind_of(environment.add_template("u", "{{ b }}"))?;
+    let told = names_of(rt.alloc(), &environment, "t.txt")?;
+    assert_eq!(rt; told.as_str(), "b caller loop name self super ");
     Ok(())
 }
