@@ -77,7 +77,8 @@ impl<'source> CodeGenerator<'source> {
         ensures open { OnOk result (self.old.refused ≡ None) }
         ensures kept { IfErr result (KeepsRefusal self.new.refused) }
         ensures stays { IsSome self.old.refused → self.new ≡ self.old }
-        ensures reason { self.old.refused ≡ None → IfErr result (RefusesCode (length self.old.code + length (expression_code (expression_of expr.now)))) }
+        ensures reason { self.old.refused ≡ None
+            → IfErr result (RefusesCode (length self.old.code + length (expression_code (expression_of expr.now)))) }
         ensures full { too_many ≤ length self.old.code + length (expression_code (expression_of expr.now)) → IsErr result }
     {
         match expr {
@@ -94,7 +95,8 @@ impl<'source> CodeGenerator<'source> {
         ensures open { OnOk result (self.old.refused ≡ None) }
         ensures kept { IfErr result (KeepsRefusal self.new.refused) }
         ensures stays { IsSome self.old.refused → self.new ≡ self.old }
-        ensures reason { self.old.refused ≡ None → IfErr result (RefusesCode (length self.old.code + length (statement_code (statement_of stmt.now)))) }
+        ensures reason { self.old.refused ≡ None
+            → IfErr result (RefusesCode (length self.old.code + length (statement_code (statement_of stmt.now)))) }
         ensures full { too_many ≤ length self.old.code + length (statement_code (statement_of stmt.now)) → IsErr result }
     {
         match stmt {
@@ -117,7 +119,8 @@ impl<'source> CodeGenerator<'source> {
         ensures open { OnOk result (self.old.refused ≡ None) }
         ensures kept { IfErr result (KeepsRefusal self.new.refused) }
         ensures stays { IsSome self.old.refused → self.new ≡ self.old }
-        ensures reason { self.old.refused ≡ None → IfErr result (RefusesCode (length self.old.code + length (template_code (tree_of template.now)))) }
+        ensures reason { self.old.refused ≡ None
+            → IfErr result (RefusesCode (length self.old.code + length (template_code (tree_of template.now)))) }
         ensures full { too_many ≤ length self.old.code + length (template_code (tree_of template.now)) → IsErr result }
     {
         if let Some(kind) = self.refused {

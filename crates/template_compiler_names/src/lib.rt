@@ -53,7 +53,8 @@ fn add_statement(
     names: &mut BTreeSet<String>,
     statement: &Stmt<'_>,
 ) -> Result<(), Error>
-    ensures added { OnOk result ((q : List ℕ) → contains_text names.new q ≡ (contains_text names.old q || uses q (statement_of statement.now))) }
+    ensures added { OnOk result ((q : List ℕ)
+        → contains_text names.new q ≡ (contains_text names.old q || uses q (statement_of statement.now))) }
     ensures refused { IfErr result (λ kinds. kinds ≡ ErrorKind.OutOfMemory ∷ []) }
     ensures unchanged { OnErr result ((q : List ℕ) → contains_text names.new q ≡ contains_text names.old q) }
 {

@@ -46,7 +46,8 @@ impl<'source> Model for CompiledTemplate<'source> {
 
     ghost view = { λ t. record { name = t.instructions.instructions.name; source = t.instructions.instructions.source } };
 
-    ghost invariant = { λ t. IsFaithful t.instructions.instructions × IsRuleOf t.instructions.instructions.name t.initial_auto_escape × (t.instructions.kind ≡ Template) };
+    ghost invariant = { λ t. IsFaithful t.instructions.instructions
+        × IsRuleOf t.instructions.instructions.name t.initial_auto_escape × (t.instructions.kind ≡ Template) };
 }
 
 impl<'source> CompiledTemplate<'source> {
@@ -105,7 +106,8 @@ impl<'source> CompiledTemplate<'source> {
     ///
     /// [`ErrorKind::OutOfMemory`]; then the set has its old names, and some of those that the template uses.
     pub fn add_undeclared(&self, alloc: Global, names: &mut BTreeSet<String>) -> Result<(), Error>
-        ensures added { OnOk result ((q : List ℕ) → IsTrue (contains_text names.new q) ↔ (IsTrue (contains_text names.old q) ⊎ UsesName self.now.source q)) }
+        ensures added { OnOk result ((q : List ℕ) → IsTrue (contains_text names.new q)
+            ↔ (IsTrue (contains_text names.old q) ⊎ UsesName self.now.source q)) }
         ensures refused { IfErr result (λ kinds. kinds ≡ ErrorKind.OutOfMemory ∷ []) }
         ensures partial { OnErr result (GrowsBy (UsesName self.now.source) names.old names.new) }
     {
@@ -134,8 +136,10 @@ impl<'source> CompiledTemplate<'source> {
         // The text and the end are those of each tree of the source (it has one), under the escape of the
         // name (it has one).
         ensures renders { (rule : AutoEscape) → IsRuleOf self.now.name rule → (tree : List Statement) → IsTemplate self.now.source tree →
-            Renders result (S.taken sink.old) (S.taken sink.new) (S.failures sink.old) (S.failures sink.new) (rendered rule fuel tree context.now) }
-        ensures remains { IfOk result (λ left. (rule : AutoEscape) → IsRuleOf self.now.name rule → (tree : List Statement) → IsTemplate self.now.source tree →
+            Renders result (S.taken sink.old) (S.taken sink.new) (S.failures sink.old) (S.failures sink.new)
+            (rendered rule fuel tree context.now) }
+        ensures remains { IfOk result (λ left. (rule : AutoEscape) → IsRuleOf self.now.name rule → (tree : List Statement)
+            → IsTemplate self.now.source tree →
             fuel_left left ≡ option_map (λ n. remaining n (meaning rule tree context.now)) fuel) }
         ensures given { IfOk result (λ left. fuel_set left ≡ fuel) }
     {

@@ -68,7 +68,8 @@ impl<'source> Environment<'source> {
     /// as before.
     pub fn add_template(&mut self, name: &'source str, source: &'source str) -> Result<(), Error>
         ensures accepted { OnOk result (IsAccepted source.now) }
-        ensures stands { OnOk result ((q : List ℕ) → source_at self.new q ≡ (if bytes_eq name.now q then Some source.now else source_at self.old q)) }
+        ensures stands { OnOk result ((q : List ℕ)
+            → source_at self.new q ≡ (if bytes_eq name.now q then Some source.now else source_at self.old q)) }
         ensures fuel { environment_fuel self.new ≡ environment_fuel self.old }
         ensures id { environment_id self.new ≡ environment_id self.old }
         ensures refused { IfErr result (IsRefusedWith source.now) }
@@ -133,10 +134,12 @@ impl<'source> Environment<'source> {
     ///
     /// [`ErrorKind::OutOfMemory`].
     pub fn context_names(&self, template: &Template<'_, 'source>) -> Result<BTreeSet<String>, Error>
-        ensures listed { IfOk result (λ names. (name : List ℕ) → IsTrue (contains_text names name) ↔ IsListed self.now (source_of template.now) name) }
+        ensures listed { IfOk result (λ names. (name : List ℕ) → IsTrue (contains_text names name)
+            ↔ IsListed self.now (source_of template.now) name) }
 
         // Contexts that agree at these names give the same bytes, end and price, under every escape.
-        ensures isolated { IfOk result (λ names. (c d : Val) → AgreeAt names c d → (rule : AutoEscape) → (tree : List Statement) → IsTemplate (source_of template.now) tree →
+        ensures isolated { IfOk result (λ names. (c d : Val) → AgreeAt names c d → (rule : AutoEscape) → (tree : List Statement)
+            → IsTemplate (source_of template.now) tree →
             (fuel : Option ℕ) → IsSameRun (rendered rule fuel tree c) (rendered rule fuel tree d)) }
         ensures refused { IfErr result (λ kinds. kinds ≡ ErrorKind.OutOfMemory ∷ []) }
     {
@@ -149,7 +152,8 @@ impl<'source> Environment<'source> {
 
     // Adds the names that the templates that stand use.
     fn add_standing(&self, names: &mut BTreeSet<String>) -> Result<(), Error>
-        ensures added { OnOk result ((name : List ℕ) → IsTrue (contains_text names.new name) ↔ (IsTrue (contains_text names.old name) ⊎ IsUsedByOne self.now name)) }
+        ensures added { OnOk result ((name : List ℕ) → IsTrue (contains_text names.new name)
+            ↔ (IsTrue (contains_text names.old name) ⊎ IsUsedByOne self.now name)) }
         ensures refused { IfErr result (λ kinds. kinds ≡ ErrorKind.OutOfMemory ∷ []) }
     {
         for (_name, compiled) in &self.templates {

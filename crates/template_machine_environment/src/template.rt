@@ -79,14 +79,18 @@ impl<'env, 'source> Template<'env, 'source> {
     ) -> Result<Captured, Error>
         // The text and the end are those of each tree of the source (it has one), under the escape of the
         // name (it has one).
-        ensures renders { ids.old ≢ u64.MAX → (rule : AutoEscape) → IsRuleOf (name_of self.now) rule → (tree : List Statement) → IsTemplate (source_of self.now) tree →
-            Renders result (S.taken sink.old) (S.taken sink.new) (S.failures sink.old) (S.failures sink.new) (rendered rule (fuel_of self.now) tree context) }
-        ensures remains { IfOk result (λ captured. (rule : AutoEscape) → IsRuleOf (name_of self.now) rule → (tree : List Statement) → IsTemplate (source_of self.now) tree →
+        ensures renders { ids.old ≢ u64.MAX → (rule : AutoEscape) → IsRuleOf (name_of self.now) rule → (tree : List Statement)
+            → IsTemplate (source_of self.now) tree →
+            Renders result (S.taken sink.old) (S.taken sink.new) (S.failures sink.old) (S.failures sink.new)
+            (rendered rule (fuel_of self.now) tree context) }
+        ensures remains { IfOk result (λ captured. (rule : AutoEscape) → IsRuleOf (name_of self.now) rule
+            → (tree : List Statement) → IsTemplate (source_of self.now) tree →
             fuel_remaining (state_of captured) ≡ option_map (λ n. remaining n (meaning rule tree context)) (fuel_of self.now)) }
         ensures given { IfOk result (λ captured. fuel_given (state_of captured) ≡ fuel_of self.now) }
         ensures id { IfOk result (λ captured. state_id (state_of captured) ≡ ids.old) }
         ensures counted { ids.old ≢ u64.MAX → ids.new ≡ ids.old + 1 }
-        ensures exhausted { ids.old ≡ u64.MAX → (result ≡ Err (ErrorKind.InvalidOperation ∷ [])) × (sink.new ≡ sink.old) × (ids.new ≡ ids.old) }
+        ensures exhausted { ids.old ≡ u64.MAX → (result ≡ Err (ErrorKind.InvalidOperation ∷ [])) × (sink.new ≡ sink.old)
+            × (ids.new ≡ ids.old) }
     {
         let id = ids.next()?;
         let fuel = self.compiled.render(

@@ -23,4 +23,5 @@ Pays (Some left) price = 0 < price → price < left
 
 -- what is left of the fuel is the fuel less the price of a beginning of the run
 abbrev pub PaysBeginning : {S : Type 0} → Option ℕ → Option ℕ → Run S → Type 0
-PaysBeginning fuel left r = (front : List Item) × (rest : List Item) × (r.items ≡ front ++ rest) × (left ≡ option_map (λ n. n - price_of front) fuel)
+PaysBeginning fuel left r = (front : List Item) × (rest : List Item) × (r.items ≡ front ++ rest)
+    × (left ≡ option_map (λ n. n - price_of front) fuel)
