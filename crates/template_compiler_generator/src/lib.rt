@@ -47,8 +47,13 @@ impl<'source> CodeGenerator<'source> {
         }
     }
 
-    /// Puts one instruction behind the others, and answers its place. Refused by
-    /// [`ErrorKind::TooLarge`] where it would be the 2^32nd, and by [`ErrorKind::OutOfMemory`].
+    /// Puts one instruction behind the others, and answers its place. Takes constant time over many
+    /// calls.
+    ///
+    /// # Errors
+    ///
+    /// [`ErrorKind::TooLarge`] where it would be the 2^32nd, else [`ErrorKind::OutOfMemory`]; and the
+    /// refusal that the generator keeps, if it was refused before.
     pub fn add(&mut self, instruction: Instruction<'source>) -> Result<u32, Error>
         ensures place { IfOk result (λ place. place ≡ length self.old.code) }
         ensures added { OnOk result (self.new ≡ record self.old { code = self.old.code ++ code_of instruction.entry ∷ [] }) }
@@ -70,8 +75,12 @@ impl<'source> CodeGenerator<'source> {
         }
     }
 
-    /// Puts the code of an expression behind the others. Refused by [`ErrorKind::TooLarge`] where
-    /// there would be 2^32 instructions, and by [`ErrorKind::OutOfMemory`].
+    /// Puts the code of an expression behind the others, in time linear in the expression.
+    ///
+    /// # Errors
+    ///
+    /// [`ErrorKind::TooLarge`] where there would be 2^32 instructions, else [`ErrorKind::OutOfMemory`];
+    /// and the refusal that the generator keeps, if it was refused before.
     pub fn compile_expr(&mut self, expr: &Expr<'source>) -> Result<(), Error>
         ensures compiled { OnOk result (self.new ≡ record self.old { code = self.old.code ++ expression_code (expression_of expr.now) }) }
         ensures open { OnOk result (self.old.refused ≡ None) }
@@ -89,7 +98,11 @@ impl<'source> CodeGenerator<'source> {
         }
     }
 
-    /// Puts the code of a statement behind the others. Refused as [`CodeGenerator::compile_expr`] is.
+    /// Puts the code of a statement behind the others, in time linear in the statement.
+    ///
+    /// # Errors
+    ///
+    /// Those of [`CodeGenerator::compile_expr`].
     pub fn compile_stmt(&mut self, stmt: &Stmt<'source>) -> Result<(), Error>
         ensures compiled { OnOk result (self.new ≡ record self.old { code = self.old.code ++ statement_code (statement_of stmt.now) }) }
         ensures open { OnOk result (self.old.refused ≡ None) }
@@ -112,8 +125,12 @@ impl<'source> CodeGenerator<'source> {
         }
     }
 
-    /// Puts the code of a template's statements behind the others, in their order. Refused as
-    /// [`CodeGenerator::compile_expr`] is.
+    /// Puts the code of a template's statements behind the others, in their order and in time linear in
+    /// the template.
+    ///
+    /// # Errors
+    ///
+    /// Those of [`CodeGenerator::compile_expr`].
     pub fn compile_template(&mut self, template: &Template<'source>) -> Result<(), Error>
         ensures compiled { OnOk result (self.new ≡ record self.old { code = self.old.code ++ template_code (tree_of template.now) }) }
         ensures open { OnOk result (self.old.refused ≡ None) }
@@ -132,7 +149,11 @@ impl<'source> CodeGenerator<'source> {
         Ok(())
     }
 
-    /// The instructions, or the refusal that the generator met.
+    /// The instructions.
+    ///
+    /// # Errors
+    ///
+    /// The refusal that the generator keeps: it never gives half of a code.
     pub fn finish(self) -> Result<Instructions<'source>, Error>
         ensures given { IfOk result (λ i. i ≡ record { name = self.entry.name; source = self.entry.source; code = self.entry.code }) }
         ensures open { OnOk result (self.entry.refused ≡ None) }
@@ -145,8 +166,13 @@ impl<'source> CodeGenerator<'source> {
     }
 }
 
-/// The instructions of a template, which do what the walk of its tree does. Refused by
-/// [`ErrorKind::TooLarge`] where there would be 2^32 or more, and by [`ErrorKind::OutOfMemory`].
+/// The instructions of a template, which do what the walk of its tree does. Takes time linear in the
+/// template, and memory for the instructions; their texts are those of the source.
+///
+/// # Errors
+///
+/// [`ErrorKind::TooLarge`] where there would be 2^32 instructions or more, else
+/// [`ErrorKind::OutOfMemory`].
 pub fn compile<'source>(
     alloc: Global,
     name: &'source str,
