@@ -1,7 +1,7 @@
 -- The test of the loop decides what the definition says of a template's names.
-use Rattle.std.proofs.Common.{◌≡◌, ℕ, zero, suc, ◌<◌, Bool, true, false, ◌||◌, List, [], ◌∷◌, map, length, take, slice_index_or, refl, sym, subst, ap, ◌∙◌, arith, inl, inr, ◌⊎◌, ◌↔◌, IsTrue}
+use Rattle.std.proofs.Common.{◌≡◌, ℕ, zero, suc, ◌<◌, Bool, true, ◌||◌, List, [], ◌∷◌, map, length, take, slice_index_or, sym, subst, ap, ◌∙◌, arith, inl, inr, ◌⊎◌, ◌↔◌, IsTrue}
 use Rattle.std.specs.Bool.{Decides}
-use Rattle.std.specs.List.{Any, list_any}
+use Rattle.std.specs.List.{list_any}
 use Rattle.std.proofs.Math.Bool.{or-true}
 use Rattle.std.proofs.lemmas.Bool.{or_cases}
 use Rattle.std.proofs.lemmas.Slice.Eq.{bytes_eq-Decides}

@@ -1,8 +1,6 @@
 //! Instructions that are verified and run.
-ghost use Rattle.std.specs.Prelude.{Some};
-
 use crate::{
-    AutoEscape, Error, ErrorKind, FuelTracker, Sink, SinkFault, StreamKind, run_code, verify,
+    AutoEscape, Error, ErrorKind, FuelTracker, Sink, StreamKind, WriteWrapper, run_code, verify,
 };
 use std::alloc::Global;
 use std::borrow::CowStr;
@@ -10,42 +8,6 @@ use std::process::Abort;
 use std::test::Fail;
 use template_compiler_code::{Instruction, Instructions};
 use template_values_core::{Entry, Value};
-
-// Takes `room` bytes, and then fails.
-#[derive(Drop)]
-struct Limited {
-    bytes: Vec<u8>,
-    room: usize,
-    failed: u64,
-}
-
-impl Sink for Limited {
-    ghost taken = { λ s. Some s.bytes.items };
-
-    ghost failures = { λ s. s.failed };
-
-    ghost can_take = { λ _. Unit {0} };
-
-    fn put(&mut self, bytes: &[u8]) -> Result<usize, SinkFault> {
-        if self.failed == u64::MAX {
-            return Err(SinkFault::Memory);
-        }
-        let count = bytes.len().min(self.room);
-        if count == 0 && !bytes.is_empty() {
-            self.failed += 1;
-            return Err(SinkFault::Device);
-        }
-        match self.bytes.extend_from_slice(&bytes[..count]) {
-            Ok(()) => {
-                self.room -= count;
-                Ok(count)
-            }
-            Err(_refused) => Err(SinkFault::Memory),
-        }
-    }
-
-    ghost takes_text = { λ bytes utf8. tt };
-}
 
 fn text(alloc: Global, text: &str) -> Result<Value, Error> {
     match String::from_str(alloc, text) {
@@ -315,16 +277,13 @@ fn a_print_keeps_nothing_of_the_one_before(rt: HostRuntime) -> Result<(), Fail> 
 }
 
 #[test]
-fn a_sink_that_fails_has_the_bytes_before(rt: HostRuntime) -> Result<(), Fail> {
+fn a_full_writer_has_the_bytes_before(rt: HostRuntime) -> Result<(), Fail> {
     let alloc = rt.alloc();
     let context = kind_of(world(alloc))?;
     let whole = b"Hello World!";
     for room in 0..=12 {
-        let mut sink = Limited {
-            bytes: Vec::new(alloc),
-            room,
-            failed: 0,
-        };
+        let mut bytes = [0u8; 12];
+        let mut sink = WriteWrapper::new(&mut bytes[..room]);
         let answer = if room < 12 {
             Err(ErrorKind::WriteFailure)
         } else {
@@ -335,7 +294,7 @@ fn a_sink_that_fails_has_the_bytes_before(rt: HostRuntime) -> Result<(), Fail> {
             answer,
             "after {room} bytes"
         );
-        assert_eq!(rt; sink.bytes.as_slice(), &whole[..room], "after {room} bytes");
+        assert_eq!(rt; &bytes[..room], &whole[..room], "after {room} bytes");
     }
     Ok(())
 }
