@@ -1,3 +1,4 @@
+pub mod StreamKinds
 pub mod Depths
 pub mod Acting
 pub mod Printing
