@@ -1,12 +1,8 @@
 -- The map that is made from entries that say what the context has.
-use Rattle.std.proofs.Common.{◌≡◌, ◌≤◌, ℕ, List, [], Option, Result, Ok, Err, IfOk, IfErr, inl, inr, ◌∙◌, String, Global, arith}
+use Rattle.std.proofs.Common.{◌≡◌, ℕ, List, [], Option, Ok, Err, IfOk, ◌∙◌, String, Global}
 use Rattle.std.proofs.lemmas.List.Elements.{All-nil}
-use Rattle.template_values_errors.specs.declared.ErrorKind.{ErrorKind}
-use Rattle.template_values_model.specs.Val.{Val, map}
+use Rattle.template_values_model.specs.Val.{map}
 use Rattle.template_values_model.specs.Lookup.{value_at}
-use Rattle.template_values_errors.specs.Memory.{NoMemory}
-use Rattle.template_values_core.specs.Answers.{TooDeep}
-use Rattle.template_values_core.specs.Depth.{depth}
 use Rattle.template_values_core.specs.Maps.{collected, put_all, last_at}
 use Rattle.template_values_core.specs.Shape.{pairs_in}
 use Rattle.template_values_core.specs.declared.value.Entry.{Entry}

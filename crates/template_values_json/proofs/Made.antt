@@ -1,17 +1,15 @@
 -- A value that is made nests no deeper than values may.
-use Rattle.std.proofs.Common.{◌≡◌, ◌≤◌, ℕ, List, [], Option, Result, Ok, Err, IfOk, IfErr, inl, inr, ◌∙◌, String, Global, arith}
-use Rattle.std.proofs.lemmas.List.Elements.{All-nil}
+use Rattle.std.proofs.Common.{◌≤◌, List, Result, Ok, Err, IfErr, inl, inr, arith}
 use Rattle.template_values_errors.specs.declared.ErrorKind.{ErrorKind}
 use Rattle.template_values_model.specs.Val.{Val, map}
-use Rattle.template_values_model.specs.Lookup.{value_at}
 use Rattle.template_values_errors.specs.Memory.{NoMemory}
 use Rattle.template_values_core.specs.Answers.{TooDeep}
 use Rattle.template_values_core.specs.Depth.{depth}
-use Rattle.template_values_core.specs.Maps.{collected, put_all, last_at}
+use Rattle.template_values_core.specs.Maps.{collected}
 use Rattle.template_values_core.specs.Shape.{pairs_in}
 use Rattle.template_values_core.specs.declared.value.Entry.{Entry}
-use Rattle.template_values_json.specs.Entries.{IsPlainText, ArePlain}
-use Rattle.template_values_json.proofs.Plain.{text_keys, map_within}
+use Rattle.template_values_json.specs.Entries.{ArePlain}
+use Rattle.template_values_json.proofs.Plain.{map_within}
 
 abbrev pub Made : Type 0
 Made = Result Val (List ErrorKind)
