@@ -8,6 +8,8 @@ use std::time::{Duration, Instant};
 
 const LINE: &str = "The <quick> brown fox jumps over the lazy dog, and so it goes on & on for a long line.\n";
 const LINES: usize = 115_000;
+const DENSE: &str = "<>&\"'/";
+const DENSE_TIMES: usize = 833_334;
 const KEYS: u32 = 100_000;
 const LOOK_UPS: u32 = 10_000_000;
 const ADDITIONS: u32 = 10_000_000;
@@ -24,8 +26,9 @@ fn main() {
     for task in std::env::args().skip(1) {
         let time = match task.as_str() {
             "print" => print(),
-            "escape-html" => escape(html),
-            "escape-json" => escape(json),
+            "escape-html" => escape(LINE.repeat(LINES), html),
+            "escape-dense" => escape(DENSE.repeat(DENSE_TIMES), html),
+            "escape-json" => escape(LINE.repeat(LINES), json),
             "sort-map" => sort_map(),
             "look-up" => look_up(),
             "add" => add_up(),
@@ -48,8 +51,7 @@ fn print() -> Duration {
     time
 }
 
-fn escape(write: fn(&str, &mut String)) -> Duration {
-    let text = LINE.repeat(LINES);
+fn escape(text: String, write: fn(&str, &mut String)) -> Duration {
     let mut out = String::new();
     let start = Instant::now();
     write(black_box(&text), &mut out);

@@ -12,6 +12,10 @@ const LINE: &str =
 
 const LINES: usize = 115_000;
 
+const DENSE: &str = "<>&\"'/";
+
+const DENSE_TIMES: usize = 833_334;
+
 const KEYS: u32 = 100_000;
 
 const LOOK_UPS: u32 = 10_000_000;
@@ -24,8 +28,9 @@ const COPIES: u32 = 1_000_000;
 pub(crate) fn measure(rt: &HostRuntime, task: &str) -> Option<Duration> {
     match task {
         "print" => print(rt),
-        "escape-html" => escape(rt, AutoEscape::Html),
-        "escape-json" => escape(rt, AutoEscape::Json),
+        "escape-html" => escape(rt, long_text(rt.alloc())?, AutoEscape::Html),
+        "escape-dense" => escape(rt, dense_text(rt.alloc())?, AutoEscape::Html),
+        "escape-json" => escape(rt, long_text(rt.alloc())?, AutoEscape::Json),
         "sort-map" => sort_map(rt),
         "look-up" => look_up(rt),
         "add" => add_up(rt),
@@ -43,6 +48,11 @@ fn long_text(alloc: Global) -> Option<Value> {
     Value::from_text(LINE.repeat(alloc, LINES).ok()?).ok()
 }
 
+// 5 MB of markup.
+fn dense_text(alloc: Global) -> Option<Value> {
+    Value::from_text(DENSE.repeat(alloc, DENSE_TIMES).ok()?).ok()
+}
+
 fn print(rt: &HostRuntime) -> Option<Duration> {
     let value = long_text(rt.alloc())?;
     let mut out = String::new(rt.alloc());
@@ -53,8 +63,7 @@ fn print(rt: &HostRuntime) -> Option<Duration> {
     Some(time)
 }
 
-fn escape(rt: &HostRuntime, rule: AutoEscape) -> Option<Duration> {
-    let value = long_text(rt.alloc())?;
+fn escape(rt: &HostRuntime, value: Value, rule: AutoEscape) -> Option<Duration> {
     let mut out = String::new(rt.alloc());
     let start = Instant::now(rt).ok()?;
     escape_to(&value, rule, &NoRecords, &mut out).ok()?;

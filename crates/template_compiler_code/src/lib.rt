@@ -3,16 +3,13 @@
 
 ghost use Rattle.std.specs.Prelude.{◌≡◌, ◌^◌, ◌<◌, ◌++◌, ◌∷◌, [], ◌↔◌, IsTrue, IfOk, IfErr, OnErr, IsErrAnd, length, slice_get, option_map};
 ghost use Rattle.template_compiler_code.specs.View.{code_of};
-ghost use Rattle.template_compiler_code.specs.Prices.{price_of, ChargesFirst};
-ghost use Rattle.template_compiler_code.specs.Listing.{IsFull, IsRefusal};
+ghost use Rattle.template_compiler_code.specs.Prices.{charge_of, ChargesFirst};
+ghost use Rattle.template_compiler_code.specs.Listing.{IsFull, RefusesInstruction};
 
 use std::alloc::Global;
 use std::borrow::CowStr;
 use std::marker::Model;
 use template_values_errors::{Error, ErrorKind};
-
-#[cfg(test)]
-mod tests;
 
 /// An instruction of the virtual machine.
 #[derive(Drop)]
@@ -26,9 +23,10 @@ pub enum Instruction<'source> {
 }
 
 impl<'source> Instruction<'source> {
-    /// What the instruction costs of a run's fuel. The charge comes before what the instruction does.
+    /// What the instruction costs of a run's fuel, in priced steps. The charge comes before what the
+    /// instruction does.
     pub fn price(&self) -> u64
-        ensures { result ≡ price_of (code_of self.now) }
+        ensures { result ≡ charge_of (code_of self.now) }
     {
         match self {
             Instruction::EmitRaw(_) => 1,
@@ -61,7 +59,7 @@ impl<'source> Model for Instructions<'source> {
 }
 
 impl<'source> Instructions<'source> {
-    /// No instructions yet.
+    /// No instructions yet. Takes no memory.
     pub fn new(alloc: Global, name: &'source str, source: &'source str) -> Instructions<'source>
         ensures { result ≡ record { name = name.now; source = source.now; code = [] } }
     {
@@ -101,20 +99,24 @@ impl<'source> Instructions<'source> {
         self.code.is_empty()
     }
 
-    /// The instruction at a place, the first one at 0.
+    /// The instruction at a place, the first one at 0; `None` behind the last.
     pub fn get(&self, index: u32) -> Option<&Instruction<'source>>
         ensures { option_map (λ i. code_of i.now) result ≡ slice_get self.now.code index }
     {
         self.code.get(index as usize)
     }
 
-    /// Puts an instruction behind the others, and answers its place. Refused by
-    /// [`ErrorKind::TooLarge`] where it would be the 2^32nd, and by [`ErrorKind::OutOfMemory`]; then
-    /// the instructions stay as they were.
+    /// Puts an instruction behind the others, and answers its place. Takes constant time over many
+    /// calls, and memory where the instructions must grow.
+    ///
+    /// # Errors
+    ///
+    /// [`ErrorKind::TooLarge`] where it would be the 2^32nd, else [`ErrorKind::OutOfMemory`]; then the
+    /// instructions stay as they were.
     pub fn add(&mut self, instruction: Instruction<'source>) -> Result<u32, Error>
         ensures place { IfOk result (λ place. place ≡ length self.old.code) }
         ensures added { IfOk result (λ _. self.new ≡ record self.old { code = self.old.code ++ code_of instruction.entry ∷ [] }) }
-        ensures refused { IfErr result (IsRefusal self.old.code) }
+        ensures refused { IfErr result (RefusesInstruction self.old.code) }
         ensures full { IsFull self.old.code → IsErrAnd result (λ kinds. kinds ≡ ErrorKind.TooLarge ∷ []) }
         ensures unchanged { OnErr result (self.new ≡ self.old) }
     {

@@ -8,7 +8,7 @@ use Rattle.template_compiler_tree.specs.declared.Stmt.{Stmt}
 use Rattle.template_compiler_code.specs.Code.{Code}
 use Rattle.template_compiler_code.specs.Listing.{too_many}
 use Rattle.template_compiler_generator.specs.Generated.{statement_code, template_code}
-use Rattle.template_compiler_generator.specs.Progress.{Progress, IsRefusal}
+use Rattle.template_compiler_generator.specs.Progress.{Progress, RefusesCode}
 
 template_code-append : (xs ys : List Statement) → template_code (xs ++ ys) ≡ template_code xs ++ template_code ys
 template_code-append [] ys = refl
@@ -57,7 +57,7 @@ fits-more before after part h fits =
     omega (arith, e, fits, length-append before.code part)
 
 -- why one more statement is refused says why all are
-pub refusal-more : (start before : Progress) (nodes : List Stmt) (k : ℕ) (d : Stmt) (kinds : List ErrorKind) → k < length nodes → before ≡ record start { code = start.code ++ code_before nodes k } → IsRefusal (length before.code + length (statement_code (statement_of (get_or nodes k d)))) kinds → IsRefusal (length start.code + length (template_code (map statement_of nodes))) kinds
+pub refusal-more : (start before : Progress) (nodes : List Stmt) (k : ℕ) (d : Stmt) (kinds : List ErrorKind) → k < length nodes → before ≡ record start { code = start.code ++ code_before nodes k } → RefusesCode (length before.code + length (statement_code (statement_of (get_or nodes k d)))) kinds → RefusesCode (length start.code + length (template_code (map statement_of nodes))) kinds
 refusal-more start before nodes k d kinds inside h (inl (many, e)) =
     let f = ap (λ (g : Progress). length g.code) h in
     inl (omega (arith, many, f, length-append start.code (code_before nodes k), length-code_before-more nodes k d inside), e)

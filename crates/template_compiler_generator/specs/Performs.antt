@@ -27,7 +27,8 @@ TemplatesPerform = (tree : List Statement) → Performs tree (template_code tree
 
 -- Under the same surroundings the code of each tree leaves the trace of its walk.
 abbrev pub RunsAlike : Type 0 → Type 0
-RunsAlike S = (answer : S → Ask → Reply S) (s : S) (tree : List Statement) → run answer (exec (template_code tree) (length (template_code tree) + 1) 0 []) s ≡ run answer (template_walk tree) s
+RunsAlike S = (answer : S → Ask → Reply S) (s : S) (tree : List Statement)
+    → run answer (exec (template_code tree) (length (template_code tree) + 1) 0 []) s ≡ run answer (template_walk tree) s
 
 -- The code of each tree never lacks an operand and leaves none.
 abbrev pub TemplatesBalance : Type 0

@@ -13,9 +13,9 @@ pub record Progress : Type 0 where
   pub refused : Option ErrorKind
 
 -- an error is the refusal that the generator keeps
-abbrev pub IsKept : Option ErrorKind → List ErrorKind → Type 0
-IsKept refused kinds = (kind : ErrorKind) × (refused ≡ Some kind) × (kinds ≡ kind ∷ [])
+abbrev pub KeepsRefusal : Option ErrorKind → List ErrorKind → Type 0
+KeepsRefusal refused kinds = (kind : ErrorKind) × (refused ≡ Some kind) × (kinds ≡ kind ∷ [])
 
 -- why code of so many instructions is refused: they are too many, or a growth was refused
-abbrev pub IsRefusal : ℕ → List ErrorKind → Type 0
-IsRefusal count kinds = ((too_many ≤ count) × (kinds ≡ TooLarge ∷ [])) ⊎ (kinds ≡ OutOfMemory ∷ [])
+abbrev pub RefusesCode : ℕ → List ErrorKind → Type 0
+RefusesCode count kinds = ((too_many ≤ count) × (kinds ≡ TooLarge ∷ [])) ⊎ (kinds ≡ OutOfMemory ∷ [])

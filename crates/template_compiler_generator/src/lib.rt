@@ -7,7 +7,7 @@ ghost use Rattle.template_compiler_code.specs.View.{code_of};
 ghost use Rattle.template_compiler_code.specs.Listing.{too_many};
 ghost use Rattle.template_compiler_generator.specs.Generated.{expression_code, statement_code, template_code};
 ghost use Rattle.template_compiler_generator.specs.Performs.{Performs, TemplatesPerform, RunsAlike, TemplatesBalance};
-ghost use Rattle.template_compiler_generator.specs.Progress.{IsKept, IsRefusal};
+ghost use Rattle.template_compiler_generator.specs.Progress.{KeepsRefusal, RefusesCode};
 
 use std::alloc::Global;
 use std::borrow::CowStr;
@@ -15,9 +15,6 @@ use std::marker::Model;
 use template_compiler_code::{Instruction, Instructions};
 use template_compiler_tree::{Expr, Stmt, Template};
 use template_values_errors::{Error, ErrorKind};
-
-#[cfg(test)]
-mod tests;
 
 /// Gathers the instructions of a template. Once refused, it keeps the refusal: every further call
 /// answers that kind and changes nothing, and [`CodeGenerator::finish`] gives no instructions.
@@ -50,15 +47,20 @@ impl<'source> CodeGenerator<'source> {
         }
     }
 
-    /// Puts one instruction behind the others, and answers its place. Refused by
-    /// [`ErrorKind::TooLarge`] where it would be the 2^32nd, and by [`ErrorKind::OutOfMemory`].
+    /// Puts one instruction behind the others, and answers its place. Takes constant time over many
+    /// calls.
+    ///
+    /// # Errors
+    ///
+    /// [`ErrorKind::TooLarge`] where it would be the 2^32nd, else [`ErrorKind::OutOfMemory`]; and the
+    /// refusal that the generator keeps, if it was refused before.
     pub fn add(&mut self, instruction: Instruction<'source>) -> Result<u32, Error>
         ensures place { IfOk result (λ place. place ≡ length self.old.code) }
         ensures added { OnOk result (self.new ≡ record self.old { code = self.old.code ++ code_of instruction.entry ∷ [] }) }
         ensures open { OnOk result (self.old.refused ≡ None) }
-        ensures kept { IfErr result (IsKept self.new.refused) }
+        ensures kept { IfErr result (KeepsRefusal self.new.refused) }
         ensures stays { IsSome self.old.refused → self.new ≡ self.old }
-        ensures reason { self.old.refused ≡ None → IfErr result (IsRefusal (length self.old.code + 1)) }
+        ensures reason { self.old.refused ≡ None → IfErr result (RefusesCode (length self.old.code + 1)) }
         ensures full { too_many ≤ length self.old.code + 1 → IsErr result }
     {
         if let Some(kind) = self.refused {
@@ -73,14 +75,19 @@ impl<'source> CodeGenerator<'source> {
         }
     }
 
-    /// Puts the code of an expression behind the others. Refused by [`ErrorKind::TooLarge`] where
-    /// there would be 2^32 instructions, and by [`ErrorKind::OutOfMemory`].
+    /// Puts the code of an expression behind the others, in time linear in the expression.
+    ///
+    /// # Errors
+    ///
+    /// [`ErrorKind::TooLarge`] where there would be 2^32 instructions, else [`ErrorKind::OutOfMemory`];
+    /// and the refusal that the generator keeps, if it was refused before.
     pub fn compile_expr(&mut self, expr: &Expr<'source>) -> Result<(), Error>
         ensures compiled { OnOk result (self.new ≡ record self.old { code = self.old.code ++ expression_code (expression_of expr.now) }) }
         ensures open { OnOk result (self.old.refused ≡ None) }
-        ensures kept { IfErr result (IsKept self.new.refused) }
+        ensures kept { IfErr result (KeepsRefusal self.new.refused) }
         ensures stays { IsSome self.old.refused → self.new ≡ self.old }
-        ensures reason { self.old.refused ≡ None → IfErr result (IsRefusal (length self.old.code + length (expression_code (expression_of expr.now)))) }
+        ensures reason { self.old.refused ≡ None
+            → IfErr result (RefusesCode (length self.old.code + length (expression_code (expression_of expr.now)))) }
         ensures full { too_many ≤ length self.old.code + length (expression_code (expression_of expr.now)) → IsErr result }
     {
         match expr {
@@ -91,13 +98,18 @@ impl<'source> CodeGenerator<'source> {
         }
     }
 
-    /// Puts the code of a statement behind the others. Refused as [`CodeGenerator::compile_expr`] is.
+    /// Puts the code of a statement behind the others, in time linear in the statement.
+    ///
+    /// # Errors
+    ///
+    /// Those of [`CodeGenerator::compile_expr`].
     pub fn compile_stmt(&mut self, stmt: &Stmt<'source>) -> Result<(), Error>
         ensures compiled { OnOk result (self.new ≡ record self.old { code = self.old.code ++ statement_code (statement_of stmt.now) }) }
         ensures open { OnOk result (self.old.refused ≡ None) }
-        ensures kept { IfErr result (IsKept self.new.refused) }
+        ensures kept { IfErr result (KeepsRefusal self.new.refused) }
         ensures stays { IsSome self.old.refused → self.new ≡ self.old }
-        ensures reason { self.old.refused ≡ None → IfErr result (IsRefusal (length self.old.code + length (statement_code (statement_of stmt.now)))) }
+        ensures reason { self.old.refused ≡ None
+            → IfErr result (RefusesCode (length self.old.code + length (statement_code (statement_of stmt.now)))) }
         ensures full { too_many ≤ length self.old.code + length (statement_code (statement_of stmt.now)) → IsErr result }
     {
         match stmt {
@@ -113,14 +125,19 @@ impl<'source> CodeGenerator<'source> {
         }
     }
 
-    /// Puts the code of a template's statements behind the others, in their order. Refused as
-    /// [`CodeGenerator::compile_expr`] is.
+    /// Puts the code of a template's statements behind the others, in their order and in time linear in
+    /// the template.
+    ///
+    /// # Errors
+    ///
+    /// Those of [`CodeGenerator::compile_expr`].
     pub fn compile_template(&mut self, template: &Template<'source>) -> Result<(), Error>
         ensures compiled { OnOk result (self.new ≡ record self.old { code = self.old.code ++ template_code (tree_of template.now) }) }
         ensures open { OnOk result (self.old.refused ≡ None) }
-        ensures kept { IfErr result (IsKept self.new.refused) }
+        ensures kept { IfErr result (KeepsRefusal self.new.refused) }
         ensures stays { IsSome self.old.refused → self.new ≡ self.old }
-        ensures reason { self.old.refused ≡ None → IfErr result (IsRefusal (length self.old.code + length (template_code (tree_of template.now)))) }
+        ensures reason { self.old.refused ≡ None
+            → IfErr result (RefusesCode (length self.old.code + length (template_code (tree_of template.now)))) }
         ensures full { too_many ≤ length self.old.code + length (template_code (tree_of template.now)) → IsErr result }
     {
         if let Some(kind) = self.refused {
@@ -132,11 +149,15 @@ impl<'source> CodeGenerator<'source> {
         Ok(())
     }
 
-    /// The instructions, or the refusal that the generator met.
+    /// The instructions.
+    ///
+    /// # Errors
+    ///
+    /// The refusal that the generator keeps: it never gives half of a code.
     pub fn finish(self) -> Result<Instructions<'source>, Error>
         ensures given { IfOk result (λ i. i ≡ record { name = self.entry.name; source = self.entry.source; code = self.entry.code }) }
         ensures open { OnOk result (self.entry.refused ≡ None) }
-        ensures kept { IfErr result (IsKept self.entry.refused) }
+        ensures kept { IfErr result (KeepsRefusal self.entry.refused) }
     {
         match self.refused {
             Some(kind) => Err(Error::new(kind)),
@@ -145,8 +166,13 @@ impl<'source> CodeGenerator<'source> {
     }
 }
 
-/// The instructions of a template, which do what the walk of its tree does. Refused by
-/// [`ErrorKind::TooLarge`] where there would be 2^32 or more, and by [`ErrorKind::OutOfMemory`].
+/// The instructions of a template, which do what the walk of its tree does. Takes time linear in the
+/// template, and memory for the instructions; their texts are those of the source.
+///
+/// # Errors
+///
+/// [`ErrorKind::TooLarge`] where there would be 2^32 instructions or more, else
+/// [`ErrorKind::OutOfMemory`].
 pub fn compile<'source>(
     alloc: Global,
     name: &'source str,
@@ -155,7 +181,7 @@ pub fn compile<'source>(
 ) -> Result<Instructions<'source>, Error>
     ensures compiled { IfOk result (λ i. i ≡ record { name = name.now; source = source.now; code = template_code (tree_of template.now) }) }
     ensures performs { IfOk result (λ i. Performs (tree_of template.now) i.code) }
-    ensures reason { IfErr result (IsRefusal (length (template_code (tree_of template.now)))) }
+    ensures reason { IfErr result (RefusesCode (length (template_code (tree_of template.now)))) }
     ensures full { too_many ≤ length (template_code (tree_of template.now)) → IsErr result }
 {
     let mut generator = CodeGenerator::new(alloc, name, source);

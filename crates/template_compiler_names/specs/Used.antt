@@ -17,3 +17,8 @@ HasJust tree names = (name : List ℕ) → IsTrue (contains_text names name) ↔
 -- the set has the names that were there, those that the tree uses, and no others
 abbrev pub HasMore : {A : Type 0} → List Statement → BTreeSet (String A) → BTreeSet (String A) → Type 0
 HasMore tree old new = (name : List ℕ) → IsTrue (contains_text new name) ↔ (IsTrue (contains_text old name) ⊎ IsUsed name tree)
+
+-- the set grew: it keeps its old names, and each new one is among those that may come
+pub record GrowsBy {A : Type 0} (MayCome : List ℕ → Type 0) (old new : BTreeSet (String A)) : Type 0 where
+  pub kept : (name : List ℕ) → IsTrue (contains_text old name) → IsTrue (contains_text new name)
+  pub others : (name : List ℕ) → IsTrue (contains_text new name) → IsTrue (contains_text old name) ⊎ MayCome name

@@ -3,7 +3,8 @@
 
 ghost use Rattle.std.specs.Prelude.{◌≡◌, ℕ, List, ◌∷◌, [], ◌||◌, ◌↔◌, ◌⊎◌, IfOk, OnOk, OnErr, IsTrue, IfErr, bytes_eq};
 ghost use Rattle.std.specs.BTreeSet.{contains_text};
-ghost use Rattle.template_compiler_names.specs.Used.{HasJust, HasMore, uses};
+ghost use Rattle.template_compiler_names.specs.Used.{GrowsBy, HasJust, HasMore, uses};
+ghost use Rattle.template_compiler_tree.specs.Names.{IsUsed};
 ghost use Rattle.template_compiler_tree.specs.View.{statement_of, tree_of};
 
 use std::alloc::Global;
@@ -11,7 +12,8 @@ use std::collections::BTreeSet;
 use template_compiler_tree::{Expr, Stmt, Template};
 use template_values_errors::{Error, ErrorKind};
 
-/// The names that a template uses.
+/// The names that a template uses, each once. Takes a look-up for each place of use, and memory for each
+/// name.
 ///
 /// # Errors
 ///
@@ -30,7 +32,7 @@ pub fn find_undeclared(alloc: Global, template: &Template<'_>) -> Result<BTreeSe
 ///
 /// # Errors
 ///
-/// [`ErrorKind::OutOfMemory`]; then some of the names may be there.
+/// [`ErrorKind::OutOfMemory`]; then the set has its old names, and some of those that the template uses.
 pub fn add_undeclared(
     alloc: Global,
     names: &mut BTreeSet<String>,
@@ -38,6 +40,7 @@ pub fn add_undeclared(
 ) -> Result<(), Error>
     ensures added { OnOk result (HasMore (tree_of template.now) names.old names.new) }
     ensures refused { IfErr result (λ kinds. kinds ≡ ErrorKind.OutOfMemory ∷ []) }
+    ensures partial { OnErr result (GrowsBy (λ name. IsUsed name (tree_of template.now)) names.old names.new) }
 {
     for statement in &template.children {
         add_statement(alloc, names, statement)?;
@@ -50,8 +53,10 @@ fn add_statement(
     names: &mut BTreeSet<String>,
     statement: &Stmt<'_>,
 ) -> Result<(), Error>
-    ensures added { OnOk result ((q : List ℕ) → contains_text names.new q ≡ (contains_text names.old q || uses q (statement_of statement.now))) }
+    ensures added { OnOk result ((q : List ℕ)
+        → contains_text names.new q ≡ (contains_text names.old q || uses q (statement_of statement.now))) }
     ensures refused { IfErr result (λ kinds. kinds ≡ ErrorKind.OutOfMemory ∷ []) }
+    ensures unchanged { OnErr result ((q : List ℕ) → contains_text names.new q ≡ contains_text names.old q) }
 {
     match statement {
         Stmt::EmitRaw(_text) => Ok(()),
@@ -78,36 +83,5 @@ pub fn add_name(alloc: Global, names: &mut BTreeSet<String>, name: &str) -> Resu
     match names.insert(key) {
         Ok(_new) => Ok(()),
         Err(_refused) => Err(Error::new(ErrorKind::OutOfMemory)),
-    }
-}
-
-#[cfg(test)]
-mod tests {
-    use super::*;
-    use std::test::Fail;
-    use template_compiler_tree::{EmitExpr, EmitRaw, Span, Spanned, Var};
-
-    fn print(id: &str) -> Stmt<'_> {
-        let var = Spanned::new(Var { id }, Span::default());
-        let expr = Expr::Var(var);
-        Stmt::EmitExpr(Spanned::new(EmitExpr { expr }, Span::default()))
-    }
-
-    #[test]
-    fn names_are_found_once(rt: HostRuntime) -> Result<(), Fail> {
-        let mut children = Vec::new(rt.alloc());
-        children.push(print("b"))?;
-        children.push(Stmt::EmitRaw(Spanned::new(EmitRaw { raw: "c" }, Span::default())))?;
-        children.push(print("a"))?;
-        children.push(print("b"))?;
-        let names = find_undeclared(rt.alloc(), &Template { children }).map_err(
-            |error| error.kind(),
-        )?;
-        let mut found = String::new(rt.alloc());
-        for name in &names {
-            found.push_str(name.as_str())?;
-        }
-        assert!(rt; found.as_str() == "ab");
-        Ok(())
     }
 }

@@ -14,7 +14,7 @@ use Rattle.template_compiler_grammar.proofs.Laws.{none_read}
 use Rattle.template_compiler_grammar.proofs.Sound.{sound}
 use Rattle.template_compiler_parser.specs.declared.segments.Sign.{Sign}
 use Rattle.template_compiler_parser.specs.Signs.{sign_view}
-use Rattle.template_compiler_parser.specs.Refusals.{IsAlone, IsRefusal}
+use Rattle.template_compiler_parser.specs.Refusals.{IsAlone, RefusesSource}
 use Rattle.template_compiler_parser.specs.Steps.{IsRefused, TakesStep}
 
 behind_print : (s : List ℕ) (i w : ℕ) → drop (2 + w) (drop i s) ≡ drop w (drop (i + 2) s)
@@ -93,7 +93,7 @@ unfolding read
 no_template source text e h = none_read source (rw e at h)
 
 pub template_refused : (source text : List ℕ) {e : List ErrorKind} → text ≡ less_final_newline source →
-    IsRefused (read_from plain text ≡ None) e → IsRefusal source e
+    IsRefused (read_from plain text ≡ None) e → RefusesSource source e
 template_refused source text same (inl memory) = inl memory
 template_refused source text same (inr (syntax, none)) = inr (inr (syntax, no_template source text same none))
 

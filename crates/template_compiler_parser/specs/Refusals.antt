@@ -10,8 +10,8 @@ abbrev pub IsAlone : ErrorKind → List ErrorKind → Type 0
 IsAlone kind e = e ≡ kind ∷ []
 
 -- want of memory; or the source is too large; or it has no tree
-abbrev pub IsRefusal : List ℕ → List ErrorKind → Type 0
-IsRefusal source e =
+abbrev pub RefusesSource : List ℕ → List ErrorKind → Type 0
+RefusesSource source e =
     IsAlone OutOfMemory e ⊎
     ((IsAlone TooLarge e × (2 ^ 32 ≤ length source)) ⊎
     (IsAlone SyntaxError e × ((tree : List Statement) → IsTemplate source tree → ⊥)))

@@ -22,7 +22,8 @@ TakesStep step before after rest (Ok None) =
 TakesStep step before after rest (Err e) = IsRefused (step ≡ no_step) e
 
 -- a print was read, with the sign of its end
-abbrev pub TakesPrint : Option (List ℕ × grammar.Sign × List ℕ) → List Statement → List Statement → List ℕ → Result Sign (List ErrorKind) → Type 0
+abbrev pub TakesPrint : Option (List ℕ × grammar.Sign × List ℕ) → List Statement → List Statement → List ℕ
+    → Result Sign (List ErrorKind) → Type 0
 TakesPrint inside before after rest (Ok sign) =
     (name : List ℕ) × (inside ≡ Some (name, sign_view sign, rest)) × (after ≡ before ++ (print (variable name) ∷ []))
 TakesPrint inside before after rest (Err e) = IsRefused (inside ≡ None) e

@@ -7,6 +7,3 @@ mod segments;
 mod template;
 
 pub use template::parse;
-
-#[cfg(test)]
-mod tests;

@@ -37,7 +37,8 @@ fn read_name<'source>(cursor: &mut Cursor<'source>) -> Option<Spanned<Var<'sourc
     ensures name { IfSome result (λ v. v.node.id.now ≡ take_while name_part cursor.old.rest.now) }
     ensures free { IfSome result (λ v. reserved v.node.id.now ≡ false) }
     ensures rest { IfSome result (λ v. cursor.new.rest.now ≡ drop (prefix_len name_part cursor.old.rest.now) cursor.old.rest.now) }
-    ensures none { IfNone result ((name_start (slice_index cursor.old.rest.now 0) ≡ false) ⊎ (reserved (take_while name_part cursor.old.rest.now) ≡ true)) }
+    ensures none { IfNone result ((name_start (slice_index cursor.old.rest.now 0) ≡ false)
+        ⊎ (reserved (take_while name_part cursor.old.rest.now) ≡ true)) }
 {
     if !begins_name(cursor.rest.as_bytes()) {
         return None;

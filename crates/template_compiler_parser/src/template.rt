@@ -4,7 +4,7 @@ ghost use Rattle.std.specs.Str.{IsCharBoundary};
 ghost use Rattle.template_compiler_grammar.specs.Grammar.{IsTemplate, data_statements};
 ghost use Rattle.template_compiler_grammar.specs.Reader.{inside_of, step_of, read_from};
 ghost use Rattle.template_compiler_grammar.specs.Segments.{IsFirstStart, plain, sign_text, strip_end, strip_start};
-ghost use Rattle.template_compiler_parser.specs.Refusals.{IsAlone, IsRefusal};
+ghost use Rattle.template_compiler_parser.specs.Refusals.{IsAlone, RefusesSource};
 ghost use Rattle.template_compiler_parser.specs.Signs.{sign_view};
 ghost use Rattle.template_compiler_parser.specs.Steps.{IsRefused, TakesPrint, TakesStep};
 ghost use Rattle.template_compiler_tree.specs.Tree.{Statement};
@@ -30,7 +30,7 @@ pub fn parse<'source>(
     ensures found { IfOk result (λ template. IsTemplate source.now (tree_of template.node)) }
     ensures complete { (tree : List Statement) → IsTemplate source.now tree → length source.now < 2 ^ 32 →
         MatchResult result (λ template. tree_of template.node ≡ tree) (IsAlone ErrorKind.OutOfMemory) }
-    ensures refused { IfErr result (IsRefusal source.now) }
+    ensures refused { IfErr result (RefusesSource source.now) }
     ensures too_large { 2 ^ 32 ≤ length source.now → IsErrAnd result (IsAlone ErrorKind.TooLarge) }
 {
     if source.len() > u32::MAX as usize {
@@ -64,7 +64,8 @@ fn read_step<'source>(
     left: Sign,
     children: &mut Vec<Stmt<'source>>,
 ) -> Result<Option<Sign>, Error>
-    ensures { TakesStep (step_of (sign_view left) cursor.old.rest.now) (map statement_of children.old.items) (map statement_of children.new.items) cursor.new.rest.now result }
+    ensures { TakesStep (step_of (sign_view left) cursor.old.rest.now) (map statement_of children.old.items)
+        (map statement_of children.new.items) cursor.new.rest.now result }
 {
     match find_start(cursor.rest.as_bytes()) {
         Some(start) => read_segment(cursor, start, left, children),
@@ -83,7 +84,8 @@ fn read_segment<'source>(
     children: &mut Vec<Stmt<'source>>,
 ) -> Result<Option<Sign>, Error>
     requires { IsFirstStart cursor.old.rest.now start }
-    ensures { TakesStep (step_of (sign_view left) cursor.old.rest.now) (map statement_of children.old.items) (map statement_of children.new.items) cursor.new.rest.now result }
+    ensures { TakesStep (step_of (sign_view left) cursor.old.rest.now) (map statement_of children.old.items)
+        (map statement_of children.new.items) cursor.new.rest.now result }
 {
     if !starts_print(cursor.rest.as_bytes(), start) {
         return Err(Error::new(ErrorKind::SyntaxError));
@@ -104,7 +106,8 @@ fn read_data<'source>(
 ) -> Result<(), Error>
     requires { IsCharBoundary cursor.old.rest.now count }
     ensures rest { cursor.new.rest.now ≡ drop count cursor.old.rest.now }
-    ensures ok { OnOk result (map statement_of children.new.items ≡ map statement_of children.old.items ++ data_statements (strip_end (sign_view right) (strip_start (sign_view left) (take count cursor.old.rest.now)))) }
+    ensures ok { OnOk result (map statement_of children.new.items ≡ map statement_of children.old.items ++ data_statements
+        (strip_end (sign_view right) (strip_start (sign_view left) (take count cursor.old.rest.now)))) }
     ensures err { IfErr result (IsAlone ErrorKind.OutOfMemory) }
 {
     let (data, rest) = cursor.rest.split_at(count);
@@ -131,7 +134,8 @@ fn read_print<'source>(
     children: &mut Vec<Stmt<'source>>,
 ) -> Result<Sign, Error>
     requires { IsCharBoundary cursor.old.rest.now (2 + length (sign_text (sign_view first))) }
-    ensures { TakesPrint (inside_of (drop (2 + length (sign_text (sign_view first))) cursor.old.rest.now)) (map statement_of children.old.items) (map statement_of children.new.items) cursor.new.rest.now result }
+    ensures { TakesPrint (inside_of (drop (2 + length (sign_text (sign_view first))) cursor.old.rest.now))
+        (map statement_of children.old.items) (map statement_of children.new.items) cursor.new.rest.now result }
 {
     let start = cursor.place;
     cursor.take(2 + first.width());
@@ -152,7 +156,8 @@ fn push_statement<'source>(
     children: &mut Vec<Stmt<'source>>,
     statement: Stmt<'source>,
 ) -> Result<(), Error>
-    ensures ok { OnOk result (map statement_of children.new.items ≡ map statement_of children.old.items ++ (statement_of statement.entry ∷ [])) }
+    ensures ok { OnOk result (map statement_of children.new.items ≡ map statement_of children.old.items ++
+        (statement_of statement.entry ∷ [])) }
     ensures err { IfErr result (IsAlone ErrorKind.OutOfMemory) }
 {
     match children.push(statement) {

@@ -1,5 +1,5 @@
 -- `Below` by its constructors, so that it can stay shut elsewhere.
-use Rattle.std.proofs.Common.{◌≡◌, List, refl, arith}
+use Rattle.std.proofs.Common.{List, refl, arith}
 use Rattle.template_values_model.specs.Val.{Val}
 use Rattle.template_compiler_process.specs.Process.{Ask, Answer, done, value, Process, over, step, asks, amiss, cut_short, stuck, on_done, on_value, Below}
 

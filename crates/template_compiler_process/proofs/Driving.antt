@@ -1,11 +1,9 @@
 -- Processes that are below one another are driven alike, and run alike.
-use Rattle.std.proofs.Common.{◌≡◌, List, [], ◌∷◌, refl, ap, subst, arith}
-use Rattle.template_values_errors.specs.declared.ErrorKind.{ErrorKind}
-use Rattle.template_values_model.specs.Val.{Val}
-use Rattle.template_compiler_process.specs.Process.{Ask, Answer, Told, tells, fails, breaks_off, Process, over, step, asks, amiss, cut_short, stuck, Below}
+use Rattle.std.proofs.Common.{◌≡◌, [], ◌∷◌, refl, ap, subst, arith}
+use Rattle.template_compiler_process.specs.Process.{Ask, Answer, Told, tells, fails, breaks_off, over, step, asks, amiss, cut_short, stuck, Below}
 use Rattle.template_compiler_process.specs.Drive as drives
 use Rattle.template_compiler_process.specs.Drive.{Driven, drive, marked, asked, End, ends, faults, breaks, waits, IsUncut}
-use Rattle.template_compiler_process.specs.Trace.{Item, Run, Reply, run, behind, ended, replied, go_on, paid}
+use Rattle.template_compiler_process.specs.Trace.{Run, run, behind, go_on, paid}
 use Rattle.template_compiler_process.specs.Laws.{DrivenAlike, RunAlike}
 
 pub driven_alike : DrivenAlike

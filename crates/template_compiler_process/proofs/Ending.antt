@@ -1,9 +1,8 @@
 -- Whole processes come to proper ends.
-use Rattle.std.proofs.Common.{◌≡◌, List, [], ◌∷◌}
-use Rattle.template_compiler_process.specs.Process.{Ask, Answer, Told, tells, fails, breaks_off, Process, over, step, asks, amiss, cut_short, stuck}
-use Rattle.template_compiler_process.specs.Drive.{drive, End, ends, faults, breaks, waits, mistaken, cuts, sticks}
-use Rattle.template_compiler_process.specs.Trace.{Run, Reply, run, go_on}
-use Rattle.template_compiler_process.specs.Whole.{IsWhole, IsProper}
+use Rattle.std.proofs.Common.{[], ◌∷◌}
+use Rattle.template_compiler_process.specs.Process.{Answer, Told, tells, fails, breaks_off, over, step, asks, amiss, cut_short, stuck}
+use Rattle.template_compiler_process.specs.Trace.{Run, run, go_on}
+use Rattle.template_compiler_process.specs.Whole.{IsProper}
 use Rattle.template_compiler_process.specs.Laws.{DrivenWhole, RunWhole}
 
 pub driven_whole : DrivenWhole

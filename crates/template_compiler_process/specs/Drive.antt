@@ -2,7 +2,7 @@
 use Rattle.std.specs.Prelude.{List, [], ◌∷◌}
 use Rattle.template_values_errors.specs.declared.ErrorKind.{ErrorKind}
 use Rattle.template_values_model.specs.Val.{Val}
-use Rattle.template_compiler_process.specs.Process.{Ask, Answer, Told, tells, fails, breaks_off, Process, over, step, asks, amiss, cut_short, stuck}
+use Rattle.template_compiler_process.specs.Process.{Ask, Told, tells, fails, breaks_off, Process, over, step, asks, amiss, cut_short, stuck}
 
 -- what a process does in turn: a priced step, or an event
 pub data Mark : Type 0 where

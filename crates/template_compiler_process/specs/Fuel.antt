@@ -1,5 +1,5 @@
 -- What a fuel leaves of a run.
-use Rattle.std.specs.Prelude.{ℕ, ◌-◌, Bool, true, false, nat_le, List, [], ◌∷◌, ◌++◌, Option, None, Some, zero, suc, if◌then◌else◌}
+use Rattle.std.specs.Prelude.{ℕ, ◌-◌, nat_le, List, [], ◌∷◌, ◌++◌, Option, None, Some, zero, suc, if◌then◌else◌}
 use Rattle.template_values_errors.specs.declared.ErrorKind.{ErrorKind}
 use Rattle.template_values_errors.specs.declared.ErrorKind.TheVariants.{OutOfFuel}
 use Rattle.template_compiler_process.specs.Drive.{faults}

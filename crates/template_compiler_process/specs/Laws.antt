@@ -21,7 +21,8 @@ DrivenAlike = (p q : Process) (told : List Told) → Below p q → IsUncut (driv
 
 -- Run under the same surroundings, the two leave the same trace and come to the same end.
 abbrev pub RunAlike : Type 0 → Type 0
-RunAlike S = (answer : S → Ask → Reply S) (p q : Process) (s : S) → Below p q → IsUncut (run answer p s).end → run answer q s ≡ run answer p s
+RunAlike S = (answer : S → Ask → Reply S) (p q : Process) (s : S) → Below p q → IsUncut (run answer p s).end
+    → run answer q s ≡ run answer p s
 
 -- A whole process comes to a proper end, whatever is told.
 abbrev pub DrivenWhole : Type 0

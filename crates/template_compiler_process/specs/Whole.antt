@@ -1,7 +1,7 @@
 -- Processes that always come to a proper end.
-use Rattle.std.specs.Prelude.{◌≢◌, List}
-use Rattle.template_compiler_process.specs.Process.{Answer, Told, Process, over, step, asks, amiss, cut_short, stuck}
-use Rattle.template_compiler_process.specs.Drive.{drive, End, sticks, IsUncut}
+use Rattle.std.specs.Prelude.{◌≢◌}
+use Rattle.template_compiler_process.specs.Process.{Answer, Process, over, step, asks, amiss, cut_short, stuck}
+use Rattle.template_compiler_process.specs.Drive.{End, sticks, IsUncut}
 
 -- whatever is answered, the process comes neither to its bound nor to an operand that lacks
 abbrev pub IsWhole : Process → Type 0

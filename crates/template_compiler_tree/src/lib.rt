@@ -8,18 +8,26 @@ ghost use Rattle.std.specs.Prelude.{◌≡◌};
 /// them; both stop at 65535. Offsets are in bytes.
 #[derive(Clone, Copy, Debug, Default, PartialEq, Eq)]
 pub struct Span {
+    /// The line that it starts in, from 1 on.
     pub start_line: u16,
+    /// The characters before its start in that line.
     pub start_col: u16,
+    /// The bytes of the source before its start.
     pub start_offset: u32,
+    /// The line that it ends in.
     pub end_line: u16,
+    /// The characters before its end in that line.
     pub end_col: u16,
+    /// The bytes of the source before its end.
     pub end_offset: u32,
 }
 
 /// A node and the stretch of the source that it was read from.
 #[derive(Debug, Drop)]
 pub struct Spanned<T> {
+    /// The node.
     pub node: T,
+    /// Where it was read from.
     pub span: Span,
 }
 
@@ -36,6 +44,7 @@ impl<T> Spanned<T> {
 /// A whole template: its statements in order.
 #[derive(Debug, Drop)]
 pub struct Template<'source> {
+    /// The statements, as they stand in the source.
     pub children: Vec<Stmt<'source>>,
 }
 
@@ -51,12 +60,14 @@ pub enum Stmt<'source> {
 /// `{{ expr }}`.
 #[derive(Debug, Drop)]
 pub struct EmitExpr<'source> {
+    /// What is printed.
     pub expr: Expr<'source>,
 }
 
 /// A text between the other segments.
 #[derive(Debug, Drop)]
 pub struct EmitRaw<'source> {
+    /// The text, less what the signs beside it take off.
     pub raw: &'source str,
 }
 
@@ -70,5 +81,6 @@ pub enum Expr<'source> {
 /// A name.
 #[derive(Debug, Drop)]
 pub struct Var<'source> {
+    /// The name as it stands in the source.
     pub id: &'source str,
 }

@@ -10,7 +10,8 @@ use Rattle.template_machine_run.specs.Runs.{ComesOut, EndsAs}
 
 -- The call answers as the run ends, and the sink, which had taken `before`, took its text as well. Or a
 -- growth was refused, or the sink failed, and it took a beginning of the text.
-pub record Renders {X : Type 0} (result : Result X (List ErrorKind)) (before after : Option (List ℕ)) (failed fails : ℕ) (r : Run World) : Type 0 where
+pub record Renders {X : Type 0} (result : Result X (List ErrorKind)) (before after : Option (List ℕ)) (failed fails : ℕ)
+    (r : Run World) : Type 0 where
   pub outcome : ComesOut result r
   pub text : EndsAs result r → Appends before after (text_of r.items)
   pub beginning : AppendsBeginning before after (text_of r.items)

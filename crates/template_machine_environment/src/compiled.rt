@@ -1,5 +1,5 @@
 //! Templates that were accepted.
-ghost use Rattle.std.specs.Prelude.{◌≡◌, ℕ, List, ◌∷◌, [], ◌⊎◌, ◌↔◌, IsTrue, IfOk, IfErr, OnOk, Option};
+ghost use Rattle.std.specs.Prelude.{◌≡◌, ℕ, List, ◌∷◌, [], ◌⊎◌, ◌↔◌, IsTrue, IfOk, IfErr, OnOk, OnErr, Option};
 ghost use Rattle.std.specs.Option.{option_map};
 ghost use Rattle.template_compiler_tree.specs.Tree.{Statement};
 ghost use Rattle.template_compiler_grammar.specs.Grammar.{IsTemplate};
@@ -10,6 +10,7 @@ ghost use Rattle.template_machine_environment.specs.Rendering.{Renders};
 ghost use Rattle.std.specs.BTreeSet.{contains_text};
 ghost use Rattle.template_machine_environment.specs.Addition.{IsAccepted, IsRefusedWith};
 ghost use Rattle.template_machine_escape.specs.Rule.{IsRuleOf};
+ghost use Rattle.template_compiler_names.specs.Used.{GrowsBy};
 
 use std::alloc::Global;
 use std::collections::BTreeSet;
@@ -41,10 +42,12 @@ impl<'source> Model for CompiledTemplate<'source> {
 
     ghost use Rattle.template_machine_environment.specs.Kept.{IsFaithful};
     ghost use Rattle.template_machine_escape.specs.Rule.{IsRuleOf};
+    ghost use Rattle.template_machine_run.specs.declared.verified.StreamKind.TheVariants.{Template};
 
     ghost view = { λ t. record { name = t.instructions.instructions.name; source = t.instructions.instructions.source } };
 
-    ghost invariant = { λ t. IsFaithful t.instructions.instructions × IsRuleOf t.instructions.instructions.name t.initial_auto_escape };
+    ghost invariant = { λ t. IsFaithful t.instructions.instructions
+        × IsRuleOf t.instructions.instructions.name t.initial_auto_escape × (t.instructions.kind ≡ Template) };
 }
 
 impl<'source> CompiledTemplate<'source> {
@@ -101,10 +104,12 @@ impl<'source> CompiledTemplate<'source> {
     ///
     /// # Errors
     ///
-    /// [`ErrorKind::OutOfMemory`]; then some of the names may be there.
+    /// [`ErrorKind::OutOfMemory`]; then the set has its old names, and some of those that the template uses.
     pub fn add_undeclared(&self, alloc: Global, names: &mut BTreeSet<String>) -> Result<(), Error>
-        ensures added { OnOk result ((q : List ℕ) → IsTrue (contains_text names.new q) ↔ (IsTrue (contains_text names.old q) ⊎ UsesName self.now.source q)) }
+        ensures added { OnOk result ((q : List ℕ) → IsTrue (contains_text names.new q)
+            ↔ (IsTrue (contains_text names.old q) ⊎ UsesName self.now.source q)) }
         ensures refused { IfErr result (λ kinds. kinds ≡ ErrorKind.OutOfMemory ∷ []) }
+        ensures partial { OnErr result (GrowsBy (UsesName self.now.source) names.old names.new) }
     {
         let source = self.instructions.instructions().source();
         let template = parse(alloc, source)?;
@@ -131,8 +136,10 @@ impl<'source> CompiledTemplate<'source> {
         // The text and the end are those of each tree of the source (it has one), under the escape of the
         // name (it has one).
         ensures renders { (rule : AutoEscape) → IsRuleOf self.now.name rule → (tree : List Statement) → IsTemplate self.now.source tree →
-            Renders result (S.taken sink.old) (S.taken sink.new) (S.failures sink.old) (S.failures sink.new) (rendered rule fuel tree context.now) }
-        ensures remains { IfOk result (λ left. (rule : AutoEscape) → IsRuleOf self.now.name rule → (tree : List Statement) → IsTemplate self.now.source tree →
+            Renders result (S.taken sink.old) (S.taken sink.new) (S.failures sink.old) (S.failures sink.new)
+            (rendered rule fuel tree context.now) }
+        ensures remains { IfOk result (λ left. (rule : AutoEscape) → IsRuleOf self.now.name rule → (tree : List Statement)
+            → IsTemplate self.now.source tree →
             fuel_left left ≡ option_map (λ n. remaining n (meaning rule tree context.now)) fuel) }
         ensures given { IfOk result (λ left. fuel_set left ≡ fuel) }
     {

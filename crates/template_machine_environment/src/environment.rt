@@ -32,7 +32,7 @@ pub struct Environment<'source> {
 }
 
 impl<'source> Environment<'source> {
-    ghost use Rattle.template_machine_environment.specs.Standing.{source_at, IsUnchanged};
+    ghost use Rattle.template_machine_environment.specs.Standing.{environment_fuel, environment_id, source_at, IsUnchanged};
     ghost use Rattle.template_machine_environment.specs.Names.{AgreeAt, IsListed, IsUsedByOne};
     ghost use Rattle.template_machine_environment.specs.Views.{environment_of, name_of, source_of};
 
@@ -43,8 +43,8 @@ impl<'source> Environment<'source> {
     /// [`ErrorKind::InvalidOperation`] where no state id is left.
     pub fn new(alloc: Global, ids: &mut StateIds) -> Result<Environment<'source>, Error>
         ensures empty { IfOk result (λ e. (name : List ℕ) → source_at e name ≡ None) }
-        ensures no_fuel { IfOk result (λ e. e.fuel ≡ None) }
-        ensures id { IfOk result (λ e. e.id ≡ ids.old) }
+        ensures no_fuel { IfOk result (λ e. environment_fuel e ≡ None) }
+        ensures id { IfOk result (λ e. environment_id e ≡ ids.old) }
         ensures had_one { OnOk result (ids.old ≢ u64.MAX) }
         ensures counted { OnOk result (ids.new ≡ ids.old + 1) }
         ensures refused { IfErr result (λ kinds. (kinds ≡ ErrorKind.InvalidOperation ∷ []) × (ids.old ≡ u64.MAX) × (ids.new ≡ ids.old)) }
@@ -68,9 +68,10 @@ impl<'source> Environment<'source> {
     /// as before.
     pub fn add_template(&mut self, name: &'source str, source: &'source str) -> Result<(), Error>
         ensures accepted { OnOk result (IsAccepted source.now) }
-        ensures stands { OnOk result ((q : List ℕ) → source_at self.new q ≡ (if bytes_eq name.now q then Some source.now else source_at self.old q)) }
-        ensures fuel { self.new.fuel ≡ self.old.fuel }
-        ensures id { self.new.id ≡ self.old.id }
+        ensures stands { OnOk result ((q : List ℕ)
+            → source_at self.new q ≡ (if bytes_eq name.now q then Some source.now else source_at self.old q)) }
+        ensures fuel { environment_fuel self.new ≡ environment_fuel self.old }
+        ensures id { environment_id self.new ≡ environment_id self.old }
         ensures refused { IfErr result (IsRefusedWith source.now) }
         ensures unchanged { OnErr result (IsUnchanged self.old self.new) }
     {
@@ -86,16 +87,16 @@ impl<'source> Environment<'source> {
 
     /// Sets the fuel of each render from now on, or takes it away.
     pub fn set_fuel(&mut self, fuel: Option<u64>)
-        ensures set { self.new.fuel ≡ fuel }
+        ensures set { environment_fuel self.new ≡ fuel }
         ensures sources { (name : List ℕ) → source_at self.new name ≡ source_at self.old name }
-        ensures id { self.new.id ≡ self.old.id }
+        ensures id { environment_id self.new ≡ environment_id self.old }
     {
         self.fuel = fuel;
     }
 
     /// The fuel of each render, if one is set.
     pub fn fuel(&self) -> Option<u64>
-        ensures { result ≡ self.now.fuel }
+        ensures { result ≡ environment_fuel self.now }
     {
         self.fuel
     }
@@ -133,10 +134,12 @@ impl<'source> Environment<'source> {
     ///
     /// [`ErrorKind::OutOfMemory`].
     pub fn context_names(&self, template: &Template<'_, 'source>) -> Result<BTreeSet<String>, Error>
-        ensures listed { IfOk result (λ names. (name : List ℕ) → IsTrue (contains_text names name) ↔ IsListed self.now (source_of template.now) name) }
+        ensures listed { IfOk result (λ names. (name : List ℕ) → IsTrue (contains_text names name)
+            ↔ IsListed self.now (source_of template.now) name) }
 
         // Contexts that agree at these names give the same bytes, end and price, under every escape.
-        ensures isolated { IfOk result (λ names. (c d : Val) → AgreeAt names c d → (rule : AutoEscape) → (tree : List Statement) → IsTemplate (source_of template.now) tree →
+        ensures isolated { IfOk result (λ names. (c d : Val) → AgreeAt names c d → (rule : AutoEscape) → (tree : List Statement)
+            → IsTemplate (source_of template.now) tree →
             (fuel : Option ℕ) → IsSameRun (rendered rule fuel tree c) (rendered rule fuel tree d)) }
         ensures refused { IfErr result (λ kinds. kinds ≡ ErrorKind.OutOfMemory ∷ []) }
     {
@@ -149,7 +152,8 @@ impl<'source> Environment<'source> {
 
     // Adds the names that the templates that stand use.
     fn add_standing(&self, names: &mut BTreeSet<String>) -> Result<(), Error>
-        ensures added { OnOk result ((name : List ℕ) → IsTrue (contains_text names.new name) ↔ (IsTrue (contains_text names.old name) ⊎ IsUsedByOne self.now name)) }
+        ensures added { OnOk result ((name : List ℕ) → IsTrue (contains_text names.new name)
+            ↔ (IsTrue (contains_text names.old name) ⊎ IsUsedByOne self.now name)) }
         ensures refused { IfErr result (λ kinds. kinds ≡ ErrorKind.OutOfMemory ∷ []) }
     {
         for (_name, compiled) in &self.templates {

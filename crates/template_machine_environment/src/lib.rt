@@ -5,8 +5,6 @@ mod common;
 mod compiled;
 mod environment;
 mod template;
-#[cfg(test)]
-mod tests;
 
 pub use compiled::CompiledTemplate;
 pub use environment::Environment;

@@ -38,7 +38,7 @@ pub struct State {
 }
 
 impl<'env, 'source> Template<'env, 'source> {
-    ghost use Rattle.template_machine_environment.specs.Views.{fuel_given, fuel_of, fuel_remaining, name_of, source_of};
+    ghost use Rattle.template_machine_environment.specs.Views.{fuel_given, fuel_of, fuel_remaining, name_of, source_of, state_id, state_of};
 
     /// The template's name.
     pub fn name(&self) -> &'source str
@@ -62,8 +62,8 @@ impl<'env, 'source> Template<'env, 'source> {
     }
 
     /// Renders the template over a context, under the escape of its name and the fuel of its environment,
-    /// and writes the text into a sink as it comes. Takes time linear in the source and in what is written, and a look-up in the
-    /// context for each print.
+    /// and writes the text into a sink as it comes. Takes time linear in the source and in what is written,
+    /// and a look-up in the context for each print.
     ///
     /// # Errors
     ///
@@ -79,14 +79,18 @@ impl<'env, 'source> Template<'env, 'source> {
     ) -> Result<Captured, Error>
         // The text and the end are those of each tree of the source (it has one), under the escape of the
         // name (it has one).
-        ensures renders { ids.old ≢ u64.MAX → (rule : AutoEscape) → IsRuleOf (name_of self.now) rule → (tree : List Statement) → IsTemplate (source_of self.now) tree →
-            Renders result (S.taken sink.old) (S.taken sink.new) (S.failures sink.old) (S.failures sink.new) (rendered rule (fuel_of self.now) tree context) }
-        ensures remains { IfOk result (λ captured. (rule : AutoEscape) → IsRuleOf (name_of self.now) rule → (tree : List Statement) → IsTemplate (source_of self.now) tree →
-            fuel_remaining captured.state ≡ option_map (λ n. remaining n (meaning rule tree context)) (fuel_of self.now)) }
-        ensures given { IfOk result (λ captured. fuel_given captured.state ≡ fuel_of self.now) }
-        ensures id { IfOk result (λ captured. captured.state.id ≡ ids.old) }
+        ensures renders { ids.old ≢ u64.MAX → (rule : AutoEscape) → IsRuleOf (name_of self.now) rule → (tree : List Statement)
+            → IsTemplate (source_of self.now) tree →
+            Renders result (S.taken sink.old) (S.taken sink.new) (S.failures sink.old) (S.failures sink.new)
+            (rendered rule (fuel_of self.now) tree context) }
+        ensures remains { IfOk result (λ captured. (rule : AutoEscape) → IsRuleOf (name_of self.now) rule
+            → (tree : List Statement) → IsTemplate (source_of self.now) tree →
+            fuel_remaining (state_of captured) ≡ option_map (λ n. remaining n (meaning rule tree context)) (fuel_of self.now)) }
+        ensures given { IfOk result (λ captured. fuel_given (state_of captured) ≡ fuel_of self.now) }
+        ensures id { IfOk result (λ captured. state_id (state_of captured) ≡ ids.old) }
         ensures counted { ids.old ≢ u64.MAX → ids.new ≡ ids.old + 1 }
-        ensures exhausted { ids.old ≡ u64.MAX → (result ≡ Err (ErrorKind.InvalidOperation ∷ [])) × (sink.new ≡ sink.old) × (ids.new ≡ ids.old) }
+        ensures exhausted { ids.old ≡ u64.MAX → (result ≡ Err (ErrorKind.InvalidOperation ∷ [])) × (sink.new ≡ sink.old)
+            × (ids.new ≡ ids.old) }
     {
         let id = ids.next()?;
         let fuel = self.compiled.render(
@@ -102,9 +106,11 @@ impl<'env, 'source> Template<'env, 'source> {
 }
 
 impl Captured {
+    ghost use Rattle.template_machine_environment.specs.Views.{state_of};
+
     /// The state that the render left.
     pub fn state(&self) -> &State
-        ensures { result.now ≡ self.now.state }
+        ensures { result.now ≡ state_of self.now }
     {
         &self.state
     }

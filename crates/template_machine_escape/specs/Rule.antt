@@ -26,7 +26,8 @@ IsExtensionOf stem extension =
 abbrev pub rule_of_extension : List ℕ → AutoEscape
 rule_of_extension e =
     if bytes_eq e (codes "html") || bytes_eq e (codes "htm") || bytes_eq e (codes "xml") then Html
-    else (if bytes_eq e (codes "json") || bytes_eq e (codes "json5") || bytes_eq e (codes "js") || bytes_eq e (codes "yaml") || bytes_eq e (codes "yml") then Json
+    else (if bytes_eq e (codes "json") || bytes_eq e (codes "json5") || bytes_eq e (codes "js")
+    || bytes_eq e (codes "yaml") || bytes_eq e (codes "yml") then Json
     else None)
 
 -- the escape of a name

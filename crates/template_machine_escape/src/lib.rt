@@ -9,7 +9,7 @@ use template_values_modes::AutoEscape;
 /// The escape of a template by its name: after one final `.j2`, `.jinja2` or `.jinja` is taken away,
 /// what follows the last dot decides (the whole name, where it has none). `html`, `htm` and `xml` are
 /// [`AutoEscape::Html`], `json`, `json5`, `js`, `yaml` and `yml` are [`AutoEscape::Json`], all else is
-/// [`AutoEscape::None`].
+/// [`AutoEscape::None`]. Takes time linear in the name, and no memory.
 pub fn default_auto_escape_callback(name: &str) -> AutoEscape
     ensures { IsRuleOf name.now result }
 {

@@ -28,8 +28,11 @@ impl StateIds {
         StateIds { following: first }
     }
 
-    /// The next number. `u64::MAX` is never given: there, and from then on, this is refused with
-    /// [`ErrorKind::InvalidOperation`] alone.
+    /// The next number. `u64::MAX` is never given.
+    ///
+    /// # Errors
+    ///
+    /// [`ErrorKind::InvalidOperation`] alone where none but `u64::MAX` is left, and from then on.
     pub fn next(&mut self) -> Result<u64, Error>
         ensures given { IfOk result (λ id. id ≡ self.old) }
         ensures advanced { OnOk result (self.new ≡ self.old + 1) }

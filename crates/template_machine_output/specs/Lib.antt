@@ -1,3 +1,4 @@
+pub mod Answered
 pub mod Failures
 pub mod Wrapper
 pub mod Writes

@@ -11,7 +11,7 @@ mod tests;
 mod wrapper;
 
 use template_values_errors::{Error, ErrorKind};
-pub use wrapper::WriteWrapper;
+pub use wrapper::{WriteWrapper, Writer};
 
 /// Why a sink took no more.
 #[derive(Clone, Copy, Debug, PartialEq, Eq)]
@@ -118,7 +118,9 @@ fn rest_after(bytes: &[u8], count: usize) -> &[u8]
     bytes.split_at(count).1
 }
 
-/// Puts a whole text into a sink, by as many calls of [`Sink::put`] as it needs.
+/// Puts a whole text into a sink, by as many calls of [`Sink::put`] as it needs: one, and one more for
+/// each piece that the sink took short. No byte is copied, none is handed in again once it is taken, and
+/// no memory is taken but by the sink.
 ///
 /// # Errors
 ///

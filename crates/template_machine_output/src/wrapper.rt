@@ -1,8 +1,11 @@
 // A sink over a writer.
-ghost use Rattle.std.specs.Prelude.{◌≡◌, ◌≢◌, ◌+◌, ◌≤◌, ◌∷◌, [], Err, None, length, IfOk, OnSome, IfNone, IsErrOf, IsSomeAnd};
+ghost use Rattle.std.specs.Prelude.{◌≡◌, ◌≢◌, ℕ, ◌+◌, ◌≤◌, ◌∷◌, [], List, Option, Result, Err, None, length, IfOk, OnSome, IfNone, IsErrOf, IsSomeAnd};
+ghost use Rattle.std.specs.Io.{WritesAtMost};
 ghost use Rattle.std.specs.Io.KnownBytes.{WriteAppends};
 ghost use Rattle.std.specs.IoError.{error_kind};
+ghost use Rattle.std.specs.declared.io.Error.{Error as IoError};
 ghost use Rattle.std.specs.declared.io.ErrorKind.{ErrorKind as IoKind};
+ghost use Rattle.template_machine_output.specs.Answered.{AnswersOnce, PassesOn};
 ghost use Rattle.template_machine_output.specs.Failures.{failures_in};
 ghost use Rattle.template_machine_output.specs.Wrapper.{failure_count};
 
@@ -10,10 +13,41 @@ use super::{Sink, SinkFault};
 use std::io;
 use template_values_errors::{Error, ErrorKind};
 
+/// A writer that may tell, beside the bytes that it holds, what it answered to each write. Every
+/// [`io::Write`] is one, and tells none of its answers: so what is proved over all writers holds
+/// whatever they answer.
+pub trait Writer {
+    // The bytes that the writer holds, where they are known.
+    ghost contents: { Self → Option (List ℕ) };
+
+    // What it answered to the writes so far, where it tells.
+    ghost answers: { Self → Option (List (Result ℕ IoError)) };
+
+    /// Writes a beginning of `bytes`, once; how many bytes were taken.
+    ///
+    /// # Errors
+    ///
+    /// Those of the writer.
+    fn write_piece(&mut self, bytes: &[u8]) -> io::Result<usize>
+        ensures bound { WritesAtMost result bytes.now }
+        ensures bytes { WriteAppends (contents self.old) (contents self.new) result bytes.now }
+        ensures told { AnswersOnce (answers self.old) (answers self.new) (λ answer. answer ≡ result) };
+}
+
+impl<W: io::Write> Writer for W {
+    ghost contents = { λ writer. W.contents writer };
+
+    ghost answers = { λ _. None };
+
+    fn write_piece(&mut self, bytes: &[u8]) -> io::Result<usize> {
+        self.write(bytes)
+    }
+}
+
 /// A sink over a writer, whose last error it keeps. It takes and tells what the writer takes and
 /// tells.
 #[derive(Drop)]
-pub struct WriteWrapper<W: io::Write> {
+pub struct WriteWrapper<W: Writer> {
     /// The writer.
     pub w: W,
     /// The last error of the writer, but for want of memory.
@@ -21,7 +55,7 @@ pub struct WriteWrapper<W: io::Write> {
     failed: u64,
 }
 
-impl<W: io::Write> WriteWrapper<W> {
+impl<W: Writer> WriteWrapper<W> {
     /// A sink over `w` that has met no failure.
     pub fn new(w: W) -> WriteWrapper<W>
         ensures writer { result.w ≡ w }
@@ -49,7 +83,10 @@ impl<W: io::Write> WriteWrapper<W> {
     }
 }
 
-impl<W: io::Write> Sink for WriteWrapper<W> {
+/// Hands each piece to the writer, once. Want of memory is told as [`SinkFault::Memory`]; every other
+/// error, an interrupted write among them, is kept in `err` and told as [`SinkFault::Device`]. A wrapper
+/// that has failed `u64::MAX` times writes no more, and wants memory.
+impl<W: Writer> Sink for WriteWrapper<W> {
     ghost taken = { λ s. W.contents s.w };
 
     ghost failures = { failure_count };
@@ -61,16 +98,20 @@ impl<W: io::Write> Sink for WriteWrapper<W> {
         ensures bytes { WriteAppends (W.contents self.old.w) (W.contents self.new.w) result bytes.now }
         ensures counted { failure_count self.new ≡ failure_count self.old + failures_in result bytes.now }
 
-        // Beyond the trait: what becomes of an error of the writer, and of a full count.
+        // Beyond the trait: one write is made, and its answer decides; a full count makes none.
+        ensures answered { failure_count self.old ≢ u64.MAX → AnswersOnce (W.answers self.old.w) (W.answers self.new.w)
+            (PassesOn result self.old.err self.new.err) }
+        ensures full { failure_count self.old ≡ u64.MAX → (result ≡ Err SinkFault.Memory) × (self.new ≡ self.old) }
+
+        // The same of `err`, of writers that tell no answers too.
         ensures error { IsErrOf result SinkFault.Device
             → IsSomeAnd self.new.err (λ error. error_kind error ≢ IoKind.OutOfMemory) }
         ensures no_error { result ≢ Err SinkFault.Device → self.new.err ≡ self.old.err }
-        ensures full { failure_count self.old ≡ u64.MAX → (result ≡ Err SinkFault.Memory) × (self.new ≡ self.old) }
     {
         if self.failed == u64::MAX {
             return Err(SinkFault::Memory);
         }
-        match self.w.write(bytes) {
+        match self.w.write_piece(bytes) {
             Ok(count) => {
                 if count == 0 && !bytes.is_empty() {
                     self.failed += 1;

@@ -1,5 +1,5 @@
+pub mod StreamKinds
 pub mod Depths
-pub mod Refusals
 pub mod Acting
 pub mod Printing
 pub mod Showing

@@ -1,5 +1,5 @@
 -- How far the loop over the instructions has come.
-use Rattle.std.proofs.Common.{◌≡◌, ℕ, ◌+◌, ◌-◌, zero, suc, List, [], ◌∷◌, Option, None, Some, Result, Ok, Err, length, refl, sym, ap, subst, ◌∙◌, inl, inr, arith}
+use Rattle.std.proofs.Common.{◌≡◌, ℕ, ◌+◌, ◌-◌, zero, suc, List, [], ◌∷◌, Option, None, Some, Result, Ok, Err, IsErrAnd, length, refl, sym, ap, subst, ◌∙◌, inl, inr, arith}
 use Rattle.std.specs.List.{slice_get}
 use Rattle.std.specs.Option.{option_map}
 use Rattle.std.proofs.lemmas.Option.{slice_get_within}
@@ -16,7 +16,7 @@ use Rattle.template_compiler_process.specs.Trace as trace
 use Rattle.template_compiler_process.specs.Trace.{Item, paid, Run, run, behind, ended, text_of}
 use Rattle.template_compiler_code.specs.Code.{Code, emit_raw, lookup, emit}
 use Rattle.template_compiler_code.specs.Steps.{act, exec}
-use Rattle.template_compiler_code.specs.Prices.{price_of}
+use Rattle.template_compiler_code.specs.Prices.{charge_of}
 use Rattle.template_machine_output.specs.Writes.{AppendsBeginning}
 use Rattle.template_machine_output.proofs.Beginnings.{beginning_whole}
 use Rattle.template_machine_world.specs.World.{World, first_world}
@@ -24,8 +24,8 @@ use Rattle.template_machine_world.specs.Surroundings.{answer}
 use Rattle.template_machine_run.specs.Acts.{Acts, run_at}
 use Rattle.template_machine_run.specs.Outcomes.{IsWant, TellsFailures}
 use Rattle.template_machine_run.specs.Runs.{free_run, code_run, code_leaves, ComesOut, EndsAs, IsOver}
-use Rattle.template_machine_run.specs.Tanks.{Pays}
-use Rattle.template_machine_run.proofs.Showing.{Paid, Shown, Concluded, pays_step, shown_more, shown_ended, shown_refused, shown_begun}
+use Rattle.template_machine_run.specs.Tanks.{Pays, PaysBeginning}
+use Rattle.template_machine_run.proofs.Showing.{Paid, Shown, Concluded, pays_step, shown_more, shown_ended, shown_refused, shown_begun, shown_charged}
 use Rattle.template_machine_run.proofs.Wants.{under_no_want}
 
 -- what is to come: so many instructions are left behind the place
@@ -55,7 +55,7 @@ progress_start escape code context fuel before =
       };
     }
 
-price_one : (c : Code) → price_of c ≡ 1
+price_one : (c : Code) → charge_of c ≡ 1
 price_one (emit_raw text) = refl
 price_one (lookup name) = refl
 price_one emit = refl
@@ -74,7 +74,7 @@ first_paid emit world [] next place = (_, refl)
 first_paid emit world (v ∷ operands) next place = (_, refl)
 
 -- the charge of an instruction, with items that cost nothing
-pays_instruction : (c : Code) (left later : Option ℕ) (items : List Item) → trace.price_of items ≡ 0 → Pays left (price_of c) → later ≡ option_map (λ n. n - price_of c) left → Paid left later (trace.price_of (paid [] ∷ items))
+pays_instruction : (c : Code) (left later : Option ℕ) (items : List Item) → trace.price_of items ≡ 0 → Pays left (charge_of c) → later ≡ option_map (λ n. n - charge_of c) left → Paid left later (trace.price_of (paid [] ∷ items))
 pays_instruction c left later items free pays is =
     let one : trace.price_of (paid [] ∷ items) ≡ 1 = omega (arith, free) in
     subst (Paid left later) (sym one) (pays_step left later (subst (Pays left) (price_one c) pays) (is ∙ ap (λ p. option_map (λ n. n - p) left) (price_one c)))
@@ -84,7 +84,7 @@ more_bound code place zero c at places = let within = slice_get_within code plac
 more_bound code place (suc b) c at places = (b, refl)
 
 pub progress_more : (escape : AutoEscape) (code : List Code) (context : Val) (fuel left later : Option ℕ) (before mid after : Option (List ℕ)) (place : ℕ) (operands operands' : List Val) (c : Code)
-    → Progress escape code context fuel left before mid place operands → slice_get code place ≡ Some c → Pays left (price_of c) → later ≡ option_map (λ n. n - price_of c) left
+    → Progress escape code context fuel left before mid place operands → slice_get code place ≡ Some c → Pays left (charge_of c) → later ≡ option_map (λ n. n - charge_of c) left
     → Acts {X = Unit {0}} c (first_world escape context) operands operands' (Ok tt) mid after → Progress escape code context fuel later before after (place + 1) operands'
 progress_more escape code context fuel left later before mid after place operands operands' c progress at pays is acts =
     let more = more_bound code place progress.bound c at progress.places in
@@ -118,7 +118,7 @@ refused_at {S} whole fuel (Some m) later before after rest owes is shown =
     ]
 
 pub progress_refused : (escape : AutoEscape) (code : List Code) (context : Val) (fuel left later : Option ℕ) (before after : Option (List ℕ)) (place : ℕ) (operands : List Val) (c : Code)
-    → Progress escape code context fuel left before after place operands → slice_get code place ≡ Some c → (Pays left (price_of c) → ⊥) → later ≡ option_map (λ n. n - price_of c) left
+    → Progress escape code context fuel left before after place operands → slice_get code place ≡ Some c → (Pays left (charge_of c) → ⊥) → later ≡ option_map (λ n. n - charge_of c) left
     → Concluded (free_run escape code context) fuel later before after (faults (OutOfFuel ∷ []))
 progress_refused escape code context fuel left later before after place operands c progress at owes is =
     let first = first_paid c (first_world escape context) operands (exec code progress.bound) place in
@@ -131,6 +131,7 @@ pub record Outcome {X : Type 0} (result : Result X (List ErrorKind)) (escape : A
   pub text : EndsAs result (code_run escape fuel code context) → Appends before after (text_of (code_run escape fuel code context).items)
   pub beginning : AppendsBeginning before after (text_of (code_run escape fuel code context).items)
   pub left : EndsAs result (code_run escape fuel code context) → later ≡ code_leaves escape fuel code context
+  pub charged : IsErrAnd result IsWant → PaysBeginning fuel later (code_run escape fuel code context)
 
 pub outcome_over : {X : Type 0} (x : X) (escape : AutoEscape) (code : List Code) (context : Val) (fuel left : Option ℕ) (before after : Option (List ℕ)) (operands : List Val)
     → Concluded (free_run escape code context) fuel left before after (ends operands) → Outcome (Ok x) escape code context fuel left before after
@@ -139,34 +140,39 @@ outcome_over x escape code context fuel left before after operands concluded = r
   text = λ ends. concluded.text;
   beginning = beginning_whole before after (text_of (code_run escape fuel code context).items) concluded.text;
   left = λ ends. concluded.leaves;
+  charged = λ want. absurd want;
 }
 
 pub outcome_fault : {X : Type 0} (result : Result X (List ErrorKind)) (kinds : List ErrorKind) (escape : AutoEscape) (code : List Code) (context : Val) (fuel left : Option ℕ) (before after : Option (List ℕ))
     → result ≡ Err kinds → Concluded (free_run escape code context) fuel left before after (faults kinds) → Outcome result escape code context fuel left before after
 outcome_fault {X} result kinds escape code context fuel left before after is concluded =
+    let never : IsWant kinds → ⊥ = λ want. under_no_want fuel (exec code (length code + 1) 0 []) (first_world escape context) kinds concluded.end want in
     let at : Outcome {X = X} (Err kinds) escape code context fuel left before after = record {
       outcome = inl concluded.end;
       text = λ ends. concluded.text;
       beginning = beginning_whole before after (text_of (code_run escape fuel code context).items) concluded.text;
       left = λ ends. concluded.leaves;
+      charged = λ want. absurd (never want);
     } in
     subst (λ (r : Result X (List ErrorKind)). Outcome r escape code context fuel left before after) (sym is) at
 
 pub outcome_want : {X : Type 0} (result : Result X (List ErrorKind)) (kinds : List ErrorKind) (escape : AutoEscape) (code : List Code) (context : Val) (fuel left : Option ℕ) (before after : Option (List ℕ))
-    → result ≡ Err kinds → IsWant kinds → AppendsBeginning before after (text_of (code_run escape fuel code context).items) → Outcome result escape code context fuel left before after
-outcome_want {X} result kinds escape code context fuel left before after is want begun =
+    → result ≡ Err kinds → IsWant kinds → AppendsBeginning before after (text_of (code_run escape fuel code context).items)
+    → PaysBeginning fuel left (code_run escape fuel code context) → Outcome result escape code context fuel left before after
+outcome_want {X} result kinds escape code context fuel left before after is want begun charged =
     let never : (code_run escape fuel code context).end ≡ faults kinds → ⊥ = λ e. under_no_want fuel (exec code (length code + 1) 0 []) (first_world escape context) kinds e want in
     let at : Outcome {X = X} (Err kinds) escape code context fuel left before after = record {
       outcome = inr want;
       text = λ ends. absurd (never ends);
       beginning = begun;
       left = λ ends. absurd (never ends);
+      charged = λ _. charged;
     } in
     subst (λ (r : Result X (List ErrorKind)). Outcome r escape code context fuel left before after) (sym is) at
 
 pub progress_failed : {Y : Type 0} (escape : AutoEscape) (code : List Code) (context : Val) (fuel left later : Option ℕ) (before mid after : Option (List ℕ)) (place : ℕ) (operands operands' : List Val) (c : Code)
     (kinds : List ErrorKind) (result : Result Y (List ErrorKind)) → result ≡ Err kinds
-    → Progress escape code context fuel left before mid place operands → slice_get code place ≡ Some c → Pays left (price_of c) → later ≡ option_map (λ n. n - price_of c) left
+    → Progress escape code context fuel left before mid place operands → slice_get code place ≡ Some c → Pays left (charge_of c) → later ≡ option_map (λ n. n - charge_of c) left
     → Acts {X = Unit {0}} c (first_world escape context) operands operands' (Err kinds) mid after → Outcome result escape code context fuel later before after
 progress_failed escape code context fuel left later before mid after place operands operands' c kinds result is_err progress at pays is acts =
     let whole = free_run escape code context in
@@ -179,10 +185,13 @@ progress_failed escape code context fuel left later before mid after place opera
           (pays_instruction c left later [] refl pays is) (subst (λ (a : Option (List ℕ)). Appends mid a []) (sym fault.1) (Appends-nil mid)) in
           outcome_fault result kinds escape code context fuel later before after is_err (shown_ended whole fuel later before after (faults kinds) (first_world escape context) shown)
       | inr want ↦
-          let items = want.1.0 in
+          let items = paid [] ∷ want.1.0 in
           let begins = want.1.2 (exec code progress.bound) place in
+          let at_front = known ∙ begins.1 in
+          let pays_front = pays_instruction c left later want.1.0 want.1.1 pays is in
           outcome_want result kinds escape code context fuel later before after is_err want.0
-          (shown_begun whole fuel left later before mid after here begins.0 (paid [] ∷ items) progress.shown (known ∙ begins.1) (pays_instruction c left later items want.1.1 pays is) want.1.3)
+          (shown_begun whole fuel left later before mid after here begins.0 items progress.shown at_front pays_front want.1.3)
+          (shown_charged whole fuel left later before mid here begins.0 items progress.shown at_front pays_front)
     ]
 
 -- the same code under another name

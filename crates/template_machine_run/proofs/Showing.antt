@@ -12,7 +12,7 @@ use Rattle.template_machine_output.proofs.Beginnings.{beginning_after, beginning
 use Rattle.template_machine_world.specs.Laws.{remaining}
 use Rattle.template_machine_world.proofs.Cuts.{text-append, price-append}
 use Rattle.template_machine_world.proofs.Behind.{cut-behind, remaining-behind, cut_whole, remaining_whole, cut_first, remaining_first}
-use Rattle.template_machine_run.specs.Tanks.{Pays}
+use Rattle.template_machine_run.specs.Tanks.{Pays, PaysBeginning}
 
 -- the price was paid of the fuel, if one is set, which leaves so much
 abbrev pub Paid : Option ℕ → Option ℕ → ℕ → Type 0
@@ -119,3 +119,23 @@ shown_begun whole fuel left later before mid after rest next items shown is pays
     subst (AppendsBeginning before after) (sym text_is)
     (beginning_after before mid after (text_of shown.items) (text_of items ++ text_of (under later next).items) shown.text
     (beginning_longer mid after (text_of items) (text_of (under later next).items) begun))
+
+left_paid : (fuel left : Option ℕ) (price : ℕ) → Paid fuel left price → left ≡ option_map (λ n. n - price) fuel
+left_paid None None price pays = refl
+left_paid (Some n) (Some m) price pays = ap (λ k. Some k) (omega (arith, pays.0))
+left_paid None (Some m) price pays = absurd pays
+left_paid (Some n) None price pays = absurd pays
+
+-- and the fuel paid for that front
+pub shown_charged : {S : Type 0} (whole : Run S) (fuel left later : Option ℕ) (before mid : Option (List ℕ)) (rest next : Run S) (items : List Item)
+    → Shown whole fuel left before mid rest → rest ≡ behind items next → Paid left later (price_of items) → PaysBeginning fuel later (under fuel whole)
+shown_charged whole fuel left later before mid rest next items shown is pays =
+    let cut_is : under fuel whole ≡ behind shown.items (behind items (under later next)) =
+    ap (λ r. under fuel r) shown.front ∙ under-behind fuel left shown.items rest shown.pays
+    ∙ ap (λ r. behind shown.items r) (ap (λ r. under left r) is ∙ under-behind left later items next pays) in
+    let charged = subst (Paid fuel later) (sym (price-append shown.items items)) (pays_all fuel left later (price_of shown.items) (price_of items) shown.pays pays) in (
+      shown.items ++ items,
+      (under later next).items,
+      ap (λ r. r.items) cut_is ∙ sym (append_assoc shown.items items (under later next).items),
+      left_paid fuel later (price_of (shown.items ++ items)) charged,
+    )

@@ -19,15 +19,18 @@ run_at code world operands next place = run answer (act next (Some code) place o
 
 -- its step is paid, it leaves the items, and the run goes on at the next place over the operands `later`
 abbrev pub GoesOn : Code → World → List Val → List Item → List Val → Type 0
-GoesOn code world operands items later = (next : ℕ → List Val → Process) (place : ℕ) → run_at code world operands next place ≡ behind (paid [] ∷ items) (run answer (next (place + 1) later) world)
+GoesOn code world operands items later = (next : ℕ → List Val → Process) (place : ℕ)
+    → run_at code world operands next place ≡ behind (paid [] ∷ items) (run answer (next (place + 1) later) world)
 
 -- its step is paid, and the run ends with a fault
 abbrev pub Faults : Code → World → List Val → List ErrorKind → Type 0
-Faults code world operands kinds = (next : ℕ → List Val → Process) (place : ℕ) → run_at code world operands next place ≡ behind (paid [] ∷ []) (ended (faults kinds) world)
+Faults code world operands kinds = (next : ℕ → List Val → Process) (place : ℕ)
+    → run_at code world operands next place ≡ behind (paid [] ∷ []) (ended (faults kinds) world)
 
 -- its step is paid, and the run leaves the items before any other
 abbrev pub Begins : Code → World → List Val → List Item → Type 0
-Begins code world operands items = (next : ℕ → List Val → Process) (place : ℕ) → (rest : Run World) × (run_at code world operands next place ≡ behind (paid [] ∷ items) rest)
+Begins code world operands items = (next : ℕ → List Val → Process) (place : ℕ) → (rest : Run World)
+    × (run_at code world operands next place ≡ behind (paid [] ∷ items) rest)
 
 -- where the call succeeds, the instruction went on and the sink took its text. Where it fails, the
 -- instruction faults and the sink took nothing; or for want of memory or of a sink that works, the sink
@@ -37,4 +40,5 @@ Acts code world operands later (Ok _) before after =
     (items : List Item) × (price_of items ≡ 0) × GoesOn code world operands items later × Appends before after (text_of items)
 Acts code world operands later (Err kinds) before after =
     (Faults code world operands kinds × (after ≡ before))
-    ⊎ (IsWant kinds × ((items : List Item) × (price_of items ≡ 0) × Begins code world operands items × AppendsBeginning before after (text_of items)))
+    ⊎ (IsWant kinds × ((items : List Item) × (price_of items ≡ 0) × Begins code world operands items
+    × AppendsBeginning before after (text_of items)))

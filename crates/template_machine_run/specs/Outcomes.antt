@@ -2,12 +2,14 @@
 use Rattle.std.specs.Prelude.{◌≡◌, ◌≢◌, ℕ, ◌<◌, ◌⊎◌, List, [], ◌∷◌, Option, Result, Ok, Err}
 use Rattle.std.specs.Io.KnownBytes.{Appends}
 use Rattle.template_values_errors.specs.declared.ErrorKind.{ErrorKind}
-use Rattle.template_values_errors.specs.declared.ErrorKind.TheVariants.{OutOfMemory, WriteFailure}
+use Rattle.template_values_errors.specs.declared.ErrorKind.TheVariants.{WriteFailure}
+use Rattle.template_values_errors.specs.Memory.{NoMemory}
+use Rattle.template_values_model.specs.Fault.{Fault, kind_of}
 use Rattle.template_machine_output.specs.Writes.{AppendsBeginning}
 
 -- a growth was refused, or the sink failed
 abbrev pub IsWant : List ErrorKind → Type 0
-IsWant kinds = (kinds ≡ OutOfMemory ∷ []) ⊎ (kinds ≡ WriteFailure ∷ [])
+IsWant kinds = NoMemory kinds ⊎ (kinds ≡ WriteFailure ∷ [])
 
 -- the answer is `WriteFailure` where the sink's count of failures rose, and nowhere else; elsewhere the
 -- count stays
@@ -22,7 +24,7 @@ Writes text (Err kinds) before after = IsWant kinds × AppendsBeginning before a
 
 -- the sink takes a text that was made; and nothing where the text was refused, which may also be for want
 -- of memory
-abbrev pub Prints : {X : Type 0} → Result (List ℕ) ErrorKind → Result X (List ErrorKind) → Option (List ℕ) → Option (List ℕ) → Type 0
+abbrev pub Prints : {X : Type 0} → Result (List ℕ) Fault → Result X (List ErrorKind) → Option (List ℕ) → Option (List ℕ) → Type 0
 Prints (Ok text) result before after = Writes text result before after
-Prints (Err kind) (Ok _) before after = ⊥
-Prints (Err kind) (Err kinds) before after = ((kinds ≡ kind ∷ []) ⊎ (kinds ≡ OutOfMemory ∷ [])) × (after ≡ before)
+Prints (Err fault) (Ok _) before after = ⊥
+Prints (Err fault) (Err kinds) before after = ((kinds ≡ kind_of fault ∷ []) ⊎ NoMemory kinds) × (after ≡ before)

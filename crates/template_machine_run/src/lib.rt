@@ -11,6 +11,3 @@ mod writing;
 pub use machine::run_code;
 pub use tracker::FuelTracker;
 pub use verified::{Checked, StreamKind, verify};
-
-#[cfg(test)]
-mod tests;

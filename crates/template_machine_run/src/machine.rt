@@ -1,20 +1,20 @@
 //! The run of a template's code.
-ghost use Rattle.std.specs.Prelude.{◌≡◌, ◌∷◌, [], ◌↔◌, ◌-◌, IsOk, IsSome, IfErr, OnOk, Some, reverse, vec_len};
+ghost use Rattle.std.specs.Prelude.{◌≡◌, ◌∷◌, [], ◌↔◌, ◌-◌, IsOk, IsSome, IfErr, OnOk, Some, reverse, vec_len, IsErrAnd};
 ghost use Rattle.std.specs.Option.{option_map};
 ghost use Rattle.template_compiler_code.specs.View.{code_of};
-ghost use Rattle.template_compiler_code.specs.Prices.{price_of};
+ghost use Rattle.template_compiler_code.specs.Prices.{charge_of};
 ghost use Rattle.template_compiler_code.specs.Shapes.{depth_after};
 ghost use Rattle.template_compiler_process.specs.Trace.{text_of};
 ghost use Rattle.std.specs.Io.KnownBytes.{Appends};
 ghost use Rattle.template_machine_output.specs.Writes.{AppendsBeginning};
 ghost use Rattle.template_machine_world.specs.World.{first_world};
 ghost use Rattle.template_machine_run.specs.Acts.{Acts};
-ghost use Rattle.template_machine_run.specs.Outcomes.{TellsFailures};
+ghost use Rattle.template_machine_run.specs.Outcomes.{IsWant, TellsFailures};
 ghost use Rattle.template_machine_run.specs.Runs.{code_run, code_leaves, ComesOut, EndsAs};
-ghost use Rattle.template_machine_run.specs.Tanks.{fuel_left, fuel_set, Pays};
+ghost use Rattle.template_machine_run.specs.Tanks.{fuel_left, fuel_set, Pays, PaysBeginning};
 
 use crate::tracker::FuelTracker;
-use crate::verified::Checked;
+use crate::verified::{Checked, StreamKind};
 use crate::world::World;
 use crate::writing::{print, write};
 use std::alloc::Global;
@@ -26,9 +26,9 @@ use template_values_modes::AutoEscape;
 
 // Takes an instruction's price of the fuel, if one is set.
 fn charge(fuel: &mut Option<FuelTracker>, instruction: &Instruction<'_>) -> Result<(), Error>
-    ensures left { fuel_left fuel.new ≡ option_map (λ n. n - price_of (code_of instruction.now)) (fuel_left fuel.old) }
+    ensures left { fuel_left fuel.new ≡ option_map (λ n. n - charge_of (code_of instruction.now)) (fuel_left fuel.old) }
     ensures set { fuel_set fuel.new ≡ fuel_set fuel.old }
-    ensures runs { IsOk result ↔ Pays (fuel_left fuel.old) (price_of (code_of instruction.now)) }
+    ensures runs { IsOk result ↔ Pays (fuel_left fuel.old) (charge_of (code_of instruction.now)) }
     ensures kind { IfErr result (λ kinds. kinds ≡ ErrorKind.OutOfFuel ∷ []) }
 {
     match fuel {
@@ -75,15 +75,19 @@ fn perform<S: Sink>(
     }
 }
 
-/// Runs code over a context, and writes the texts of the values that it prints, under the escape, into
-/// a sink. A fuel, if one is set, is charged before each step.
+/// Runs a template's code over a context, and writes the texts of the values that it prints, under the
+/// escape, into a sink. A fuel, if one is set, is charged before each step. Takes time linear in the code
+/// and in what is written, and a look-up in the context for each name; and memory for the operands, and
+/// for the longest text of a value that has to be made.
+///
+/// [`Checked::kind`] tells whether the code is a template's.
 ///
 /// # Errors
 ///
 /// The fault that the run ends with, as [`ErrorKind::OutOfFuel`], or what [`escape_to`] refuses a value
 /// with; the sink has then taken the text before it. [`ErrorKind::OutOfMemory`] where a growth was
 /// refused, and [`ErrorKind::WriteFailure`] where the sink failed; it has then taken a beginning of the
-/// text.
+/// text, and the fuel has lost the price of a beginning of the run.
 ///
 /// [`escape_to`]: template_values_text::escape_to
 pub fn run_code<S: Sink>(
@@ -94,6 +98,7 @@ pub fn run_code<S: Sink>(
     fuel: &mut Option<FuelTracker>,
     sink: &mut S,
 ) -> Result<(), Error>
+    requires { code.now.kind ≡ StreamKind.Template }
     ensures outcome { ComesOut result (code_run escape (fuel_left fuel.old) code.now.instructions.code context.now) }
     ensures text { let run = code_run escape (fuel_left fuel.old) code.now.instructions.code context.now in
         EndsAs result run → Appends (S.taken sink.old) (S.taken sink.new) (text_of run.items) }
@@ -105,6 +110,8 @@ pub fn run_code<S: Sink>(
     ensures left { let leaves = code_leaves escape (fuel_left fuel.old) code.now.instructions.code context.now in
         EndsAs result (code_run escape (fuel_left fuel.old) code.now.instructions.code context.now)
         → fuel_left fuel.new ≡ leaves }
+    ensures charged { let run = code_run escape (fuel_left fuel.old) code.now.instructions.code context.now in
+        IsErrAnd result IsWant → PaysBeginning (fuel_left fuel.old) (fuel_left fuel.new) run }
     ensures set { fuel_set fuel.new ≡ fuel_set fuel.old }
 {
     let world = World { context, escape };

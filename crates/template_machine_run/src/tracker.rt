@@ -1,8 +1,9 @@
 //! A fuel, and what a run has taken of it.
 ghost use Rattle.std.specs.Prelude.{◌≡◌, ◌+◌, ◌-◌, ◌<◌, ◌≤◌, ◌∷◌, [], ◌↔◌, IsOk, IfErr};
 ghost use Rattle.template_compiler_code.specs.View.{code_of};
-ghost use Rattle.template_compiler_code.specs.Prices.{price_of};
+ghost use Rattle.template_compiler_code.specs.Prices.{charge_of};
 
+use std::marker::Model;
 use template_compiler_code::Instruction;
 use template_values_errors::{Error, ErrorKind};
 
@@ -11,7 +12,17 @@ use template_values_errors::{Error, ErrorKind};
 pub struct FuelTracker {
     fuel: u64,
     left: u64,
-    ghost within: { left ≤ fuel },
+}
+
+impl Model for FuelTracker {
+    ghost use Rattle.std.specs.Prelude.{◌≤◌};
+    ghost use Rattle.template_machine_run.specs.Tanks.{Tank};
+
+    ghost Value = { Tank };
+
+    ghost view = { λ t. record { fuel = t.fuel; left = t.left } };
+
+    ghost invariant = { λ t. t.left ≤ t.fuel };
 }
 
 impl FuelTracker {
@@ -30,9 +41,9 @@ impl FuelTracker {
     ///
     /// [`ErrorKind::OutOfFuel`] where the instruction has a price and nothing is left behind it.
     pub fn track(&mut self, instruction: &Instruction<'_>) -> Result<(), Error>
-        ensures taken { self.new.left ≡ self.old.left - price_of (code_of instruction.now) }
+        ensures taken { self.new.left ≡ self.old.left - charge_of (code_of instruction.now) }
         ensures set { self.new.fuel ≡ self.old.fuel }
-        ensures runs { IsOk result ↔ (0 < price_of (code_of instruction.now) → 0 < self.new.left) }
+        ensures runs { IsOk result ↔ (0 < charge_of (code_of instruction.now) → 0 < self.new.left) }
         ensures kind { IfErr result (λ kinds. kinds ≡ ErrorKind.OutOfFuel ∷ []) }
     {
         let price = instruction.price();

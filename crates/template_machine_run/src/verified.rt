@@ -3,6 +3,7 @@ ghost use Rattle.std.specs.Prelude.{◌≡◌, ◌∷◌, [], ◌↔◌, IsOk, I
 ghost use Rattle.template_compiler_code.specs.Shapes.{depth_after};
 ghost use Rattle.template_machine_run.specs.Streams.{left_by, Leaves, IsGood};
 
+use std::marker::Model;
 use template_compiler_code::{Instruction, Instructions};
 use template_values_errors::{Error, ErrorKind};
 
@@ -15,23 +16,36 @@ pub enum StreamKind {
     Expression,
 }
 
-/// Instructions that [`verify`] accepted: none of them ever lacks an operand.
+/// Instructions that [`verify`] accepted: none of them ever lacks an operand, and at their end a
+/// template's leave none and an expression's leave one.
 #[derive(Drop)]
 pub struct Checked<'source> {
     instructions: Instructions<'source>,
     kind: StreamKind,
-    ghost sound: { Leaves instructions.code (left_by kind) },
+}
+
+impl<'source> Model for Checked<'source> {
+    ghost use Rattle.template_machine_run.specs.Streams.{left_by, Leaves, Stream};
+
+    ghost Value = { Stream };
+
+    ghost view = { λ s. record { instructions = s.instructions; kind = s.kind } };
+
+    ghost invariant = { λ s. Leaves s.instructions.code (left_by s.kind) };
 }
 
 impl<'source> Checked<'source> {
     /// The instructions.
     pub fn instructions(&self) -> &Instructions<'source>
-        ensures { result.now ≡ self.now.instructions }
+        ensures same { result.now ≡ self.now.instructions }
+        ensures leaves { Leaves result.now.code (left_by self.now.kind) }
     {
         &self.instructions
     }
 
-    /// What the instructions are of.
+    /// What the instructions are of: [`run_code`] runs a template's alone.
+    ///
+    /// [`run_code`]: crate::run_code
     pub fn kind(&self) -> StreamKind
         ensures same { result ≡ self.now.kind }
         ensures leaves { Leaves self.now.instructions.code (left_by result) }
@@ -56,8 +70,8 @@ fn operands_left(instructions: &Instructions<'_>) -> Option<u32>
     Some(depth)
 }
 
-/// Tries whether instructions can be run, in one pass and with no memory: none of them lacks its
-/// operand, and at the end none is left, or one.
+/// Accepts instructions none of which lacks its operand and that leave none at their end, which are a
+/// template's, or one, which are an expression's. Takes one pass over them, and no memory.
 ///
 /// # Errors
 ///
@@ -67,6 +81,7 @@ pub fn verify<'source>(
 ) -> Result<Checked<'source>, (Error, Instructions<'source>)>
     ensures good { IsOk result ↔ IsGood instructions.entry.code }
     ensures accepted { IfOk result (λ checked. checked.instructions ≡ instructions.entry) }
+    ensures kind { IfOk result (λ checked. Leaves instructions.entry.code (left_by checked.kind)) }
     ensures refused { IfErr result (λ back. back.0 ≡ ErrorKind.BadStream ∷ []) }
     ensures unchanged { IfErr result (λ back. back.1 ≡ instructions.entry) }
 {

@@ -1,6 +1,6 @@
 //! What surrounds a running template.
 ghost use Rattle.std.specs.Prelude.{◌≡◌, IfOk, IfErr};
-ghost use Rattle.template_values_core.specs.Answers.{NoMemory};
+ghost use Rattle.template_values_errors.specs.Memory.{NoMemory};
 ghost use Rattle.template_machine_world.specs.Scopes.{lookup};
 ghost use Rattle.template_machine_world.specs.World.{first_world};
 

@@ -1,7 +1,7 @@
 -- Contexts that agree on the used names give the same run.
 use Rattle.std.proofs.Common.{◌≡◌, ℕ, ◌-◌, ◌++◌, true, false, nat_le, List, [], ◌∷◌, None, Some, unwrap_or, Result, Ok, Err, refl, sym, ap, subst, ◌∙◌}
 use Rattle.std.specs.Prelude.{if◌then◌else◌}
-use Rattle.template_values_errors.specs.declared.ErrorKind.{ErrorKind}
+use Rattle.template_values_model.specs.Fault.{Fault}
 use Rattle.template_values_errors.specs.declared.ErrorKind.TheVariants.{OutOfFuel}
 use Rattle.template_values_modes.specs.declared.AutoEscape.{AutoEscape}
 use Rattle.template_values_model.specs.Val.{Val, undefined}
@@ -28,12 +28,12 @@ pub record KnowsSame (names : List ℕ → Type 0) (s t : World) : Type 0 where
   pub escape : s.escape ≡ t.escape
 
 -- the text that is made is the same, or its refusal is
-printed_alike : (names : List ℕ → Type 0) (s t : World) (p q : Result (List ℕ) ErrorKind) → KnowsSame names s t → p ≡ q → AgreesAt (λ a. KnowsSame names) (printed_reply s p) (printed_reply t q)
+printed_alike : (names : List ℕ → Type 0) (s t : World) (p q : Result (List ℕ) Fault) → KnowsSame names s t → p ≡ q → AgreesAt (λ a. KnowsSame names) (printed_reply s p) (printed_reply t q)
 printed_alike names s t (Ok text) q knows is =
-    subst (λ (made : Result (List ℕ) ErrorKind). AgreesAt (λ a. KnowsSame names) (printed_reply s (Ok text)) (printed_reply t made)) is
+    subst (λ (made : Result (List ℕ) Fault). AgreesAt (λ a. KnowsSame names) (printed_reply s (Ok text)) (printed_reply t made)) is
     (record { told = refl; items = refl; after = λ a. knows })
 printed_alike names s t (Err kind) q knows is =
-    subst (λ (made : Result (List ℕ) ErrorKind). AgreesAt (λ a. KnowsSame names) (printed_reply s (Err kind)) (printed_reply t made)) is
+    subst (λ (made : Result (List ℕ) Fault). AgreesAt (λ a. KnowsSame names) (printed_reply s (Err kind)) (printed_reply t made)) is
     (record { told = refl; items = refl; after = λ a. knows })
 
 alike : (names : List ℕ → Type 0) (s t : World) (e : Ask) → KnowsSame names s t → AsksWithin names e → AgreesAt (λ a. KnowsSame names) (answer s e) (answer t e)

@@ -1,8 +1,8 @@
 -- A walk looks up used names alone.
-use Rattle.std.proofs.Common.{ℕ, suc, List, [], ◌∷◌, refl, arith}
-use Rattle.std.specs.List.{Any}
+use Rattle.std.proofs.Common.{ℕ, List, [], ◌∷◌, refl}
 use Rattle.template_compiler_tree.specs.Tree.{Statement, variable, raw, print}
-use Rattle.template_compiler_tree.specs.Names.{Uses, IsUsed}
+use Rattle.template_compiler_tree.specs.Names.{IsUsed}
+use Rattle.template_compiler_tree.proofs.UseLemmas.{used_here, used_later}
 use Rattle.template_compiler_process.specs.Process.{Ask, look_up, write_raw, write_value, done, value, Process, over, step, asks, on_done, on_value}
 use Rattle.template_compiler_process.specs.Isolation.{Allowed}
 use Rattle.template_compiler_walk.specs.Walk.{statements_walk, template_walk}
@@ -17,21 +17,15 @@ AsksWithin names (write_value v) = Unit {0}
 abbrev pub LooksWithin : (List ℕ → Type 0) → Process → Type 0
 LooksWithin names p = Allowed (λ (known : Unit {0}) e. AsksWithin names e) (λ known e a. known) tt p
 
-any_here : {X : Type 0} (P : X → Type 0) (x : X) (xs : List X) → P x → Any P (x ∷ xs)
-any_here P x xs holds = (0, x, omega arith, refl, holds)
-
-any_later : {X : Type 0} (P : X → Type 0) (x : X) (xs : List X) → Any P xs → Any P (x ∷ xs)
-any_later P x xs any = (suc any.0, any.1, omega (arith, any.2), any.3, any.4)
-
 statements_within : (names : List ℕ → Type 0) (ss : List Statement) (go : Process)
     → ((name : List ℕ) → IsUsed name ss → names name) → LooksWithin names go → LooksWithin names (statements_walk ss go)
 statements_within names [] go used rest = rest
 statements_within names (raw text ∷ ss) go used rest =
-    let later = statements_within names ss go (λ name u. used name (any_later (Uses name) (raw text) ss u)) rest in
+    let later = statements_within names ss go (λ name u. used name (used_later name (raw text) ss u)) rest in
     (tt, λ a. elim a as (λ b. LooksWithin names (on_done (statements_walk ss go) b)) [ done ↦ later | value v ↦ tt ])
 statements_within names (print (variable name) ∷ ss) go used rest =
-    let later = statements_within names ss go (λ other u. used other (any_later (Uses other) (print (variable name)) ss u)) rest in (
-      used name (any_here (Uses name) (print (variable name)) ss refl),
+    let later = statements_within names ss go (λ other u. used other (used_later other (print (variable name)) ss u)) rest in (
+      used name (used_here name (print (variable name)) ss refl),
       λ a. elim a as (λ b. LooksWithin names (on_value (λ v. step (asks (write_value v) (on_done (statements_walk ss go)))) b)) [
         | done ↦ tt
         | value v ↦ (tt, λ c. elim c as (λ d. LooksWithin names (on_done (statements_walk ss go) d)) [ done ↦ later | value w ↦ tt ])

@@ -19,7 +19,8 @@ IsSameRun r q = (r.items ≡ q.items) × (r.end ≡ q.end)
 -- two contexts that agree on the names that a tree uses give the same, under every escape, without fuel
 -- and under every fuel
 abbrev pub DependsOnUsedNames : Type 0
-DependsOnUsedNames = (escape : AutoEscape) (tree : List Statement) (c d : Val) → AgreesOn tree c d → (fuel : Option ℕ) → IsSameRun (rendered escape fuel tree c) (rendered escape fuel tree d)
+DependsOnUsedNames = (escape : AutoEscape) (tree : List Statement) (c d : Val) → AgreesOn tree c d → (fuel : Option ℕ)
+    → IsSameRun (rendered escape fuel tree c) (rendered escape fuel tree d)
 
 -- a fuel lets a run of this price through
 abbrev pub Lasts : ℕ → ℕ → Type 0
@@ -27,7 +28,8 @@ Lasts n price = (price ≡ 0) ⊎ (price < n)
 
 -- a fuel that lets a template through changes nothing, and neither does a greater one
 abbrev pub EnoughIsEnough : Type 0
-EnoughIsEnough = (escape : AutoEscape) (tree : List Statement) (context : Val) (n m : ℕ) → Lasts n (price_of (meaning escape tree context).items) → n ≤ m
+EnoughIsEnough = (escape : AutoEscape) (tree : List Statement) (context : Val) (n m : ℕ)
+    → Lasts n (price_of (meaning escape tree context).items) → n ≤ m
     → rendered escape (Some m) tree context ≡ rendered escape None tree context
 
 -- what a run takes of a fuel: its price, or all of it where the run is cut
@@ -40,7 +42,8 @@ remaining n r = if nat_le (price_of r.items) (n - 1) then n - price_of r.items e
 
 -- what is consumed and what remains are the fuel that was set
 abbrev pub AddsUp : Type 0
-AddsUp = (escape : AutoEscape) (tree : List Statement) (context : Val) (n : ℕ) → consumed n (meaning escape tree context) + remaining n (meaning escape tree context) ≡ n
+AddsUp = (escape : AutoEscape) (tree : List Statement) (context : Val) (n : ℕ)
+    → consumed n (meaning escape tree context) + remaining n (meaning escape tree context) ≡ n
 
 -- one text begins with another
 abbrev pub BeginsWith : List ℕ → List ℕ → Type 0
@@ -48,4 +51,5 @@ BeginsWith whole front = (rest : List ℕ) × (whole ≡ front ++ rest)
 
 -- under a fuel a template writes a beginning of what it writes without fuel
 abbrev pub WritesBeginning : Type 0
-WritesBeginning = (escape : AutoEscape) (tree : List Statement) (context : Val) (n : ℕ) → BeginsWith (text_of (meaning escape tree context).items) (text_of (rendered escape (Some n) tree context).items)
+WritesBeginning = (escape : AutoEscape) (tree : List Statement) (context : Val) (n : ℕ)
+    → BeginsWith (text_of (meaning escape tree context).items) (text_of (rendered escape (Some n) tree context).items)

@@ -6,7 +6,7 @@ use Rattle.template_values_model.specs.Val.{Val, text}
 use Rattle.template_values_core.specs.declared.value.Entry.{Entry}
 use Rattle.template_program_context.specs.Context.{defined_under, texts_in}
 use Rattle.template_program_context.specs.Entries.{SayContext}
-use Rattle.template_program_context.proofs.Last.{option_or_assoc, or_none, last_at-push}
+use Rattle.template_values_json.proofs.Last.{option_or_assoc, or_none, last_at-push}
 
 defined_under-push : (ds : List (String Global × String Global)) (d : String Global × String Global) (name : List ℕ)
     → defined_under (texts_in (ds ++ d ∷ [])) name ≡ option_or (if bytes_eq (string_bytes d.0) name then Some (string_bytes d.1) else None) (defined_under (texts_in ds) name)

@@ -1,8 +1,2 @@
 pub mod Definitions
-pub mod Documents
-pub mod Last
-pub mod Levels
 pub mod Made
-pub mod Named
-pub mod Plain
-pub mod Steps

@@ -1,34 +1,19 @@
 -- The map that is made from entries that say what the context has.
-use Rattle.std.proofs.Common.{◌≡◌, ◌≤◌, ℕ, List, [], Option, Result, Ok, Err, IfOk, IfErr, inl, inr, ◌∙◌, String, Global, arith}
+use Rattle.std.proofs.Common.{◌≡◌, ℕ, List, [], Option, Ok, Err, IfOk, ◌∙◌, String, Global}
 use Rattle.std.proofs.lemmas.List.Elements.{All-nil}
-use Rattle.template_values_errors.specs.declared.ErrorKind.{ErrorKind}
-use Rattle.template_values_model.specs.Val.{Val, map}
+use Rattle.template_values_model.specs.Val.{map}
 use Rattle.template_values_model.specs.Lookup.{value_at}
-use Rattle.template_values_core.specs.Answers.{NoMemory, TooDeep}
-use Rattle.template_values_core.specs.Depth.{depth}
 use Rattle.template_values_core.specs.Maps.{collected, put_all, last_at}
 use Rattle.template_values_core.specs.Shape.{pairs_in}
 use Rattle.template_values_core.specs.declared.value.Entry.{Entry}
-use Rattle.template_program_context.specs.Context.{texts_in, IsContext, IsPlainText}
-use Rattle.template_program_context.specs.Entries.{SayContext, ArePlain}
-use Rattle.template_program_context.proofs.Plain.{text_keys, map_within}
-
-abbrev pub Made : Type 0
-Made = Result Val (List ErrorKind)
+use Rattle.template_program_context.specs.Context.{texts_in, IsContext}
+use Rattle.template_program_context.specs.Entries.{SayContext}
+use Rattle.template_values_json.specs.Entries.{IsPlainText, ArePlain}
+use Rattle.template_values_json.proofs.Made.{Made}
+use Rattle.template_values_json.proofs.Plain.{text_keys}
 
 pub made_context : (json : Option (List ℕ)) (ds : List (String Global × String Global)) (es : List Entry) (made : Made) → SayContext json ds es → ArePlain es
     → IfOk made (λ v. v ≡ map (collected (pairs_in es))) → IfOk made (λ v. (name : List ℕ) → value_at name v ≡ last_at name (pairs_in es))
     → IfOk made (IsContext json (texts_in ds))
 made_context json ds es (Ok v) says plain is last = ((put_all [] (pairs_in es), is, text_keys [] es (All-nil IsPlainText) plain), λ name. last name ∙ says name)
 made_context json ds es (Err kinds) says plain is last = tt
-
--- a value that nests within the bound is never too deep
-pub never_deep : (v : Val) (made : Made) → depth v ≤ 500 → IfErr made (TooDeep v) → IfErr made NoMemory
-never_deep v (Ok w) within refused = tt
-never_deep v (Err kinds) within refused = elim refused [
-  | inl memory ↦ memory
-  | inr deep ↦ absurd (omega (arith, deep.1, within))
-]
-
-pub only_memory : (es : List Entry) (made : Made) → ArePlain es → IfErr made (TooDeep (map (collected (pairs_in es)))) → IfErr made NoMemory
-only_memory es made plain refused = never_deep (map (collected (pairs_in es))) made (map_within es plain) refused

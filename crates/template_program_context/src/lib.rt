@@ -3,22 +3,19 @@
 
 ghost use Rattle.std.specs.Prelude.{◌≡◌, None, IfOk, IfErr, string_bytes, option_copied};
 ghost use Rattle.template_values_model.specs.Val.{text};
-ghost use Rattle.template_values_core.specs.Answers.{NoMemory};
-ghost use Rattle.template_program_context.specs.Context.{fault_of_json, texts_in, IsContext, IsRefusal};
-ghost use Rattle.template_program_context.specs.Entries.{SayJson, SayContext, ArePlain};
+ghost use Rattle.template_values_errors.specs.Memory.{NoMemory};
+ghost use Rattle.template_program_context.specs.Context.{fault_of_json, texts_in, IsContext};
+ghost use Rattle.template_program_context.specs.Entries.{SayJson, SayContext};
+ghost use Rattle.template_values_json.specs.Entries.{ArePlain};
+ghost use Rattle.template_values_json.specs.Json.{IsRefusal};
 
-mod floats;
-mod members;
-mod memory;
 #[cfg(test)]
 mod tests;
-mod values;
 
-use crate::members::read_members;
-use crate::memory::{out_of_memory, push};
 use std::alloc::Global;
 use template_values_core::{Entry, Value};
 use template_values_errors::Error;
+use template_values_json::entries_from_json;
 
 /// The context of a render: a map of the members of a JSON object, which is empty where there are no
 /// bytes, and over them a text for each definition of a name and its text. Arrays are lists, and
@@ -30,8 +27,10 @@ use template_values_errors::Error;
 ///
 /// Of these kinds the first that holds, alone:
 ///
-/// - `SyntaxError`, if `serde_json` cannot read the bytes, as where they nest deeper.
-/// - `NoFloats`, if a number anywhere in them is read as a float.
+/// - `SyntaxError`, if `serde_json` cannot read the bytes, as where they nest deeper or hold a number that
+///   is out of the range of its floats.
+/// - `NoFloats`, if a number that counts is read as a float: one under a name that a later equal name
+///   replaces does not count, and whole numbers past 64 bits are floats.
 /// - `InvalidOperation`, if they are no object.
 /// - `OutOfMemory`, at any time.
 pub fn read_context(
@@ -59,9 +58,9 @@ fn context_entries(
 {
     let mut entries = json_entries(alloc, json)?;
     for (name, words) in definitions {
-        let key = text_from(name)?;
-        let value = text_from(words)?;
-        push(&mut entries, Entry { key, value })?;
+        let key = Value::from_str(alloc, name.as_str())?;
+        let value = Value::from_str(alloc, words.as_str())?;
+        entries.push(Entry { key, value })?;
     }
     Ok(entries)
 }
@@ -74,15 +73,7 @@ fn json_entries(alloc: Global, json: Option<&[u8]>) -> Result<Vec<Entry>, Error>
     ensures refused { IfErr result (IsRefusal (fault_of_json (option_copied json.entry))) }
 {
     match json {
-        Some(bytes) => read_members(alloc, bytes),
+        Some(bytes) => entries_from_json(alloc, bytes),
         None => Ok(Vec::new(alloc)),
     }
-}
-
-/// The text as a value.
-fn text_from(words: &String) -> Result<Value, Error>
-    ensures is { IfOk result (λ v. v ≡ text (string_bytes words.now)) }
-    ensures refused { IfErr result NoMemory }
-{
-    Value::from_text(words.clone().map_err(out_of_memory)?)
 }

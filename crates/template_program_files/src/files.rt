@@ -1,32 +1,70 @@
 //! Whole files.
-ghost use Rattle.std.specs.Prelude.{◌<◌, IfOk, string_len, vec_len};
+ghost use Rattle.std.specs.Prelude.{◌≡◌, ◌<◌, ℕ, List, Option, None, Some, IfOk, IfSome, string_bytes, string_len, vec_len};
 
-use crate::{FileFault, ReadWrapper, read_text, read_whole};
-use std::fs;
+use crate::{FileFault, ReadWrapper, Reader, read_text, read_whole};
 use std::rt::Files;
+use std::{fs, io};
 
-/// The bytes of the file at `path`, which are fewer than `limit`. A file that cannot be opened or
-/// read, and one of `limit` bytes or more, is refused by [`FileFault::File`].
-pub fn read_file<R: Files + AllocGlobal>(
-    rt: &R,
+/// What opens inputs by their paths, and may tell what stands under a path. Every runtime with files is
+/// one, and tells nothing: so what is proved over all file systems holds whatever the files hold.
+pub trait FileSystem {
+    /// An input that is open.
+    type Input: Reader + Drop;
+
+    // What stands under a path, where it is told.
+    ghost content: { Self → List ℕ → Option (List ℕ) };
+
+    /// Opens the input at `path`, to be read from its front.
+    ///
+    /// # Errors
+    ///
+    /// Those of the file system.
+    fn open_input(&self, path: &str) -> io::Result<Self::Input>
+        ensures { IfOk result (λ input. IfSome (content self.now path.now)
+            (λ all. Self.Input.remaining input ≡ Some all)) };
+}
+
+impl<R: Files> FileSystem for R {
+    type Input = R::File;
+
+    ghost content = { λ _ _. None };
+
+    fn open_input(&self, path: &str) -> io::Result<R::File> {
+        fs::open(self, path)
+    }
+}
+
+/// The bytes of the file at `path`, which are fewer than `limit`.
+///
+/// # Errors
+///
+/// [`FileFault::File`] where the file cannot be opened, a read fails, or it has `limit` bytes or more, of
+/// which no more are read; [`FileFault::Memory`] where memory was refused.
+pub fn read_file<S: FileSystem + AllocGlobal>(
+    rt: &S,
     path: &str,
     limit: usize,
 ) -> Result<Vec<u8>, FileFault>
-    ensures { IfOk result (λ bytes. vec_len bytes < limit) }
+    ensures whole { IfOk result (λ bytes. IfSome (S.content rt.now path.now) (λ all. bytes.items ≡ all)) }
+    ensures below { IfOk result (λ bytes. vec_len bytes < limit) }
 {
-    let mut file = fs::open(rt, path)?;
+    let mut file = rt.open_input(path)?;
     read_whole(rt.alloc(), &mut ReadWrapper::new(&mut file), limit)
 }
 
-/// The text of the file at `path`, as [`read_file`] reads it. One that is no UTF-8 is refused by
-/// [`FileFault::File`].
-pub fn read_text_file<R: Files + AllocGlobal>(
-    rt: &R,
+/// The text of the file at `path`, read as [`read_file`] does.
+///
+/// # Errors
+///
+/// As [`read_file`], and [`FileFault::File`] where the bytes are no UTF-8.
+pub fn read_text_file<S: FileSystem + AllocGlobal>(
+    rt: &S,
     path: &str,
     limit: usize,
 ) -> Result<String, FileFault>
-    ensures { IfOk result (λ text. string_len text < limit) }
+    ensures whole { IfOk result (λ text. IfSome (S.content rt.now path.now) (λ all. string_bytes text ≡ all)) }
+    ensures below { IfOk result (λ text. string_len text < limit) }
 {
-    let mut file = fs::open(rt, path)?;
-    read_text(rt.alloc(), &mut ReadWrapper::new(&mut file), limit)
+    let mut input = rt.open_input(path)?;
+    read_text(rt.alloc(), &mut ReadWrapper::new(&mut input), limit)
 }

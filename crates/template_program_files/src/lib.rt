@@ -9,6 +9,6 @@ mod tests;
 mod whole;
 
 pub use faults::FileFault;
-pub use files::{read_file, read_text_file};
-pub use source::{ReadWrapper, Source};
+pub use files::{FileSystem, read_file, read_text_file};
+pub use source::{ReadWrapper, Reader, Source};
 pub use whole::{read_text, read_whole};

@@ -1,22 +1,62 @@
 //! Readers that tell whether one of their reads has failed.
-ghost use Rattle.std.specs.Prelude.{◌≡◌, ◌||◌, ℕ, List, Bool, Option, Some, false};
+ghost use Rattle.std.specs.Prelude.{◌≡◌, ◌||◌, ℕ, List, Bool, Option, Result, None, Some, false};
 ghost use Rattle.std.specs.Io.{ReadsAtMost};
 ghost use Rattle.std.specs.Io.KnownBytes.{ReadConsumes};
+ghost use Rattle.std.specs.declared.io.Error.{Error as IoError};
+ghost use Rattle.template_machine_output.specs.Answered.{AnswersOnce};
+ghost use Rattle.template_program_files.specs.Answered.{TellsRead};
 ghost use Rattle.template_program_files.specs.Faults.{is_file_fault};
 
 use crate::FileFault;
-use std::io::Read;
+use std::io::{self, Read};
+
+/// A reader that may tell, beside the bytes that are left, what it answered to each read. Every
+/// [`Read`] is one, and tells none of its answers: so what is proved over all readers holds whatever
+/// they answer.
+pub trait Reader {
+    // The bytes that are left, where they are known.
+    ghost remaining: { Self → Option (List ℕ) };
+
+    // What it answered to the reads so far, where it tells.
+    ghost answers: { Self → Option (List (Result ℕ IoError)) };
+
+    /// Reads once, into the front of `piece`; how many bytes came. No byte comes only at the end,
+    /// and where `piece` is empty.
+    ///
+    /// # Errors
+    ///
+    /// Those of the reader.
+    fn read_once(&mut self, piece: &mut [u8]) -> io::Result<usize>
+        ensures bound { ReadsAtMost result piece.new }
+        ensures bytes { ReadConsumes (remaining self.old) (remaining self.new) result piece.new }
+        ensures told { AnswersOnce (answers self.old) (answers self.new) (λ answer. answer ≡ result) };
+}
+
+impl<R: Read> Reader for R {
+    ghost remaining = { λ reader. R.remaining reader };
+
+    ghost answers = { λ _. None };
+
+    fn read_once(&mut self, piece: &mut [u8]) -> io::Result<usize> {
+        self.read(piece)
+    }
+}
 
 /// A reader that tells whether one of its reads has failed.
 pub trait Source {
-    /// The bytes that are left, where they are known.
+    // The bytes that are left, where they are known.
     ghost remaining: { Self → Option (List ℕ) };
 
-    /// Whether a read has failed so far.
+    // Whether a read has failed so far.
     ghost has_failed: { Self → Bool };
 
     /// Reads once, into the front of `piece`; how many bytes came. No byte comes only at the end,
     /// and where `piece` is empty.
+    ///
+    /// # Errors
+    ///
+    /// [`FileFault::Memory`] where the read wanted memory, [`FileFault::File`] for every other
+    /// failure.
     fn read_piece(&mut self, piece: &mut [u8]) -> Result<usize, FileFault>
         ensures bound { ReadsAtMost result piece.new }
         ensures bytes { ReadConsumes (remaining self.old) (remaining self.new) result piece.new }
@@ -41,7 +81,7 @@ pub struct ReadWrapper<'a, R> {
     has_failed: bool,
 }
 
-impl<'a, R: Read> ReadWrapper<'a, R> {
+impl<'a, R: Reader> ReadWrapper<'a, R> {
     /// A reader of which no read has failed yet.
     pub fn new(reader: &'a mut R) -> ReadWrapper<'a, R>
         ensures remaining { ⟦<ReadWrapper<'a, R> as Source>⟧.remaining result ≡ R.remaining reader.entry.now }
@@ -54,13 +94,20 @@ impl<'a, R: Read> ReadWrapper<'a, R> {
     }
 }
 
-impl<R: Read> Source for ReadWrapper<'_, R> {
+impl<R: Reader> Source for ReadWrapper<'_, R> {
     ghost remaining = { λ source. R.remaining source.reader.now };
 
     ghost has_failed = { λ source. source.has_failed };
 
-    fn read_piece(&mut self, piece: &mut [u8]) -> Result<usize, FileFault> {
-        match self.reader.read(piece) {
+    fn read_piece(&mut self, piece: &mut [u8]) -> Result<usize, FileFault>
+        ensures bound { ReadsAtMost result piece.new }
+        ensures bytes { ReadConsumes (R.remaining self.old.reader.now) (R.remaining self.new.reader.now) result piece.new }
+        ensures failed { self.new.has_failed ≡ (self.old.has_failed || is_file_fault result) }
+
+        // Beyond the trait: one read is made, and its answer decides.
+        ensures answered { AnswersOnce (R.answers self.old.reader.now) (R.answers self.new.reader.now) (TellsRead result) }
+    {
+        match self.reader.read_once(piece) {
             Ok(count) => Ok(count),
             Err(error) => {
                 let fault = FileFault::from(error);

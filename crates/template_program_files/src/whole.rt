@@ -10,9 +10,13 @@ use std::alloc::Global;
 /// How many bytes one read asks for.
 const PIECE: usize = 16384;
 
-/// All bytes that `source` has left, which are fewer than `limit`. An input of `limit` bytes or
-/// more is refused by [`FileFault::File`] and read no further, and so is any failing read: none is
-/// tried again.
+/// All bytes that `source` has left, which are fewer than `limit`. Reads them in pieces of 16 KiB, and
+/// never more than `limit` of them; takes time in proportion to the bytes.
+///
+/// # Errors
+///
+/// [`FileFault::File`] where a read fails, and where `limit` bytes came, of which no more are read; what
+/// a failing read stood before is not passed over. [`FileFault::Memory`] where memory was refused.
 pub fn read_whole<S: Source>(
     alloc: Global,
     source: &mut S,
@@ -41,8 +45,11 @@ pub fn read_whole<S: Source>(
     Err(FileFault::File)
 }
 
-/// The text of all bytes that `source` has left, as [`read_whole`] reads them. Bytes that are no
-/// UTF-8 are refused by [`FileFault::File`].
+/// The text of all bytes that `source` has left, read as [`read_whole`] does.
+///
+/// # Errors
+///
+/// As [`read_whole`], and [`FileFault::File`] where the bytes are no UTF-8.
 pub fn read_text<S: Source>(
     alloc: Global,
     source: &mut S,

@@ -41,7 +41,7 @@ takes_one : (environment : Environment) (source : List ℕ) (outcome : Outcome) 
 takes_one environment source Done before after failed fails told next = refl
 takes_one environment source (Render kinds) before after failed fails told next = refl
 takes_one environment source (Context kinds) before after failed fails told next = absurd told
-takes_one environment source (Template kinds) before after failed fails told next = absurd told
+takes_one environment source (Template kinds) before after failed fails told next = refl
 
 pub rendered_counts : (name source : List ℕ) (fuel : Option ℕ) (context : Val) (id : ℕ) (outcome : Outcome) (before after : Option (List ℕ)) (failed fails : ℕ)
     → Rendered name source fuel context id outcome before after failed fails

@@ -19,7 +19,8 @@ use Rattle.template_machine_environment.specs.Rendering.{Renders}
 use Rattle.template_machine_environment.specs.Names.{IsListed}
 use Rattle.template_machine_environment.specs.Standing.{source_at}
 use Rattle.template_machine_environment.specs.declared.environment.Environment.{Environment}
-use Rattle.template_program_context.specs.Context.{fault_of_json, IsContext, IsRefusal, texts_in}
+use Rattle.template_program_context.specs.Context.{fault_of_json, IsContext, texts_in}
+use Rattle.template_values_json.specs.Json.{IsRefusal}
 use Rattle.template_program_run.specs.Additions.{AllAreAccepted, IsRefusedAddition}
 use Rattle.template_program_run.specs.Ids.{IsLastId}
 use Rattle.template_program_run.specs.Lines.{lines_of}
@@ -33,7 +34,21 @@ use Rattle.template_program_run.specs.declared.request.Request.{Request}
 abbrev pub IsUntouched : Option (List ℕ) → Option (List ℕ) → ℕ → ℕ → Type 0
 IsUntouched before after failed fails = (after ≡ before) × (fails ≡ failed)
 
--- an outcome of a render or of names: done, or an error
+-- the request's definitions
+abbrev pub definitions_of : Request → List (List ℕ × List ℕ)
+definitions_of request = texts_in request.texts.items
+
+-- the JSON is refused; it is read for a render alone
+abbrev pub IsRefusedContext : Command → Option (List ℕ) → List ErrorKind → Type 0
+IsRefusedContext asked.Render json kinds = IsRefusal (fault_of_json json) kinds
+IsRefusedContext asked.Names json kinds = ⊥
+
+-- the JSON is not refused, and a render has this context
+abbrev pub HasContext : Command → Option (List ℕ) → List (List ℕ × List ℕ) → Val → Type 0
+HasContext asked.Render json definitions context = (fault_of_json json ≡ None) × IsContext json definitions context
+HasContext asked.Names json definitions context = Unit {0}
+
+-- an outcome of a render: done, or an error
 abbrev pub EndsWith : Outcome → Result (Unit {0}) (List ErrorKind) → Type 0
 EndsWith Done (Ok _) = Unit {0}
 EndsWith (Render kinds) (Err others) = kinds ≡ others
@@ -50,25 +65,25 @@ Rendered name source fuel context next outcome before after failed fails =
 
 -- The set has just the names that can matter to a render of the source.
 abbrev pub HasNames : Environment → List ℕ → BTreeSet (String Global) → Type 0
-HasNames environment source names = IsOrdered string_cmp names × ((name : List ℕ) → IsTrue (contains_text names name) ↔ IsListed environment source name)
+HasNames environment source names = IsOrdered string_cmp names
+    × ((name : List ℕ) → IsTrue (contains_text names name) ↔ IsListed environment source name)
 
 -- The names that can matter are written in their order, one a line; or a beginning of that, for want of
--- memory or of a sink that works.
+-- memory or of a sink that works. Where they cannot be found for want of memory, nothing is written.
 abbrev pub Told : Environment → List ℕ → Outcome → Option (List ℕ) → Option (List ℕ) → ℕ → ℕ → Type 0
 Told environment source Done before after failed fails =
     (names : BTreeSet (String Global)) × HasNames environment source names × Appends before after (lines_of names.keys) × (fails ≡ failed)
 Told environment source (Render kinds) before after failed fails =
-    ((kinds ≡ OutOfMemory ∷ []) × IsUntouched before after failed fails)
-    ⊎ ((names : BTreeSet (String Global)) × HasNames environment source names × IsWant kinds × AppendsBeginning before after (lines_of names.keys)
-    × ((result : Result (Unit {0}) (List ErrorKind)) × (result ≡ Err kinds) × TellsFailures result failed fails))
+    (names : BTreeSet (String Global)) × HasNames environment source names × IsWant kinds
+    × AppendsBeginning before after (lines_of names.keys)
+    × ((result : Result (Unit {0}) (List ErrorKind)) × (result ≡ Err kinds) × TellsFailures result failed fails)
+Told environment source (Template kinds) before after failed fails =
+    (kinds ≡ OutOfMemory ∷ []) × IsUntouched before after failed fails
 Told environment source _ before after failed fails = ⊥
 
--- the request's definitions
-abbrev pub definitions_of : Request → List (List ℕ × List ℕ)
-definitions_of request = texts_in request.texts.items
-
 -- what is done with the main template, once it stands
-abbrev pub Performed : Command → Request → List (List ℕ × List ℕ) → Option (List ℕ) → ℕ → Outcome → Option (List ℕ) → Option (List ℕ) → ℕ → ℕ → Type 0
+abbrev pub Performed : Command → Request → List (List ℕ × List ℕ) → Option (List ℕ) → ℕ → Outcome
+    → Option (List ℕ) → Option (List ℕ) → ℕ → ℕ → Type 0
 Performed asked.Render request additions json next outcome before after failed fails =
     (source : List ℕ) × (standing additions (string_bytes request.main) ≡ Some source)
     × ((context : Val) × IsContext json (definitions_of request) context
@@ -78,13 +93,16 @@ Performed asked.Names request additions json next outcome before after failed fa
     × ((source : List ℕ) × (standing additions (string_bytes request.main) ≡ Some source)
     × Told environment source outcome before after failed fails)
 
--- The context is refused; or else the additions are, or the main template does not stand; or else what is
--- asked is done. With no state id left the additions are refused.
+-- The context of a render is refused; or else the additions are, or the main template does not stand; or else
+-- what is asked is done. With no state id left the additions are refused.
 abbrev pub Answers : Request → List (List ℕ × List ℕ) → Option (List ℕ) → ℕ → Outcome → Option (List ℕ) → Option (List ℕ) → ℕ → ℕ → Type 0
 Answers request additions json next outcome before after failed fails =
-    ((kinds : List ErrorKind) × (outcome ≡ Context kinds) × IsRefusal (fault_of_json json) kinds × IsUntouched before after failed fails)
-    ⊎ ((fault_of_json json ≡ None)
-    × (((kinds : List ErrorKind) × (outcome ≡ Template kinds) × IsRefusedAddition additions next kinds × IsUntouched before after failed fails)
+    ((kinds : List ErrorKind) × (outcome ≡ Context kinds) × IsRefusedContext request.command json kinds
+    × IsUntouched before after failed fails)
+    ⊎ (((context : Val) × HasContext request.command json (definitions_of request) context)
+    × (((kinds : List ErrorKind) × (outcome ≡ Template kinds) × IsRefusedAddition additions next kinds
+    × IsUntouched before after failed fails)
     ⊎ (¬ IsLastId next × AllAreAccepted additions
-    × (((outcome ≡ Template (TemplateNotFound ∷ [])) × (standing additions (string_bytes request.main) ≡ None) × IsUntouched before after failed fails)
+    × (((outcome ≡ Template (TemplateNotFound ∷ [])) × (standing additions (string_bytes request.main) ≡ None)
+    × IsUntouched before after failed fails)
     ⊎ Performed request.command request additions json next outcome before after failed fails))))

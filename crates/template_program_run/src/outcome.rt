@@ -11,6 +11,7 @@ pub enum Outcome {
     Render(Error),
     /// The context was refused.
     Context(Error),
-    /// A template was refused, or the main one does not stand.
+    /// A template was refused, no state id is left, the main one does not stand, or its names cannot be
+    /// found.
     Template(Error),
 }

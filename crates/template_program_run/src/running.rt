@@ -1,8 +1,8 @@
 //! The run of a request.
-ghost use Rattle.std.specs.Prelude.{◌≡◌, option_copied};
+ghost use Rattle.std.specs.Prelude.{◌≡◌, option_copied, IfOk, IfErr};
 ghost use Rattle.template_program_context.specs.Context.{texts_in};
 ghost use Rattle.template_machine_environment.specs.Views.{fuel_of, name_of, source_of};
-ghost use Rattle.template_program_run.specs.Answers.{Answers, Rendered, Told};
+ghost use Rattle.template_program_run.specs.Answers.{Answers, HasContext, IsRefusedContext, Rendered, Told, definitions_of};
 ghost use Rattle.template_program_run.specs.Ids.{behind_one, behind_request};
 
 use crate::additions::environment_of;
@@ -15,10 +15,21 @@ use template_machine_ids::StateIds;
 use template_machine_output::Sink;
 use template_program_context::read_context;
 use template_values_core::Value;
+use template_values_errors::Error;
 
 /// Does what is asked with the templates (names with their sources) and the bytes of a context, and
-/// writes into a sink. The context is read first, then the templates are added in order, then the main
-/// one is rendered, under the escape of its name, or its names are told.
+/// writes into a sink. For a render the context is read first; names are told without one. Then the
+/// templates are added in order, a later one in place of an earlier one of its name, and the main one is
+/// rendered, under the escape of its name, or its names are told.
+///
+/// Takes one state id for the environment, and one more for a render. A refused context takes none.
+///
+/// # Errors
+///
+/// [`Outcome::Context`] where the context of a render is refused, then [`Outcome::Template`] where a
+/// template is refused, no state id is left, the main one does not stand, or its names cannot be found
+/// for want of memory; [`Outcome::Render`] where the render ends with a fault, or the names cannot be
+/// written. Until the last nothing is written.
 pub fn run<S: Sink>(
     alloc: Global,
     request: &Request,
@@ -27,10 +38,11 @@ pub fn run<S: Sink>(
     ids: &mut StateIds,
     sink: &mut S,
 ) -> Outcome
-    ensures answers { Answers request.now (texts_in templates.now) (option_copied context.entry) ids.old result (S.taken sink.old) (S.taken sink.new) (S.failures sink.old) (S.failures sink.new) }
+    ensures answers { Answers request.now (texts_in templates.now) (option_copied context.entry) ids.old result
+        (S.taken sink.old) (S.taken sink.new) (S.failures sink.old) (S.failures sink.new) }
     ensures counted { ids.new ≡ behind_request request.now.command result ids.old }
 {
-    let context = match read_context(alloc, context, &request.texts) {
+    let context = match context_of(alloc, request, context) {
         Ok(context) => context,
         Err(error) => return Outcome::Context(error),
     };
@@ -48,6 +60,17 @@ pub fn run<S: Sink>(
     }
 }
 
+// The context of a render. Names are told without one, and none is read.
+fn context_of(alloc: Global, request: &Request, context: Option<&[u8]>) -> Result<Value, Error>
+    ensures has { IfOk result (HasContext request.now.command (option_copied context.entry) (definitions_of request.now)) }
+    ensures refused { IfErr result (IsRefusedContext request.now.command (option_copied context.entry)) }
+{
+    match request.command {
+        Command::Render => read_context(alloc, context, &request.texts),
+        Command::Names => Ok(Value::undefined()),
+    }
+}
+
 // Renders the main template.
 fn render<S: Sink>(
     template: &Template<'_, '_>,
@@ -55,7 +78,8 @@ fn render<S: Sink>(
     ids: &mut StateIds,
     sink: &mut S,
 ) -> Outcome
-    ensures rendered { Rendered (name_of template.now) (source_of template.now) (fuel_of template.now) context ids.old result (S.taken sink.old) (S.taken sink.new) (S.failures sink.old) (S.failures sink.new) }
+    ensures rendered { Rendered (name_of template.now) (source_of template.now) (fuel_of template.now) context ids.old result
+        (S.taken sink.old) (S.taken sink.new) (S.failures sink.old) (S.failures sink.new) }
     ensures counted { ids.new ≡ behind_one ids.old }
 {
     match template.render_captured_to(ids, context, sink) {
@@ -70,11 +94,12 @@ fn tell_names<'source, S: Sink>(
     template: &Template<'_, 'source>,
     sink: &mut S,
 ) -> Outcome
-    ensures { Told environment.now (source_of template.now) result (S.taken sink.old) (S.taken sink.new) (S.failures sink.old) (S.failures sink.new) }
+    ensures { Told environment.now (source_of template.now) result
+        (S.taken sink.old) (S.taken sink.new) (S.failures sink.old) (S.failures sink.new) }
 {
     let names = match environment.context_names(template) {
         Ok(names) => names,
-        Err(error) => return Outcome::Render(error),
+        Err(error) => return Outcome::Template(error),
     };
     match write_lines(&names, sink) {
         Ok(()) => Outcome::Done,

@@ -1,1 +1,3 @@
 pub mod Status
+pub mod Flushes
+pub mod Starts

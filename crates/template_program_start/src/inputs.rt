@@ -1,52 +1,160 @@
-//! The templates and the context, read.
+//! The templates, the context and the request, by the words.
+ghost use Rattle.std.specs.Prelude.{◌≡◌, [], All, map, IfOk, unwrap_or, option_map, string_bytes};
+ghost use Rattle.template_program_context.specs.Context.{texts_in};
+ghost use Rattle.template_program_words.specs.Reading.{parts_of};
+ghost use Rattle.template_program_start.specs.Starts.{AreRead, AreTemplates, IsAsked, IsContextFile, IsInput, IsReadFrom, first_name, names_in, template_names};
 
-use std::alloc::{AllocError, Global};
-use std::io::Read;
-use std::rt::Files;
-use template_program_files::{FileFault, ReadWrapper, read_file, read_text, read_text_file};
-use template_program_words::Definition;
+use std::alloc::Global;
+use template_program_files::{
+    FileFault, FileSystem, ReadWrapper, Reader, read_file, read_text, read_text_file,
+};
+use template_program_run::{Command, Request};
+use template_program_words::{Definition, NamesWords, RenderWords, Words};
 
-/// A file of so many bytes or more is refused.
-const LIMIT: usize = 1 << 32;
+/// An input of so many bytes or more is refused.
+const INPUT_LIMIT: usize = 1 << 32;
+
+/// What a run takes.
+#[derive(Drop)]
+pub(crate) struct Inputs {
+    pub(crate) request: Request,
+    pub(crate) templates: Vec<(String, String)>,
+    pub(crate) context: Option<Vec<u8>>,
+}
+
+/// What the words ask for, with the files read: the templates in order, and then the context's.
+pub(crate) fn read_inputs<R: FileSystem + AllocGlobal, I: Reader>(
+    rt: &R,
+    words: &Words<'_>,
+    input: &mut I,
+) -> Result<Inputs, FileFault>
+    ensures asked { IfOk result (λ inputs. IsAsked words.now inputs.request (texts_in inputs.templates.items)) }
+    ensures read { IfOk result (λ inputs. AreRead (R.content rt.now) (I.remaining input.old) words.now
+        (texts_in inputs.templates.items) (option_map (λ bytes. bytes.items) inputs.context)) }
+{
+    match words {
+        Words::Render(words) => read_render(rt, words, input),
+        Words::Names(words) => read_names(rt, words, input),
+    }
+}
+
+fn read_render<R: FileSystem + AllocGlobal, I: Reader>(
+    rt: &R,
+    words: &RenderWords<'_>,
+    input: &mut I,
+) -> Result<Inputs, FileFault>
+    ensures asked { IfOk result (λ inputs. IsAsked (Words.Render words.now) inputs.request (texts_in inputs.templates.items)) }
+    ensures read { IfOk result (λ inputs. AreRead (R.content rt.now) (I.remaining input.old) (Words.Render words.now)
+        (texts_in inputs.templates.items) (option_map (λ bytes. bytes.items) inputs.context)) }
+{
+    let templates = read_templates(rt, words.files.as_slice(), input)?;
+    let context = read_context_file(rt, words.context)?;
+    let request = Request {
+        main: main_name(rt.alloc(), words.main, templates.as_slice())?,
+        texts: owned_definitions(rt.alloc(), words.definitions.as_slice())?,
+        fuel: words.fuel,
+        command: Command::Render,
+    };
+    Ok(Inputs {
+        request,
+        templates,
+        context,
+    })
+}
+
+fn read_names<R: FileSystem + AllocGlobal, I: Reader>(
+    rt: &R,
+    words: &NamesWords<'_>,
+    input: &mut I,
+) -> Result<Inputs, FileFault>
+    ensures asked { IfOk result (λ inputs. IsAsked (Words.Names words.now) inputs.request (texts_in inputs.templates.items)) }
+    ensures read { IfOk result (λ inputs. AreRead (R.content rt.now) (I.remaining input.old) (Words.Names words.now)
+        (texts_in inputs.templates.items) (option_map (λ bytes. bytes.items) inputs.context)) }
+{
+    let templates = read_templates(rt, words.files.as_slice(), input)?;
+    let request = Request {
+        main: main_name(rt.alloc(), words.main, templates.as_slice())?,
+        texts: Vec::new(rt.alloc()),
+        fuel: None,
+        command: Command::Names,
+    };
+    Ok(Inputs {
+        request,
+        templates,
+        context: None,
+    })
+}
 
 /// The templates by name: the files by their paths, or the input as `<stdin>` where none is named.
-pub(crate) fn read_templates<R: Files + AllocGlobal, I: Read>(
+fn read_templates<R: FileSystem + AllocGlobal, I: Reader>(
     rt: &R,
     paths: &[&str],
     input: &mut I,
-) -> Result<Vec<(String, String)>, FileFault> {
+) -> Result<Vec<(String, String)>, FileFault>
+    ensures named { IfOk result (λ templates. names_in (texts_in templates.items)
+        ≡ template_names (map (λ path. path.now) paths.now)) }
+    ensures read { IfOk result (λ templates. AreTemplates (R.content rt.now) (I.remaining input.old)
+        (map (λ path. path.now) paths.now) (texts_in templates.items)) }
+{
+    if paths.is_empty() {
+        return read_input(rt.alloc(), input);
+    }
+    read_files(rt, paths)
+}
+
+/// The input, as a template named `<stdin>`.
+fn read_input<I: Reader>(alloc: Global, input: &mut I) -> Result<Vec<(String, String)>, FileFault>
+    ensures named { IfOk result (λ templates. names_in (texts_in templates.items) ≡ template_names []) }
+    ensures read { IfOk result (λ templates. IsInput (I.remaining input.old) (texts_in templates.items)) }
+{
+    let name = String::from_str(alloc, "<stdin>")?;
+    let source = read_text(alloc, &mut ReadWrapper::new(input), INPUT_LIMIT)?;
+    let mut templates = Vec::new(alloc);
+    templates.push((name, source))?;
+    Ok(templates)
+}
+
+/// The files, in order, as templates named by their paths.
+fn read_files<R: FileSystem + AllocGlobal>(
+    rt: &R,
+    paths: &[&str],
+) -> Result<Vec<(String, String)>, FileFault>
+    ensures named { IfOk result (λ templates. names_in (texts_in templates.items) ≡ map (λ path. path.now) paths.now) }
+    ensures read { IfOk result (λ templates. All (IsReadFrom (R.content rt.now)) (texts_in templates.items)) }
+{
     let alloc = rt.alloc();
     let mut templates = Vec::new(alloc);
-    if paths.is_empty() {
-        let name = String::from_str(alloc, "<stdin>")?;
-        let source = read_text(alloc, &mut ReadWrapper::new(input), LIMIT)?;
-        templates.push((name, source)).map_err(AllocError::from)?;
-    }
     for path in paths {
         let name = String::from_str(alloc, path)?;
-        let source = read_text_file(rt, path, LIMIT)?;
-        templates.push((name, source)).map_err(AllocError::from)?;
+        let source = read_text_file(rt, path, INPUT_LIMIT)?;
+        templates.push((name, source))?;
     }
     Ok(templates)
 }
 
 /// The bytes of the context's file, where one is named.
-pub(crate) fn read_context_file<R: Files + AllocGlobal>(
+fn read_context_file<R: FileSystem + AllocGlobal>(
     rt: &R,
     path: Option<&str>,
-) -> Result<Option<Vec<u8>>, FileFault> {
+) -> Result<Option<Vec<u8>>, FileFault>
+    ensures { IfOk result (λ bytes. IsContextFile (R.content rt.now) (option_map (λ path. path.now) path.entry)
+        (option_map (λ bytes. bytes.items) bytes)) }
+{
     match path {
-        Some(path) => Ok(Some(read_file(rt, path, LIMIT)?)),
+        Some(path) => Ok(Some(read_file(rt, path, INPUT_LIMIT)?)),
         None => Ok(None),
     }
 }
 
 /// The name of the main template: the one that is named, else the first.
-pub(crate) fn main_name(
+fn main_name(
     alloc: Global,
     main: Option<&str>,
     templates: &[(String, String)],
-) -> Result<String, FileFault> {
+) -> Result<String, FileFault>
+    ensures { IfOk result (λ name. string_bytes name
+        ≡ unwrap_or (option_map (λ main. main.now) main.entry) (first_name (names_in (texts_in templates.now)))) }
+{
     match (main, templates.first()) {
         (Some(main), _) => Ok(String::from_str(alloc, main)?),
         (None, Some(first)) => Ok(first.0.clone()?),
@@ -55,15 +163,17 @@ pub(crate) fn main_name(
 }
 
 /// The definitions as owned texts.
-pub(crate) fn owned_definitions(
+fn owned_definitions(
     alloc: Global,
     definitions: &[Definition<'_>],
-) -> Result<Vec<(String, String)>, FileFault> {
+) -> Result<Vec<(String, String)>, FileFault>
+    ensures { IfOk result (λ texts. texts_in texts.items ≡ map parts_of definitions.now) }
+{
     let mut texts = Vec::new(alloc);
     for definition in definitions {
         let name = String::from_str(alloc, definition.name)?;
         let text = String::from_str(alloc, definition.text)?;
-        texts.push((name, text)).map_err(AllocError::from)?;
+        texts.push((name, text))?;
     }
     Ok(texts)
 }

@@ -143,29 +143,68 @@ impl Read for Broken {
     }
 }
 
-/// Takes so many bytes, one in a call, and fails from then on.
+/// Takes all, and fails when it is flushed.
 #[derive(Drop)]
-struct Room {
-    bytes: Vec<u8>,
-    room: usize,
+struct Unflushed {
+    kind: io::ErrorKind,
 }
 
-impl io::Write for Room {
+impl io::Write for Unflushed {
     fn write(&mut self, buf: &[u8]) -> io::Result<usize> {
-        if self.bytes.len() >= self.room {
-            return Err(io::Error::from(io::ErrorKind::Other));
-        }
-        match buf.first() {
-            None => Ok(0),
-            Some(first) => {
-                self.bytes.push(*first)?;
-                Ok(1)
-            }
-        }
+        Ok(buf.len())
     }
 
     fn flush(&mut self) -> io::Result<()> {
-        Ok(())
+        Err(io::Error::from(self.kind))
+    }
+}
+
+#[test]
+fn a_failed_flush_takes_the_place_of_a_render_alone(rt: HostRuntime) {
+    let memory = io::ErrorKind::OutOfMemory;
+    let rows = [
+        (
+            ["render"].as_slice(),
+            "a",
+            io::ErrorKind::Other,
+            "WriteFailure",
+            1,
+        ),
+        (["render"].as_slice(), "a", memory, "OutOfMemory", 6),
+        (
+            ["render", "--fuel", "1"].as_slice(),
+            "a",
+            io::ErrorKind::Other,
+            "WriteFailure",
+            1,
+        ),
+        (
+            ["names"].as_slice(),
+            "a",
+            io::ErrorKind::Interrupted,
+            "WriteFailure",
+            1,
+        ),
+        (["render"].as_slice(), "{{", memory, "SyntaxError", 5),
+        (
+            ["render", "--main", "b"].as_slice(),
+            "a",
+            memory,
+            "TemplateNotFound",
+            5,
+        ),
+    ];
+    for (words, source, kind, name, status) in rows {
+        let mut input = source.as_bytes();
+        let mut told = Vec::new(rt.alloc());
+        let ended = start(&rt, words, &mut input, &mut Unflushed { kind }, &mut told);
+        assert!(rt; ended == status, "status {ended} for {status}");
+        let line = told.as_slice();
+        assert!(rt;
+            line.starts_with(b"fault: ") && line.ends_with(b"\n"),
+            "no line for {name}"
+        );
+        assert!(rt; line.len() == name.len() + 8, "another line for {name}");
     }
 }
 
@@ -183,17 +222,15 @@ fn tells_failing_inputs_and_outputs(rt: HostRuntime) {
     assert!(rt; ended == 3);
     assert!(rt; told.as_slice() == b"fault: File\n".as_slice());
 
+    // A slice takes what it has room for, and then nothing.
     let hello = b"Hello World!".as_slice();
     for room in 0..13 {
-        let mut out = Room {
-            bytes: Vec::new(rt.alloc()),
-            room,
-        };
+        let mut bytes = [0u8; 12];
+        let mut out = &mut bytes[..room.min(12)];
         let mut told = Vec::new(rt.alloc());
         let mut input = b"Hello {{ name }}!".as_slice();
         let words = ["render", "-D", "name=World"].as_slice();
         let ended = start(&rt, words, &mut input, &mut out, &mut told);
-        assert!(rt; out.bytes.as_slice() == &hello[..room.min(12)], "at {room}");
         if room < 12 {
             assert!(rt; ended == 1, "at {room}");
             assert!(&rt;
@@ -203,5 +240,9 @@ fn tells_failing_inputs_and_outputs(rt: HostRuntime) {
         } else {
             assert!(rt; ended == 0, "at {room}");
         }
+        assert!(rt;
+            &bytes[..room.min(12)] == &hello[..room.min(12)],
+            "at {room}"
+        );
     }
 }

@@ -1,7 +1,7 @@
 -- What the getters of the matches read, by the rows.
-use Rattle.std.proofs.Common.{◌≡◌, ◌∙◌, ◌<◌, ◌^◌, ◌⊎◌, OnOk, inl, inr, ℕ, List, [], ap, ap₂, codes, Bor, Option, None, Some, Result, Ok, Err, map, option_map, refl, unwrap_or, sym}
+use Rattle.std.proofs.Common.{◌≡◌, ◌∙◌, ◌⊎◌, OnOk, inl, inr, ℕ, List, [], ap, ap₂, codes, Bor, Option, None, Some, Result, Ok, Err, map, option_map, refl, unwrap_or}
 use Rattle.std.specs.Str.Parse.{ParsesUnsigned}
-use Rattle.clap.specs.Words.{IsAmong, Kinds, ReadsOne, Row, found_of, one_of, subcommand_name_of, subcommand_rows_of}
+use Rattle.clap.specs.Words.{IsAmong, Kinds, ReadsOne, Row, subcommand_name_of, subcommand_rows_of}
 use Rattle.clap.specs.declared.error.kind.ErrorKind.{ErrorKind}
 use Rattle.clap.specs.declared.error.kind.ErrorKind.TheVariants.{OutOfMemory}
 use Rattle.clap.specs.declared.parser.matches.ArgMatches.{ArgMatches}

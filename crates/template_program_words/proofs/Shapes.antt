@@ -1,6 +1,5 @@
 -- What `clap` reads of a command that is built step by step.
-use Rattle.std.proofs.Common.{◌≡◌, ◌∙◌, ap, ap₂, false, Bool, ◌||◌, List, codes, refl}
-use Rattle.std.specs.Prelude.{Some}
+use Rattle.std.proofs.Common.{◌≡◌, ◌∙◌, ap, ap₂, false, ◌||◌}
 use Rattle.clap.specs.Words.{AddsArg, AddsSubcommand, App, Rule, app_of, rule_of, with_rule, with_subcommand}
 use Rattle.clap.specs.declared.builder.arg.Arg.{Arg}
 use Rattle.clap.specs.declared.builder.command.Command.{Command}

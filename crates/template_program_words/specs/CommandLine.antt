@@ -2,7 +2,7 @@
 -- and `names [--main NAME] [FILE...]`, in the words in which `clap` describes one.
 use Rattle.std.specs.Prelude.{Some, codes, true}
 use Rattle.clap.specs.Lexer.{usize_max}
-use Rattle.clap.specs.Words.{App, Rule, Shape, new_app, new_rule, with_rule, with_subcommand}
+use Rattle.clap.specs.Words.{App, Rule, new_app, new_rule, with_rule, with_subcommand}
 use Rattle.clap.specs.declared.builder.action.ArgAction.TheVariants.{Append}
 use Rattle.clap.specs.declared.builder.value_parser.ValueParser.TheVariants.{Unsigned}
 
@@ -42,10 +42,10 @@ render_command = with_rule (with_rule (with_rule (with_rule (with_rule (new_app 
 abbrev pub names_command : App
 names_command = with_rule (with_rule (new_app (codes "names")) main_option) files_argument
 
--- the program's own name is not among the words, and one of the commands has to be
+-- the program's own name is not among the words, one of the commands has to be, and the version is told
 abbrev pub bare_program : App
 bare_program = record (new_app (codes "template")) {
-  top = record ((new_app (codes "template")).top) { no_binary_name = true; subcommand_required = true };
+  top = record ((new_app (codes "template")).top) { no_binary_name = true; subcommand_required = true; has_version = true };
 }
 
 abbrev pub program : App

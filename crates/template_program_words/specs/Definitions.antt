@@ -1,5 +1,5 @@
 -- What `NAME=TEXT` is.
-use Rattle.std.specs.Prelude.{ℕ, List, Bool, nat_eq}
+use Rattle.std.specs.Prelude.{ℕ, List, nat_eq}
 use Rattle.std.specs.List.{before_first, after_first}
 
 -- `=`

@@ -12,9 +12,9 @@ use std::alloc::{AllocError, AllocFailed, Global};
 pub enum WordsFault {
     /// No memory was left.
     Memory,
-    /// Help was asked for: its text.
+    /// Help, or the version, was asked for: its text.
     Help(String),
-    /// The words are none that the program takes: the text for the user.
+    /// The words are none that the program takes: the text for the user, in lines.
     Usage(String),
     /// A definition has no `=`.
     Definition,

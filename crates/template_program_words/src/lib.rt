@@ -6,8 +6,6 @@ mod faults;
 mod found;
 mod options;
 mod reading;
-#[cfg(test)]
-mod tests;
 mod words;
 
 pub use definitions::{Definition, split_definition};

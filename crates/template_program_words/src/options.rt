@@ -7,12 +7,25 @@ ghost use Rattle.template_program_words.specs.CommandLine as line;
 use clap::{Arg, ArgAction, Command, value_parser};
 use std::alloc::{AllocError, Global};
 
+// What the program ends with.
+const STATUSES: &str = "\
+Status:
+  0  all is written, or help or the version was asked for
+  1  the render ended with a fault
+  2  the words were refused
+  3  a file or the input was refused
+  4  the context was refused
+  5  a template was refused, or the main one is not there
+  6  memory was refused";
+
 /// The program, with its two commands.
 pub(crate) fn program<'a>(alloc: Global) -> Result<Command<'a>, AllocError>
     ensures { IfOk result (λ command. app_of command ≡ line.program) }
 {
     Command::new(alloc, "template")
-        .about("Renders templates in the language of minijinja")
+        .about("Renders a template over a JSON context, or prints the names that it can ask for")
+        .version("0.1.0")
+        .after_help(STATUSES)
         .bin_name("template")?
         .no_binary_name(true)
         .subcommand_required(true)
@@ -40,7 +53,7 @@ fn names<'a>(alloc: Global) -> Result<Command<'a>, AllocError>
     ensures local { IfOk result (λ command. (out-Command command).has_globals ≡ false) }
 {
     Command::new(alloc, "names")
-        .about("Prints the names that the templates may ask the context for")
+        .about("Prints the names of a context that can matter to the main template, one a line")
         .arg(main(alloc))?
         .arg(files(alloc))
 }
@@ -52,7 +65,7 @@ fn context<'a>(alloc: Global) -> Arg<'a>
     Arg::new(alloc, "context")
         .long("context")
         .value_name("FILE")
-        .help("Reads the context from this JSON file")
+        .help("The context: a file that holds a JSON object; an empty one if not given")
 }
 
 fn definition<'a>(alloc: Global) -> Arg<'a>
@@ -63,7 +76,9 @@ fn definition<'a>(alloc: Global) -> Arg<'a>
         .short('D')
         .value_name("NAME=TEXT")
         .action(ArgAction::Append)
-        .help("Sets a text over the context")
+        .help(
+            "Sets a text over the context, split at the first `=`; may be repeated, the last of a name wins",
+        )
 }
 
 fn fuel<'a>(alloc: Global) -> Arg<'a>
@@ -74,7 +89,9 @@ fn fuel<'a>(alloc: Global) -> Arg<'a>
         .long("fuel")
         .value_name("N")
         .value_parser(value_parser!(u64))
-        .help("Ends the render when it has used up this much fuel")
+        .help(
+            "Stops the render at its N-th step of the price list, which is not run: N - 1 steps are",
+        )
 }
 
 fn main<'a>(alloc: Global) -> Arg<'a>
@@ -84,7 +101,7 @@ fn main<'a>(alloc: Global) -> Arg<'a>
     Arg::new(alloc, "main")
         .long("main")
         .value_name("NAME")
-        .help("The main template, in place of the first")
+        .help("The name of the main template, in place of the first")
 }
 
 fn files<'a>(alloc: Global) -> Arg<'a>
@@ -95,5 +112,7 @@ fn files<'a>(alloc: Global) -> Arg<'a>
         .value_name("FILE")
         .num_args(0..)
         .action(ArgAction::Append)
-        .help("The templates; standard input where none is named")
+        .help(
+            "The templates; a later one of the same path replaces; standard input, as <stdin>, where none is given",
+        )
 }

@@ -1,6 +1,8 @@
 pub use Rattle.template_values_errors.specs.Causes
+pub use Rattle.template_values_errors.specs.Memory
 pub use Rattle.template_values_errors.specs.Names
 pub use Rattle.template_values_model.specs.Val
+pub use Rattle.template_values_model.specs.Fault
 pub use Rattle.template_values_model.specs.Gives
 pub use Rattle.template_values_model.specs.Lookup
 pub use Rattle.template_values_core.specs.Answers

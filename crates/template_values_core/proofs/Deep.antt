@@ -21,7 +21,8 @@ items_deep-at [] i v h is = absurd (omega (arith, h))
 items_deep-at (w ∷ vs) zero v h is = omega (arith, ap depth is)
 items_deep-at (w ∷ vs) (suc i) v h is = omega (arith, items_deep-at vs i v (omega (arith, h)) is)
 
-pub entries_deep-at : (es : List Entry) (i : ℕ) (e : Entry) → i < length es → e ≡ get_or es i e → max (depth e.key + 1) (depth e.value + 1) ≤ entries_deep es
+pub entries_deep-at : (es : List Entry) (i : ℕ) (e : Entry) → i < length es → e ≡ get_or es i e
+    → max (depth e.key + 1) (depth e.value + 1) ≤ entries_deep es
 entries_deep-at [] i e h is = absurd (omega (arith, h))
 entries_deep-at (f ∷ es) zero e h is = omega (arith, ap (λ (x : Entry). depth x.key) is, ap (λ (x : Entry). depth x.value) is)
 entries_deep-at (f ∷ es) (suc i) e h is = omega (arith, entries_deep-at es i e (omega (arith, h)) is)
@@ -38,14 +39,16 @@ entries_none_first (y ∷ ys) zero k = refl
 entries_none_first (y ∷ ys) (suc i) k = entries_none_first ys i (omega (arith, k))
 
 -- a list that ends first stands first
-pub items_end_first : (xs ys : List Val) (i : ℕ) → length xs ≤ i → i < length ys → key_cmp (vals_key (vals_of (drop i xs))) (vals_key (vals_of (drop i ys))) ≡ Less
+pub items_end_first : (xs ys : List Val) (i : ℕ) → length xs ≤ i → i < length ys
+    → key_cmp (vals_key (vals_of (drop i xs))) (vals_key (vals_of (drop i ys))) ≡ Less
 items_end_first xs [] i h k = absurd (omega (arith, k))
 items_end_first [] (y ∷ ys) zero h k = refl
 items_end_first [] (y ∷ ys) (suc i) h k = items_none_first ys i (omega (arith, k))
 items_end_first (x ∷ xs) (y ∷ ys) zero h k = absurd (omega (arith, h))
 items_end_first (x ∷ xs) (y ∷ ys) (suc i) h k = items_end_first xs ys i (omega (arith, h)) (omega (arith, k))
 
-pub entries_end_first : (xs ys : List Entry) (i : ℕ) → length xs ≤ i → i < length ys → key_cmp (pairs_key (pairs_of (pairs_in (drop i xs)))) (pairs_key (pairs_of (pairs_in (drop i ys)))) ≡ Less
+pub entries_end_first : (xs ys : List Entry) (i : ℕ) → length xs ≤ i → i < length ys
+    → key_cmp (pairs_key (pairs_of (pairs_in (drop i xs)))) (pairs_key (pairs_of (pairs_in (drop i ys)))) ≡ Less
 entries_end_first xs [] i h k = absurd (omega (arith, k))
 entries_end_first [] (y ∷ ys) zero h k = refl
 entries_end_first [] (y ∷ ys) (suc i) h k = entries_none_first ys i (omega (arith, k))

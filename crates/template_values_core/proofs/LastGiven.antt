@@ -6,12 +6,12 @@ use Rattle.std.specs.Option.{option_or}
 use Rattle.std.specs.Ordering.{is_eq, ordering_then, nat_cmp, match_ordering}
 use Rattle.std.specs.BTreeMap.{insert_entry}
 use Rattle.std.specs.Str.{bytes_eq}
-use Rattle.std.specs.Cmp.{Equal-is, tied_back, eq_by_cmp_equiv}
+use Rattle.std.specs.Cmp.{Equal-is, tied_back}
 use Rattle.std.specs.Cmp.Lexicographic.{slice_cmp, texts_ties}
 use Rattle.template_values_model.specs.Val.{Val, Pairs, undefined, silent_undefined, none, truth, int, text, safe_text, bytes, list, tuple, map, keyword_map, «module», function, namespace, loop_record, macro_record, no_pairs, pairs_more}
 use Rattle.template_values_model.specs.Lookup.{is_text, entry_at}
 use Rattle.template_values_core.specs.Order.{val_cmp, val_total}
-use Rattle.template_values_core.specs.Maps.{pairs_of, put_all, last_at, under, last_under}
+use Rattle.template_values_core.specs.Maps.{pairs_of, put_all, last_at, entry_under, last_under}
 
 then_end : (o : Ordering) → is_eq (ordering_then o Equal) ≡ is_eq o
 then_end Less = refl
@@ -67,50 +67,58 @@ module _ (q k v : Val) where
   new_first true o = refl
   new_first false o = refl
 
-  same_first : (b c : Bool) (w : Val) (o : Option Val) → c ≡ b → (if b then Some v else o) ≡ option_or (if c then Some v else None) (if b then Some w else o)
+  same_first : (b c : Bool) (w : Val) (o : Option Val) → c ≡ b → (if b then Some v else o)
+      ≡ option_or (if c then Some v else None) (if b then Some w else o)
   same_first true true w o e = refl
   same_first false false w o e = refl
   same_first true false w o e = absurd (cc)
   same_first false true w o e = absurd (cc)
 
-  later_first : (b c : Bool) (w : Val) (o : Option Val) → (b ≡ true → c ≡ true → ⊥) → (if b then Some w else option_or (if c then Some v else None) o) ≡ option_or (if c then Some v else None) (if b then Some w else o)
+  later_first : (b c : Bool) (w : Val) (o : Option Val) → (b ≡ true → c ≡ true → ⊥)
+      → (if b then Some w else option_or (if c then Some v else None) o) ≡ option_or (if c then Some v else None) (if b then Some w else o)
   later_first true true w o f = absurd (f refl refl)
   later_first true false w o f = refl
   later_first false c w o f = refl
 
-  under-insert_entry : (kept : List (Val × Val)) → under q (pairs_of (insert_entry val_cmp kept k v)) ≡ option_or (if is_eq (val_cmp k q) then Some v else None) (under q (pairs_of kept))
-  under-insert_entry [] = new_first (is_eq (val_cmp k q)) None
-  under-insert_entry (e ∷ kept) = by (under-insert_entry kept) (val_cmp k e.0) refl
+  entry_under-insert_entry : (kept : List (Val × Val)) → entry_under q (pairs_of (insert_entry val_cmp kept k v))
+      ≡ option_or (if is_eq (val_cmp k q) then Some v else None) (entry_under q (pairs_of kept))
+  entry_under-insert_entry [] = new_first (is_eq (val_cmp k q)) None
+  entry_under-insert_entry (e ∷ kept) = by (entry_under-insert_entry kept) (val_cmp k e.0) refl
     where
-      by : under q (pairs_of (insert_entry val_cmp kept k v)) ≡ option_or (if is_eq (val_cmp k q) then Some v else None) (under q (pairs_of kept)) → (o : Ordering) → val_cmp k e.0 ≡ o → under q (pairs_of (match_ordering o ((k, v) ∷ e ∷ kept) ((e.0, v) ∷ kept) (e ∷ insert_entry val_cmp kept k v))) ≡ option_or (if is_eq (val_cmp k q) then Some v else None) (under q (pairs_of (e ∷ kept)))
-      by rest Less is = new_first (is_eq (val_cmp k q)) (under q (pairs_of (e ∷ kept)))
-      by rest Equal is = same_first (is_eq (val_cmp e.0 q)) (is_eq (val_cmp k q)) e.1 (under q (pairs_of kept)) (alike e.0 is)
+      by : entry_under q (pairs_of (insert_entry val_cmp kept k v))
+          ≡ option_or (if is_eq (val_cmp k q) then Some v else None) (entry_under q (pairs_of kept)) → (o : Ordering) → val_cmp k e.0 ≡ o
+          → entry_under q (pairs_of (match_ordering o ((k, v) ∷ e ∷ kept) ((e.0, v) ∷ kept) (e ∷ insert_entry val_cmp kept k v)))
+          ≡ option_or (if is_eq (val_cmp k q) then Some v else None) (entry_under q (pairs_of (e ∷ kept)))
+      by rest Less is = new_first (is_eq (val_cmp k q)) (entry_under q (pairs_of (e ∷ kept)))
+      by rest Equal is = same_first (is_eq (val_cmp e.0 q)) (is_eq (val_cmp k q)) e.1 (entry_under q (pairs_of kept)) (alike e.0 is)
       by rest Greater is =
           ap (λ (o : Option Val). if is_eq (val_cmp e.0 q) then Some e.1 else o) rest
-          ∙ later_first (is_eq (val_cmp e.0 q)) (is_eq (val_cmp k q)) e.1 (under q (pairs_of kept)) (λ a b. unequal (sym is ∙ both e.0 b a))
+          ∙ later_first (is_eq (val_cmp e.0 q)) (is_eq (val_cmp k q)) e.1 (entry_under q (pairs_of kept))
+          (λ a b. unequal (sym is ∙ both e.0 b a))
 
-under-put_all : (q : Val) (given kept : List (Val × Val)) → under q (pairs_of (put_all kept given)) ≡ option_or (last_under q given) (under q (pairs_of kept))
-under-put_all q [] kept = refl
-under-put_all q (p ∷ given) kept =
-    under-put_all q given (insert_entry val_cmp kept p.0 p.1)
-    ∙ ap (option_or (last_under q given)) (under-insert_entry q p.0 p.1 kept)
-    ∙ sym (or_assoc (last_under q given) (if is_eq (val_cmp p.0 q) then Some p.1 else None) (under q (pairs_of kept)))
+entry_under-put_all : (q : Val) (given kept : List (Val × Val)) → entry_under q (pairs_of (put_all kept given))
+    ≡ option_or (last_under q given) (entry_under q (pairs_of kept))
+entry_under-put_all q [] kept = refl
+entry_under-put_all q (p ∷ given) kept =
+    entry_under-put_all q given (insert_entry val_cmp kept p.0 p.1)
+    ∙ ap (option_or (last_under q given)) (entry_under-insert_entry q p.0 p.1 kept)
+    ∙ sym (or_assoc (last_under q given) (if is_eq (val_cmp p.0 q) then Some p.1 else None) (entry_under q (pairs_of kept)))
 
 -- the whole of a map that is made from pairs
-pub under-collected : (q : Val) (given : List (Val × Val)) → under q (pairs_of (put_all [] given)) ≡ last_under q given
-under-collected q given = under-put_all q given [] ∙ none_after (last_under q given)
+pub entry_under-collected : (q : Val) (given : List (Val × Val)) → entry_under q (pairs_of (put_all [] given)) ≡ last_under q given
+entry_under-collected q given = entry_under-put_all q given [] ∙ none_after (last_under q given)
 
 -- under a text
-pub entry_at-under : (name : List ℕ) (ps : Pairs) → entry_at name ps ≡ under (text name) ps
-entry_at-under name no_pairs = refl
-entry_at-under name (pairs_more k v ps) = λ i. if is_text-eq name k i then Some v else entry_at-under name ps i
+pub entry_at-entry_under : (name : List ℕ) (ps : Pairs) → entry_at name ps ≡ entry_under (text name) ps
+entry_at-entry_under name no_pairs = refl
+entry_at-entry_under name (pairs_more k v ps) = λ i. if is_text-eq name k i then Some v else entry_at-entry_under name ps i
 
-last_at-under : (name : List ℕ) (given : List (Val × Val)) → last_at name given ≡ last_under (text name) given
-last_at-under name [] = refl
-last_at-under name (p ∷ given) = λ i. option_or (last_at-under name given i) (if is_text-eq name p.0 i then Some p.1 else None)
+last_at-entry_under : (name : List ℕ) (given : List (Val × Val)) → last_at name given ≡ last_under (text name) given
+last_at-entry_under name [] = refl
+last_at-entry_under name (p ∷ given) = λ i. option_or (last_at-entry_under name given i) (if is_text-eq name p.0 i then Some p.1 else None)
 
 pub entry_at-collected : (name : List ℕ) (given : List (Val × Val)) → entry_at name (pairs_of (put_all [] given)) ≡ last_at name given
 entry_at-collected name given =
-    entry_at-under name (pairs_of (put_all [] given)) ∙ under-collected (text name) given ∙ sym (last_at-under name given)
+    entry_at-entry_under name (pairs_of (put_all [] given)) ∙ entry_under-collected (text name) given ∙ sym (last_at-entry_under name given)
 
-pub ruleset from_pairs = (entry_at-collected, under-collected)
+pub ruleset from_pairs = (entry_at-collected, entry_under-collected)

@@ -6,8 +6,8 @@ use Rattle.std.specs.Cmp.{int_cmp_is, ranks, tied_itself}
 use Rattle.std.specs.Cmp.Lexicographic.{slice_cmp}
 use Rattle.std.specs.Ordering.{MatchOrdering, int_cmp, nat_cmp, ordering_then}
 use Rattle.template_values_model.specs.Val.{Val, undefined, silent_undefined, none, truth, int, text, safe_text, bytes, list, tuple, map, keyword_map, «module», function, namespace, loop_record, macro_record}
-use Rattle.template_values_core.specs.Order.{Key, leaf, branch, key, key_cmp, vals_key, val_cmp, val_total}
-use Rattle.template_values_core.specs.OrderLaws.{rank_of, KindsFirst, Alike, WithinKinds}
+use Rattle.template_values_core.specs.Order.{Key, leaf, branch, key, key_cmp, rank_of, vals_key, val_cmp, val_total}
+use Rattle.template_values_core.specs.OrderLaws.{KindsFirst, Alike, WithinKinds}
 
 then_end : (o : Ordering) → ordering_then o Equal ≡ o
 then_end Less = refl
@@ -17,7 +17,8 @@ then_end Greater = refl
 below_pos : (n m : ℕ) → n < m → pos n <ℤ pos m
 below_pos n m h = omega (arith, ints)
 
-lifted : (n m : ℕ) (o : Ordering) → MatchOrdering o (n < m) (n ≡ m) (m < n) → MatchOrdering o (pos n <ℤ pos m) (pos n ≡ pos m) (pos m <ℤ pos n)
+lifted : (n m : ℕ) (o : Ordering) → MatchOrdering o (n < m) (n ≡ m) (m < n)
+    → MatchOrdering o (pos n <ℤ pos m) (pos n ≡ pos m) (pos m <ℤ pos n)
 lifted n m Less h = below_pos n m h
 lifted n m Equal h = ap pos h
 lifted n m Greater h = below_pos m n h
@@ -81,8 +82,10 @@ alike = record {
   modules = λ ps s. tied_itself val_total (map ps);
 }
 
-by_numbers : (d e n m : ℕ) → ordering_then (ordering_then (int_cmp (pos d) (pos e)) Equal) (ordering_then (ordering_then (int_cmp (pos n) (pos m)) Equal) Equal) ≡ ordering_then (nat_cmp d e) (nat_cmp n m)
-by_numbers d e n m = λ i. ordering_then ((then_end (int_cmp (pos d) (pos e)) ∙ signed d e) i) ((then_end (ordering_then (int_cmp (pos n) (pos m)) Equal) ∙ then_end (int_cmp (pos n) (pos m)) ∙ signed n m) i)
+by_numbers : (d e n m : ℕ) → ordering_then (ordering_then (int_cmp (pos d) (pos e)) Equal)
+    (ordering_then (ordering_then (int_cmp (pos n) (pos m)) Equal) Equal) ≡ ordering_then (nat_cmp d e) (nat_cmp n m)
+by_numbers d e n m = λ i. ordering_then ((then_end (int_cmp (pos d) (pos e)) ∙ signed d e) i)
+    ((then_end (ordering_then (int_cmp (pos n) (pos m)) Equal) ∙ then_end (int_cmp (pos n) (pos m)) ∙ signed n m) i)
 
 pub within_kinds : WithinKinds
 within_kinds = record {

@@ -1,5 +1,5 @@
 -- What is read of items and entries.
-use Rattle.std.proofs.Common.{◌≡◌, ℕ, List, [], ◌∷◌, length, refl, ap, sym, suc, Bool, true, false, not, nat_eq, arith}
+use Rattle.std.proofs.Common.{◌≡◌, ℕ, List, [], ◌∷◌, length, refl, ap, sym, suc, true, not, nat_eq}
 use Rattle.std.proofs.Math.Dec.{eqb-suc-zero}
 use Rattle.template_values_model.specs.Val.{Val, vals_of, items_of}
 use Rattle.template_values_core.specs.Maps.{pairs_of}

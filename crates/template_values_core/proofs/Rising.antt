@@ -45,7 +45,8 @@ module _ (k v : Val) where
   above-insert_entry j h [] all = (h, tt)
   above-insert_entry j h (e ∷ kept) all = by (above-insert_entry j h kept all.1) (val_cmp k e.0)
     where
-      by : Above j (insert_entry val_cmp kept k v) → (o : Ordering) → Above j (match_ordering o ((k, v) ∷ e ∷ kept) ((e.0, v) ∷ kept) (e ∷ insert_entry val_cmp kept k v))
+      by : Above j (insert_entry val_cmp kept k v) → (o : Ordering)
+          → Above j (match_ordering o ((k, v) ∷ e ∷ kept) ((e.0, v) ∷ kept) (e ∷ insert_entry val_cmp kept k v))
       by rest Less = (h, all)
       by rest Equal = all
       by rest Greater = (all.0, rest)
@@ -54,7 +55,8 @@ module _ (k v : Val) where
   rises-insert_entry [] h = (tt, tt)
   rises-insert_entry (e ∷ kept) h = by (rises-insert_entry kept h.1) (val_cmp k e.0) refl
     where
-      by : Rises (insert_entry val_cmp kept k v) → (o : Ordering) → val_cmp k e.0 ≡ o → Rises (match_ordering o ((k, v) ∷ e ∷ kept) ((e.0, v) ∷ kept) (e ∷ insert_entry val_cmp kept k v))
+      by : Rises (insert_entry val_cmp kept k v) → (o : Ordering) → val_cmp k e.0 ≡ o
+          → Rises (match_ordering o ((k, v) ∷ e ∷ kept) ((e.0, v) ∷ kept) (e ∷ insert_entry val_cmp kept k v))
       by rest Less is = ((is, above_less k e.0 is kept h.0), h)
       by rest Equal is = h
       by rest Greater is = (above-insert_entry e.0 (turned k e.0 Greater is) kept h.0, rest)

@@ -1,17 +1,15 @@
 -- How the calls of values answer.
 use Rattle.std.specs.Prelude.{◌≡◌, ℕ, ◌<◌, List, [], ◌∷◌, ◌⊎◌, Option, None, Some}
 use Rattle.template_values_errors.specs.declared.ErrorKind.{ErrorKind}
-use Rattle.template_values_errors.specs.declared.ErrorKind.TheVariants.{OutOfMemory, InvalidOperation}
+use Rattle.template_values_errors.specs.declared.ErrorKind.TheVariants.{InvalidOperation}
+use Rattle.template_values_errors.specs.Memory.{NoMemory}
+use Rattle.template_values_model.specs.declared.TheConstants.{DEPTH_LIMIT}
 use Rattle.template_values_model.specs.Val.{Val, text, safe_text}
 use Rattle.template_values_core.specs.Depth.{depth}
 
--- a growth was refused
-abbrev pub NoMemory : List ErrorKind → Type 0
-NoMemory kinds = kinds ≡ OutOfMemory ∷ []
-
 -- the value would nest deeper than any value may, or a growth was refused
 abbrev pub TooDeep : Val → List ErrorKind → Type 0
-TooDeep v kinds = NoMemory kinds ⊎ ((kinds ≡ InvalidOperation ∷ []) × (500 < depth v))
+TooDeep v kinds = NoMemory kinds ⊎ ((kinds ≡ InvalidOperation ∷ []) × (DEPTH_LIMIT < depth v))
 
 -- the bytes of a text, safe or not
 abbrev pub text_in : Val → Option (List ℕ)

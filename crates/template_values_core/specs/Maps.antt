@@ -1,9 +1,10 @@
 -- The pairs of a map that is made from pairs.
-use Rattle.std.specs.Prelude.{ℕ, List, [], ◌∷◌, Option, None, Some, if◌then◌else◌}
+use Rattle.std.specs.Prelude.{ℕ, List, map, [], ◌∷◌, Option, None, Some, if◌then◌else◌}
+use Rattle.std.specs.Borrow.{Bor}
 use Rattle.std.specs.Option.{option_or}
 use Rattle.std.specs.Ordering.{is_eq}
 use Rattle.std.specs.BTreeMap.{insert_entry}
-use Rattle.template_values_model.specs.Val.{Val, Pairs, no_pairs, pairs_more}
+use Rattle.template_values_model.specs.Val.{Val, Pairs, text, no_pairs, pairs_more}
 use Rattle.template_values_model.specs.Lookup.{is_text}
 use Rattle.template_values_core.specs.Order.{val_cmp}
 
@@ -31,15 +32,19 @@ abbrev pub merged : List (Val × Val) → List (Val × Val)
 merged [] = []
 merged (p ∷ given) = merged_after p given
 
+-- the pairs of names and values, each under the name's plain text
+abbrev pub named_pairs : List (Bor (List ℕ) × Val) → List (Val × Val)
+named_pairs = map (λ p. (text p.0.now, p.1))
+
 -- the value of the last pair given whose key is this text
 abbrev pub last_at : List ℕ → List (Val × Val) → Option Val
 last_at name [] = None
 last_at name (p ∷ given) = option_or (last_at name given) (if is_text name p.0 then Some p.1 else None)
 
 -- the value of the first pair whose key is equal to this one
-abbrev pub under : Val → Pairs → Option Val
-under k no_pairs = None
-under k (pairs_more j v ps) = if is_eq (val_cmp j k) then Some v else under k ps
+abbrev pub entry_under : Val → Pairs → Option Val
+entry_under k no_pairs = None
+entry_under k (pairs_more j v ps) = if is_eq (val_cmp j k) then Some v else entry_under k ps
 
 -- the value of the last pair given whose key is equal to this one
 abbrev pub last_under : Val → List (Val × Val) → Option Val

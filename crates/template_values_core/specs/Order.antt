@@ -15,6 +15,26 @@ pub data Key : Type 0 where
   leaf : ℤ → List ℕ → Key
   branch : Key → Key → Key
 
+-- where a kind stands among the kinds
+abbrev pub rank_of : Val → ℕ
+rank_of undefined = 0
+rank_of silent_undefined = 0
+rank_of none = 1
+rank_of (truth b) = 2
+rank_of (int n) = 2
+rank_of (text s) = 3
+rank_of (safe_text s) = 3
+rank_of (bytes s) = 4
+rank_of (list vs) = 5
+rank_of (tuple vs) = 5
+rank_of (map ps) = 6
+rank_of (keyword_map ps) = 6
+rank_of («module» ps s) = 6
+rank_of (function e n) = 7
+rank_of (namespace e n) = 8
+rank_of (loop_record e n) = 9
+rank_of (macro_record e n) = 10
+
 -- no further items
 abbrev pub end : Key
 end = leaf (pos 0) []
@@ -26,24 +46,24 @@ ranked rank number second s items pairs =
 
 abbrev mutual
   pub key : Val → Key
-  key undefined = ranked (pos 0) (pos 0) (pos 0) [] end end
-  key silent_undefined = ranked (pos 0) (pos 0) (pos 0) [] end end
-  key none = ranked (pos 1) (pos 0) (pos 0) [] end end
-  key (truth false) = ranked (pos 2) (pos 0) (pos 0) [] end end
-  key (truth true) = ranked (pos 2) (pos 1) (pos 0) [] end end
-  key (int n) = ranked (pos 2) n (pos 0) [] end end
-  key (text s) = ranked (pos 3) (pos 0) (pos 0) s end end
-  key (safe_text s) = ranked (pos 3) (pos 0) (pos 0) s end end
-  key (bytes s) = ranked (pos 4) (pos 0) (pos 0) s end end
-  key (list vs) = ranked (pos 5) (pos 0) (pos 0) [] (vals_key vs) end
-  key (tuple vs) = ranked (pos 5) (pos 0) (pos 0) [] (vals_key vs) end
-  key (map ps) = ranked (pos 6) (pos 0) (pos 0) [] end (pairs_key ps)
-  key (keyword_map ps) = ranked (pos 6) (pos 0) (pos 0) [] end (pairs_key ps)
-  key («module» ps s) = ranked (pos 6) (pos 0) (pos 0) [] end (pairs_key ps)
-  key (function e n) = ranked (pos 7) (pos e) (pos n) [] end end
-  key (namespace e n) = ranked (pos 8) (pos e) (pos n) [] end end
-  key (loop_record e n) = ranked (pos 9) (pos e) (pos n) [] end end
-  key (macro_record e n) = ranked (pos 10) (pos e) (pos n) [] end end
+  key undefined = ranked (pos (rank_of undefined)) (pos 0) (pos 0) [] end end
+  key silent_undefined = ranked (pos (rank_of silent_undefined)) (pos 0) (pos 0) [] end end
+  key none = ranked (pos (rank_of none)) (pos 0) (pos 0) [] end end
+  key (truth false) = ranked (pos (rank_of (truth false))) (pos 0) (pos 0) [] end end
+  key (truth true) = ranked (pos (rank_of (truth true))) (pos 1) (pos 0) [] end end
+  key (int n) = ranked (pos (rank_of (int n))) n (pos 0) [] end end
+  key (text s) = ranked (pos (rank_of (text s))) (pos 0) (pos 0) s end end
+  key (safe_text s) = ranked (pos (rank_of (safe_text s))) (pos 0) (pos 0) s end end
+  key (bytes s) = ranked (pos (rank_of (bytes s))) (pos 0) (pos 0) s end end
+  key (list vs) = ranked (pos (rank_of (list vs))) (pos 0) (pos 0) [] (vals_key vs) end
+  key (tuple vs) = ranked (pos (rank_of (tuple vs))) (pos 0) (pos 0) [] (vals_key vs) end
+  key (map ps) = ranked (pos (rank_of (map ps))) (pos 0) (pos 0) [] end (pairs_key ps)
+  key (keyword_map ps) = ranked (pos (rank_of (keyword_map ps))) (pos 0) (pos 0) [] end (pairs_key ps)
+  key («module» ps s) = ranked (pos (rank_of («module» ps s))) (pos 0) (pos 0) [] end (pairs_key ps)
+  key (function e n) = ranked (pos (rank_of (function e n))) (pos e) (pos n) [] end end
+  key (namespace e n) = ranked (pos (rank_of (namespace e n))) (pos e) (pos n) [] end end
+  key (loop_record e n) = ranked (pos (rank_of (loop_record e n))) (pos e) (pos n) [] end end
+  key (macro_record e n) = ranked (pos (rank_of (macro_record e n))) (pos e) (pos n) [] end end
 
   pub vals_key : Vals → Key
   vals_key no_vals = end
@@ -81,9 +101,11 @@ key_antisymm : (x y : Key) → key_cmp x y ≡ ordering_reverse (key_cmp y x)
 key_antisymm (leaf n s) (leaf m t) = leaf_total.antisymm (n, s) (m, t)
 key_antisymm (leaf n s) (branch c d) = refl
 key_antisymm (branch a b) (leaf m t) = refl
-key_antisymm (branch a b) (branch c d) = (λ i. ordering_then (key_antisymm a c i) (key_antisymm b d i)) ∙ then_reverse (key_cmp c a) (key_cmp d b)
+key_antisymm (branch a b) (branch c d) = (λ i. ordering_then (key_antisymm a c i) (key_antisymm b d i))
+    ∙ then_reverse (key_cmp c a) (key_cmp d b)
 
-then_congr : (p q p' q' r s : Ordering) → (p ≡ Equal → p' ≡ r) → (q ≡ Equal → q' ≡ s) → ordering_then p q ≡ Equal → ordering_then p' q' ≡ ordering_then r s
+then_congr : (p q p' q' r s : Ordering) → (p ≡ Equal → p' ≡ r) → (q ≡ Equal → q' ≡ s) → ordering_then p q ≡ Equal → ordering_then p' q'
+    ≡ ordering_then r s
 then_congr Less q p' q' r s f g e = absurd (cc)
 then_congr Equal q p' q' r s f g e = λ i. ordering_then (f refl i) (g e i)
 then_congr Greater q p' q' r s f g e = absurd (cc)
@@ -101,7 +123,8 @@ key_alike : (x y z : Key) → key_cmp x y ≡ Equal → key_cmp z x ≡ key_cmp 
 key_alike x y z e = key_antisymm z x ∙ ap ordering_reverse (key_congr x y z e) ∙ sym (key_antisymm z y)
 
 -- of three parts' comparisons
-then_trans : (p r t q s u : Ordering) → (p ≡ Less → r ≡ Less → t ≡ Less) → (p ≡ Equal → t ≡ r) → (r ≡ Equal → p ≡ t) → (q ≡ Less → s ≡ Less → u ≡ Less) → ordering_then p q ≡ Less → ordering_then r s ≡ Less → ordering_then t u ≡ Less
+then_trans : (p r t q s u : Ordering) → (p ≡ Less → r ≡ Less → t ≡ Less) → (p ≡ Equal → t ≡ r) → (r ≡ Equal → p ≡ t)
+    → (q ≡ Less → s ≡ Less → u ≡ Less) → ordering_then p q ≡ Less → ordering_then r s ≡ Less → ordering_then t u ≡ Less
 then_trans Less Less t q s u f g h k a b = ap (λ o. ordering_then o u) (f refl refl)
 then_trans Less Equal t q s u f g h k a b = ap (λ o. ordering_then o u) (sym (h refl))
 then_trans Less Greater t q s u f g h k a b = absurd (cc)
@@ -117,7 +140,8 @@ key_trans (leaf n s) (branch a b) (leaf k u) e f = absurd (cc)
 key_trans (branch a b) (leaf m t) z e f = absurd (cc)
 key_trans (branch a b) (branch c d) (leaf k u) e f = absurd (cc)
 key_trans (branch a b) (branch c d) (branch g h) e f =
-    then_trans (key_cmp a c) (key_cmp c g) (key_cmp a g) (key_cmp b d) (key_cmp d h) (key_cmp b h) (key_trans a c g) (key_congr a c g) (key_alike c g a) (key_trans b d h) e f
+    then_trans (key_cmp a c) (key_cmp c g) (key_cmp a g) (key_cmp b d) (key_cmp d h) (key_cmp b h) (key_trans a c g) (key_congr a c g)
+    (key_alike c g a) (key_trans b d h) e f
 
 pub val_total : IsTotalOrder val_cmp
 val_total = on_total key (record { antisymm = key_antisymm; trans = key_trans; congr = key_congr })

@@ -3,28 +3,8 @@ use Rattle.std.specs.Prelude.{◌≡◌, ◌≢◌, ℕ, ℤ, pos, ◌<◌, true
 use Rattle.std.specs.declared.cmp.Ordering.TheVariants.{Less, Equal}
 use Rattle.std.specs.Ordering.{int_cmp, nat_cmp, ordering_then}
 use Rattle.std.specs.Cmp.Lexicographic.{slice_cmp}
-use Rattle.template_values_model.specs.Val.{Val, Vals, Pairs, undefined, silent_undefined, none, truth, int, text, safe_text, bytes, list, tuple, map, keyword_map, «module», function, namespace, loop_record, macro_record, no_vals, vals_more, no_pairs, pairs_more}
-use Rattle.template_values_core.specs.Order.{val_cmp}
-
--- where a kind stands among the kinds
-abbrev pub rank_of : Val → ℕ
-rank_of undefined = 0
-rank_of silent_undefined = 0
-rank_of none = 1
-rank_of (truth b) = 2
-rank_of (int n) = 2
-rank_of (text s) = 3
-rank_of (safe_text s) = 3
-rank_of (bytes s) = 4
-rank_of (list vs) = 5
-rank_of (tuple vs) = 5
-rank_of (map ps) = 6
-rank_of (keyword_map ps) = 6
-rank_of («module» ps s) = 6
-rank_of (function e n) = 7
-rank_of (namespace e n) = 8
-rank_of (loop_record e n) = 9
-rank_of (macro_record e n) = 10
+use Rattle.template_values_model.specs.Val.{Val, Vals, Pairs, undefined, silent_undefined, truth, int, text, safe_text, bytes, list, tuple, map, keyword_map, «module», function, namespace, loop_record, macro_record, no_vals, vals_more, no_pairs, pairs_more}
+use Rattle.template_values_core.specs.Order.{rank_of, val_cmp}
 
 -- values of different kinds stand by their kinds
 abbrev pub KindsFirst : Type 0
@@ -46,9 +26,11 @@ pub record WithinKinds : Type 0 where
   pub numbers : (n m : ℤ) → val_cmp (int n) (int m) ≡ int_cmp n m
   pub texts : (s t : List ℕ) → val_cmp (text s) (text t) ≡ slice_cmp nat_cmp s t
   pub byte_strings : (s t : List ℕ) → val_cmp (bytes s) (bytes t) ≡ slice_cmp nat_cmp s t
-  pub items : (v w : Val) (vs ws : Vals) → val_cmp (list (vals_more v vs)) (list (vals_more w ws)) ≡ ordering_then (val_cmp v w) (val_cmp (list vs) (list ws))
+  pub items : (v w : Val) (vs ws : Vals) → val_cmp (list (vals_more v vs)) (list (vals_more w ws))
+      ≡ ordering_then (val_cmp v w) (val_cmp (list vs) (list ws))
   pub shorter : (v : Val) (vs : Vals) → val_cmp (list no_vals) (list (vals_more v vs)) ≡ Less
-  pub pairs : (j k v w : Val) (ps qs : Pairs) → val_cmp (map (pairs_more j v ps)) (map (pairs_more k w qs)) ≡ ordering_then (val_cmp j k) (ordering_then (val_cmp v w) (val_cmp (map ps) (map qs)))
+  pub pairs : (j k v w : Val) (ps qs : Pairs) → val_cmp (map (pairs_more j v ps)) (map (pairs_more k w qs))
+      ≡ ordering_then (val_cmp j k) (ordering_then (val_cmp v w) (val_cmp (map ps) (map qs)))
   pub fewer : (k v : Val) (ps : Pairs) → val_cmp (map no_pairs) (map (pairs_more k v ps)) ≡ Less
   pub functions : (d e n m : ℕ) → val_cmp (function d n) (function e m) ≡ ordering_then (nat_cmp d e) (nat_cmp n m)
   pub namespaces : (d e n m : ℕ) → val_cmp (namespace d n) (namespace e m) ≡ ordering_then (nat_cmp d e) (nat_cmp n m)

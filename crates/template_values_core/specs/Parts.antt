@@ -18,7 +18,8 @@ entries_deep [] = 0
 entries_deep (e ∷ es) = max (max (depth e.key + 1) (depth e.value + 1)) (entries_deep es)
 
 abbrev pub key_of : Parts → Key
-key_of p = ranked (pos p.rank) p.number (pos p.second) p.text.now (vals_key (vals_of p.items.now)) (pairs_key (pairs_of (pairs_in p.entries.now)))
+key_of p = ranked (pos p.rank) p.number (pos p.second) p.text.now (vals_key (vals_of p.items.now))
+    (pairs_key (pairs_of (pairs_in p.entries.now)))
 
 -- the parts make up the key, and what they hold is less deep than `levels`
 abbrev pub IsKeyOf : Parts → Key → ℕ → Type 0

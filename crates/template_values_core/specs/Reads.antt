@@ -2,7 +2,7 @@
 use Rattle.std.specs.Prelude.{ℕ, ℤ, pos, Bool, true, false, not, List, [], ◌∷◌, Option, None, Some}
 use Rattle.std.specs.Ordering.{int_eq}
 use Rattle.template_values_model.specs.Val.{Val, Vals, Pairs, undefined, silent_undefined, none, truth, int, text, safe_text, bytes, list, tuple, map, keyword_map, «module», items_of, no_vals, vals_more, no_pairs, pairs_more}
-use Rattle.template_values_core.specs.Maps.{under}
+use Rattle.template_values_core.specs.Maps.{entry_under}
 
 -- a whole number, no truth value
 abbrev pub whole_number : Val → Option ℤ
@@ -31,9 +31,9 @@ pairs_held _ = None
 
 -- the value under an equal key of a map, a keyword map or a module
 abbrev pub value_under : Val → Val → Option Val
-value_under k (map ps) = under k ps
-value_under k (keyword_map ps) = under k ps
-value_under k («module» ps s) = under k ps
+value_under k (map ps) = entry_under k ps
+value_under k (keyword_map ps) = entry_under k ps
+value_under k («module» ps s) = entry_under k ps
 value_under k _ = None
 
 abbrev pub has_bytes : List ℕ → Bool

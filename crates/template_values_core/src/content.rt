@@ -1,39 +1,59 @@
 //! What a value holds, for those that go by its kind.
-ghost use Rattle.std.specs.Prelude.{◌≡◌, IfSome, option_copied, option_map};
+ghost use Rattle.std.specs.Prelude.{◌≡◌, ◌<◌, IfSome, option_copied, option_map};
+ghost use Rattle.template_values_model.specs.Val.{vals_of};
 ghost use Rattle.template_values_core.specs.Content.{value_of};
+ghost use Rattle.template_values_core.specs.Depth.{vals_depth};
 ghost use Rattle.template_values_core.specs.Kept.{IsRising};
 ghost use Rattle.template_values_core.specs.Maps.{pairs_of};
 ghost use Rattle.template_values_core.specs.Reads.{is_true, items_in, number_of, pairs_held, whole_number};
 ghost use Rattle.template_values_core.specs.Shape.{pairs_in};
 
 use crate::value::{Entry, Repr, Value};
+use template_values_model::DEPTH_LIMIT;
 
 /// The kind of a value with its content. The entries of maps, keyword maps and modules stand in
 /// the order of their keys. Functions have the id of their environment and a number in it;
 /// namespaces, loops and macros have the id of their state and a number in it.
 #[derive(Clone, Copy)]
 pub enum Content<'a> {
+    /// What stands for a missing value.
     Undefined,
+    /// The same, where an `else` is missing.
     SilentUndefined,
+    /// No value.
     None,
+    /// A truth value.
     Truth(bool),
+    /// A whole number.
     Int(i128),
+    /// A plain text.
     Text(&'a str),
+    /// A text that is written without escapes.
     SafeText(&'a str),
+    /// Bytes, which need be no text.
     Bytes(&'a [u8]),
+    /// The items of a list.
     List(&'a [Value]),
+    /// The items of a tuple.
     Tuple(&'a [Value]),
+    /// The entries of a map.
     Map(&'a [Entry]),
+    /// The keyword arguments of a call.
     KeywordMap(&'a [Entry]),
+    /// What a module exports, and the text that it prints.
     Module(&'a [Entry], &'a str),
+    /// A function, by its environment's id and its number.
     Function(u64, usize),
+    /// A namespace, by its state's id and its number.
     Namespace(u64, usize),
+    /// A loop, by its state's id and its number.
     Loop(u64, usize),
+    /// A macro, by its state's id and its number.
     Macro(u64, usize),
 }
 
 impl Value {
-    /// The kind and the content of this value.
+    /// The kind and the content of this value, borrowed from it.
     pub fn content(&self) -> Content<'_>
         ensures { self.now ≡ value_of result }
     {
@@ -60,8 +80,9 @@ impl Value {
         }
     }
 
-    /// Whether the value counts as true. A record counts as true here, also an empty namespace:
-    /// only its state knows what it holds.
+    /// Whether the value counts as true: all but undefined, none, false, 0 and empty texts, bytes,
+    /// lists, tuples, maps and modules. Keyword maps and functions count as true, and so do records
+    /// here, also an empty namespace: only its state knows what it holds.
     #[tactic(auto, using(crate::proofs::ReadLemmas::reading))]
     pub fn is_true(&self) -> bool
         ensures { result ≡ is_true self.now }
@@ -101,14 +122,15 @@ impl Value {
         }
     }
 
-    /// The items of a list or a tuple.
+    /// The items of a list or a tuple. They nest less deep than the value may.
     #[tactic(auto, using(crate::proofs::ReadLemmas::reading))]
     pub fn items(&self) -> Option<&[Value]>
-        ensures { option_copied result ≡ items_in self.now }
+        ensures items { option_copied result ≡ items_in self.now }
+        ensures shallow { IfSome result (λ items. vals_depth (vals_of items.now) < DEPTH_LIMIT) }
     {
-        match self.content() {
-            Content::List(items) => Some(items),
-            Content::Tuple(items) => Some(items),
+        match &self.repr {
+            Repr::List(items) => Some(items.as_ref().as_slice()),
+            Repr::Tuple(items) => Some(items.as_ref().as_slice()),
             _ => None,
         }
     }

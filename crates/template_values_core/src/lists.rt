@@ -1,14 +1,15 @@
 //! Lists and tuples made from items.
-ghost use Rattle.std.specs.Prelude.{◌≡◌, ◌≤◌, IfErr, IfOk};
+ghost use Rattle.std.specs.Prelude.{◌≡◌, ◌<◌, ◌≤◌, [], ◌∷◌, Err, IfErr, IfOk};
 ghost use Rattle.template_values_model.specs.Val.{list, tuple, vals_of};
 ghost use Rattle.template_values_core.specs.Answers.{TooDeep};
 ghost use Rattle.template_values_core.specs.Depth.{depth, vals_depth};
 ghost use Rattle.template_values_core.specs.Held.{HoldsItems};
 
-use crate::value::{DEPTH_LIMIT, Repr, Value, larger};
+use crate::value::{Repr, Value, larger};
 use std::alloc::Global;
 use std::rc::Rc;
 use template_values_errors::{Error, ErrorKind};
+use template_values_model::DEPTH_LIMIT;
 
 /// Items that are shared, and the depth of a container of them.
 struct SharedItems {
@@ -21,12 +22,13 @@ impl Value {
     ///
     /// # Errors
     ///
-    /// - [`ErrorKind::InvalidOperation`], if the list would nest deeper than 500 levels.
+    /// - [`ErrorKind::InvalidOperation`], if the list would nest deeper than [`DEPTH_LIMIT`] levels.
     /// - [`ErrorKind::OutOfMemory`]
     pub fn from_list(alloc: Global, items: Vec<Value>) -> Result<Value, Error>
         ensures made { IfOk result (λ v. v ≡ list (vals_of items.items)) }
-        ensures bound { IfOk result (λ v. depth v ≤ 500) }
+        ensures bound { IfOk result (λ v. depth v ≤ DEPTH_LIMIT) }
         ensures refused { IfErr result (TooDeep (list (vals_of items.items))) }
+        ensures deep { DEPTH_LIMIT < depth (list (vals_of items.items)) → result ≡ Err (ErrorKind.InvalidOperation ∷ []) }
     {
         let shared = shared_items(alloc, items)?;
         let SharedItems { levels, items } = shared;
@@ -40,12 +42,13 @@ impl Value {
     ///
     /// # Errors
     ///
-    /// - [`ErrorKind::InvalidOperation`], if the tuple would nest deeper than 500 levels.
+    /// - [`ErrorKind::InvalidOperation`], if the tuple would nest deeper than [`DEPTH_LIMIT`] levels.
     /// - [`ErrorKind::OutOfMemory`]
     pub fn from_tuple(alloc: Global, items: Vec<Value>) -> Result<Value, Error>
         ensures made { IfOk result (λ v. v ≡ tuple (vals_of items.items)) }
-        ensures bound { IfOk result (λ v. depth v ≤ 500) }
+        ensures bound { IfOk result (λ v. depth v ≤ DEPTH_LIMIT) }
         ensures refused { IfErr result (TooDeep (tuple (vals_of items.items))) }
+        ensures deep { DEPTH_LIMIT < depth (tuple (vals_of items.items)) → result ≡ Err (ErrorKind.InvalidOperation ∷ []) }
     {
         let shared = shared_items(alloc, items)?;
         let SharedItems { levels, items } = shared;
@@ -59,20 +62,21 @@ impl Value {
 fn shared_items(alloc: Global, items: Vec<Value>) -> Result<SharedItems, Error>
     ensures made { IfOk result (λ s. HoldsItems s items.items) }
     ensures refused { IfErr result (TooDeep (list (vals_of items.items))) }
+    ensures deep { DEPTH_LIMIT < depth (list (vals_of items.items)) → result ≡ Err (ErrorKind.InvalidOperation ∷ []) }
 {
     let levels = deepest_of(items.as_slice()) + 1;
     if DEPTH_LIMIT < levels {
         return Err(Error::new(ErrorKind::InvalidOperation));
     }
-    match Rc::new(alloc, items) {
-        Ok(items) => Ok(SharedItems { levels, items }),
-        Err(_) => Err(Error::new(ErrorKind::OutOfMemory)),
-    }
+    Ok(SharedItems {
+        levels,
+        items: Rc::new(alloc, items)?,
+    })
 }
 
 fn deepest_of(items: &[Value]) -> u32
     ensures is { result ≡ vals_depth (vals_of items.now) }
-    ensures bound { result ≤ 500 }
+    ensures bound { result ≤ DEPTH_LIMIT }
 {
     let mut deepest = 0;
     for item in items {

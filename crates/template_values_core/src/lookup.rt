@@ -2,7 +2,7 @@
 ghost use Rattle.std.specs.Prelude.{◌≡◌, option_copied};
 ghost use Rattle.template_values_model.specs.Lookup.{entry_at, value_at};
 ghost use Rattle.template_values_core.specs.Kept.{IsRising};
-ghost use Rattle.template_values_core.specs.Maps.{pairs_of, under};
+ghost use Rattle.template_values_core.specs.Maps.{pairs_of, entry_under};
 ghost use Rattle.template_values_core.specs.Reads.{value_under};
 ghost use Rattle.template_values_core.specs.Shape.{pairs_in};
 
@@ -49,7 +49,7 @@ fn entry_at<'a>(entries: &'a [Entry], name: &str) -> Option<&'a Value>
 
 fn entry_under<'a>(entries: &'a [Entry], key: &Value) -> Option<&'a Value>
     requires { IsRising entries.now }
-    ensures { option_copied result ≡ under key.now (pairs_of (pairs_in entries.now)) }
+    ensures { option_copied result ≡ entry_under key.now (pairs_of (pairs_in entries.now)) }
 {
     match entries.binary_search_by(|entry| entry.key.cmp(key)) {
         Ok(at) => Some(&entries[at].value),

@@ -6,16 +6,17 @@ ghost use Rattle.template_values_core.specs.Answers.{TooDeep};
 ghost use Rattle.template_values_core.specs.Depth.{depth, pairs_depth};
 ghost use Rattle.template_values_core.specs.Kept.{IsRising};
 ghost use Rattle.template_values_core.specs.Held.{HoldsPairs};
-ghost use Rattle.template_values_core.specs.Maps.{collected, last_at, last_under, merged, pairs_of, put_all};
+ghost use Rattle.template_values_core.specs.Maps.{collected, last_at, last_under, merged, named_pairs, pairs_of, put_all};
 ghost use Rattle.template_values_core.specs.Order.{val_cmp};
 ghost use Rattle.template_values_core.specs.Reads.{value_under};
 ghost use Rattle.template_values_core.specs.Shape.{pairs_in};
 
-use crate::value::{DEPTH_LIMIT, Entry, Repr, Value, larger};
+use crate::value::{Entry, Repr, Value, larger};
 use std::alloc::{AllocError, Global};
 use std::mem::swap;
 use std::rc::{Rc, RcStr};
 use template_values_errors::{Error, ErrorKind};
+use template_values_model::DEPTH_LIMIT;
 
 /// Entries that are shared, in the order of their keys, and the depth of a container of them.
 struct SharedEntries {
@@ -29,12 +30,12 @@ impl Value {
     ///
     /// # Errors
     ///
-    /// - [`ErrorKind::InvalidOperation`], if the map would nest deeper than 500 levels.
+    /// - [`ErrorKind::InvalidOperation`], if the map would nest deeper than [`DEPTH_LIMIT`] levels.
     /// - [`ErrorKind::OutOfMemory`]
     #[tactic(auto, using(crate::proofs::LastGiven::from_pairs))]
     pub fn from_map(alloc: Global, entries: Vec<Entry>) -> Result<Value, Error>
         ensures made { IfOk result (λ v. v ≡ map (collected (pairs_in entries.items))) }
-        ensures bound { IfOk result (λ v. depth v ≤ 500) }
+        ensures bound { IfOk result (λ v. depth v ≤ DEPTH_LIMIT) }
         ensures last { IfOk result (λ v. (name : List ℕ) → value_at name v ≡ last_at name (pairs_in entries.items)) }
         ensures each { IfOk result (λ v. (k : Val) → value_under k v ≡ last_under k (pairs_in entries.items)) }
         ensures refused { IfErr result (TooDeep (map (collected (pairs_in entries.items)))) }
@@ -47,15 +48,36 @@ impl Value {
         })
     }
 
+    /// A map from names to values, as a context is; of equal names the last one's value stays.
+    /// The names are copied. Takes n log n comparisons for n pairs, and n where they are in order.
+    ///
+    /// # Errors
+    ///
+    /// - [`ErrorKind::InvalidOperation`], if the map would nest deeper than [`DEPTH_LIMIT`] levels.
+    /// - [`ErrorKind::OutOfMemory`]
+    pub fn from_pairs(alloc: Global, pairs: Vec<(&str, Value)>) -> Result<Value, Error>
+        ensures made { IfOk result (λ v. v ≡ map (collected (named_pairs pairs.entry.items))) }
+        ensures bound { IfOk result (λ v. depth v ≤ DEPTH_LIMIT) }
+        ensures last { IfOk result (λ v. (name : List ℕ) → value_at name v ≡ last_at name (named_pairs pairs.entry.items)) }
+        ensures refused { IfErr result (TooDeep (map (collected (named_pairs pairs.entry.items)))) }
+    {
+        let mut entries = Vec::with_capacity(alloc, pairs.len())?;
+        for (name, value) in pairs {
+            let key = Value::from_str(alloc, name)?;
+            entries.push(Entry { key, value })?;
+        }
+        Value::from_map(alloc, entries)
+    }
+
     /// A keyword map of the entries, kept as [`Value::from_map`] does.
     ///
     /// # Errors
     ///
-    /// - [`ErrorKind::InvalidOperation`], if it would nest deeper than 500 levels.
+    /// - [`ErrorKind::InvalidOperation`], if it would nest deeper than [`DEPTH_LIMIT`] levels.
     /// - [`ErrorKind::OutOfMemory`]
     pub fn from_kwargs(alloc: Global, entries: Vec<Entry>) -> Result<Value, Error>
         ensures made { IfOk result (λ v. v ≡ keyword_map (collected (pairs_in entries.items))) }
-        ensures bound { IfOk result (λ v. depth v ≤ 500) }
+        ensures bound { IfOk result (λ v. depth v ≤ DEPTH_LIMIT) }
         ensures refused { IfErr result (TooDeep (keyword_map (collected (pairs_in entries.items)))) }
     {
         let shared = shared_entries(alloc, entries)?;
@@ -70,22 +92,19 @@ impl Value {
     ///
     /// # Errors
     ///
-    /// - [`ErrorKind::InvalidOperation`], if it would nest deeper than 500 levels.
+    /// - [`ErrorKind::InvalidOperation`], if it would nest deeper than [`DEPTH_LIMIT`] levels.
     /// - [`ErrorKind::OutOfMemory`]
     pub fn from_module(alloc: Global, entries: Vec<Entry>, text: String) -> Result<Value, Error>
         ensures made { IfOk result (λ v. v ≡ Val.«module» (collected (pairs_in entries.items)) (string_bytes text)) }
-        ensures bound { IfOk result (λ v. depth v ≤ 500) }
+        ensures bound { IfOk result (λ v. depth v ≤ DEPTH_LIMIT) }
         ensures refused { IfErr result (TooDeep (Val.«module» (collected (pairs_in entries.items)) (string_bytes text))) }
     {
         let shared = shared_entries(alloc, entries)?;
         let SharedEntries { levels, entries } = shared;
-        match RcStr::from_string(text) {
-            Ok(text) => Ok(Value {
-                levels,
-                repr: Repr::Module(entries, text),
-            }),
-            Err(_) => Err(Error::new(ErrorKind::OutOfMemory)),
-        }
+        Ok(Value {
+            levels,
+            repr: Repr::Module(entries, RcStr::from_string(text)?),
+        })
     }
 }
 
@@ -93,17 +112,15 @@ fn shared_entries(alloc: Global, entries: Vec<Entry>) -> Result<SharedEntries, E
     ensures made { IfOk result (λ s. HoldsPairs s (put_all [] (pairs_in entries.items))) }
     ensures refused { IfErr result (TooDeep (map (collected (pairs_in entries.items)))) }
 {
-    let Ok(kept) = sorted(entries) else {
-        return Err(Error::new(ErrorKind::OutOfMemory));
-    };
+    let kept = sorted(entries)?;
     let levels = deepest_of(kept.as_slice()) + 1;
     if DEPTH_LIMIT < levels {
         return Err(Error::new(ErrorKind::InvalidOperation));
     }
-    match Rc::new(alloc, kept) {
-        Ok(entries) => Ok(SharedEntries { levels, entries }),
-        Err(_) => Err(Error::new(ErrorKind::OutOfMemory)),
-    }
+    Ok(SharedEntries {
+        levels,
+        entries: Rc::new(alloc, kept)?,
+    })
 }
 
 // In the order of keys. Of equal keys the first stays, with the last one's value.
@@ -131,7 +148,7 @@ fn merge_equal_keys(entries: &mut Vec<Entry>)
 
 fn deepest_of(entries: &[Entry]) -> u32
     ensures is { result ≡ pairs_depth (pairs_of (pairs_in entries.now)) }
-    ensures bound { result ≤ 500 }
+    ensures bound { result ≤ DEPTH_LIMIT }
 {
     let mut deepest = 0;
     for entry in entries {

@@ -3,7 +3,7 @@ ghost use Rattle.std.specs.Prelude.{◌≡◌, ◌+◌, [], pos};
 ghost use Rattle.std.specs.Cmp.{eq_by_cmp_equiv, partial_equiv_from_equiv, partial_order_from_total};
 ghost use Rattle.std.specs.Ordering.{as_partial_cmp, eq_by_cmp};
 ghost use Rattle.std.proofs.Common.{refl};
-ghost use Rattle.template_values_model.specs.Val.{Val, vals_of};
+ghost use Rattle.template_values_model.specs.Val.{Val, list, map, vals_of};
 ghost use Rattle.template_values_core.specs.Depth.{depth, pairs_depth, vals_depth};
 ghost use Rattle.template_values_core.specs.Maps.{pairs_of};
 ghost use Rattle.template_values_core.specs.Order.{end, key, key_cmp, pairs_key, ranked, val_cmp, val_total, vals_key};
@@ -13,6 +13,22 @@ ghost use Rattle.template_values_core.specs.Shape.{pairs_in};
 use crate::value::{Entry, Repr, Value};
 use std::cmp::Ordering;
 use std::rc::Rc;
+
+/// The kinds of values in their order. Truth values are numbers.
+#[derive(Clone, Copy)]
+enum Rank {
+    Undefined,
+    None,
+    Number,
+    Text,
+    Bytes,
+    Sequence,
+    Map,
+    Function,
+    Namespace,
+    Loop,
+    Macro,
+}
 
 /// What a value is compared by. What its kind does not have is 0 or empty.
 #[derive(Clone, Copy)]
@@ -52,10 +68,10 @@ fn text<'a>(rank: u8, text: &'a [u8]) -> Parts<'a>
 }
 
 fn items<'a>(items: &'a Rc<Vec<Value>>) -> Parts<'a>
-    ensures { IsKeyOf result (ranked (pos 5) (pos 0) (pos 0) [] (vals_key (vals_of items.now.value.items)) end) (vals_depth (vals_of items.now.value.items) + 1) }
+    ensures { IsKeyOf result (key (list (vals_of items.now.value.items))) (vals_depth (vals_of items.now.value.items) + 1) }
 {
     Parts {
-        rank: 5,
+        rank: Rank::Sequence as u8,
         number: 0,
         second: 0,
         text: &[],
@@ -65,10 +81,11 @@ fn items<'a>(items: &'a Rc<Vec<Value>>) -> Parts<'a>
 }
 
 fn entries<'a>(entries: &'a Rc<Vec<Entry>>) -> Parts<'a>
-    ensures { IsKeyOf result (ranked (pos 6) (pos 0) (pos 0) [] end (pairs_key (pairs_of (pairs_in entries.now.value.items)))) (pairs_depth (pairs_of (pairs_in entries.now.value.items)) + 1) }
+    ensures { let pairs = pairs_of (pairs_in entries.now.value.items) in
+        IsKeyOf result (key (map pairs)) (pairs_depth pairs + 1) }
 {
     Parts {
-        rank: 6,
+        rank: Rank::Map as u8,
         number: 0,
         second: 0,
         text: &[],
@@ -81,23 +98,23 @@ fn parts_of(value: &Value) -> Parts<'_>
     ensures { IsKeyOf result (key value.now) (depth value.now) }
 {
     match &value.repr {
-        Repr::Undefined | Repr::SilentUndefined => number(0, 0, 0),
-        Repr::None => number(1, 0, 0),
-        Repr::Truth(false) => number(2, 0, 0),
-        Repr::Truth(true) => number(2, 1, 0),
-        Repr::Int(value) => number(2, *value, 0),
-        Repr::Text(value) => text(3, value.as_str().as_bytes()),
-        Repr::SafeText(value) => text(3, value.as_str().as_bytes()),
-        Repr::Bytes(value) => text(4, value.as_ref().as_slice()),
+        Repr::Undefined | Repr::SilentUndefined => number(Rank::Undefined as u8, 0, 0),
+        Repr::None => number(Rank::None as u8, 0, 0),
+        Repr::Truth(false) => number(Rank::Number as u8, 0, 0),
+        Repr::Truth(true) => number(Rank::Number as u8, 1, 0),
+        Repr::Int(value) => number(Rank::Number as u8, *value, 0),
+        Repr::Text(value) => text(Rank::Text as u8, value.as_str().as_bytes()),
+        Repr::SafeText(value) => text(Rank::Text as u8, value.as_str().as_bytes()),
+        Repr::Bytes(value) => text(Rank::Bytes as u8, value.as_ref().as_slice()),
         Repr::List(value) => items(value),
         Repr::Tuple(value) => items(value),
         Repr::Map(value) => entries(value),
         Repr::KeywordMap(value) => entries(value),
         Repr::Module(value, _text) => entries(value),
-        Repr::Function(id, place) => number(7, *id as i128, *place),
-        Repr::Namespace(id, place) => number(8, *id as i128, *place),
-        Repr::Loop(id, place) => number(9, *id as i128, *place),
-        Repr::Macro(id, place) => number(10, *id as i128, *place),
+        Repr::Function(id, place) => number(Rank::Function as u8, *id as i128, *place),
+        Repr::Namespace(id, place) => number(Rank::Namespace as u8, *id as i128, *place),
+        Repr::Loop(id, place) => number(Rank::Loop as u8, *id as i128, *place),
+        Repr::Macro(id, place) => number(Rank::Macro as u8, *id as i128, *place),
     }
 }
 
@@ -119,7 +136,7 @@ pub(crate) fn compare_to_text(value: &Value, name: &str) -> Ordering
 {
     match &value.repr {
         Repr::Text(value) => value.as_str().as_bytes().cmp(name.as_bytes()),
-        _ => compare_parts(parts_of(value), text(3, name.as_bytes())),
+        _ => compare_parts(parts_of(value), text(Rank::Text as u8, name.as_bytes())),
     }
 }
 

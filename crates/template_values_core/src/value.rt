@@ -1,20 +1,19 @@
 //! A value, and how it is made, shared and read.
 ghost use Rattle.std.specs.Prelude.{◌≡◌, ◌≤◌, max, IfOk, IfErr, string_bytes, option_copied};
+ghost use Rattle.template_values_errors.specs.Memory.{NoMemory};
 ghost use Rattle.template_values_model.specs.Val.{Val, undefined, silent_undefined, none, truth, int, text};
-ghost use Rattle.template_values_core.specs.Answers.{NoMemory, text_in};
+ghost use Rattle.template_values_core.specs.Answers.{text_in};
 ghost use Rattle.template_values_core.specs.Depth.{depth};
 ghost use Rattle.template_values_core.specs.Kept.{IsShared};
 
 use std::alloc::{AllocError, Global};
 use std::marker::Model;
 use std::rc::{Rc, RcStr};
-use template_values_errors::{Error, ErrorKind};
-
-/// The deepest that a value may nest.
-pub(crate) const DEPTH_LIMIT: u32 = 500;
+use template_values_errors::Error;
+use template_values_model::DEPTH_LIMIT;
 
 /// A value of the template language. A contract sees it as the mathematical value; its depth is
-/// at most 500. The contents of texts, bytes, lists, tuples, maps and modules are shared by the
+/// at most [`DEPTH_LIMIT`]. The contents of texts, bytes, lists, tuples, maps and modules are shared by the
 /// copies of a value.
 #[cycle(value)]
 #[derive(Drop)]
@@ -50,12 +49,15 @@ pub(crate) enum Repr {
 #[cycle(value)]
 #[derive(Drop)]
 pub struct Entry {
+    /// What the value is looked up by.
     pub key: Value,
+    /// What stands under the key.
     pub value: Value,
 }
 
 impl Model for Value {
     ghost use Rattle.std.specs.Prelude.{◌≡◌, ◌≤◌};
+    ghost use Rattle.template_values_model.specs.declared.TheConstants.{DEPTH_LIMIT};
     ghost use Rattle.template_values_model.specs.Val.{Val};
     ghost use Rattle.template_values_core.specs.Code.{val_code};
     ghost use Rattle.template_values_core.specs.Depth.{depth};
@@ -69,7 +71,7 @@ impl Model for Value {
 
     ghost view = { λ a. repr_view a.repr };
 
-    ghost invariant = { λ a. (a.levels ≡ depth (repr_view a.repr)) × (a.levels ≤ 500) × IsKept a.repr };
+    ghost invariant = { λ a. (a.levels ≡ depth (repr_view a.repr)) × (a.levels ≤ DEPTH_LIMIT) × IsKept a.repr };
 
     ghost size = { depth };
 
@@ -139,13 +141,22 @@ impl Value {
         ensures made { IfOk result (λ v. v ≡ Val.text (string_bytes text)) }
         ensures refused { IfErr result NoMemory }
     {
-        match RcStr::from_string(text) {
-            Ok(shared) => Ok(Value {
-                levels: 0,
-                repr: Repr::Text(shared),
-            }),
-            Err(_) => Err(Error::new(ErrorKind::OutOfMemory)),
-        }
+        Ok(Value {
+            levels: 0,
+            repr: Repr::Text(RcStr::from_string(text)?),
+        })
+    }
+
+    /// A plain text, copied from a `&str`. Linear in its length.
+    ///
+    /// # Errors
+    ///
+    /// [`ErrorKind::OutOfMemory`]
+    pub fn from_str(alloc: Global, text: &str) -> Result<Value, Error>
+        ensures made { IfOk result (λ v. v ≡ Val.text text.now) }
+        ensures refused { IfErr result NoMemory }
+    {
+        Value::from_text(String::from_str(alloc, text)?)
     }
 
     /// A text that is written without escapes. Its bytes are not copied.
@@ -157,13 +168,10 @@ impl Value {
         ensures made { IfOk result (λ v. v ≡ Val.safe_text (string_bytes text)) }
         ensures refused { IfErr result NoMemory }
     {
-        match RcStr::from_string(text) {
-            Ok(shared) => Ok(Value {
-                levels: 0,
-                repr: Repr::SafeText(shared),
-            }),
-            Err(_) => Err(Error::new(ErrorKind::OutOfMemory)),
-        }
+        Ok(Value {
+            levels: 0,
+            repr: Repr::SafeText(RcStr::from_string(text)?),
+        })
     }
 
     /// Bytes, which need be no text. They are not copied.
@@ -175,13 +183,10 @@ impl Value {
         ensures made { IfOk result (λ v. v ≡ Val.bytes bytes.items) }
         ensures refused { IfErr result NoMemory }
     {
-        match Rc::new(alloc, bytes) {
-            Ok(shared) => Ok(Value {
-                levels: 0,
-                repr: Repr::Bytes(shared),
-            }),
-            Err(_) => Err(Error::new(ErrorKind::OutOfMemory)),
-        }
+        Ok(Value {
+            levels: 0,
+            repr: Repr::Bytes(Rc::new(alloc, bytes)?),
+        })
     }
 
     /// The function of a number in the environment of an id.
@@ -224,7 +229,8 @@ impl Value {
         }
     }
 
-    /// The same value, whose contents are shared.
+    /// The same value, whose contents are shared: nothing of them is copied, however large they
+    /// are.
     ///
     /// # Errors
     ///
@@ -233,19 +239,16 @@ impl Value {
         ensures same { IfOk result (λ v. v ≡ self.now) }
         ensures refused { IfErr result NoMemory }
     {
-        match self.repr.share() {
-            Ok(repr) => Ok(Value {
-                levels: self.levels(),
-                repr,
-            }),
-            Err(_) => Err(Error::new(ErrorKind::OutOfMemory)),
-        }
+        Ok(Value {
+            levels: self.levels(),
+            repr: self.repr.share()?,
+        })
     }
 
     /// How deep the value nests: 0 for scalars, one more than the deepest item for containers.
     pub fn levels(&self) -> u32
         ensures is { result ≡ depth self.now }
-        ensures bound { depth self.now ≤ 500 }
+        ensures bound { depth self.now ≤ DEPTH_LIMIT }
     {
         self.levels
     }

@@ -1,12 +1,17 @@
 //! The refusals of the template engine: a kind, and at most one error as its cause.
 #![tactic(auto)]
 
-ghost use Rattle.std.specs.Prelude.{◌≡◌, ◌∷◌, [], ◌⊎◌};
+ghost use Rattle.std.specs.Prelude.{◌≡◌, ◌∷◌, [], ◌⊎◌, Some};
+ghost use Rattle.std.specs.Fmt.{WritesOnOk, padded};
+ghost use Rattle.std.specs.Cmp.{partial_equiv_from_equiv};
+ghost use Rattle.template_values_errors.specs.Same.{same_kinds, same_kinds-laws};
 ghost use Rattle.template_values_errors.specs.Causes.{IsCause, IsHead};
-ghost use Rattle.template_values_errors.specs.Names.{name_of};
+ghost use Rattle.template_values_errors.specs.Memory.{NoMemory};
+ghost use Rattle.template_values_errors.specs.Names.{causes_text, kind_name, kinds_text};
 
-use std::alloc::Global;
+use std::alloc::{AllocError, AllocFailed, Global};
 use std::marker::Model;
+use std::{error, fmt};
 
 /// Why a call was refused.
 #[derive(Clone, Copy, Debug, PartialEq, Eq)]
@@ -62,7 +67,7 @@ pub enum ErrorKind {
 impl ErrorKind {
     /// The word that stands for this kind in a fault line.
     pub fn name(self) -> &'static str
-        ensures { result.now ≡ name_of self }
+        ensures { result.now ≡ kind_name self }
     {
         match self {
             ErrorKind::SyntaxError => "SyntaxError",
@@ -92,9 +97,19 @@ impl ErrorKind {
     }
 }
 
+impl fmt::Display for ErrorKind {
+    ghost output = { λ kind. Some (kind_name kind) };
+
+    ghost styled_output = { λ kind spec. Some (padded spec (kind_name kind)) };
+
+    fn fmt<W: fmt::Write>(&self, f: &mut fmt::Formatter<W>) -> fmt::Result {
+        f.pad(self.name())
+    }
+}
+
 /// A refusal: its kind, and the error that caused it, if one did. A contract sees the kinds,
 /// outermost first.
-#[derive(Drop)]
+#[derive(Debug, Drop)]
 pub struct Error {
     kind: ErrorKind,
     cause: Option<Box<Error>>,
@@ -107,9 +122,11 @@ impl Model for Error {
 
     ghost Value = { List ErrorKind };
 
-    ghost use Rattle.template_values_errors.specs.Chain.{kinds_of};
+    ghost use Rattle.template_values_errors.specs.Chain.{HasKinds, kinds_of};
 
     ghost view = { λ e. e.kind ∷ kinds_of e.cause };
+
+    ghost invariant = { λ e. HasKinds e.cause };
 
     ghost size = { length };
 
@@ -127,14 +144,14 @@ impl Error {
     /// An error that `cause` led to. Where no memory is left for the cause, the error is
     /// [`ErrorKind::OutOfMemory`] alone.
     pub fn with_cause(alloc: Global, kind: ErrorKind, cause: Error) -> Error
-        ensures { (result ≡ kind ∷ cause) ⊎ (result ≡ ErrorKind.OutOfMemory ∷ []) }
+        ensures { (result ≡ kind ∷ cause) ⊎ NoMemory result }
     {
         match Box::new(alloc, cause) {
             Ok(cause) => Error {
                 kind,
                 cause: Some(cause),
             },
-            Err(_refused) => Error::new(ErrorKind::OutOfMemory),
+            Err(refused) => refused.into(),
         }
     }
 
@@ -156,9 +173,75 @@ impl Error {
     }
 }
 
+/// Writes the kinds, outermost first, joined by `: `, as `BadInclude: OutOfFuel`.
+impl fmt::Display for Error {
+    ghost output = { λ kinds. Some (kinds_text kinds) };
+
+    fn fmt<W: fmt::Write>(&self, f: &mut fmt::Formatter<W>) -> fmt::Result {
+        f.write_str(self.kind.name())?;
+        match &self.cause {
+            Some(cause) => write_cause(cause.as_ref(), f),
+            None => Ok(()),
+        }
+    }
+}
+
+/// Writes the kinds of a cause, each behind `: `.
+fn write_cause<W: fmt::Write>(cause: &Error, f: &mut fmt::Formatter<W>) -> fmt::Result
+    ensures { WritesOnOk W.write_str_gives f.old result (causes_text cause.now) f.new }
+{
+    f.write_str(": ")?;
+    f.write_str(cause.kind.name())?;
+    match &cause.cause {
+        Some(cause) => write_cause(cause.as_ref(), f),
+        None => Ok(()),
+    }
+}
+
+impl error::Error for Error {}
+
+/// Equal where the kinds are, in order. Linear in their number.
+impl PartialEq for Error {
+    ghost eq = { same_kinds };
+
+    ghost laws = { partial_equiv_from_equiv same_kinds-laws };
+
+    fn eq(&self, other: &Error) -> bool {
+        self.kind == other.kind
+            && match (&self.cause, &other.cause) {
+                (Some(cause), Some(other)) => cause.as_ref() == other.as_ref(),
+                (None, None) => true,
+                _ => false,
+            }
+    }
+}
+
+impl Eq for Error {
+    ghost laws = { same_kinds-laws };
+}
+
+/// Want of memory, so that `?` refuses where a growth was refused.
+impl From<AllocError> for Error {
+    ghost from_gives = { λ _ kinds. NoMemory kinds };
+
+    fn from(_refused: AllocError) -> Error {
+        Error::new(ErrorKind::OutOfMemory)
+    }
+}
+
+/// Want of memory, from a call that hands back what it did not keep, which is dropped.
+impl<T: Drop> From<AllocFailed<T>> for Error {
+    ghost from_gives = { λ _ kinds. NoMemory kinds };
+
+    fn from(_refused: AllocFailed<T>) -> Error {
+        Error::new(ErrorKind::OutOfMemory)
+    }
+}
+
 #[cfg(test)]
 mod tests {
     use super::*;
+    use std::test::Fail;
 
     #[test]
     fn an_error_tells_its_chain(rt: HostRuntime) {
@@ -172,5 +255,24 @@ mod tests {
             None => panic!(rt; "the cause is gone"),
         }
         assert!(rt; outer.kind().name() == "BadInclude");
+    }
+
+    #[test]
+    fn an_error_prints_its_kinds(rt: HostRuntime) -> Result<(), Fail> {
+        let inner = Error::new(ErrorKind::WriteFailure);
+        let middle = Error::with_cause(rt.alloc(), ErrorKind::BadInclude, inner);
+        let outer = Error::with_cause(rt.alloc(), ErrorKind::EvalBlock, middle);
+        let text = format!(in rt.alloc(); "{outer}")?;
+        assert!(rt; text.as_str() == "EvalBlock: BadInclude: WriteFailure");
+        Ok(())
+    }
+
+    #[test]
+    fn errors_of_the_same_kinds_are_equal(rt: HostRuntime) {
+        let alone = Error::new(ErrorKind::BadInclude);
+        let inner = Error::new(ErrorKind::OutOfFuel);
+        let outer = Error::with_cause(rt.alloc(), ErrorKind::BadInclude, inner);
+        assert!(rt; alone == Error::new(ErrorKind::BadInclude));
+        assert!(rt; outer != alone);
     }
 }

@@ -2,8 +2,7 @@
 use Rattle.std.specs.Prelude.{ℕ, List, Option, None, Some, unwrap_or, ok_or, is_some, Result, ◌≡◌, IsSome}
 use Rattle.std.specs.BTreeSet.{BTreeSet, contains_text}
 use Rattle.std.specs.Prelude.{String}
-use Rattle.template_values_errors.specs.declared.ErrorKind.{ErrorKind}
-use Rattle.template_values_errors.specs.declared.ErrorKind.TheVariants.{MissingArgument}
+use Rattle.template_values_model.specs.Fault.{Fault, missing_argument}
 use Rattle.template_values_model.specs.Val.{Val, Pairs, keyword_map, no_pairs}
 use Rattle.template_values_model.specs.Lookup.{entry_at}
 
@@ -13,8 +12,8 @@ keywords (keyword_map ps) = Some ps
 keywords _ = None
 
 -- the value of the argument of this name
-abbrev pub argument : List ℕ → Pairs → Result Val ErrorKind
-argument name ps = ok_or (entry_at name ps) MissingArgument
+abbrev pub argument : List ℕ → Pairs → Result Val Fault
+argument name ps = ok_or (entry_at name ps) missing_argument
 
 -- the set has the names under which there is an argument, and no others
 abbrev pub HasJustNames : {A : Type 0} → Pairs → BTreeSet (String A) → Type 0

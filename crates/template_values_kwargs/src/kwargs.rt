@@ -1,9 +1,9 @@
 //! Keyword arguments, and how they are read.
 ghost use Rattle.std.specs.Prelude.{◌≡◌, ℕ, List, ◌||◌, Ok, IfErr, IfOk, OnOk, bytes_eq};
 ghost use Rattle.std.specs.BTreeSet.{contains_text};
-ghost use Rattle.template_values_model.specs.Gives.{Gives};
+ghost use Rattle.template_values_errors.specs.Memory.{NoMemory};
+ghost use Rattle.template_values_model.specs.Gives.{Gives, TellsFault};
 ghost use Rattle.template_values_model.specs.Lookup.{is_text};
-ghost use Rattle.template_values_core.specs.Answers.{NoMemory};
 ghost use Rattle.template_values_core.specs.Maps.{pairs_of};
 ghost use Rattle.template_values_core.specs.Shape.{pairs_in};
 ghost use Rattle.template_values_kwargs.specs.Keywords.{HasJustNames, argument, keywords};
@@ -58,7 +58,8 @@ impl Kwargs {
     /// - [`ErrorKind::MissingArgument`], if no key is this text.
     /// - [`ErrorKind::OutOfMemory`]
     pub fn get(&self, name: &str) -> Result<Value, Error>
-        ensures { Gives result (argument name.now self.now) }
+        ensures gives { Gives result (argument name.now self.now) }
+        ensures missing { TellsFault result (argument name.now self.now) }
     {
         match self.map.value_at(name) {
             Some(value) => value.copy(),
@@ -110,11 +111,6 @@ fn add_name(alloc: Global, names: &mut BTreeSet<String>, name: &str) -> Result<(
     ensures added { OnOk result ((q : List ℕ) → contains_text names.new q ≡ (contains_text names.old q || bytes_eq name.now q)) }
     ensures refused { IfErr result NoMemory }
 {
-    let Ok(key) = String::from_str(alloc, name) else {
-        return Err(Error::new(ErrorKind::OutOfMemory));
-    };
-    match names.insert(key) {
-        Ok(_new) => Ok(()),
-        Err(_refused) => Err(Error::new(ErrorKind::OutOfMemory)),
-    }
+    names.insert(String::from_str(alloc, name)?)?;
+    Ok(())
 }

@@ -1,3 +1,4 @@
 pub mod Val
+pub mod Fault
 pub mod Lookup
 pub mod Gives

@@ -1,7 +1,7 @@
 -- What a map has under a text.
-use Rattle.std.specs.Prelude.{ℕ, List, Option, None, Some, Bool, true, false, if◌then◌else◌}
+use Rattle.std.specs.Prelude.{ℕ, List, Option, None, Some, Bool, false, if◌then◌else◌}
 use Rattle.std.specs.Str.{bytes_eq}
-use Rattle.template_values_model.specs.Val.{Val, Pairs, undefined, silent_undefined, none, truth, int, text, safe_text, bytes, list, tuple, map, keyword_map, «module», function, namespace, loop_record, macro_record, no_pairs, pairs_more}
+use Rattle.template_values_model.specs.Val.{Val, Pairs, text, safe_text, map, keyword_map, «module», no_pairs, pairs_more}
 
 -- the value is this text, safe or not
 abbrev pub is_text : List ℕ → Val → Bool

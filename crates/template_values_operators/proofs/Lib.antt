@@ -1,5 +1,6 @@
 mod Repeats
 mod Parts
 mod Powers
+pub mod Shallow
 pub mod Steps
 mod Bounds

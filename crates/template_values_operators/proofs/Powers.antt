@@ -14,7 +14,8 @@ squared s k = halves k ∙ sym (pow-add s k k)
   where
     halves : (k : ℕ) → (s * s) ^ k ≡ s ^ k * s ^ k
     halves zero = pow-zero (s * s) ∙ sym (ap (λ (x : ℕ). x * x) (pow-zero s))
-    halves (suc k) = pow-suc (s * s) k ∙ ap (λ (x : ℕ). x * (s * s)) (halves k) ∙ mul-mul-mul_comm (s ^ k) (s ^ k) s s ∙ sym (ap (λ (x : ℕ). x * x) (pow-suc s k))
+    halves (suc k) = pow-suc (s * s) k ∙ ap (λ (x : ℕ). x * (s * s)) (halves k) ∙ mul-mul-mul_comm (s ^ k) (s ^ k) s s
+        ∙ sym (ap (λ (x : ℕ). x * x) (pow-suc s k))
 
 square_some : (s : ℕ) → 0 < s * s → 0 < s
 square_some zero h = omega (arith, h)
@@ -41,7 +42,8 @@ odd_turn b e f s k kept two odd = record {
 -- the last turn gives the power
 pub last_turn : (b e f s k : ℕ) → Squaring b e f s k → k ≤ 1 → f * s ≡ b ^ e
 last_turn b e f s k kept one =
-    ap (λ (x : ℕ). f * x) (sym (ap (λ (x : ℕ). s ^ x) (omega (arith, kept.some)) ∙ pow-suc s 0 ∙ ap (λ (x : ℕ). x * s) (pow-zero s) ∙ one-mul s)) ∙ kept.whole
+    ap (λ (x : ℕ). f * x) (sym (ap (λ (x : ℕ). s ^ x) (omega (arith, kept.some)) ∙ pow-suc s 0 ∙ ap (λ (x : ℕ). x * s) (pow-zero s)
+    ∙ one-mul s)) ∙ kept.whole
 
 factor_some : (f s : ℕ) → 0 < f * s → 0 < s
 factor_some f zero h = absurd (omega (arith, h, mul-zero f))
@@ -52,7 +54,8 @@ pub product_below : (b e f s k m : ℕ) → Squaring b e f s k → 0 < m → m �
 product_below b e f s k m kept some low =
     let square : 0 < s = factor_some f s (omega (arith, some, low)) in
     let rest : f * s * s ^ (k - 1) ≡ f * s ^ k =
-    mul_right_comm f s (s ^ (k - 1)) ∙ mul_assoc f (s ^ (k - 1)) s ∙ ap (λ (x : ℕ). f * x) (sym (pow-suc s (k - 1)) ∙ ap (λ (x : ℕ). s ^ x) (omega (arith, kept.some))) in
+    mul_right_comm f s (s ^ (k - 1)) ∙ mul_assoc f (s ^ (k - 1)) s
+    ∙ ap (λ (x : ℕ). f * x) (sym (pow-suc s (k - 1)) ∙ ap (λ (x : ℕ). s ^ x) (omega (arith, kept.some))) in
     omega (arith, low, le-mul_of_pos_right (f * s) (one-le-pow (k - 1) s square), rest, kept.whole)
 
 -- what is at most the square is at most the power

@@ -18,23 +18,21 @@ pub steps_below : (d s k : ℕ) → 0 < s → k < div_ceil d s → k * s < d
 steps_below d s k apart before =
     omega (arith, (div_ceil_times d s apart).1, mul-le-mul_right s before)
 
-pub within_forward : (start stop : ℤ) (s n k : ℕ) → 0 < s → pos 0 ≤ℤ start → stop ≤ℤ pos n → (d : ℤ) → d ≡ stop -ℤ start → k < steps_within d s
-    → (pos 0 ≤ℤ (start +ℤ pos k *ℤ pos s)) × ((start +ℤ pos k *ℤ pos s) <ℤ pos n)
-within_forward start stop s n k apart low high (pos d) is before =
-    let below = steps_below d s k apart before in (omega (arith, ints, below), omega (arith, ints, below))
-within_forward start stop s n k apart low high (negsuc d) is before = absurd (omega arith)
+forward_below : (d : ℤ) (s k : ℕ) → 0 < s → k < steps_within d s → pos (k * s) <ℤ d
+forward_below (pos d) s k apart before = let below = steps_below d s k apart before in omega (arith, ints, below)
+forward_below (negsuc d) s k apart before = absurd (omega arith)
 
-pub within_backward : (start stop : ℤ) (s n k : ℕ) → negsuc 0 ≤ℤ stop → start ≤ℤ (pos n -ℤ pos 1) → (d : ℤ) → d ≡ start -ℤ stop → k < steps_within d (suc s)
-    → (pos 0 ≤ℤ (start +ℤ pos k *ℤ negsuc s)) × ((start +ℤ pos k *ℤ negsuc s) <ℤ pos n)
-within_backward start stop s n k low high (pos d) is before =
-    let below = steps_below d (suc s) k (omega arith) before in (omega (arith, ints, below), omega (arith, ints, below))
-within_backward start stop s n k low high (negsuc d) is before = absurd (omega arith)
+-- the start and the stop lie where a slice with this step may have them
+abbrev pub AreBounds : ℤ → ℕ → ℤ → ℤ → Type 0
+AreBounds step n start stop = (lowest step ≤ℤ start) × (start ≤ℤ highest step n) × (lowest step ≤ℤ stop) × (stop ≤ℤ highest step n)
 
-pub within : (start stop step : ℤ) (n k : ℕ) → (step ≡ pos 0 → ⊥) → lowest step ≤ℤ start → start ≤ℤ highest step n → lowest step ≤ℤ stop → stop ≤ℤ highest step n
-    → k < step_count start stop step → (pos 0 ≤ℤ (start +ℤ pos k *ℤ step)) × ((start +ℤ pos k *ℤ step) <ℤ pos n)
-within start stop (pos zero) n k apart a b c d before = absurd (apart refl)
-within start stop (pos (suc s)) n k apart a b c d before = within_forward start stop (suc s) n k (omega arith) a d _ refl before
-within start stop (negsuc s) n k apart a b c d before = within_backward start stop s n k c b _ refl before
+pub within : (start stop step : ℤ) (n k : ℕ) → (step ≡ pos 0 → ⊥) → AreBounds step n start stop → k < step_count start stop step
+    → (pos 0 ≤ℤ (start +ℤ pos k *ℤ step)) × ((start +ℤ pos k *ℤ step) <ℤ pos n)
+within start stop (pos zero) n k apart bounds before = absurd (apart refl)
+within start stop (pos (suc s)) n k apart (low, _, _, high) before =
+    let far = forward_below (stop -ℤ start) (suc s) k (omega arith) before in (omega (arith, ints, far), omega (arith, ints, far))
+within start stop (negsuc s) n k apart (_, high, low, _) before =
+    let far = forward_below (start -ℤ stop) (suc s) k (omega arith) before in (omega (arith, ints, far), omega (arith, ints, far))
 
 -- one more item behind those that were picked
 pub picked_next : {X : Type 0} → (xs : List X) (start step : ℤ) (k : ℕ) (x : X) → item_at xs (start +ℤ pos k *ℤ step) ≡ Some x
@@ -46,4 +44,5 @@ pub text_next : (cs : List ℕ) (start step : ℤ) (k c : ℕ) → item_at cs (s
     → encode_utf8_all (picked cs start step (k + 1)) ≡ encode_utf8_all (picked cs start step k) ++ encode_utf8 c
 text_next cs start step k c has =
     ap encode_utf8_all (picked_next cs start step k c has)
-    ∙ (encodes-append (picked cs start step k) (c ∷ []) ∙ ap (λ bs. encode_utf8_all (picked cs start step k) ++ bs) (append-nil (encode_utf8 c)))
+    ∙ (encodes-append (picked cs start step k) (c ∷ []) ∙ ap (λ bs. encode_utf8_all (picked cs start step k) ++ bs)
+    (append-nil (encode_utf8 c)))

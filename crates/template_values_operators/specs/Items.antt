@@ -1,7 +1,7 @@
 -- The items and attributes of values. What is missing is undefined.
 use Rattle.std.specs.Prelude.{ℕ, suc, ℤ, pos, negsuc, ◌-◌, nat_lt, if◌then◌else◌, List, length, slice_get, Option, None, Some, option_map, option_and_then, unwrap_or, Result, Ok, encode_utf8}
 use Rattle.std.specs.Str.{chars}
-use Rattle.template_values_errors.specs.declared.ErrorKind.{ErrorKind}
+use Rattle.template_values_model.specs.Fault.{Fault}
 use Rattle.template_values_model.specs.Val.{Val, undefined, int, text, namespace, loop_record, macro_record}
 use Rattle.template_values_model.specs.Lookup.{value_at}
 use Rattle.template_values_core.specs.Answers.{text_in}
@@ -39,14 +39,14 @@ abbrev pub held_item : Val → Val → Val
 held_item value key = unwrap_or (item_in (items_in value) (bytes_of value) (text_in value) value key) undefined
 
 -- records are looked into; what they have under a text are their attributes
-abbrev pub item_of : Known → Val → Val → Result Val ErrorKind
+abbrev pub item_of : Known → Val → Val → Result Val Fault
 item_of known (namespace id number) key = namespace_item key (known.namespaces id number)
 item_of known (loop_record id number) key = loop_attribute (text_in key) (known.loops id number)
 item_of known (macro_record id number) key = macro_attribute (text_in key) (known.macros id number)
 item_of known value key = Ok (held_item value key)
 
 -- attributes are what a map, keyword map, module or record has under a text
-abbrev pub attribute_of : Known → Val → List ℕ → Result Val ErrorKind
+abbrev pub attribute_of : Known → Val → List ℕ → Result Val Fault
 attribute_of known (namespace id number) name = namespace_attribute name (known.namespaces id number)
 attribute_of known (loop_record id number) name = loop_attribute (Some name) (known.loops id number)
 attribute_of known (macro_record id number) name = macro_attribute (Some name) (known.macros id number)

@@ -1,7 +1,7 @@
 -- What values of some kinds hold, and lists that are made.
 use Rattle.std.specs.Prelude.{ℕ, Bool, true, false, nat_le, if◌then◌else◌, List, Option, None, Some, Result, Ok, Err}
-use Rattle.template_values_errors.specs.declared.ErrorKind.{ErrorKind}
-use Rattle.template_values_errors.specs.declared.ErrorKind.TheVariants.{InvalidOperation}
+use Rattle.template_values_model.specs.Fault.{Fault, invalid_operation}
+use Rattle.template_values_model.specs.declared.TheConstants.{DEPTH_LIMIT}
 use Rattle.template_values_model.specs.Val.{Val, undefined, silent_undefined, none, bytes, list, items_of, vals_of}
 use Rattle.template_values_core.specs.Depth.{depth}
 
@@ -31,6 +31,6 @@ abbrev pub is_none : Val → Bool
 is_none none = true
 is_none _ = false
 
--- the list of these items, refused where its depth is past 500
-abbrev pub list_made : List Val → Result Val ErrorKind
-list_made vs = if nat_le (depth (list (vals_of vs))) 500 then Ok (list (vals_of vs)) else Err InvalidOperation
+-- the list of these items, refused where it nests too deep
+abbrev pub list_made : List Val → Result Val Fault
+list_made vs = if nat_le (depth (list (vals_of vs))) DEPTH_LIMIT then Ok (list (vals_of vs)) else Err invalid_operation

@@ -1,23 +1,22 @@
 -- What is looked up in namespaces, loops and macros. What is missing is undefined; a foreign record is refused.
 use Rattle.std.specs.Prelude.{ℕ, zero, suc, ◌-◌, ◌==◌, ◌||◌, Bool, pos, List, length, slice_get, Option, None, Some, unwrap_or, Result, Ok, Err, if◌then◌else◌, codes}
 use Rattle.std.specs.Str.{bytes_eq}
-use Rattle.template_values_errors.specs.declared.ErrorKind.{ErrorKind}
-use Rattle.template_values_errors.specs.declared.ErrorKind.TheVariants.{InvalidOperation}
+use Rattle.template_values_model.specs.Fault.{Fault, invalid_operation}
 use Rattle.template_values_model.specs.Val.{Val, undefined, truth, int, text}
 use Rattle.template_values_model.specs.Lookup.{entry_at}
-use Rattle.template_values_core.specs.Maps.{pairs_of, under}
+use Rattle.template_values_core.specs.Maps.{pairs_of, entry_under}
 use Rattle.template_values_forms.specs.Known.{LoopSeen, MacroSeen}
 use Rattle.template_values_operators.specs.Kinds.{list_made}
 
 -- what a namespace has under a text
-abbrev pub namespace_attribute : List ℕ → Option (List (Val × Val)) → Result Val ErrorKind
-namespace_attribute name None = Err InvalidOperation
+abbrev pub namespace_attribute : List ℕ → Option (List (Val × Val)) → Result Val Fault
+namespace_attribute name None = Err invalid_operation
 namespace_attribute name (Some ps) = Ok (unwrap_or (entry_at name (pairs_of ps)) undefined)
 
 -- what a namespace has under a key
-abbrev pub namespace_item : Val → Option (List (Val × Val)) → Result Val ErrorKind
-namespace_item key None = Err InvalidOperation
-namespace_item key (Some ps) = Ok (unwrap_or (under key (pairs_of ps)) undefined)
+abbrev pub namespace_item : Val → Option (List (Val × Val)) → Result Val Fault
+namespace_item key None = Err invalid_operation
+namespace_item key (Some ps) = Ok (unwrap_or (entry_under key (pairs_of ps)) undefined)
 
 -- the item before the one at a place; none is before the first
 abbrev pub item_before : ℕ → List Val → Option Val
@@ -50,13 +49,13 @@ loop_value_at None name l = undefined
 loop_value_at (Some place) name l = loop_value name l.items place l.depth
 
 -- what a loop has under a key that is a text, or is none
-abbrev pub loop_attribute : Option (List ℕ) → Option LoopSeen → Result Val ErrorKind
-loop_attribute name None = Err InvalidOperation
+abbrev pub loop_attribute : Option (List ℕ) → Option LoopSeen → Result Val Fault
+loop_attribute name None = Err invalid_operation
 loop_attribute None (Some l) = Ok undefined
 loop_attribute (Some name) (Some l) = Ok (loop_value_at l.place name l)
 
 -- what a macro has under a name
-abbrev pub macro_value : List ℕ → MacroSeen → Result Val ErrorKind
+abbrev pub macro_value : List ℕ → MacroSeen → Result Val Fault
 macro_value name m =
     if bytes_eq name (codes "name") then Ok (text m.name)
     else (if bytes_eq name (codes "arguments") then list_made m.arguments
@@ -64,7 +63,7 @@ macro_value name m =
     else Ok undefined))
 
 -- what a macro has under a key that is a text, or is none
-abbrev pub macro_attribute : Option (List ℕ) → Option MacroSeen → Result Val ErrorKind
-macro_attribute name None = Err InvalidOperation
+abbrev pub macro_attribute : Option (List ℕ) → Option MacroSeen → Result Val Fault
+macro_attribute name None = Err invalid_operation
 macro_attribute None (Some m) = Ok undefined
 macro_attribute (Some name) (Some m) = macro_value name m

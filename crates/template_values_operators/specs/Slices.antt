@@ -2,8 +2,7 @@
 use Rattle.std.specs.Prelude.{Bool, true, false, ◌==◌, if◌then◌else◌, ℕ, zero, suc, ℤ, pos, negsuc, ◌+ℤ◌, ◌-ℤ◌, ◌*ℤ◌, List, [], ◌++◌, length, slice_get, Option, None, Some, unwrap_or, option_to_list, Result, Ok, Err, encode_utf8_all, unsigned_abs}
 use Rattle.std.specs.Int.{int_min, int_max, div_ceil}
 use Rattle.std.specs.Str.{chars}
-use Rattle.template_values_errors.specs.declared.ErrorKind.{ErrorKind}
-use Rattle.template_values_errors.specs.declared.ErrorKind.TheVariants.{InvalidOperation}
+use Rattle.template_values_model.specs.Fault.{Fault, invalid_operation}
 use Rattle.template_values_model.specs.Val.{Val, text, bytes}
 use Rattle.template_values_core.specs.Answers.{text_in}
 use Rattle.template_values_core.specs.Reads.{number_of, items_in}
@@ -63,34 +62,36 @@ picked xs start step (suc k) = picked xs start step k ++ option_to_list (item_at
 -- the slice of a list
 abbrev pub sliced : {X : Type 0} → Option ℤ → Option ℤ → ℤ → List X → List X
 sliced start stop step xs =
-    picked xs (start_place start step (length xs)) step (step_count (start_place start step (length xs)) (stop_place stop step (length xs)) step)
+    picked xs (start_place start step (length xs)) step (step_count (start_place start step (length xs))
+    (stop_place stop step (length xs)) step)
 
 -- a bound is a number or none
-abbrev pub bound_by : Bool → Option ℤ → Result (Option ℤ) ErrorKind
+abbrev pub bound_by : Bool → Option ℤ → Result (Option ℤ) Fault
 bound_by true number = Ok None
 bound_by false (Some n) = Ok (Some n)
-bound_by false None = Err InvalidOperation
+bound_by false None = Err invalid_operation
 
-abbrev pub bound_of : Val → Result (Option ℤ) ErrorKind
+abbrev pub bound_of : Val → Result (Option ℤ) Fault
 bound_of value = bound_by (is_none value) (number_of value)
 
 -- by the items, the bytes and the text that a value holds; nothing of undefined and none; all else is refused
-abbrev pub slice_in : Option (List Val) → Option (List ℕ) → Option (List ℕ) → Bool → Option ℤ → Option ℤ → ℤ → Result Val ErrorKind
+abbrev pub slice_in : Option (List Val) → Option (List ℕ) → Option (List ℕ) → Bool → Option ℤ → Option ℤ → ℤ → Result Val Fault
 slice_in (Some vs) _ _ _ start stop step = list_made (sliced start stop step vs)
 slice_in None (Some s) _ _ start stop step = Ok (bytes (sliced start stop step s))
 slice_in None None (Some s) _ start stop step = Ok (text (encode_utf8_all (sliced start stop step (chars s))))
 slice_in None None None true start stop step = list_made []
-slice_in None None None false start stop step = Err InvalidOperation
+slice_in None None None false start stop step = Err invalid_operation
 
 -- a step of 0 is refused
-abbrev pub slice_with : Val → Option ℤ → Option ℤ → ℤ → Result Val ErrorKind
+abbrev pub slice_with : Val → Option ℤ → Option ℤ → ℤ → Result Val Fault
 slice_with value start stop step =
-    if unsigned_abs step == 0 then Err InvalidOperation else slice_in (items_in value) (bytes_of value) (text_in value) (is_nothing value) start stop step
+    if unsigned_abs step == 0 then Err invalid_operation else slice_in (items_in value) (bytes_of value) (text_in value)
+    (is_nothing value) start stop step
 
 -- the bounds and the step are tested before the value; the step is 1 where it is none
-abbrev pub slice_by : Val → Result (Option ℤ) ErrorKind → Result (Option ℤ) ErrorKind → Result (Option ℤ) ErrorKind → Result Val ErrorKind
+abbrev pub slice_by : Val → Result (Option ℤ) Fault → Result (Option ℤ) Fault → Result (Option ℤ) Fault → Result Val Fault
 slice_by value (Ok start) (Ok stop) (Ok step) = slice_with value start stop (unwrap_or step (pos 1))
-slice_by value _ _ _ = Err InvalidOperation
+slice_by value _ _ _ = Err invalid_operation
 
-abbrev pub slice_of : Val → Val → Val → Val → Result Val ErrorKind
+abbrev pub slice_of : Val → Val → Val → Val → Result Val Fault
 slice_of value start stop step = slice_by value (bound_of start) (bound_of stop) (bound_of step)

@@ -1,23 +1,12 @@
-//! Texts and lists that grow, and copies. A refused growth is OutOfMemory alone.
-ghost use Rattle.std.specs.Prelude.{◌≡◌, [], ◌∷◌, ◌++◌, Ok, OnOk, IfOk, IfErr, option_copied, unwrap_or};
+//! Copies. A refused growth is OutOfMemory alone.
+ghost use Rattle.std.specs.Prelude.{◌≡◌, ◌++◌, Ok, OnOk, IfOk, IfErr, option_copied, unwrap_or};
+ghost use Rattle.template_values_errors.specs.Memory.{NoMemory};
 ghost use Rattle.template_values_model.specs.Gives.{Gives};
 ghost use Rattle.template_values_model.specs.Val.{undefined};
-ghost use Rattle.template_values_core.specs.Answers.{NoMemory};
 
-use std::alloc::{AllocError, Global};
+use std::alloc::Global;
 use template_values_core::Value;
-use template_values_errors::{Error, ErrorKind};
-
-/// Puts an item behind the others.
-pub(crate) fn push(items: &mut Vec<Value>, item: Value) -> Result<(), Error>
-    ensures ok { OnOk result (items.new.items ≡ items.old.items ++ item ∷ []) }
-    ensures refused { IfErr result NoMemory }
-{
-    match items.push(item) {
-        Ok(()) => Ok(()),
-        Err(_) => Err(Error::new(ErrorKind::OutOfMemory)),
-    }
-}
+use template_values_errors::Error;
 
 /// Puts copies of items behind the others.
 pub(crate) fn push_copies(items: &mut Vec<Value>, more: &[Value]) -> Result<(), Error>
@@ -25,7 +14,7 @@ pub(crate) fn push_copies(items: &mut Vec<Value>, more: &[Value]) -> Result<(), 
     ensures refused { IfErr result NoMemory }
 {
     for item in more {
-        push(items, item.copy()?)?;
+        items.push(item.copy()?)?;
     }
     Ok(())
 }
@@ -35,7 +24,7 @@ pub(crate) fn copies(alloc: Global, items: &[Value]) -> Result<Vec<Value>, Error
     ensures ok { IfOk result (λ v. v.items ≡ items.now) }
     ensures refused { IfErr result NoMemory }
 {
-    let mut copies = Vec::with_capacity(alloc, items.len()).map_err(no_memory)?;
+    let mut copies = Vec::with_capacity(alloc, items.len())?;
     push_copies(&mut copies, items)?;
     Ok(copies)
 }
@@ -48,22 +37,4 @@ pub(crate) fn copy_or_undefined(value: Option<&Value>) -> Result<Value, Error>
         Some(value) => value.copy(),
         None => Ok(Value::undefined()),
     }
-}
-
-/// Puts a byte behind the others.
-pub(crate) fn push_byte(bytes: &mut Vec<u8>, byte: u8) -> Result<(), Error>
-    ensures ok { OnOk result (bytes.new.items ≡ bytes.old.items ++ byte ∷ []) }
-    ensures refused { IfErr result NoMemory }
-{
-    match bytes.push(byte) {
-        Ok(()) => Ok(()),
-        Err(_) => Err(Error::new(ErrorKind::OutOfMemory)),
-    }
-}
-
-/// The refusal of a growth.
-pub(crate) fn no_memory(_refused: AllocError) -> Error
-    ensures { NoMemory result }
-{
-    Error::new(ErrorKind::OutOfMemory)
 }

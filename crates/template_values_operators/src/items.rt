@@ -1,7 +1,7 @@
 //! Items and attributes.
 ghost use Rattle.std.specs.Prelude.{◌≡◌, Ok, option_copied, length, slice_get, map};
 ghost use Rattle.std.specs.Str.{chars};
-ghost use Rattle.template_values_model.specs.Gives.{Gives};
+ghost use Rattle.template_values_model.specs.Gives.{Gives, TellsFault};
 ghost use Rattle.template_values_core.specs.Reads.{number_of};
 ghost use Rattle.template_values_core.specs.Maps.{pairs_of};
 ghost use Rattle.template_values_core.specs.Shape.{pairs_in};
@@ -9,7 +9,7 @@ ghost use Rattle.template_values_operators.specs.Iterated.{iterated, held_items,
 ghost use Rattle.template_values_operators.specs.Items.{item_of, held_item, attribute_of, place, element, character_value};
 
 use crate::arithmetic::refusal;
-use crate::growth::{copies, copy_or_undefined, no_memory, push};
+use crate::growth::{copies, copy_or_undefined};
 use crate::kinds::{bytes_of, is_nothing};
 use crate::records::{loop_attribute, macro_attribute, namespace_attribute, namespace_item};
 use std::alloc::Global;
@@ -25,7 +25,7 @@ use template_values_records::Records;
 /// # Errors
 ///
 /// [`ErrorKind::InvalidOperation`] at a foreign record, or where the list of a macro's arguments
-/// would nest deeper than 500 levels; [`ErrorKind::OutOfMemory`].
+/// would nest deeper than any value may; [`ErrorKind::OutOfMemory`].
 ///
 /// [`ErrorKind::InvalidOperation`]: template_values_errors::ErrorKind::InvalidOperation
 /// [`ErrorKind::OutOfMemory`]: template_values_errors::ErrorKind::OutOfMemory
@@ -74,7 +74,7 @@ fn held_item(alloc: Global, value: &Value, key: &Value) -> Result<Value, Error>
 /// # Errors
 ///
 /// [`ErrorKind::InvalidOperation`] at a foreign record, or where the list of a macro's arguments
-/// would nest deeper than 500 levels; [`ErrorKind::OutOfMemory`].
+/// would nest deeper than any value may; [`ErrorKind::OutOfMemory`].
 ///
 /// [`ErrorKind::InvalidOperation`]: template_values_errors::ErrorKind::InvalidOperation
 /// [`ErrorKind::OutOfMemory`]: template_values_errors::ErrorKind::OutOfMemory
@@ -106,7 +106,8 @@ pub fn get_attr<R: Records>(
 /// [`ErrorKind::InvalidOperation`]: template_values_errors::ErrorKind::InvalidOperation
 /// [`ErrorKind::OutOfMemory`]: template_values_errors::ErrorKind::OutOfMemory
 pub fn items_of<R: Records>(alloc: Global, value: &Value, records: &R) -> Result<Vec<Value>, Error>
-    ensures { Gives (items_given result) (iterated (R.known records.now) value.now) }
+    ensures gives { Gives (items_given result) (iterated (R.known records.now) value.now) }
+    ensures refused { TellsFault (items_given result) (iterated (R.known records.now) value.now) }
 {
     match value.content() {
         Content::Namespace(id, number) => namespace_keys(alloc, id, number, records),
@@ -116,7 +117,8 @@ pub fn items_of<R: Records>(alloc: Global, value: &Value, records: &R) -> Result
 
 /// What a loop goes over in a value that is no record.
 fn held_items(alloc: Global, value: &Value) -> Result<Vec<Value>, Error>
-    ensures { Gives (items_given result) (held_items value.now) }
+    ensures gives { Gives (items_given result) (held_items value.now) }
+    ensures refused { TellsFault (items_given result) (held_items value.now) }
 {
     if let Some(items) = value.items() {
         return copies(alloc, items);
@@ -139,7 +141,7 @@ fn characters(alloc: Global, text: &str) -> Result<Vec<Value>, Error>
 {
     let mut values = Vec::new(alloc);
     for character in text.chars() {
-        push(&mut values, character_value(alloc, character)?)?;
+        values.push(character_value(alloc, character)?)?;
     }
     Ok(values)
 }
@@ -151,7 +153,8 @@ fn namespace_keys<R: Records>(
     number: usize,
     records: &R,
 ) -> Result<Vec<Value>, Error>
-    ensures { Gives (items_given result) (namespace_keys ((R.known records.now).namespaces id number)) }
+    ensures gives { Gives (items_given result) (namespace_keys ((R.known records.now).namespaces id number)) }
+    ensures refused { TellsFault (items_given result) (namespace_keys ((R.known records.now).namespaces id number)) }
 {
     match records.namespace(id, number) {
         Some(entries) => keys(alloc, entries),
@@ -163,9 +166,9 @@ fn namespace_keys<R: Records>(
 fn keys(alloc: Global, entries: &[Entry]) -> Result<Vec<Value>, Error>
     ensures { Gives (items_given result) (Ok (keys_in (pairs_of (pairs_in entries.now)))) }
 {
-    let mut keys = Vec::with_capacity(alloc, entries.len()).map_err(no_memory)?;
+    let mut keys = Vec::with_capacity(alloc, entries.len())?;
     for entry in entries {
-        push(&mut keys, entry.key.copy()?)?;
+        keys.push(entry.key.copy()?)?;
     }
     Ok(keys)
 }
@@ -214,6 +217,6 @@ fn character_value(alloc: Global, character: char) -> Result<Value, Error>
     ensures { Gives result (Ok (character_value character)) }
 {
     let mut text = String::new(alloc);
-    text.push(character).map_err(no_memory)?;
+    text.push(character)?;
     Value::from_text(text)
 }

@@ -8,6 +8,7 @@ ghost use Rattle.template_values_operators.specs.Kinds.{bytes_of, list_of, is_no
 use std::alloc::Global;
 use template_values_core::{Content, Value};
 use template_values_errors::Error;
+use template_values_model::DEPTH_LIMIT;
 
 /// The bytes of a value of bytes.
 pub(crate) fn bytes_of(value: &Value) -> Option<&[u8]>
@@ -19,13 +20,13 @@ pub(crate) fn bytes_of(value: &Value) -> Option<&[u8]>
     }
 }
 
-/// The items of a list, not of a tuple. They nest at most 499 levels deep.
+/// The items of a list, not of a tuple. They nest less deep than a value may.
 #[tactic(auto, using(template_values_core::proofs::ReadLemmas::reading))]
 pub(crate) fn list_of(value: &Value) -> Option<&[Value]>
     ensures items { option_copied result ≡ list_of value.now }
-    ensures shallow { IfSome result (λ items. vals_depth (vals_of items.now) < 500) }
+    ensures shallow { IfSome result (λ items. vals_depth (vals_of items.now) < DEPTH_LIMIT) }
 {
-    prove!(value.levels() <= 500);
+    prove!(value.levels() <= DEPTH_LIMIT);
     match value.content() {
         Content::List(items) => Some(items),
         _ => None,

@@ -1,24 +1,19 @@
 //! `*`.
-ghost use Rattle.std.specs.Prelude.{◌≡◌, ◌<◌, ◌≤◌, ◌*◌, [], ◌∷◌, Err, IfErr, IfSome, IfNone, OnSome};
+ghost use Rattle.std.specs.Prelude.{◌≡◌, ◌<◌, ◌≤◌, ◌*◌, IfSome, IfNone, OnSome};
 ghost use Rattle.template_values_core.specs.Depth.{vals_depth};
-ghost use Rattle.template_values_model.specs.Gives.{Gives};
+ghost use Rattle.template_values_model.specs.Gives.{Gives, TellsFault};
 ghost use Rattle.template_values_model.specs.Val.{vals_of};
 ghost use Rattle.template_values_operators.specs.Rounds.{IsAsOften};
 ghost use Rattle.template_values_operators.specs.Products.{product_of, repetition_of, text_repeated, list_repeated, count_of};
 
 use crate::arithmetic::{number_or_refusal, refusal};
-use crate::growth::{no_memory, push_copies};
+use crate::growth::push_copies;
 use crate::kinds::{list_made, list_of};
 use crate::numbers;
 use std::alloc::Global;
 use template_values_core::Value;
 use template_values_errors::Error;
-
-/// The most bytes that a repeated text may have.
-const MOST_BYTES: usize = 1 << 24;
-
-/// The most items that a repeated list may have.
-const MOST_ITEMS: usize = 100000;
+use template_values_model::{DEPTH_LIMIT, REPEATED_LIST_LIMIT, REPEATED_TEXT_LIMIT};
 
 /// `left * right`: the product of two numbers, or, with a number from 0 on at either side, a text
 /// or a list repeated. A repeated text is plain. Linear in the size of the result.
@@ -26,14 +21,14 @@ const MOST_ITEMS: usize = 100000;
 /// # Errors
 ///
 /// [`ErrorKind::InvalidOperation`] at other operands, where the product is out of range, the
-/// number is negative, or the result would have more than 2^24 bytes or 100000 items, which is
+/// number is negative, or the result would have more than [`REPEATED_TEXT_LIMIT`] bytes or [`REPEATED_LIST_LIMIT`] items, which is
 /// refused before memory is taken; [`ErrorKind::OutOfMemory`].
 ///
 /// [`ErrorKind::InvalidOperation`]: template_values_errors::ErrorKind::InvalidOperation
 /// [`ErrorKind::OutOfMemory`]: template_values_errors::ErrorKind::OutOfMemory
 pub fn mul(alloc: Global, left: &Value, right: &Value) -> Result<Value, Error>
     ensures gives { Gives result (product_of left.now right.now) }
-    ensures refused { IfErr (product_of left.now right.now) (λ kind. result ≡ Err (kind ∷ [])) }
+    ensures refused { TellsFault result (product_of left.now right.now) }
 {
     match (left.as_number(), right.as_number()) {
         (Some(left), Some(right)) => number_or_refusal(numbers::product(left, right)),
@@ -45,7 +40,7 @@ pub fn mul(alloc: Global, left: &Value, right: &Value) -> Result<Value, Error>
 
 fn repetition(alloc: Global, count: i128, value: &Value) -> Result<Value, Error>
     ensures gives { Gives result (repetition_of count value.now) }
-    ensures refused { IfErr (repetition_of count value.now) (λ kind. result ≡ Err (kind ∷ [])) }
+    ensures refused { TellsFault result (repetition_of count value.now) }
 {
     let Some(count) = count_of(count) else {
         return refusal();
@@ -67,27 +62,27 @@ fn count_of(number: i128) -> Option<u128>
 
 fn repeated_text(alloc: Global, count: u128, text: &str) -> Result<Value, Error>
     ensures gives { Gives result (text_repeated count text.now) }
-    ensures refused { IfErr (text_repeated count text.now) (λ kind. result ≡ Err (kind ∷ [])) }
+    ensures refused { TellsFault result (text_repeated count text.now) }
 {
-    let Some(rounds) = rounds(count, text.len(), MOST_BYTES) else {
+    let Some(rounds) = rounds(count, text.len(), REPEATED_TEXT_LIMIT) else {
         return refusal();
     };
-    let mut repeated = String::with_capacity(alloc, rounds * text.len()).map_err(no_memory)?;
+    let mut repeated = String::with_capacity(alloc, rounds * text.len())?;
     for _round in 0..rounds {
-        repeated.push_str(text).map_err(no_memory)?;
+        repeated.push_str(text)?;
     }
     Value::from_text(repeated)
 }
 
 fn repeated_list(alloc: Global, count: u128, items: &[Value]) -> Result<Value, Error>
-    requires { vals_depth (vals_of items.now) < 500 }
+    requires { vals_depth (vals_of items.now) < DEPTH_LIMIT }
     ensures gives { Gives result (list_repeated count items.now) }
-    ensures refused { IfErr (list_repeated count items.now) (λ kind. result ≡ Err (kind ∷ [])) }
+    ensures refused { TellsFault result (list_repeated count items.now) }
 {
-    let Some(rounds) = rounds(count, items.len(), MOST_ITEMS) else {
+    let Some(rounds) = rounds(count, items.len(), REPEATED_LIST_LIMIT) else {
         return refusal();
     };
-    let mut repeated = Vec::with_capacity(alloc, rounds * items.len()).map_err(no_memory)?;
+    let mut repeated = Vec::with_capacity(alloc, rounds * items.len())?;
     for _round in 0..rounds {
         push_copies(&mut repeated, items)?;
     }

@@ -2,15 +2,15 @@
 ghost use Rattle.std.specs.Prelude.{◌≡◌, suc, pos, Ok, option_copied, slice_get};
 ghost use Rattle.template_values_model.specs.Gives.{Gives, alone};
 ghost use Rattle.template_values_model.specs.Lookup.{entry_at, is_text};
-ghost use Rattle.template_values_model.specs.Val.{Val, int};
-ghost use Rattle.template_values_core.specs.Maps.{pairs_of, under};
+ghost use Rattle.template_values_model.specs.Val.{int};
+ghost use Rattle.template_values_core.specs.Maps.{pairs_of, entry_under};
 ghost use Rattle.template_values_core.specs.Shape.{pairs_in};
 ghost use Rattle.template_values_records.specs.Views.{macro_seen};
 ghost use Rattle.template_values_operators.specs.Contains.{namespace_contains};
 ghost use Rattle.template_values_operators.specs.Records.{is_last, item_before, loop_attribute, loop_value, macro_attribute, macro_value, namespace_attribute, namespace_item};
 
 use crate::arithmetic::refusal;
-use crate::growth::{copies, copy_or_undefined, no_memory};
+use crate::growth::{copies, copy_or_undefined};
 use crate::kinds::list_made;
 use std::alloc::Global;
 use template_values_core::{Entry, Value};
@@ -83,7 +83,7 @@ fn is_text(value: &Value, name: &str) -> bool
 }
 
 fn entry_under<'a>(entries: &'a [Entry], key: &Value) -> Option<&'a Value>
-    ensures { option_copied result ≡ under key.now (pairs_of (pairs_in entries.now)) }
+    ensures { option_copied result ≡ entry_under key.now (pairs_of (pairs_in entries.now)) }
 {
     for entry in entries {
         if entry.key == *key {
@@ -198,7 +198,7 @@ fn macro_value(alloc: Global, name: &str, view: MacroView<'_>) -> Result<Value, 
     ensures { Gives result (macro_value name.now (macro_seen view.entry)) }
 {
     if name == "name" {
-        text_value(alloc, view.name)
+        Value::from_str(alloc, view.name)
     } else if name == "arguments" {
         list_made(alloc, copies(alloc, view.arguments)?)
     } else if name == "caller" {
@@ -206,11 +206,4 @@ fn macro_value(alloc: Global, name: &str, view: MacroView<'_>) -> Result<Value, 
     } else {
         Ok(Value::undefined())
     }
-}
-
-/// A plain text.
-fn text_value(alloc: Global, text: &str) -> Result<Value, Error>
-    ensures { Gives result (Ok (Val.text text.now)) }
-{
-    Value::from_text(String::from_str(alloc, text).map_err(no_memory)?)
 }

@@ -1,24 +1,27 @@
 //! Slices, by Python's index rule.
 ghost use Rattle.std.specs.Prelude.{◌≡◌, ◌≢◌, ◌<◌, ◌≤ℤ◌, ◌<ℤ◌, ◌+ℤ◌, ◌*ℤ◌, pos, Ok, Some, length, IfOk, IfErr, encode_utf8_all};
 ghost use Rattle.std.specs.Str.{chars};
-ghost use Rattle.template_values_model.specs.Gives.{Gives, alone};
-ghost use Rattle.template_values_model.specs.Val.{Val};
-ghost use Rattle.template_values_core.specs.Answers.{NoMemory, text_in};
+ghost use Rattle.template_values_errors.specs.Memory.{NoMemory};
+ghost use Rattle.template_values_model.specs.Gives.{Gives, TellsFault, alone};
+ghost use Rattle.template_values_model.specs.Val.{Val, vals_of};
+ghost use Rattle.template_values_core.specs.Answers.{text_in};
+ghost use Rattle.template_values_core.specs.Depth.{vals_depth};
 ghost use Rattle.template_values_core.specs.Reads.{items_in};
 ghost use Rattle.template_values_operators.specs.Kinds.{list_made, bytes_of, is_nothing};
 ghost use Rattle.template_values_operators.specs.Places.{AreWithin, place_at};
 ghost use Rattle.template_values_operators.specs.Slices.{slice_of, item_at, slice_with, slice_in, sliced, bound_of, from_end, lowest, highest, bound_at, start_place, stop_place, step_count, distance, steps_within};
 
 use crate::arithmetic::refusal;
-use crate::growth::{no_memory, push, push_byte};
 use crate::kinds::{bytes_of, is_none, is_nothing, list_made};
 use std::alloc::Global;
 use template_values_core::Value;
 use template_values_errors::Error;
+use template_values_model::DEPTH_LIMIT;
 
 /// The slice `value[start:stop:step]` by Python's index rule: of a list or tuple a list, of bytes
 /// bytes, of a text its characters, and of none and undefined an empty list. The bounds and the
-/// step are numbers or none. Linear in the size of the value.
+/// step are numbers or none. Linear in the size of the value. What is refused is refused before memory
+/// is taken.
 ///
 /// # Errors
 ///
@@ -34,7 +37,8 @@ pub fn slice(
     stop: &Value,
     step: &Value,
 ) -> Result<Value, Error>
-    ensures { Gives result (slice_of value.now start.now stop.now step.now) }
+    ensures gives { Gives result (slice_of value.now start.now stop.now step.now) }
+    ensures refused { TellsFault result (slice_of value.now start.now stop.now step.now) }
 {
     let start = bound(start)?;
     let stop = bound(stop)?;
@@ -50,7 +54,8 @@ fn slice_with(
     stop: Option<i128>,
     step: i128,
 ) -> Result<Value, Error>
-    ensures { Gives result (slice_with value.now start stop step) }
+    ensures gives { Gives result (slice_with value.now start stop step) }
+    ensures refused { TellsFault result (slice_with value.now start stop step) }
 {
     if step == 0 {
         return refusal();
@@ -66,7 +71,10 @@ fn slice_by_kind(
     step: i128,
 ) -> Result<Value, Error>
     requires { step ≢ pos 0 }
-    ensures { Gives result (slice_in (items_in value.now) (bytes_of value.now) (text_in value.now) (is_nothing value.now) start stop step) }
+    ensures gives { let slice = slice_in (items_in value.now) (bytes_of value.now) (text_in value.now) (is_nothing value.now) in
+        Gives result (slice start stop step) }
+    ensures refused { let slice = slice_in (items_in value.now) (bytes_of value.now) (text_in value.now) (is_nothing value.now) in
+        TellsFault result (slice start stop step) }
 {
     if let Some(items) = value.items() {
         return slice_items(alloc, items, start, stop, step);
@@ -96,7 +104,7 @@ fn bound(value: &Value) -> Result<Option<i128>, Error>
     }
 }
 
-#[tactic(auto, using(crate::proofs::Steps::picked_next))]
+#[tactic(auto, using(crate::proofs::Steps::picked_next, crate::proofs::Shallow::sliced_tells))]
 fn slice_items(
     alloc: Global,
     items: &[Value],
@@ -104,14 +112,16 @@ fn slice_items(
     stop: Option<i128>,
     step: i128,
 ) -> Result<Value, Error>
-    requires { step ≢ pos 0 }
-    ensures { Gives result (list_made (sliced start stop step items.now)) }
+    requires apart { step ≢ pos 0 }
+    requires shallow { vals_depth (vals_of items.now) < DEPTH_LIMIT }
+    ensures gives { Gives result (list_made (sliced start stop step items.now)) }
+    ensures refused { TellsFault result (list_made (sliced start stop step items.now)) }
 {
     let places = picked_places(start, stop, step, items.len());
-    let mut slice = Vec::with_capacity(alloc, places.count).map_err(no_memory)?;
+    let mut slice = Vec::with_capacity(alloc, places.count)?;
     for round in 0..places.count {
         let item = pick(items, places, round);
-        push(&mut slice, item.copy()?)?;
+        slice.push(item.copy()?)?;
     }
     list_made(alloc, slice)
 }
@@ -128,9 +138,9 @@ fn slice_bytes(
     ensures { Gives result (Ok (Val.bytes (sliced start stop step bytes.now))) }
 {
     let places = picked_places(start, stop, step, bytes.len());
-    let mut slice = Vec::with_capacity(alloc, places.count).map_err(no_memory)?;
+    let mut slice = Vec::with_capacity(alloc, places.count)?;
     for round in 0..places.count {
-        push_byte(&mut slice, *pick(bytes, places, round))?;
+        slice.push(*pick(bytes, places, round))?;
     }
     Value::from_bytes(alloc, slice)
 }
@@ -151,7 +161,7 @@ fn slice_text(
     let mut slice = String::new(alloc);
     for round in 0..places.count {
         let character = *pick(characters.as_slice(), places, round);
-        slice.push(character).map_err(no_memory)?;
+        slice.push(character)?;
     }
     Value::from_text(slice)
 }
@@ -160,7 +170,7 @@ fn characters(alloc: Global, text: &str) -> Result<Vec<char>, Error>
     ensures made { IfOk result (λ v. v.items ≡ chars text.now) }
     ensures refused { IfErr result NoMemory }
 {
-    text.chars().collect(alloc).map_err(no_memory)
+    Ok(text.chars().collect(alloc)?)
 }
 
 /// The places that a slice picks: `count` of them, from `start` on, `step` apart.

@@ -1,7 +1,7 @@
 //! Calls of values, by name.
 use crate::constructors::{owned, text_of};
-use crate::expressions::no_memory;
 use crate::scene::{STATE, Scene};
+use crate::sizes::large;
 use std::alloc::Global;
 use std::cmp::Ordering;
 use template_values::*;
@@ -29,24 +29,59 @@ pub(crate) fn of_one(
     name: &str,
     value: &Value,
 ) -> Result<Value, Error> {
+    if let Some(made) = record_or_number(name, value)? {
+        return Ok(made);
+    }
+    if let Some(text) = text_from(alloc, scene, name, value)? {
+        return Value::from_text(text);
+    }
+    if let Some(made) = large(alloc, name, value)? {
+        return Ok(made);
+    }
+    fact(alloc, scene, name, value)
+}
+
+// A record of the state, or a number.
+fn record_or_number(name: &str, value: &Value) -> Result<Option<Value>, Error> {
+    Ok(Some(match name {
+        "int" => int(value)?,
+        "neg" => neg(value)?,
+        "namespace" => Value::namespace(STATE, place(value)?),
+        "loop" => Value::loop_record(STATE, place(value)?),
+        "macro" => Value::macro_record(STATE, place(value)?),
+        _ => return Ok(None),
+    }))
+}
+
+// The value as it prints, or under an escape.
+fn text_from(
+    alloc: Global,
+    scene: &Scene,
+    name: &str,
+    value: &Value,
+) -> Result<Option<String>, Error> {
+    let mut text = String::new(alloc);
     match name {
-        "int" => int(value),
-        "namespace" => Ok(Value::namespace(STATE, place(value)?)),
-        "loop" => Ok(Value::loop_record(STATE, place(value)?)),
-        "macro" => Ok(Value::macro_record(STATE, place(value)?)),
+        "print" => print_to(value, scene, &mut text)?,
+        "none" => escape_to(value, AutoEscape::None, scene, &mut text)?,
+        "html" => escape_to(value, AutoEscape::Html, scene, &mut text)?,
+        "json" => escape_to(value, AutoEscape::Json, scene, &mut text)?,
+        "custom" => escape_to(value, AutoEscape::Custom(1), scene, &mut text)?,
+        _ => return Ok(None),
+    }
+    Ok(Some(text))
+}
+
+// What a value is.
+fn fact(alloc: Global, scene: &Scene, name: &str, value: &Value) -> Result<Value, Error> {
+    match name {
         "safe" => Value::from_safe_text(owned(alloc, value)?),
-        "neg" => neg(value),
         "items_of" => Value::from_list(alloc, items_of(alloc, value, scene)?),
         "is_true" => Ok(Value::from_bool(value.is_true())),
         "truth" => Ok(Value::from_bool(is_true(value, scene)?)),
         "levels" => Ok(Value::from_int(i128::from(value.levels()))),
         "as_str" => text_or_none(alloc, value),
         "kwargs_names" => names(alloc, value),
-        "print" => printed(alloc, scene, value),
-        "none" => escaped(alloc, scene, value, AutoEscape::None),
-        "html" => escaped(alloc, scene, value, AutoEscape::Html),
-        "json" => escaped(alloc, scene, value, AutoEscape::Json),
-        "custom" => escaped(alloc, scene, value, AutoEscape::Custom(1)),
         _ => Err(unknown()),
     }
 }
@@ -59,14 +94,10 @@ pub(crate) fn of_two(
     left: &Value,
     right: &Value,
 ) -> Result<Value, Error> {
+    if let Some(value) = arithmetic(alloc, name, left, right)? {
+        return Ok(value);
+    }
     match name {
-        "add" => add(alloc, left, right),
-        "sub" => sub(left, right),
-        "mul" => mul(alloc, left, right),
-        "div" => div(left, right),
-        "int_div" => int_div(left, right),
-        "rem" => rem(left, right),
-        "pow" => pow(left, right),
         "string_concat" => string_concat(alloc, left, right, scene),
         "contains" => Ok(Value::from_bool(contains(left, right, scene)?)),
         "get_attr" => get_attr(alloc, left, text_of(right)?, scene),
@@ -76,6 +107,24 @@ pub(crate) fn of_two(
         "kwargs_get" => keywords(left)?.get(text_of(right)?),
         _ => Err(unknown()),
     }
+}
+
+fn arithmetic(
+    alloc: Global,
+    name: &str,
+    left: &Value,
+    right: &Value,
+) -> Result<Option<Value>, Error> {
+    Ok(Some(match name {
+        "add" => add(alloc, left, right)?,
+        "sub" => sub(left, right)?,
+        "mul" => mul(alloc, left, right)?,
+        "div" => div(left, right)?,
+        "int_div" => int_div(left, right)?,
+        "rem" => rem(left, right)?,
+        "pow" => pow(left, right)?,
+        _ => return Ok(None),
+    }))
 }
 
 fn unknown() -> Error {
@@ -90,8 +139,8 @@ fn int(digits: &Value) -> Result<Value, Error> {
     }
 }
 
-// The number of a record.
-fn place(value: &Value) -> Result<usize, Error> {
+/// The number from 0 on that the value is.
+pub(crate) fn place(value: &Value) -> Result<usize, Error> {
     match value
         .as_int()
         .and_then(|number| usize::try_from(number).ok())
@@ -103,21 +152,9 @@ fn place(value: &Value) -> Result<usize, Error> {
 
 fn text_or_none(alloc: Global, value: &Value) -> Result<Value, Error> {
     match value.as_str() {
-        Some(text) => Value::from_text(String::from_str(alloc, text).map_err(no_memory)?),
+        Some(text) => Value::from_str(alloc, text),
         None => Ok(Value::none()),
     }
-}
-
-fn printed(alloc: Global, scene: &Scene, value: &Value) -> Result<Value, Error> {
-    let mut text = String::new(alloc);
-    print_to(value, scene, &mut text)?;
-    Value::from_text(text)
-}
-
-fn escaped(alloc: Global, scene: &Scene, value: &Value, rule: AutoEscape) -> Result<Value, Error> {
-    let mut text = String::new(alloc);
-    escape_to(value, rule, scene, &mut text)?;
-    Value::from_text(text)
 }
 
 fn keywords(value: &Value) -> Result<Kwargs, Error> {
@@ -130,8 +167,7 @@ fn keywords(value: &Value) -> Result<Kwargs, Error> {
 fn names(alloc: Global, value: &Value) -> Result<Value, Error> {
     let mut names = Vec::new(alloc);
     for name in &keywords(value)?.names(alloc)? {
-        let name = String::from_str(alloc, name.as_str()).map_err(no_memory)?;
-        names.push(Value::from_text(name)?).map_err(no_memory)?;
+        names.push(Value::from_str(alloc, name.as_str())?)?;
     }
     Value::from_list(alloc, names)
 }

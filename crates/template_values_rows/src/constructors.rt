@@ -1,5 +1,4 @@
 //! The constructors of values, by name.
-use crate::expressions::no_memory;
 use std::alloc::Global;
 use template_values::{Entry, Error, ErrorKind, Value};
 
@@ -23,7 +22,7 @@ pub(crate) fn construct(
 fn copies(alloc: Global, values: &[Value]) -> Result<Vec<Value>, Error> {
     let mut copies = Vec::new(alloc);
     for value in values {
-        copies.push(value.copy()?).map_err(no_memory)?;
+        copies.push(value.copy()?)?;
     }
     Ok(copies)
 }
@@ -35,7 +34,7 @@ fn entries(alloc: Global, values: &[Value]) -> Result<Vec<Entry>, Error> {
         if let [key, value] = pair {
             let key = key.copy()?;
             let value = value.copy()?;
-            entries.push(Entry { key, value }).map_err(no_memory)?;
+            entries.push(Entry { key, value })?;
         }
     }
     Ok(entries)
@@ -55,7 +54,7 @@ fn module(alloc: Global, arguments: &[Value]) -> Result<Value, Error> {
 fn bytes(alloc: Global, values: &[Value]) -> Result<Vec<u8>, Error> {
     let mut bytes = Vec::new(alloc);
     for value in values {
-        bytes.push(byte(value)?).map_err(no_memory)?;
+        bytes.push(byte(value)?)?;
     }
     Ok(bytes)
 }
@@ -77,5 +76,5 @@ pub(crate) fn text_of(value: &Value) -> Result<&str, Error> {
 
 /// A copy of the text that the value is.
 pub(crate) fn owned(alloc: Global, value: &Value) -> Result<String, Error> {
-    String::from_str(alloc, text_of(value)?).map_err(no_memory)
+    Ok(String::from_str(alloc, text_of(value)?)?)
 }

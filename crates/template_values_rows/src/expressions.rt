@@ -41,7 +41,7 @@ fn refusal(error: serde_json::Error) -> Error {
 // As the item of a list, without the list's brackets.
 fn shown(alloc: Global, scene: &Scene, value: Value) -> Result<String, Error> {
     let mut items = Vec::new(alloc);
-    items.push(value).map_err(no_memory)?;
+    items.push(value)?;
     let list = Value::from_list(alloc, items)?;
     let mut text = String::new(alloc);
     print_to(&list, scene, &mut text)?;
@@ -49,7 +49,7 @@ fn shown(alloc: Global, scene: &Scene, value: Value) -> Result<String, Error> {
         .strip_prefix("[")
         .and_then(|rest| rest.strip_suffix("]"))
         .unwrap_or("");
-    String::from_str(alloc, inner).map_err(no_memory)
+    Ok(String::from_str(alloc, inner)?)
 }
 
 #[cycle(expressions)]
@@ -71,9 +71,7 @@ fn value_of(alloc: Global, scene: &Scene, expression: Json) -> Result<Value, Err
 fn values_of(alloc: Global, scene: &Scene, expressions: Vec<Json>) -> Result<Vec<Value>, Error> {
     let mut values = Vec::new(alloc);
     for expression in expressions {
-        values
-            .push(value_of(alloc, scene, expression)?)
-            .map_err(no_memory)?;
+        values.push(value_of(alloc, scene, expression)?)?;
     }
     Ok(values)
 }
@@ -105,9 +103,4 @@ fn call_by_name(
         [value, start, stop, step] if name == "slice" => slice(alloc, value, start, stop, step),
         _ => Err(Error::new(ErrorKind::UnknownFunction)),
     }
-}
-
-/// The refusal of a growth.
-pub(crate) fn no_memory<T: Drop>(_refused: T) -> Error {
-    Error::new(ErrorKind::OutOfMemory)
 }

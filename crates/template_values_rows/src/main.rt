@@ -7,6 +7,7 @@ mod calls;
 mod constructors;
 mod expressions;
 mod scene;
+mod sizes;
 
 use crate::expressions::answer;
 use std::io;

@@ -2,7 +2,6 @@
 ghost use Rattle.std.specs.Prelude.{Some, None, [], true, ◌==◌, if◌then◌else◌, codes};
 ghost use Rattle.template_values_core.specs.Shape.{pairs_in};
 
-use crate::expressions::no_memory;
 use std::alloc::Global;
 use template_values::{Entry, Error, LoopView, MacroView, Records, Value};
 
@@ -29,11 +28,11 @@ impl Scene {
         push_entry(&mut own, text(alloc, "self")?, Value::namespace(STATE, 2))?;
         let mut items = Vec::new(alloc);
         for number in [10, 20, 30] {
-            items.push(Value::from_int(number)).map_err(no_memory)?;
+            items.push(Value::from_int(number))?;
         }
         let mut arguments = Vec::new(alloc);
-        arguments.push(text(alloc, "a")?).map_err(no_memory)?;
-        arguments.push(text(alloc, "b")?).map_err(no_memory)?;
+        arguments.push(text(alloc, "a")?)?;
+        arguments.push(text(alloc, "b")?)?;
         Ok(Scene {
             entries,
             own,
@@ -44,11 +43,11 @@ impl Scene {
 }
 
 fn text(alloc: Global, text: &str) -> Result<Value, Error> {
-    Value::from_text(String::from_str(alloc, text).map_err(no_memory)?)
+    Value::from_str(alloc, text)
 }
 
 fn push_entry(entries: &mut Vec<Entry>, key: Value, value: Value) -> Result<(), Error> {
-    entries.push(Entry { key, value }).map_err(no_memory)
+    Ok(entries.push(Entry { key, value })?)
 }
 
 impl Records for Scene {

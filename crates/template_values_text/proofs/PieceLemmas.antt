@@ -1,12 +1,14 @@
 -- Lemmas on texts that are written piece by piece.
-use Rattle.std.proofs.Common.{◌≡◌, ℕ, zero, suc, ◌-◌, ◌<◌, ◌≤◌, List, [], ◌∷◌, ◌++◌, length, take, drop, get_or, refl, sym, ◌∙◌, ap, append_assoc, append-nil, length-append, length-drop, subst, arith, inr, Result, Ok, Err}
+use Rattle.std.proofs.Common.{◌≡◌, ℕ, zero, suc, ◌-◌, ◌<◌, ◌≤◌, List, [], ◌∷◌, ◌++◌, length, take, drop, get_or, refl, sym, ◌∙◌, ap, append_assoc, append-nil, length-append, length-drop, subst, arith, inr, Bool, true, false, if◌then◌else◌, ◌==◌, codes, Result, Ok, Err}
 use Rattle.std.proofs.Math.Seq.{take-suc}
 use native.Mathlib.Numerals.{unary_clauses}
 use Rattle.std.specs.List.{flat_map}
 use Rattle.std.specs.Str.{IsUtf8, IsCharBoundary}
 use Rattle.std.proofs.lemmas.Str.{IsUtf8-from_ascii, IsCharBoundary-from_take}
+use Rattle.json.proofs.Printed.Utf8.{IsUtf8-are_ascii}
 use Rattle.std.proofs.lemmas.List.Concat.{flat_map-append}
 use Rattle.template_values_errors.specs.declared.ErrorKind.{ErrorKind}
+use Rattle.template_values_model.specs.Fault.{Fault}
 use Rattle.template_values_forms.specs.Answers.{Appends, joined, mapped}
 use Rattle.template_values_forms.specs.Escapes.{html_byte, html}
 use Rattle.template_values_text.specs.Pieces.{encoded, Begins, Writes}
@@ -30,7 +32,7 @@ pub Begins-trans : (b m a : List ℕ) → Begins b m → Begins m a → Begins b
 Begins-trans b m a (more, is) (rest, ends) = (more ++ rest, ends ∙ ap (λ (x : List ℕ). x ++ rest) is ∙ append_assoc b more rest)
 
 -- a text after a text
-pub Writes-then : (k : Markup) (b m a : List ℕ) (r q : Result (List ℕ) ErrorKind) (res : Result (Unit {0}) (List ErrorKind)) → Writes k b r (Ok tt) m → Writes k m q res a → Writes k b (joined r q) res a
+pub Writes-then : (k : Markup) (b m a : List ℕ) (r q : Result (List ℕ) Fault) (res : Result (Unit {0}) (List ErrorKind)) → Writes k b r (Ok tt) m → Writes k m q res a → Writes k b (joined r q) res a
 Writes-then k b m a (Ok s) (Ok t) (Ok u) x y = y ∙ ap (λ (z : List ℕ). z ++ encoded k t) x ∙ append_assoc b (encoded k s) (encoded k t) ∙ ap (λ (z : List ℕ). b ++ z) (sym (encoded-append k s t))
 Writes-then k b m a (Ok s) (Ok t) (Err ks) x (memory, begins) = (memory, Begins-trans b m a (encoded k s, x) begins)
 Writes-then k b m a (Ok s) (Err kind) (Ok u) x y = y
@@ -38,7 +40,7 @@ Writes-then k b m a (Ok s) (Err kind) (Err ks) x (why, begins) = (why, Begins-tr
 Writes-then k b m a (Err kind) q res x y = absurd x
 
 -- a refusal before the second text
-pub Writes-stop : (k : Markup) (b a : List ℕ) (r q : Result (List ℕ) ErrorKind) (ks : List ErrorKind) → Writes k b r (Err ks) a → Writes k b (joined r q) (Err ks) a
+pub Writes-stop : (k : Markup) (b a : List ℕ) (r q : Result (List ℕ) Fault) (ks : List ErrorKind) → Writes k b r (Err ks) a → Writes k b (joined r q) (Err ks) a
 Writes-stop k b a (Ok s) (Ok t) ks x = x
 Writes-stop k b a (Ok s) (Err kind) ks (memory, begins) = (inr memory, begins)
 Writes-stop k b a (Err kind) q ks x = x
@@ -127,6 +129,28 @@ one_is_ascii b h (suc i) = omega arith
 pub IsUtf8-one : (b : ℕ) → b < 128 → IsUtf8 (b ∷ [])
 IsUtf8-one b h = IsUtf8-from_ascii (b ∷ []) (one_is_ascii b h)
 
+pub IsUtf8-nil : IsUtf8 []
+IsUtf8-nil = IsUtf8-are_ascii [] refl
+
+either_is_text : (c : Bool) (s t : List ℕ) → IsUtf8 s → IsUtf8 t → IsUtf8 (if c then s else t)
+either_is_text true s t x y = x
+either_is_text false s t x y = y
+
+-- what stands for a byte that is a character
+pub html_byte-utf8 : (b : ℕ) → b < 128 → IsUtf8 (html_byte b)
+html_byte-utf8 b h =
+    either_is_text (b == 60) (codes "&lt;") _ (IsUtf8-are_ascii (codes "&lt;") refl)
+    (either_is_text (b == 62) (codes "&gt;") _ (IsUtf8-are_ascii (codes "&gt;") refl)
+    (either_is_text (b == 38) (codes "&amp;") _ (IsUtf8-are_ascii (codes "&amp;") refl)
+    (either_is_text (b == 34) (codes "&quot;") _ (IsUtf8-are_ascii (codes "&quot;") refl)
+    (either_is_text (b == 39) (codes "&#x27;") _ (IsUtf8-are_ascii (codes "&#x27;") refl)
+    (either_is_text (b == 47) (codes "&#x2f;") _ (IsUtf8-are_ascii (codes "&#x2f;") refl) (IsUtf8-one b h))))))
+
+-- a text that waits, and one more behind it
+pub waits_behind : (out waits after before more : List ℕ) → out ++ waits ≡ before → after ≡ waits ++ more → out ++ after ≡ before ++ more
+waits_behind out waits after before more x y =
+    ap (λ (z : List ℕ). out ++ z) y ∙ sym (append_assoc out waits more) ∙ ap (λ (z : List ℕ). z ++ more) x
+
 take-front : (b more : List ℕ) → take (length b) (b ++ more) ≡ b
 take-front [] more = refl
 take-front (x ∷ b) more = ap (λ (z : List ℕ). x ∷ z) (take-front b more)
@@ -142,22 +166,27 @@ Begins-boundary b a text whole begins =
     within : Begins b a → length b ≤ length a
     within (more, is) = omega (arith, ap length is, length-append b more)
 
-pub Writes-begins : (k : Markup) (b a : List ℕ) (r : Result (List ℕ) ErrorKind) (ks : List ErrorKind) → Writes k b r (Err ks) a → Begins b a
+pub Writes-begins : (k : Markup) (b a : List ℕ) (r : Result (List ℕ) Fault) (ks : List ErrorKind) → Writes k b r (Err ks) a → Begins b a
 Writes-begins k b a (Ok s) ks (memory, begins) = begins
 Writes-begins k b a (Err kind) ks (why, begins) = begins
 
 -- a whole text is appended
-pub Appends-whole : (b a : List ℕ) (r : Result (List ℕ) ErrorKind) (u : Unit {0}) → Writes Plain b r (Ok u) a → Appends b r (Ok u) a
+pub Appends-whole : (b a : List ℕ) (r : Result (List ℕ) Fault) (u : Unit {0}) → Writes Plain b r (Ok u) a → Appends b r (Ok u) a
 Appends-whole b a (Ok s) u w = w
 Appends-whole b a (Err kind) u w = w
 
 -- what was written is cut off
-pub Appends-cut : (b m a : List ℕ) (r : Result (List ℕ) ErrorKind) (ks : List ErrorKind) → Writes Plain b r (Err ks) m → a ≡ take (length b) m → Appends b r (Err ks) a
+pub Appends-cut : (b m a : List ℕ) (r : Result (List ℕ) Fault) (ks : List ErrorKind) → Writes Plain b r (Err ks) m → a ≡ take (length b) m → Appends b r (Err ks) a
 Appends-cut b m a (Ok s) ks (memory, begins) cut = (memory, cut ∙ Begins-take b m begins)
 Appends-cut b m a (Err kind) ks (why, begins) cut = (why, cut ∙ Begins-take b m begins)
 
+-- a text with no markup
+pub Writes-unmarked : (b a s : List ℕ) (res : Result (Unit {0}) (List ErrorKind)) → html s ≡ s → Writes Plain b (Ok s) res a → Writes Html b (Ok s) res a
+Writes-unmarked b a s (Ok u) same w = w ∙ ap (λ (z : List ℕ). b ++ z) (sym same)
+Writes-unmarked b a s (Err ks) same w = w
+
 -- a text written with references is the text of the references
-pub Writes-html : (b a : List ℕ) (r : Result (List ℕ) ErrorKind) (res : Result (Unit {0}) (List ErrorKind)) → Writes Html b r res a → Writes Plain b (mapped html r) res a
+pub Writes-html : (b a : List ℕ) (r : Result (List ℕ) Fault) (res : Result (Unit {0}) (List ErrorKind)) → Writes Html b r res a → Writes Plain b (mapped html r) res a
 Writes-html b a (Ok s) (Ok u) w = w
 Writes-html b a (Ok s) (Err ks) w = w
 Writes-html b a (Err kind) (Ok u) w = w

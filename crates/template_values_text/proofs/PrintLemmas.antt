@@ -1,18 +1,16 @@
 -- Lemmas on values that are printed one behind the other.
-use Rattle.std.proofs.Common.{◌≡◌, ℕ, zero, suc, ◌-◌, ◌<◌, ◌≤◌, List, [], ◌∷◌, length, drop, get_or, refl, sym, ap, subst, arith, Result, Ok, codes, lit<}
+use Rattle.std.proofs.Common.{◌≡◌, ℕ, zero, suc, ◌-◌, ◌<◌, ◌≤◌, List, [], ◌∷◌, length, drop, get_or, refl, sym, ap, arith, Result, Ok, codes, lit<}
 use Rattle.std.specs.Str.{IsUtf8}
 use Rattle.std.proofs.lemmas.Str.{IsUtf8-append}
-use Rattle.template_values_errors.specs.declared.ErrorKind.{ErrorKind}
+use Rattle.template_values_model.specs.Fault.{Fault}
 use Rattle.template_values_model.specs.Val.{Val, Vals, Pairs, vals_of, no_vals, vals_more, no_pairs, pairs_more}
 use Rattle.template_values_core.specs.Maps.{pairs_of}
 use Rattle.template_values_core.specs.Shape.{pairs_in}
 use Rattle.template_values_core.specs.declared.value.Entry.{Entry}
 use Rattle.template_values_forms.specs.Answers.{joined}
 use Rattle.template_values_forms.specs.Known.{Known}
-use Rattle.template_values_text.specs.Pieces.{Writes}
 use Rattle.template_values_forms.specs.Printed.{inner_text, nested_text, pair_text, pairs_text, tuple_end, vals_text}
-use Rattle.template_values_text.specs.declared.pieces.Markup.{Markup}
-use Rattle.template_values_text.proofs.PieceLemmas.{IsUtf8-one, Writes-then}
+use Rattle.template_values_text.proofs.PieceLemmas.{IsUtf8-one}
 
 pub comma_is_text : IsUtf8 (codes ", ")
 comma_is_text = IsUtf8-append (44 ∷ []) (32 ∷ []) (IsUtf8-one 44 (lit< tt)) (IsUtf8-one 32 (lit< tt))
@@ -60,15 +58,15 @@ tuple_end-other [] h = refl
 tuple_end-other (v ∷ []) h = absurd (h refl)
 tuple_end-other (v ∷ w ∷ vs) h = refl
 
--- what is written for the first of the values that are left, and for the others behind it
-pub writes_next_val : (k : Markup) (before out written after : List ℕ) (f : Val → Result (List ℕ) ErrorKind) (vs : List Val) (i j : ℕ) (v : Val) (res : Result (Unit {0}) (List ErrorKind)) → j ≡ suc i → i < length vs → v ≡ get_or vs i v → Writes k out (joined (Ok before) (f v)) (Ok tt) written → Writes k written (vals_text (codes ", ") f (vals_of (drop j vs))) res after → Writes k out (vals_text before f (vals_of (drop i vs))) res after
-writes_next_val k before out written after f vs i j v res e h is w rest =
-    let P : Vals → Type 0 = λ x. Writes k out (vals_text before f x) res after in
-    subst P (sym (vals_of-drop vs i j v e h is)) (Writes-then k out written after (joined (Ok before) (f v)) (vals_text (codes ", ") f (vals_of (drop j vs))) res w rest)
+-- the text of the values that are left, from the first of them
+pub vals_text-next : (before : List ℕ) (f : Val → Result (List ℕ) Fault) (vs : List Val) (i j : ℕ) (v : Val)
+    → j ≡ suc i → i < length vs → v ≡ get_or vs i v
+    → vals_text before f (vals_of (drop i vs)) ≡ joined (joined (Ok before) (f v)) (vals_text (codes ", ") f (vals_of (drop j vs)))
+vals_text-next before f vs i j v e h is = ap (λ (x : Vals). vals_text before f x) (vals_of-drop vs i j v e h is)
 
-pub writes_next_pair : (k : Markup) (before out written after : List ℕ) (f : Val → Result (List ℕ) ErrorKind) (es : List Entry) (i j : ℕ) (e : Entry) (res : Result (Unit {0}) (List ErrorKind)) → j ≡ suc i → i < length es → e ≡ get_or es i e → Writes k out (joined (Ok before) (pair_text f e.key e.value)) (Ok tt) written → Writes k written (pairs_text (codes ", ") f (pairs_of (pairs_in (drop j es)))) res after → Writes k out (pairs_text before f (pairs_of (pairs_in (drop i es)))) res after
-writes_next_pair k before out written after f es i j e res is_next h is w rest =
-    let P : Pairs → Type 0 = λ x. Writes k out (pairs_text before f x) res after in
-    subst P (sym (pairs_of-drop es i j e is_next h is)) (Writes-then k out written after (joined (Ok before) (pair_text f e.key e.value)) (pairs_text (codes ", ") f (pairs_of (pairs_in (drop j es)))) res w rest)
+pub pairs_text-next : (before : List ℕ) (f : Val → Result (List ℕ) Fault) (es : List Entry) (i j : ℕ) (e : Entry)
+    → j ≡ suc i → i < length es → e ≡ get_or es i e
+    → pairs_text before f (pairs_of (pairs_in (drop i es))) ≡ joined (joined (Ok before) (pair_text f e.key e.value)) (pairs_text (codes ", ") f (pairs_of (pairs_in (drop j es))))
+pairs_text-next before f es i j e is_next h is = ap (λ (x : Pairs). pairs_text before f x) (pairs_of-drop es i j e is_next h is)
 
 pub ruleset tuple_ends = (tuple_end-one, tuple_end-other)

@@ -1,7 +1,8 @@
 -- How the pieces of a text are written one behind the other.
 use Rattle.std.specs.Prelude.{◌≡◌, ℕ, ◌/◌, ◌%◌, codes, List, [], ◌∷◌, ◌++◌, ◌⊎◌, Result, Ok, Err}
 use Rattle.template_values_errors.specs.declared.ErrorKind.{ErrorKind}
-use Rattle.template_values_errors.specs.declared.ErrorKind.TheVariants.{OutOfMemory}
+use Rattle.template_values_model.specs.Fault.{Fault, kind_of}
+use Rattle.template_values_errors.specs.Memory.{NoMemory}
 use Rattle.json.specs.Print.{escape_byte}
 use Rattle.std.specs.Char.{digit_char}
 use Rattle.template_values_forms.specs.Escapes.{control_escape, html, quoted_byte}
@@ -20,12 +21,12 @@ encoded Html s = html s
 abbrev pub Begins : List ℕ → List ℕ → Type 0
 Begins before after = (more : List ℕ) × (after ≡ before ++ more)
 
--- the text is written; or it is refused with the kind alone, or for want of memory, with a beginning written
-abbrev pub Writes : Markup → List ℕ → Result (List ℕ) ErrorKind → Result (Unit {0}) (List ErrorKind) → List ℕ → Type 0
+-- the text is written; or it is refused with the kind of a fault alone, or for want of memory, with a beginning written
+abbrev pub Writes : Markup → List ℕ → Result (List ℕ) Fault → Result (Unit {0}) (List ErrorKind) → List ℕ → Type 0
 Writes markup before (Ok s) (Ok _) after = after ≡ before ++ encoded markup s
-Writes markup before (Ok s) (Err kinds) after = (kinds ≡ OutOfMemory ∷ []) × Begins before after
-Writes markup before (Err kind) (Ok _) after = ⊥
-Writes markup before (Err kind) (Err kinds) after = ((kinds ≡ kind ∷ []) ⊎ (kinds ≡ OutOfMemory ∷ [])) × Begins before after
+Writes markup before (Ok s) (Err kinds) after = NoMemory kinds × Begins before after
+Writes markup before (Err fault) (Ok _) after = ⊥
+Writes markup before (Err fault) (Err kinds) after = ((kinds ≡ kind_of fault ∷ []) ⊎ NoMemory kinds) × Begins before after
 
 -- what stands for a byte between quotes: as values print, or as JSON has it
 abbrev pub escaped_byte : Quoting → ℕ → List ℕ

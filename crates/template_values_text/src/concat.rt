@@ -13,12 +13,13 @@ use template_values_records::Records;
 ///
 /// # Errors
 ///
-/// - [`ErrorKind::InvalidOperation`], if a record is foreign, or if a value with the records that it
-///   leads to nests deeper than 500 levels.
+/// - [`ErrorKind::InvalidOperation`], if a foreign namespace, loop or macro is met, or if a value with
+///   the records that it leads to nests deeper than [`DEPTH_LIMIT`] levels.
 /// - [`ErrorKind::OutOfMemory`]
 ///
 /// [`ErrorKind::InvalidOperation`]: template_values_errors::ErrorKind::InvalidOperation
 /// [`ErrorKind::OutOfMemory`]: template_values_errors::ErrorKind::OutOfMemory
+/// [`DEPTH_LIMIT`]: template_values_model::DEPTH_LIMIT
 pub fn string_concat<R: Records>(
     alloc: Global,
     left: &Value,

@@ -20,11 +20,14 @@ use template_values_records::Records;
 ///
 /// # Errors
 ///
-/// - [`ErrorKind::InvalidOperation`], if the rule is a custom one, if a record is foreign, or if the
-///   value with the records that it leads to nests deeper than 500 levels.
+/// - [`ErrorKind::InvalidOperation`], if the rule is a custom one, if a foreign namespace is met, or a
+///   foreign loop or macro that prints, or if the value with the records that it leads to nests deeper
+///   than [`DEPTH_LIMIT`] levels. As JSON, what a module holds counts too; it prints as its text alone.
 /// - [`ErrorKind::BadSerialization`] as JSON: if a key is no text, a number lies outside -2^63 to
-///   2^64 - 1, or a function, a loop or a macro is met.
+///   2^64 - 1, or a function, a loop or a macro is met, foreign or not.
 /// - [`ErrorKind::OutOfMemory`]
+///
+/// [`DEPTH_LIMIT`]: template_values_model::DEPTH_LIMIT
 pub fn escape_to<R: Records>(
     value: &Value,
     rule: AutoEscape,
@@ -69,7 +72,8 @@ fn html_outer<R: Records>(value: &Value, records: &R, out: &mut String) -> Resul
 }
 
 fn print_html<R: Records>(value: &Value, records: &R, out: &mut String) -> Result<(), Error>
-    ensures { Writes Markup.Plain (string_bytes out.old) (mapped html (printed (R.known records.now) value.now)) result (string_bytes out.new) }
+    ensures { Writes Markup.Plain (string_bytes out.old) (mapped html (printed (R.known records.now) value.now))
+        result (string_bytes out.new) }
 {
     print_outer(value, Markup::Html, records, out)
 }

@@ -3,6 +3,7 @@
 
 mod concat;
 mod escape;
+mod html;
 mod pieces;
 mod print;
 mod serial;

@@ -3,12 +3,13 @@ ghost use Rattle.std.specs.Prelude.{◌≡◌, ◌<◌, ◌/◌, ◌%◌, ◌∷
 ghost use Rattle.json.specs.Print.{escape_byte};
 ghost use Rattle.std.specs.Char.{digit_char};
 ghost use Rattle.std.specs.List.{flat_map};
-ghost use Rattle.template_values_forms.specs.Escapes.{control_escape, hexadecimal, html_byte, quoted_byte, replaced_byte};
+ghost use Rattle.template_values_forms.specs.Escapes.{control_escape, hexadecimal, quoted_byte, replaced_byte};
 ghost use Rattle.template_values_text.specs.Pieces.{Writes, escaped_byte, escape_text, unicode_escape};
 ghost use Rattle.template_values_forms.specs.Printed.{bytes_text};
 
+use crate::html::push_html;
 use std::slice;
-use template_values_errors::{Error, ErrorKind};
+use template_values_errors::Error;
 
 /// Whether pieces are written as they are, or with references for HTML's markup.
 #[derive(Clone, Copy)]
@@ -27,43 +28,11 @@ pub(crate) fn push(out: &mut String, markup: Markup, piece: &str) -> Result<(), 
     }
 }
 
-fn push_plain(out: &mut String, piece: &str) -> Result<(), Error>
+/// Writes a piece as it is.
+pub(crate) fn push_plain(out: &mut String, piece: &str) -> Result<(), Error>
     ensures { Writes Markup.Plain (string_bytes out.old) (Ok piece.now) result (string_bytes out.new) }
 {
-    match out.push_str(piece) {
-        Ok(()) => Ok(()),
-        Err(_) => Err(Error::new(ErrorKind::OutOfMemory)),
-    }
-}
-
-fn html_reference(byte: u8) -> Option<&'static str>
-    ensures is { MatchOption result (html_byte byte ≡ byte ∷ []) (λ r. html_byte byte ≡ r.now) }
-    ensures ascii { OnSome result (byte < 128) }
-{
-    match byte {
-        b'<' => Some("&lt;"),
-        b'>' => Some("&gt;"),
-        b'&' => Some("&amp;"),
-        b'"' => Some("&quot;"),
-        b'\'' => Some("&#x27;"),
-        b'/' => Some("&#x2f;"),
-        _ => None,
-    }
-}
-
-fn push_html(out: &mut String, piece: &str) -> Result<(), Error>
-    ensures { Writes Markup.Html (string_bytes out.old) (Ok piece.now) result (string_bytes out.new) }
-{
-    let mut start = 0;
-    for (i, byte) in piece.as_bytes().iter().enumerate() {
-        let Some(reference) = html_reference(*byte) else {
-            continue;
-        };
-        push_plain(out, &piece[start..i])?;
-        push_plain(out, reference)?;
-        start = i + 1;
-    }
-    push_plain(out, &piece[start..])
+    Ok(out.push_str(piece)?)
 }
 
 /// Whether a text is quoted as values print, or as JSON has it.
@@ -149,7 +118,8 @@ fn hex_digit(digit: u8) -> &'static str
 }
 
 fn push_digits(out: &mut String, markup: Markup, byte: u8) -> Result<(), Error>
-    ensures { Writes markup (string_bytes out.old) (Ok (digit_char (byte / 16) ∷ digit_char (byte % 16) ∷ [])) result (string_bytes out.new) }
+    ensures { Writes markup (string_bytes out.old) (Ok (digit_char (byte / 16) ∷ digit_char (byte % 16) ∷ []))
+        result (string_bytes out.new) }
 {
     push(out, markup, hex_digit(byte / 16))?;
     push(out, markup, hex_digit(byte % 16))
@@ -212,7 +182,8 @@ pub(crate) fn push_quoted(
     quoting: Quoting,
     text: &str,
 ) -> Result<(), Error>
-    ensures { Writes markup (string_bytes out.old) (Ok (codes "\"" ++ (flat_map (escaped_byte quoting) text.now ++ codes "\""))) result (string_bytes out.new) }
+    ensures { Writes markup (string_bytes out.old) (Ok (codes "\"" ++ (flat_map (escaped_byte quoting) text.now ++ codes "\"")))
+        result (string_bytes out.new) }
 {
     push(out, markup, "\"")?;
     push_escaped(out, markup, quoting, text)?;

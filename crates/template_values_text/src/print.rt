@@ -11,15 +11,19 @@ use crate::pieces::{Markup, Quoting, push, push_bytes, push_quoted};
 use itoa::Buffer;
 use template_values_core::{Content, Entry, Value};
 use template_values_errors::{Error, ErrorKind};
+use template_values_model::DEPTH_LIMIT;
 use template_values_records::Records;
 
 /// Appends the text that the value prints to `out`, which a refusal leaves as it was. Namespaces are
-/// followed. Takes time linear in the text.
+/// followed. Inside of containers texts stand between quotes, with `\n`, `\r`, `\t`, and `\u{..}` for the
+/// other control characters below U+0020 and for U+007F; those from U+0080 on stand for themselves.
+/// Takes time linear in the text.
 ///
 /// # Errors
 ///
-/// - [`ErrorKind::InvalidOperation`], if a record is foreign, or if the value with the records that it
-///   leads to nests deeper than 500 levels.
+/// - [`ErrorKind::InvalidOperation`], if a foreign namespace, loop or macro is met, or if the value with
+///   the records that it leads to nests deeper than [`DEPTH_LIMIT`] levels. A module prints as its text:
+///   what it holds is not met.
 /// - [`ErrorKind::OutOfMemory`]
 pub fn print_to<R: Records>(value: &Value, records: &R, out: &mut String) -> Result<(), Error>
     ensures { Appends (string_bytes out.old) (printed (R.known records.now) value.now) result (string_bytes out.new) }
@@ -48,7 +52,14 @@ pub(crate) fn print_outer<R: Records>(
         Content::SilentUndefined => push(out, markup, ""),
         Content::Text(text) => push(out, markup, text),
         Content::SafeText(text) => push(out, markup, text),
-        _ => print_inner(value, markup, records, deepest(), out),
+        _ => {
+            let inside = Inside {
+                markup,
+                records,
+                left: deepest(),
+            };
+            print_inner(value, inside, out)
+        }
     }
 }
 
@@ -56,51 +67,53 @@ pub(crate) fn print_outer<R: Records>(
 pub(crate) fn deepest() -> u32
     ensures { result ≡ level_limit }
 {
-    500
+    DEPTH_LIMIT
+}
+
+// How a value inside of a container prints: whether with references for markup, what is known of
+// records, and how many levels more it may nest.
+#[derive_where(Clone, Copy)]
+struct Inside<'a, R> {
+    markup: Markup,
+    records: &'a R,
+    left: u32,
 }
 
 #[cycle(print)]
 fn print_inner<R: Records>(
     value: &Value,
-    markup: Markup,
-    records: &R,
-    left: u32,
+    inside: Inside<'_, R>,
     out: &mut String,
 ) -> Result<(), Error>
-    ensures { Writes markup (string_bytes out.old) (inner_text (R.known records.now) left value.now) result (string_bytes out.new) }
+    ensures { let known = R.known inside.entry.records.now in
+        let text = inner_text known inside.entry.left in
+        Writes inside.entry.markup (string_bytes out.old) (text value.now) result (string_bytes out.new) }
 {
-    if left == 0 {
-        return print_flat(value, markup, records, out);
+    if inside.left == 0 {
+        return print_flat(value, inside.markup, inside.records, out);
     }
-    print_nested(value, markup, records, left - 1, out)
+    let left = inside.left - 1;
+    print_nested(value, Inside { left, ..inside }, out)
 }
 
 #[cycle(print)]
 fn print_nested<R: Records>(
     value: &Value,
-    markup: Markup,
-    records: &R,
-    left: u32,
+    inside: Inside<'_, R>,
     out: &mut String,
 ) -> Result<(), Error>
-    ensures { Writes markup (string_bytes out.old) (nested_text (R.known records.now) (inner_text (R.known records.now) left) value.now) result (string_bytes out.new) }
+    ensures { let known = R.known inside.entry.records.now in
+        let text = inner_text known inside.entry.left in
+        Writes inside.entry.markup (string_bytes out.old) (nested_text known text value.now) result (string_bytes out.new) }
 {
     match value.content() {
-        Content::List(items) => print_list(items, "[", "]", markup, records, left, out),
-        Content::Tuple(items) => print_list(
-            items,
-            "(",
-            tuple_end(items),
-            markup,
-            records,
-            left,
-            out,
-        ),
-        Content::Map(entries) => print_map(entries, markup, records, left, out),
-        Content::KeywordMap(entries) => print_map(entries, markup, records, left, out),
-        Content::Module(_entries, text) => push(out, markup, text),
-        Content::Namespace(id, number) => print_namespace(id, number, markup, records, left, out),
-        _ => print_flat(value, markup, records, out),
+        Content::List(items) => print_list(items, "[", "]", inside, out),
+        Content::Tuple(items) => print_list(items, "(", tuple_end(items), inside, out),
+        Content::Map(entries) => print_map(entries, inside, out),
+        Content::KeywordMap(entries) => print_map(entries, inside, out),
+        Content::Module(_entries, text) => push(out, inside.markup, text),
+        Content::Namespace(id, number) => print_namespace(id, number, inside, out),
+        _ => print_flat(value, inside.markup, inside.records, out),
     }
 }
 
@@ -109,31 +122,32 @@ fn print_list<R: Records>(
     items: &[Value],
     first: &str,
     last: &str,
-    markup: Markup,
-    records: &R,
-    left: u32,
+    inside: Inside<'_, R>,
     out: &mut String,
 ) -> Result<(), Error>
-    ensures { Writes markup (string_bytes out.old) (enclosed first.now (vals_text [] (inner_text (R.known records.now) left) (vals_of items.now)) last.now) result (string_bytes out.new) }
+    ensures { let known = R.known inside.entry.records.now in
+        let text = inner_text known inside.entry.left in
+        Writes inside.entry.markup (string_bytes out.old) (enclosed first.now (vals_text [] text (vals_of items.now)) last.now)
+        result (string_bytes out.new) }
 {
-    push(out, markup, first)?;
-    print_items(items, markup, records, left, out)?;
-    push(out, markup, last)
+    push(out, inside.markup, first)?;
+    print_items(items, inside, out)?;
+    push(out, inside.markup, last)
 }
 
 #[cycle(print)]
 fn print_items<R: Records>(
     items: &[Value],
-    markup: Markup,
-    records: &R,
-    left: u32,
+    inside: Inside<'_, R>,
     out: &mut String,
 ) -> Result<(), Error>
-    ensures { Writes markup (string_bytes out.old) (vals_text [] (inner_text (R.known records.now) left) (vals_of items.now)) result (string_bytes out.new) }
+    ensures { let known = R.known inside.entry.records.now in
+        let text = inner_text known inside.entry.left in
+        Writes inside.entry.markup (string_bytes out.old) (vals_text [] text (vals_of items.now)) result (string_bytes out.new) }
 {
     let mut before = "";
     for item in items {
-        print_item(before, item, markup, records, left, out)?;
+        print_item(before, item, inside, out)?;
         before = ", ";
     }
     Ok(())
@@ -143,30 +157,30 @@ fn print_items<R: Records>(
 fn print_item<R: Records>(
     before: &str,
     item: &Value,
-    markup: Markup,
-    records: &R,
-    left: u32,
+    inside: Inside<'_, R>,
     out: &mut String,
 ) -> Result<(), Error>
-    ensures { Writes markup (string_bytes out.old) (joined (Ok before.now) (inner_text (R.known records.now) left item.now)) result (string_bytes out.new) }
+    ensures { let known = R.known inside.entry.records.now in
+        let text = inner_text known inside.entry.left in
+        Writes inside.entry.markup (string_bytes out.old) (joined (Ok before.now) (text item.now)) result (string_bytes out.new) }
 {
-    push(out, markup, before)?;
-    print_inner(item, markup, records, left, out)
+    push(out, inside.markup, before)?;
+    print_inner(item, inside, out)
 }
 
 #[cycle(print)]
 fn print_namespace<R: Records>(
     id: u64,
     number: usize,
-    markup: Markup,
-    records: &R,
-    left: u32,
+    inside: Inside<'_, R>,
     out: &mut String,
 ) -> Result<(), Error>
-    ensures { Writes markup (string_bytes out.old) (namespace_text (inner_text (R.known records.now) left) ((R.known records.now).namespaces id number)) result (string_bytes out.new) }
+    ensures { let known = R.known inside.entry.records.now in
+        let text = inner_text known inside.entry.left in
+        Writes inside.entry.markup (string_bytes out.old) (namespace_text text (known.namespaces id number)) result (string_bytes out.new) }
 {
-    match records.namespace(id, number) {
-        Some(entries) => print_map(entries, markup, records, left, out),
+    match inside.records.namespace(id, number) {
+        Some(entries) => print_map(entries, inside, out),
         None => Err(Error::new(ErrorKind::InvalidOperation)),
     }
 }
@@ -174,31 +188,32 @@ fn print_namespace<R: Records>(
 #[cycle(print)]
 fn print_map<R: Records>(
     entries: &[Entry],
-    markup: Markup,
-    records: &R,
-    left: u32,
+    inside: Inside<'_, R>,
     out: &mut String,
 ) -> Result<(), Error>
-    ensures { Writes markup (string_bytes out.old) (map_text (inner_text (R.known records.now) left) (pairs_of (pairs_in entries.now))) result (string_bytes out.new) }
+    ensures { let known = R.known inside.entry.records.now in
+        let text = inner_text known inside.entry.left in
+        Writes inside.entry.markup (string_bytes out.old) (map_text text (pairs_of (pairs_in entries.now))) result (string_bytes out.new) }
 {
-    push(out, markup, "{")?;
-    print_entries(entries, markup, records, left, out)?;
-    push(out, markup, "}")
+    push(out, inside.markup, "{")?;
+    print_entries(entries, inside, out)?;
+    push(out, inside.markup, "}")
 }
 
 #[cycle(print)]
 fn print_entries<R: Records>(
     entries: &[Entry],
-    markup: Markup,
-    records: &R,
-    left: u32,
+    inside: Inside<'_, R>,
     out: &mut String,
 ) -> Result<(), Error>
-    ensures { Writes markup (string_bytes out.old) (pairs_text [] (inner_text (R.known records.now) left) (pairs_of (pairs_in entries.now))) result (string_bytes out.new) }
+    ensures { let known = R.known inside.entry.records.now in
+        let text = inner_text known inside.entry.left in
+        Writes inside.entry.markup (string_bytes out.old) (pairs_text [] text (pairs_of (pairs_in entries.now)))
+        result (string_bytes out.new) }
 {
     let mut before = "";
     for entry in entries {
-        print_entry(before, entry, markup, records, left, out)?;
+        print_entry(before, entry, inside, out)?;
         before = ", ";
     }
     Ok(())
@@ -208,17 +223,18 @@ fn print_entries<R: Records>(
 fn print_entry<R: Records>(
     before: &str,
     entry: &Entry,
-    markup: Markup,
-    records: &R,
-    left: u32,
+    inside: Inside<'_, R>,
     out: &mut String,
 ) -> Result<(), Error>
-    ensures { Writes markup (string_bytes out.old) (joined (Ok before.now) (pair_text (inner_text (R.known records.now) left) entry.now.key entry.now.value)) result (string_bytes out.new) }
+    ensures { let known = R.known inside.entry.records.now in
+        let text = inner_text known inside.entry.left in
+        Writes inside.entry.markup (string_bytes out.old) (joined (Ok before.now) (pair_text text entry.now.key entry.now.value))
+        result (string_bytes out.new) }
 {
-    push(out, markup, before)?;
-    print_inner(&entry.key, markup, records, left, out)?;
-    push(out, markup, ": ")?;
-    print_inner(&entry.value, markup, records, left, out)
+    push(out, inside.markup, before)?;
+    print_inner(&entry.key, inside, out)?;
+    push(out, inside.markup, ": ")?;
+    print_inner(&entry.value, inside, out)
 }
 
 // A tuple of one value has a comma behind it.

@@ -21,7 +21,8 @@ pub(crate) fn json_outer<R: Records>(
     records: &R,
     out: &mut String,
 ) -> Result<(), Error>
-    ensures { Writes Markup.Plain (string_bytes out.old) (mapped compact_text (json_data (R.known records.now) value.now)) result (string_bytes out.new) }
+    ensures { Writes Markup.Plain (string_bytes out.old) (mapped compact_text (json_data (R.known records.now) value.now))
+        result (string_bytes out.new) }
 {
     json_inner(value, records, deepest(), out)
 }
@@ -33,7 +34,8 @@ fn json_inner<R: Records>(
     left: u32,
     out: &mut String,
 ) -> Result<(), Error>
-    ensures { Writes Markup.Plain (string_bytes out.old) (mapped compact_text (inner_data (R.known records.now) left value.now)) result (string_bytes out.new) }
+    ensures { let inner = inner_data (R.known records.now) left in
+        Writes Markup.Plain (string_bytes out.old) (mapped compact_text (inner value.now)) result (string_bytes out.new) }
 {
     if left == 0 {
         return json_flat(value, out);
@@ -48,7 +50,9 @@ fn json_nested<R: Records>(
     left: u32,
     out: &mut String,
 ) -> Result<(), Error>
-    ensures { Writes Markup.Plain (string_bytes out.old) (mapped compact_text (nested_data (R.known records.now) (inner_data (R.known records.now) left) value.now)) result (string_bytes out.new) }
+    ensures { let inner = inner_data (R.known records.now) left in
+        Writes Markup.Plain (string_bytes out.old) (mapped compact_text (nested_data (R.known records.now) inner value.now))
+        result (string_bytes out.new) }
 {
     match value.content() {
         Content::List(items) => json_array(items, records, left, out),
@@ -68,7 +72,10 @@ fn json_array<R: Records>(
     left: u32,
     out: &mut String,
 ) -> Result<(), Error>
-    ensures { Writes Markup.Plain (string_bytes out.old) (joined (Ok (91 ∷ [])) (mapped (items_text false) (items_data (inner_data (R.known records.now) left) (vals_of items.now)))) result (string_bytes out.new) }
+    ensures { let inner = inner_data (R.known records.now) left in
+        Writes Markup.Plain (string_bytes out.old)
+        (joined (Ok (91 ∷ [])) (mapped (items_text false) (items_data inner (vals_of items.now))))
+        result (string_bytes out.new) }
 {
     push(out, Markup::Plain, "[")?;
     json_items(items, records, left, out)
@@ -81,7 +88,9 @@ fn json_items<R: Records>(
     left: u32,
     out: &mut String,
 ) -> Result<(), Error>
-    ensures { Writes Markup.Plain (string_bytes out.old) (mapped (items_text false) (items_data (inner_data (R.known records.now) left) (vals_of items.now))) result (string_bytes out.new) }
+    ensures { let inner = inner_data (R.known records.now) left in
+        Writes Markup.Plain (string_bytes out.old) (mapped (items_text false) (items_data inner (vals_of items.now)))
+        result (string_bytes out.new) }
 {
     let mut later = false;
     for item in items {
@@ -99,7 +108,9 @@ fn json_item<R: Records>(
     left: u32,
     out: &mut String,
 ) -> Result<(), Error>
-    ensures { Writes Markup.Plain (string_bytes out.old) (joined (Ok (comma_if later)) (mapped compact_text (inner_data (R.known records.now) left item.now))) result (string_bytes out.new) }
+    ensures { let inner = inner_data (R.known records.now) left in
+        Writes Markup.Plain (string_bytes out.old) (joined (Ok (comma_if later)) (mapped compact_text (inner item.now)))
+        result (string_bytes out.new) }
 {
     push(out, Markup::Plain, comma(later))?;
     json_inner(item, records, left, out)
@@ -113,7 +124,10 @@ fn json_namespace<R: Records>(
     left: u32,
     out: &mut String,
 ) -> Result<(), Error>
-    ensures { Writes Markup.Plain (string_bytes out.old) (mapped compact_text (namespace_data (inner_data (R.known records.now) left) ((R.known records.now).namespaces id number))) result (string_bytes out.new) }
+    ensures { let inner = inner_data (R.known records.now) left in
+        Writes Markup.Plain (string_bytes out.old)
+        (mapped compact_text (namespace_data inner ((R.known records.now).namespaces id number)))
+        result (string_bytes out.new) }
 {
     match records.namespace(id, number) {
         Some(entries) => json_object(entries, records, left, out),
@@ -128,7 +142,10 @@ fn json_object<R: Records>(
     left: u32,
     out: &mut String,
 ) -> Result<(), Error>
-    ensures { Writes Markup.Plain (string_bytes out.old) (joined (Ok (123 ∷ [])) (mapped (members_text false) (members_data (inner_data (R.known records.now) left) (pairs_of (pairs_in entries.now))))) result (string_bytes out.new) }
+    ensures { let inner = inner_data (R.known records.now) left in
+        Writes Markup.Plain (string_bytes out.old)
+        (joined (Ok (123 ∷ [])) (mapped (members_text false) (members_data inner (pairs_of (pairs_in entries.now)))))
+        result (string_bytes out.new) }
 {
     push(out, Markup::Plain, "{")?;
     json_members(entries, records, left, out)
@@ -141,7 +158,9 @@ fn json_members<R: Records>(
     left: u32,
     out: &mut String,
 ) -> Result<(), Error>
-    ensures { Writes Markup.Plain (string_bytes out.old) (mapped (members_text false) (members_data (inner_data (R.known records.now) left) (pairs_of (pairs_in entries.now)))) result (string_bytes out.new) }
+    ensures { let inner = inner_data (R.known records.now) left in
+        Writes Markup.Plain (string_bytes out.old) (mapped (members_text false) (members_data inner (pairs_of (pairs_in entries.now))))
+        result (string_bytes out.new) }
 {
     let mut later = false;
     for entry in entries {
@@ -159,7 +178,10 @@ fn json_member<R: Records>(
     left: u32,
     out: &mut String,
 ) -> Result<(), Error>
-    ensures { Writes Markup.Plain (string_bytes out.old) (joined (Ok (comma_if later)) (joined (mapped key_text (key_data entry.now.key)) (mapped compact_text (inner_data (R.known records.now) left entry.now.value)))) result (string_bytes out.new) }
+    ensures { let inner = inner_data (R.known records.now) left in
+        Writes Markup.Plain (string_bytes out.old)
+        (joined (Ok (comma_if later)) (joined (mapped key_text (key_data entry.now.key)) (mapped compact_text (inner entry.now.value))))
+        result (string_bytes out.new) }
 {
     push(out, Markup::Plain, comma(later))?;
     json_key(&entry.key, out)?;
@@ -209,17 +231,24 @@ fn json_flat(value: &Value, out: &mut String) -> Result<(), Error>
     }
 }
 
+// The least number that JSON has.
+const LEAST_NUMBER: i128 = -9223372036854775808;
+
+// The greatest number that JSON has.
+const GREATEST_NUMBER: i128 = 18446744073709551615;
+
 fn json_number(number: i128, out: &mut String) -> Result<(), Error>
     ensures { Writes Markup.Plain (string_bytes out.old) (mapped compact_text (number_data number)) result (string_bytes out.new) }
 {
-    if number < -9223372036854775808 || 18446744073709551615 < number {
+    if number < LEAST_NUMBER || GREATEST_NUMBER < number {
         return Err(Error::new(ErrorKind::BadSerialization));
     }
     push(out, Markup::Plain, Buffer::new().format(number))
 }
 
 fn json_bytes(bytes: &[u8], out: &mut String) -> Result<(), Error>
-    ensures { Writes Markup.Plain (string_bytes out.old) (Ok (91 ∷ items_text false (byte_items bytes.now))) result (string_bytes out.new) }
+    ensures { Writes Markup.Plain (string_bytes out.old)
+        (Ok (91 ∷ items_text false (byte_items bytes.now))) result (string_bytes out.new) }
 {
     push(out, Markup::Plain, "[")?;
     json_byte_items(bytes, out)
@@ -237,7 +266,8 @@ fn json_byte_items(bytes: &[u8], out: &mut String) -> Result<(), Error>
 }
 
 fn json_byte(later: bool, byte: u8, out: &mut String) -> Result<(), Error>
-    ensures { Writes Markup.Plain (string_bytes out.old) (joined (Ok (comma_if later)) (Ok (decimal byte))) result (string_bytes out.new) }
+    ensures { Writes Markup.Plain (string_bytes out.old)
+        (joined (Ok (comma_if later)) (Ok (decimal byte))) result (string_bytes out.new) }
 {
     push(out, Markup::Plain, comma(later))?;
     push(out, Markup::Plain, Buffer::new().format(byte))

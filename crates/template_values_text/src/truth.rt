@@ -10,8 +10,9 @@ use template_values_core::{Content, Entry, Value};
 use template_values_errors::{Error, ErrorKind};
 use template_values_records::Records;
 
-/// Whether the value counts as true: undefined values, `none`, `false`, 0 and what is empty do not. A
-/// namespace counts by what it holds.
+/// Whether the value counts as true. Undefined values, `none`, `false`, 0 and empty texts, bytes,
+/// lists, tuples, maps and modules do not, nor does an empty namespace. All else does: an empty keyword
+/// map, functions, and every loop and macro, also a foreign one.
 ///
 /// # Errors
 ///

@@ -1,4 +1,4 @@
-use Rattle.std.proofs.Common.{◌≡◌, ◌∙◌, ap, sym, ℕ, List, rules, Bool, true, false, cond, ◌||◌, refl, string_bytes, bytes_eq}
+use Rattle.std.proofs.Common.{◌≡◌, ◌∙◌, ap, rules, Bool, true, false, cond, ◌||◌, refl, string_bytes, bytes_eq}
 use Rattle.std.specs.BTreeSet.{contains_text}
 use Rattle.std.proofs.lemmas.Map.Text.{btree_set_updates_text}
 use Rattle.template_compiler_names.proofs.add_name.Goals as goal

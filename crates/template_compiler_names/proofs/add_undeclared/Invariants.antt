@@ -1,4 +1,4 @@
-use Rattle.std.proofs.Common.{◌≡◌, ℕ, List, ◌||◌, take, map}
+use Rattle.std.proofs.Common.{◌≡◌, ℕ, List, ◌||◌, take}
 use Rattle.std.specs.List.{list_any}
 use Rattle.std.specs.BTreeSet.{contains_text}
 use Rattle.template_compiler_names.specs.Used.{uses}

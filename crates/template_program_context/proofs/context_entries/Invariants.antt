@@ -1,7 +1,8 @@
 use Rattle.std.proofs.Common.{◌≡◌, take, None}
 use Rattle.std.specs.Option.{option_copied}
 use Rattle.template_program_context.specs.Context.{fault_of_json}
-use Rattle.template_program_context.specs.Entries.{SayContext, ArePlain}
+use Rattle.template_program_context.specs.Entries.{SayContext}
+use Rattle.template_values_json.specs.Entries.{ArePlain}
 use Rattle.template_program_context.proofs.context_entries.Given as goal
 
 -- the entries say what the context has after the definitions so far

@@ -1,6 +1,7 @@
 use Rattle.std.proofs.Common.{inl, option_copied}
 use Rattle.std.proofs.lemmas.Result.{MatchResult-weaker}
-use Rattle.template_program_context.proofs.Made.{made_context, only_memory}
+use Rattle.template_program_context.proofs.Made.{made_context}
+use Rattle.template_values_json.proofs.Made.{only_memory}
 use Rattle.template_program_context.proofs.read_context.Goals as goal
 
 pub returns-clause-context : goal.returns-clause-context

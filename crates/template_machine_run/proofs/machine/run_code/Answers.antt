@@ -39,13 +39,14 @@ returns-in_err-charge g c =
     let p = err_from_is_err_and c.from_residual.result c.from_residual.ensures.1 in
     let concluded = progress_refused _ code _ _ _ _ _ _ place _ (code_of c.in-Some.instruction.now) c.loop-place.invariant.progress at (λ pays. false≢true (c.in_err-charge.ensures.runs.1 pays)) c.in_err-charge.ensures.left in
     let is : c.from_residual.result ≡ Err (OutOfFuel ∷ []) = p.1 ∙ ap (λ e. Err e) (p.2 ∙ c.in_err-charge.ensures.kind) in
-    let known = outcome_at _ _ code _ _ _ _ _ _ (ap (λ (i : Listing). i.code) c.instructions-instructions.ensures) (outcome_fault _ _ _ _ _ _ _ _ _ is concluded) in
+    let known = outcome_at _ _ code _ _ _ _ _ _ (ap (λ (i : Listing). i.code) c.instructions-instructions.ensures.same) (outcome_fault _ _ _ _ _ _ _ _ _ is concluded) in
     record {
       outcome = known.outcome;
       text = known.text;
       beginning = known.beginning;
       failures = tells_none _ _ _ is c.loop-place.invariant.failures;
       left = known.left;
+      charged = known.charged;
       set = c.in_err-charge.ensures.set ∙ c.loop-place.invariant.set;
     }
 
@@ -58,13 +59,14 @@ returns-in_err-perform g c =
     let is : c.from_residual-in_err-perform.result ≡ Err c.in_err-perform.field-0.0 = p.1 ∙ ap (λ e. Err e) p.2 in
     let outcome = progress_failed _ code _ _ _ _ _ _ _ place _ (reverse c.perform.new.operands.items) (code_of c.in-Some.instruction.now) _ _ is
     c.loop-place.invariant.progress at (c.in_ok-charge.ensures.runs.0 refl) c.in_ok-charge.ensures.left c.in_err-perform.ensures.acts in
-    let known = outcome_at _ _ code _ _ _ _ _ _ (ap (λ (i : Listing). i.code) c.instructions-instructions.ensures) outcome in
+    let known = outcome_at _ _ code _ _ _ _ _ _ (ap (λ (i : Listing). i.code) c.instructions-instructions.ensures.same) outcome in
     record {
       outcome = known.outcome;
       text = known.text;
       beginning = known.beginning;
       failures = tells_last _ _ _ _ _ is c.loop-place.invariant.failures c.in_err-perform.ensures.failures;
       left = known.left;
+      charged = known.charged;
       set = c.in_ok-charge.ensures.set ∙ c.loop-place.invariant.set;
     }
 
@@ -73,12 +75,13 @@ returns g c =
     let code = c.instructions-instructions.result.now.code in
     let past : length code ≤ c.loop-place.place = omega arith in
     let concluded = progress_done _ code _ _ _ _ _ c.loop-place.place _ c.loop-place.invariant.progress (slice_get_past code c.loop-place.place past) in
-    let known = outcome_at _ _ code _ _ _ _ _ _ (ap (λ (i : Listing). i.code) c.instructions-instructions.ensures) (outcome_over {X = Unit {0}} tt _ _ _ _ _ _ _ _ concluded) in
+    let known = outcome_at _ _ code _ _ _ _ _ _ (ap (λ (i : Listing). i.code) c.instructions-instructions.ensures.same) (outcome_over {X = Unit {0}} tt _ _ _ _ _ _ _ _ concluded) in
     record {
       outcome = known.outcome;
       text = known.text;
       beginning = known.beginning;
       failures = c.loop-place.invariant.failures;
       left = known.left;
+      charged = known.charged;
       set = c.loop-place.invariant.set;
     }

@@ -11,9 +11,9 @@ returns-in-Render-clause-answers g c =
     let e = c.in-Ok-environment_of in
     let t = c.in-Ok-get_template in
     answers_rendered c.args.request.now (texts_in c.args.templates.now) (option_copied c.args.context) c.args.ids.now c.render.result _ _ _ _
-    c.in-Ok.ensures.faultless e.ensures.had_one e.ensures.accepted (search rules)
+    e.ensures.had_one e.ensures.accepted (search rules)
     (source_of t.template) (sym (e.ensures.stands (string_bytes c.args.request.now.main)) ∙ (rw c.as_str.ensures.value at t.ensures.found))
-    c.in-Ok.context (rw c.deref.ensures.value at c.in-Ok.ensures.context)
+    c.in-Ok.context c.in-Ok.ensures.has
     (name_of t.template) (t.ensures.named ∙ c.as_str.ensures.value)
     (fuel_of t.template) (ap (λ (x : Environment). x.fuel) t.ensures.here ∙ e.ensures.fuel)
     c.environment_of.new.ids (e.ensures.counted ∙ one_more c.args.ids.now e.ensures.had_one)
@@ -24,7 +24,7 @@ returns-in-Names-clause-answers g c =
     let e = c.in-Ok-environment_of in
     let t = c.in-Ok-get_template in
     answers_told c.args.request.now (texts_in c.args.templates.now) (option_copied c.args.context) c.args.ids.now c.tell_names.result _ _ _ _
-    c.in-Ok.ensures.faultless e.ensures.had_one e.ensures.accepted (search rules)
+    c.in-Ok.context c.in-Ok.ensures.has e.ensures.had_one e.ensures.accepted (search rules)
     e.environment e.ensures.stands
     (source_of t.template) (sym (e.ensures.stands (string_bytes c.args.request.now.main)) ∙ (rw c.as_str.ensures.value at t.ensures.found))
     c.tell_names.ensures

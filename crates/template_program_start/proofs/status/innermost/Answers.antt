@@ -1,4 +1,4 @@
-use Rattle.std.proofs.Common.{◌∙◌, ap, sym, List, [], ◌∷◌, ◌++◌, append_assoc}
+use Rattle.std.proofs.Common.{◌∙◌, ap, sym, [], ◌∷◌, ◌++◌, append_assoc}
 use Rattle.template_program_start.proofs.status.innermost.Goals as goal
 
 pub loop-cause-preserved : goal.loop-cause-preserved

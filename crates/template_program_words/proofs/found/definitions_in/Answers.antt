@@ -1,6 +1,5 @@
-use Rattle.std.proofs.Common.{◌≡◌, ◌<◌, ℕ, List, [], Bor, false, true, Some, arith, length, map, refl, rules, slice_index_or, subst, sym, ap}
+use Rattle.std.proofs.Common.{◌≡◌, ◌<◌, ℕ, List, [], Bor, false, true, arith, length, refl, slice_index_or}
 use Rattle.std.proofs.lemmas.List.{map_more}
-use Rattle.template_program_words.specs.Reading.{Defines}
 use Rattle.template_program_words.proofs.Defined.{Defines-more, LacksSign-at}
 use Rattle.template_program_words.proofs.found.definitions_in.Goals as goal
 

@@ -23,11 +23,13 @@ decreases-compare_entries l = 3 * entries_deep l.a.now
 abbrev pub invariant-compare_items-loop-i : goal.invariant-compare_items-loop-i
 invariant-compare_items-loop-i l = record {
   within : l.i ≤ length l.b;
-  rest : key_cmp (vals_key (vals_of l.a)) (vals_key (vals_of l.b)) ≡ key_cmp (vals_key (vals_of (drop l.i l.a))) (vals_key (vals_of (drop l.i l.b)));
+  rest : key_cmp (vals_key (vals_of l.a)) (vals_key (vals_of l.b))
+      ≡ key_cmp (vals_key (vals_of (drop l.i l.a))) (vals_key (vals_of (drop l.i l.b)));
 }
 
 abbrev pub invariant-compare_entries-loop-i : goal.invariant-compare_entries-loop-i
 invariant-compare_entries-loop-i l = record {
   within : l.i ≤ length l.b;
-  rest : key_cmp (pairs_key (pairs_of (pairs_in l.a))) (pairs_key (pairs_of (pairs_in l.b))) ≡ key_cmp (pairs_key (pairs_of (pairs_in (drop l.i l.a)))) (pairs_key (pairs_of (pairs_in (drop l.i l.b))));
+  rest : key_cmp (pairs_key (pairs_of (pairs_in l.a))) (pairs_key (pairs_of (pairs_in l.b)))
+      ≡ key_cmp (pairs_key (pairs_of (pairs_in (drop l.i l.a)))) (pairs_key (pairs_of (pairs_in (drop l.i l.b))));
 }

@@ -12,8 +12,10 @@ pub returns-in_err-square : goal.returns-in_err-square
 returns-in_err-square c =
     let past : 2 ^ 128 ≤ c.loop-left.square * c.loop-left.square = omega (arith, c.in_err-square.ensures) in
     let large : 2 ^ 128 ≤ c.args.base ^ c.args.exponent = elim c.if-left-eq1.branch [
-      | goal.then-left-eq1+in_ok-power w ↦ square_below _ _ _ _ _ (2 ^ 128) (odd_turn _ _ _ _ _ c.loop-left.invariant c.loop-left-test.true w.if-left-eq1.true) (omega arith) past
-      | goal.else-left-eq1 w ↦ square_below _ _ _ _ _ (2 ^ 128) (even_turn _ _ _ _ _ c.loop-left.invariant c.loop-left-test.true w.if-left-eq1.false) (omega arith) past
+      | goal.then-left-eq1+in_ok-power w ↦ square_below _ _ _ _ _ (2 ^ 128)
+          (odd_turn _ _ _ _ _ c.loop-left.invariant c.loop-left-test.true w.if-left-eq1.true) (omega arith) past
+      | goal.else-left-eq1 w ↦ square_below _ _ _ _ _ (2 ^ 128)
+          (even_turn _ _ _ _ _ c.loop-left.invariant c.loop-left-test.true w.if-left-eq1.false) (omega arith) past
     ] in
     rw c.from_residual-in_err-square.ensures (λ h. omega (arith, large, h))
 

@@ -18,7 +18,10 @@ returns-clause-within c =
     let count : c.steps_within.result ≡ step_count c.start_place-start.result c.stop_place-stop.result c.args.step =
     c.steps_within.ensures ∙ (λ i. steps_within (far i) (apart i)) in
     λ k before. simp to_z-of_z
-    (within c.start_place-start.result c.stop_place-stop.result c.args.step c.args.length k c.requires
-    (simp to_z-of_z at c.start_place-start.ensures.low) (simp to_z-of_z at c.start_place-start.ensures.high)
-    (simp to_z-of_z at c.stop_place-stop.ensures.low) (simp to_z-of_z at c.stop_place-stop.ensures.high)
+    (within c.start_place-start.result c.stop_place-stop.result c.args.step c.args.length k c.requires (
+      simp to_z-of_z at c.start_place-start.ensures.low,
+      simp to_z-of_z at c.start_place-start.ensures.high,
+      simp to_z-of_z at c.stop_place-stop.ensures.low,
+      simp to_z-of_z at c.stop_place-stop.ensures.high,
+    )
     (subst (λ (n : ℕ). k < n) count before))

@@ -1,10 +1,11 @@
 use Rattle.std.proofs.Common.{arith, ◌+◌}
 use Rattle.template_values_forms.specs.Printed.{inner_text}
-use Rattle.template_values_text.proofs.PrintLemmas.{comma_is_text, inner_text-below, writes_next_val, writes_next_pair}
+use Rattle.template_values_text.proofs.PrintLemmas.{comma_is_text, inner_text-below, pairs_text-next, vals_text-next}
+use Rattle.template_values_text.proofs.PieceLemmas.{Writes-then}
 use Rattle.template_values_text.proofs.print.+print.Goals as goal
 
 pub print_inner-returns : goal.print_inner-returns
-print_inner-returns g t c = rw (inner_text-below (g.R.Records.known c.args.records.now) c.args.left c.args.value.now c.if-left-eq0.false) c.print_nested.ensures
+print_inner-returns g t c = rw (inner_text-below (g.R.Records.known c.args.inside.records.now) c.args.inside.left c.args.value.now c.if-inside-eq0.false) c.print_nested.ensures
 
 pub print_namespace-returns-in-Some : goal.print_namespace-returns-in-Some
 print_namespace-returns-in-Some g t c = rw (← c.in-Some.ensures) c.print_map.ensures
@@ -24,11 +25,11 @@ print_nested-returns-in-KeywordMap g t c = rw c.in-KeywordMap.ensures c.print_ma
 pub print_entries-loop-entry-preserved : goal.print_entries-loop-entry-preserved
 print_entries-loop-entry-preserved g t c = record {
   text = comma_is_text;
-  rest = λ res a w. c.loop-entry.invariant.rest res a (writes_next_pair c.args.markup c.loop-entry.before.now _ _ a (inner_text (g.R.Records.known c.args.records.now) c.args.left) c.args.entries.now c.loop-entry.entry-index (c.loop-entry.entry-index + 1) c.entry-item.result res (omega arith) (omega arith) c.entry-item.is c.in_ok-print_entry.ensures w);
+  rest = λ res a w. c.loop-entry.invariant.rest res a (rw (pairs_text-next c.loop-entry.before.now (inner_text (g.R.Records.known c.args.inside.records.now) c.args.inside.left) c.args.entries.now c.loop-entry.entry-index (c.loop-entry.entry-index + 1) c.entry-item.result (omega arith) (omega arith) c.entry-item.is) (Writes-then c.args.inside.markup _ _ a _ _ res c.in_ok-print_entry.ensures w));
 }
 
 pub print_items-loop-item-preserved : goal.print_items-loop-item-preserved
 print_items-loop-item-preserved g t c = record {
   text = comma_is_text;
-  rest = λ res a w. c.loop-item.invariant.rest res a (writes_next_val c.args.markup c.loop-item.before.now _ _ a (inner_text (g.R.Records.known c.args.records.now) c.args.left) c.args.items.now c.loop-item.item-index (c.loop-item.item-index + 1) c.item-item.result res (omega arith) (omega arith) c.item-item.is c.in_ok-print_item.ensures w);
+  rest = λ res a w. c.loop-item.invariant.rest res a (rw (vals_text-next c.loop-item.before.now (inner_text (g.R.Records.known c.args.inside.records.now) c.args.inside.left) c.args.items.now c.loop-item.item-index (c.loop-item.item-index + 1) c.item-item.result (omega arith) (omega arith) c.item-item.is) (Writes-then c.args.inside.markup _ _ a _ _ res c.in_ok-print_item.ensures w));
 }

@@ -4,7 +4,10 @@ use Rattle.template_values_model.specs.Val.{vals_of}
 use Rattle.template_values_core.specs.Maps.{pairs_of}
 use Rattle.template_values_core.specs.Shape.{pairs_in}
 use Rattle.template_values_forms.specs.Json.{inner_data, items_data, members_data}
-use Rattle.template_values_text.proofs.JsonLemmas.{array_text, inner_data-below, object_text, stops_at_item, stops_at_member, writes_last_item, writes_last_member, writes_next_item, writes_next_member}
+use Rattle.template_values_text.proofs.JsonLemmas.{array_text, inner_data-below, object_text, items_data-next, members_data-next}
+use Rattle.template_values_text.proofs.PieceLemmas.{Writes-stop, Writes-then}
+use Rattle.template_values_text.proofs.PrintLemmas.{pairs_none, vals_none}
+use Rattle.template_values_text.specs.declared.pieces.Markup.TheVariants.{Plain}
 use Rattle.template_values_text.proofs.serial.+json.Goals as goal
 
 pub json_inner-returns : goal.json_inner-returns
@@ -29,19 +32,29 @@ pub json_namespace-returns-in-Some : goal.json_namespace-returns-in-Some
 json_namespace-returns-in-Some g t c = rw (← c.in-Some.ensures) (rw (object_text (members_data (inner_data (g.R.Records.known c.args.records.now) c.args.left) (pairs_of (pairs_in c.in-Some.entries.now)))) at c.json_object.ensures)
 
 pub json_items-returns-in_err-json_item : goal.json_items-returns-in_err-json_item
-json_items-returns-in_err-json_item g t c = let p = err_from_is_err_and c.from_residual.result c.from_residual.ensures.1 in rw (p.1, p.2) (c.loop-item.invariant _ _ (stops_at_item c.loop-item.later _ _ (inner_data (g.R.Records.known c.args.records.now) c.args.left) c.args.items.now c.loop-item.item-index c.item-item.result _ (omega arith) c.item-item.is c.in_err-json_item.ensures))
+json_items-returns-in_err-json_item g t c =
+    let p = err_from_is_err_and c.from_residual.result c.from_residual.ensures.1 in
+    rw (p.1, p.2) (c.loop-item.invariant _ _ (rw (items_data-next c.loop-item.later (inner_data (g.R.Records.known c.args.records.now) c.args.left) c.args.items.now c.loop-item.item-index (c.loop-item.item-index + 1) c.item-item.result (omega arith) (omega arith) c.item-item.is)
+    (Writes-stop Plain _ _ _ _ _ c.in_err-json_item.ensures)))
 
 pub json_items-loop-item-preserved : goal.json_items-loop-item-preserved
-json_items-loop-item-preserved g t c = λ res a w. c.loop-item.invariant res a (writes_next_item c.loop-item.later _ _ a (inner_data (g.R.Records.known c.args.records.now) c.args.left) c.args.items.now c.loop-item.item-index (c.loop-item.item-index + 1) c.item-item.result res (omega arith) (omega arith) c.item-item.is c.in_ok-json_item.ensures w)
+json_items-loop-item-preserved g t c = λ res a w.
+    c.loop-item.invariant res a (rw (items_data-next c.loop-item.later (inner_data (g.R.Records.known c.args.records.now) c.args.left) c.args.items.now c.loop-item.item-index (c.loop-item.item-index + 1) c.item-item.result (omega arith) (omega arith) c.item-item.is)
+    (Writes-then Plain _ _ a _ _ res c.in_ok-json_item.ensures w))
 
 pub json_items-returns : goal.json_items-returns
-json_items-returns g t c = c.loop-item.invariant _ _ (writes_last_item c.loop-item.later _ _ (inner_data (g.R.Records.known c.args.records.now) c.args.left) c.args.items.now c.loop-item.item-index _ (omega arith) c.push.ensures)
+json_items-returns g t c = c.loop-item.invariant _ _ (rw (vals_none c.args.items.now c.loop-item.item-index (omega arith)) c.push.ensures)
 
 pub json_members-returns-in_err-json_member : goal.json_members-returns-in_err-json_member
-json_members-returns-in_err-json_member g t c = let p = err_from_is_err_and c.from_residual.result c.from_residual.ensures.1 in rw (p.1, p.2) (c.loop-entry.invariant _ _ (stops_at_member c.loop-entry.later _ _ (inner_data (g.R.Records.known c.args.records.now) c.args.left) c.args.entries.now c.loop-entry.entry-index c.entry-item.result _ (omega arith) c.entry-item.is c.in_err-json_member.ensures))
+json_members-returns-in_err-json_member g t c =
+    let p = err_from_is_err_and c.from_residual.result c.from_residual.ensures.1 in
+    rw (p.1, p.2) (c.loop-entry.invariant _ _ (rw (members_data-next c.loop-entry.later (inner_data (g.R.Records.known c.args.records.now) c.args.left) c.args.entries.now c.loop-entry.entry-index (c.loop-entry.entry-index + 1) c.entry-item.result (omega arith) (omega arith) c.entry-item.is)
+    (Writes-stop Plain _ _ _ _ _ c.in_err-json_member.ensures)))
 
 pub json_members-loop-entry-preserved : goal.json_members-loop-entry-preserved
-json_members-loop-entry-preserved g t c = λ res a w. c.loop-entry.invariant res a (writes_next_member c.loop-entry.later _ _ a (inner_data (g.R.Records.known c.args.records.now) c.args.left) c.args.entries.now c.loop-entry.entry-index (c.loop-entry.entry-index + 1) c.entry-item.result res (omega arith) (omega arith) c.entry-item.is c.in_ok-json_member.ensures w)
+json_members-loop-entry-preserved g t c = λ res a w.
+    c.loop-entry.invariant res a (rw (members_data-next c.loop-entry.later (inner_data (g.R.Records.known c.args.records.now) c.args.left) c.args.entries.now c.loop-entry.entry-index (c.loop-entry.entry-index + 1) c.entry-item.result (omega arith) (omega arith) c.entry-item.is)
+    (Writes-then Plain _ _ a _ _ res c.in_ok-json_member.ensures w))
 
 pub json_members-returns : goal.json_members-returns
-json_members-returns g t c = c.loop-entry.invariant _ _ (writes_last_member c.loop-entry.later _ _ (inner_data (g.R.Records.known c.args.records.now) c.args.left) c.args.entries.now c.loop-entry.entry-index _ (omega arith) c.push.ensures)
+json_members-returns g t c = c.loop-entry.invariant _ _ (rw (pairs_none c.args.entries.now c.loop-entry.entry-index (omega arith)) c.push.ensures)

@@ -1,13 +1,21 @@
 -- A tree's code never lacks an operand and leaves none, and is no longer than the source: so it is not refused.
-use Rattle.std.proofs.Common.{◌≡◌, ◌∙◌, ◌<◌, ◌^◌, true, false, inl, inr, length, ap, arith}
+use Rattle.std.proofs.Common.{◌≡◌, ◌∙◌, ◌<◌, ◌^◌, true, false, inl, inr, length, ap, arith, rules}
 use Rattle.std.proofs.lemmas.Bool.{cases_lt}
 use Rattle.std.proofs.lemmas.Result.{err_from_is_err_and}
 use Rattle.template_compiler_code.specs.Shapes.{depth_after}
 use Rattle.template_compiler_code.specs.Listing.{Listing}
 use Rattle.template_compiler_tree.specs.View.{tree_of}
 use Rattle.template_compiler_generator.proofs.Balance.{templates_balance}
+use Rattle.template_machine_run.proofs.StreamKinds.{template_leaves_none}
+use Rattle.template_machine_environment.specs.Kept.{IsFaithful}
 use Rattle.template_machine_environment.proofs.Sizes.{code_within}
 use Rattle.template_machine_environment.proofs.compiled.CompiledTemplate.new.Goals as goal
+
+pub invariant_of-result : goal.invariant_of-result
+invariant_of-result c =
+    let balanced = ap (λ (i : Listing). depth_after i.code 0) c.in_ok-instructions.ensures.compiled ∙ templates_balance (tree_of c.in_ok-template.template.node) in
+    let faithful : IsFaithful c.in-Ok.instructions.instructions = search rules in
+    (faithful, search rules, template_leaves_none c.in_ok-instructions.instructions.code c.in-Ok.instructions.kind balanced c.in-Ok.ensures.kind)
 
 pub unreachable-requires : goal.unreachable-requires
 unreachable-requires c =

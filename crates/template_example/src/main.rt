@@ -1,0 +1,53 @@
+//! The engine as a library: an environment with two templates, a context from Rust values and one from
+//! JSON, renders into a `String`, and a refusal.
+#![tactic(auto)]
+
+use std::alloc::Global;
+use template_machine_environment::Environment;
+use template_machine_ids::StateIds;
+use template_values_core::Value;
+use template_values_errors::Error;
+use template_values_json::context_from_json;
+
+fn main(rt: HostRuntime) -> anyhow::Result<()> {
+    let alloc = rt.alloc();
+    let mut ids = StateIds::new(0);
+    let mut environment = Environment::new(alloc, &mut ids)?;
+    environment.add_template("hello.txt", "Hello {{ name }}!")?;
+    environment.add_template("items.html", "<p>{{ items }}</p>")?;
+
+    let context = hello_context(alloc)?;
+    let hello = render(alloc, &environment, &mut ids, "hello.txt", context)?;
+    println!(rt; "{hello}")?;
+
+    let context = context_from_json(alloc, b"{\"items\": [1, \"<b>\", null]}")?;
+    let items = render(alloc, &environment, &mut ids, "items.html", context)?;
+    println!(rt; "{items}")?;
+
+    match environment.add_template("broken.txt", "Hello {{ name") {
+        Ok(()) => println!(rt; "accepted")?,
+        Err(error) => println!(rt; "refused: {error}")?,
+    }
+    Ok(())
+}
+
+// A context of one name.
+fn hello_context(alloc: Global) -> Result<Value, Error> {
+    let name = Value::from_str(alloc, "World")?;
+    Value::from_pairs(alloc, vec![in alloc; ("name", name)]?)
+}
+
+// The text of a template over a context.
+fn render(
+    alloc: Global,
+    environment: &Environment<'_>,
+    ids: &mut StateIds,
+    name: &str,
+    context: Value,
+) -> Result<String, Error> {
+    let mut text = String::new(alloc);
+    environment
+        .get_template(name)?
+        .render_captured_to(ids, context, &mut text)?;
+    Ok(text)
+}

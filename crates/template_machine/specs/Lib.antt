@@ -1,0 +1,25 @@
+pub use Rattle.template_values_errors.specs.Causes
+pub use Rattle.template_values_errors.specs.Names as ErrorNames
+pub use Rattle.template_values_model.specs.Val
+pub use Rattle.template_values_model.specs.Lookup
+pub use Rattle.template_machine_escape.specs.Rule
+pub use Rattle.template_machine_output.specs.Failures
+pub use Rattle.template_machine_output.specs.Wrapper
+pub use Rattle.template_machine_output.specs.Writes
+pub use Rattle.template_machine_world.specs.Scopes
+pub use Rattle.template_machine_world.specs.World
+pub use Rattle.template_machine_world.specs.Surroundings
+pub use Rattle.template_machine_world.specs.Meaning
+pub use Rattle.template_machine_world.specs.History
+pub use Rattle.template_machine_world.specs.Laws
+pub use Rattle.template_machine_run.specs.Streams
+pub use Rattle.template_machine_run.specs.Tanks
+pub use Rattle.template_machine_run.specs.Outcomes
+pub use Rattle.template_machine_run.specs.Runs
+pub use Rattle.template_machine_environment.specs.Addition
+pub use Rattle.template_machine_environment.specs.Compiled
+pub use Rattle.template_machine_environment.specs.Uses
+pub use Rattle.template_machine_environment.specs.Standing
+pub use Rattle.template_machine_environment.specs.Names
+pub use Rattle.template_machine_environment.specs.Rendering
+pub use Rattle.template_machine_environment.specs.Views

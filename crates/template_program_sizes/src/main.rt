@@ -1,0 +1,61 @@
+//! The program's parts at size. It makes its inputs, puts them through sinks, readers and requests, and
+//! writes a line for each: what it was, how many bytes came out, and whether they are the right ones.
+#![tactic(auto)]
+
+mod readers;
+mod requests;
+mod sinks;
+
+use crate::readers::{read_file_back, read_slice, read_wrapped};
+use crate::requests::{
+    many_definitions, many_items, many_names, many_prints, many_templates, one_text,
+};
+use crate::sinks::{into_buffer, into_nothing, into_text, into_writer};
+use std::alloc::Global;
+
+/// What came out, and whether it is right.
+#[derive(Drop)]
+pub(crate) struct Came {
+    pub(crate) bytes: usize,
+    pub(crate) is_right: bool,
+}
+
+impl Came {
+    /// What came out beside what was to come.
+    pub(crate) fn compared(given: &str, wanted: &str) -> Came {
+        Came {
+            bytes: given.len(),
+            is_right: given == wanted,
+        }
+    }
+}
+
+fn main(rt: HostRuntime) -> anyhow::Result<()> {
+    let alloc = rt.alloc();
+    let long = long_text(alloc)?;
+    tell(&rt, "a text", into_text(alloc, &long)?)?;
+    tell(&rt, "a writer", into_writer(alloc, &long)?)?;
+    tell(&rt, "a buffered writer", into_buffer(alloc, &long)?)?;
+    tell(&rt, "nothing", into_nothing(&long)?)?;
+    tell(&rt, "a slice, read", read_slice(alloc, &long)?)?;
+    tell(&rt, "a reader, read", read_wrapped(alloc, &long)?)?;
+    tell(&rt, "a file, read", read_file_back(&rt, &long)?)?;
+    tell(&rt, "a template without markers", one_text(alloc, &long)?)?;
+    tell(&rt, "10000 statements", many_prints(alloc)?)?;
+    tell(&rt, "1000 templates", many_templates(alloc)?)?;
+    tell(&rt, "1000 names", many_names(alloc)?)?;
+    tell(&rt, "1000 definitions", many_definitions(alloc)?)?;
+    tell(&rt, "100000 items", many_items(alloc)?)?;
+    Ok(())
+}
+
+// Ten megabytes: 16 bytes, over and over.
+fn long_text(alloc: Global) -> anyhow::Result<String> {
+    Ok("The quick fox.é".repeat(alloc, 655360)?)
+}
+
+fn tell(rt: &HostRuntime, what: &str, came: Came) -> anyhow::Result<()> {
+    let right = if came.is_right { "right" } else { "wrong" };
+    println!(rt; "{what}: {} bytes, {right}", came.bytes)?;
+    Ok(())
+}

@@ -1,0 +1,131 @@
+//! Requests with long sources, and with many statements, templates, names and definitions.
+use crate::Came;
+use anyhow::bail;
+use std::alloc::Global;
+use template_machine_ids::StateIds;
+use template_program_run::{Command, Outcome, Request, run};
+
+const MANY: usize = 1000;
+
+const ITEMS: usize = 100_000;
+
+// What a request has, and what it is to write.
+#[derive(Drop)]
+struct Case {
+    templates: Vec<(String, String)>,
+    context: Option<String>,
+    request: Request,
+    wanted: String,
+}
+
+fn new_case(alloc: Global, command: Command, main: &str) -> anyhow::Result<Case> {
+    Ok(Case {
+        templates: Vec::new(alloc),
+        context: None,
+        request: Request {
+            main: String::from_str(alloc, main)?,
+            texts: Vec::new(alloc),
+            fuel: None,
+            command,
+        },
+        wanted: String::new(alloc),
+    })
+}
+
+fn answered(alloc: Global, case: &Case) -> anyhow::Result<Came> {
+    let mut out = String::new(alloc);
+    let templates = case.templates.as_slice();
+    let context = match &case.context {
+        Some(json) => Some(json.as_bytes()),
+        None => None,
+    };
+    let mut ids = StateIds::new(0);
+    match run(alloc, &case.request, templates, context, &mut ids, &mut out) {
+        Outcome::Done => Ok(Came::compared(out.as_str(), case.wanted.as_str())),
+        Outcome::Render(error) | Outcome::Context(error) | Outcome::Template(error) => {
+            bail!("it was refused: {error}")
+        }
+    }
+}
+
+/// A source without markers gives itself.
+pub(crate) fn one_text(alloc: Global, text: &str) -> anyhow::Result<Came> {
+    let mut case = new_case(alloc, Command::Render, "t.txt")?;
+    let name = String::from_str(alloc, "t.txt")?;
+    case.templates.push((name, String::from_str(alloc, text)?))?;
+    case.wanted.push_str(text)?;
+    answered(alloc, &case)
+}
+
+/// Texts and prints of one name, in turn.
+pub(crate) fn many_prints(alloc: Global) -> anyhow::Result<Came> {
+    let mut case = new_case(alloc, Command::Render, "t.txt")?;
+    let name = String::from_str(alloc, "t.txt")?;
+    let source = "line {{ x }}".repeat(alloc, 5000)?;
+    case.templates.push((name, source))?;
+    let name = String::from_str(alloc, "x")?;
+    case.request
+        .texts
+        .push((name, String::from_str(alloc, "é")?))?;
+    case.wanted
+        .push_str("line é".repeat(alloc, 5000)?.as_str())?;
+    answered(alloc, &case)
+}
+
+/// Templates that each write their own name, of which the last one is rendered.
+pub(crate) fn many_templates(alloc: Global) -> anyhow::Result<Came> {
+    let mut case = new_case(alloc, Command::Render, "t999.txt")?;
+    for number in 0..MANY {
+        let name = format!(in alloc; "t{number}.txt")?;
+        let source = format!(in alloc; "This is t{number}.txt")?;
+        case.templates.push((name, source))?;
+    }
+    case.wanted.push_str("This is t999.txt")?;
+    answered(alloc, &case)
+}
+
+/// A template that prints a thousand names, which are told.
+pub(crate) fn many_names(alloc: Global) -> anyhow::Result<Came> {
+    let mut case = new_case(alloc, Command::Names, "t.txt")?;
+    let mut source = String::new(alloc);
+    case.wanted.push_str("caller\nloop\n")?;
+    for number in 0..MANY {
+        let name = format!(in alloc; "n{:03}", number)?;
+        source.push_str(format!(in alloc; "{{{{ {name} }}}}")?.as_str())?;
+        case.wanted
+            .push_str(format!(in alloc; "{name}\n")?.as_str())?;
+    }
+    case.wanted.push_str("self\nsuper\n")?;
+    let name = String::from_str(alloc, "t.txt")?;
+    case.templates.push((name, source))?;
+    answered(alloc, &case)
+}
+
+/// A template that prints a thousand names, of which each has a definition.
+pub(crate) fn many_definitions(alloc: Global) -> anyhow::Result<Came> {
+    let mut case = new_case(alloc, Command::Render, "t.txt")?;
+    let mut source = String::new(alloc);
+    for number in 0..MANY {
+        let name = format!(in alloc; "n{number}")?;
+        let text = format!(in alloc; "<{number}>")?;
+        source.push_str(format!(in alloc; "{{{{ {name} }}}}")?.as_str())?;
+        case.wanted.push_str(text.as_str())?;
+        case.request.texts.push((name, text))?;
+    }
+    let name = String::from_str(alloc, "t.txt")?;
+    case.templates.push((name, source))?;
+    answered(alloc, &case)
+}
+
+/// A print of a list with many items, which the context has.
+pub(crate) fn many_items(alloc: Global) -> anyhow::Result<Came> {
+    let mut case = new_case(alloc, Command::Render, "t.txt")?;
+    let name = String::from_str(alloc, "t.txt")?;
+    case.templates
+        .push((name, String::from_str(alloc, "{{ x }}")?))?;
+    let zeros = "0,".repeat(alloc, ITEMS - 1)?;
+    case.context = Some(format!(in alloc; "{{\"x\": [{zeros}0]}}")?);
+    let zeros = "0, ".repeat(alloc, ITEMS - 1)?;
+    case.wanted = format!(in alloc; "[{zeros}0]")?;
+    answered(alloc, &case)
+}

@@ -1,0 +1,92 @@
+//! The run of a request over a buffered output.
+ghost use Rattle.std.specs.Prelude.{◌≡◌, option_copied, option_map};
+ghost use Rattle.std.specs.IoError.{error_kind};
+ghost use Rattle.template_machine_output.specs.Wrapper.{failure_count};
+ghost use Rattle.template_program_context.specs.Context.{texts_in};
+ghost use Rattle.template_program_start.specs.Flushes.{flush_kind, flushed};
+ghost use Rattle.template_program_start.specs.Starts.{Performs, RunsFlushed};
+
+use crate::faults::write_error;
+use crate::inputs::Inputs;
+use crate::status::{MEMORY, status_of};
+use std::alloc::Global;
+use std::io::{self, BufWriter, Write};
+use template_machine_ids::StateIds;
+use template_machine_output::WriteWrapper;
+use template_program_run::{Outcome, run};
+use template_values_errors::{Error, ErrorKind};
+
+/// Runs the request over a buffer, which is flushed after a fault too, and tells a fault on one line.
+pub(crate) fn perform<O: Write + Drop, F: Write>(
+    alloc: Global,
+    inputs: &Inputs,
+    out: &mut O,
+    fault: &mut F,
+) -> u8
+    ensures { Performs inputs.now.request (texts_in inputs.now.templates.items)
+        (option_map (λ bytes. bytes.items) inputs.now.context) (O.contents out.old) result }
+{
+    let Ok(buffer) = BufWriter::new(alloc, out) else {
+        let _ = write_error(fault, &Error::new(ErrorKind::OutOfMemory));
+        return MEMORY;
+    };
+    let outcome = run_flushed(alloc, inputs, &mut WriteWrapper::new(buffer));
+    match &outcome {
+        Outcome::Done => {}
+        Outcome::Render(error) | Outcome::Context(error) | Outcome::Template(error) => {
+            let _ = write_error(fault, error);
+        }
+    }
+    status_of(&outcome)
+}
+
+// Runs the request, and flushes what it has written.
+fn run_flushed<W: Write>(alloc: Global, inputs: &Inputs, sink: &mut WriteWrapper<W>) -> Outcome
+    requires { failure_count sink.old ≡ 0 }
+    ensures { RunsFlushed inputs.now.request (texts_in inputs.now.templates.items)
+        (option_map (λ bytes. bytes.items) inputs.now.context) (W.contents sink.old.w) result }
+{
+    let mut ids = StateIds::new(0);
+    let outcome = run(
+        alloc,
+        &inputs.request,
+        inputs.templates.as_slice(),
+        context_bytes(&inputs.context),
+        &mut ids,
+        sink,
+    );
+    after_flush(outcome, sink.w.flush())
+}
+
+fn context_bytes(context: &Option<Vec<u8>>) -> Option<&[u8]>
+    ensures { option_copied result ≡ option_map (λ bytes. bytes.items) context.now }
+{
+    match context {
+        Some(bytes) => Some(bytes.as_slice()),
+        None => None,
+    }
+}
+
+// What a run ends with, by how the flush of its output went.
+fn after_flush(outcome: Outcome, flush: io::Result<()>) -> Outcome
+    ensures { result ≡ flushed flush outcome }
+{
+    let Err(error) = flush else {
+        return outcome;
+    };
+    match outcome {
+        Outcome::Done | Outcome::Render(_) => Outcome::Render(Error::new(failure_kind(&error))),
+        Outcome::Context(error) => Outcome::Context(error),
+        Outcome::Template(error) => Outcome::Template(error),
+    }
+}
+
+// Want of memory is told apart from every other failure.
+fn failure_kind(error: &io::Error) -> ErrorKind
+    ensures { result ≡ flush_kind (error_kind error.now) }
+{
+    match error.kind() {
+        io::ErrorKind::OutOfMemory => ErrorKind::OutOfMemory,
+        _ => ErrorKind::WriteFailure,
+    }
+}

@@ -1,0 +1,10 @@
+//! Values from JSON, as `serde_json` reads it.
+#![tactic(auto)]
+
+mod floats;
+mod members;
+#[cfg(test)]
+mod tests;
+mod values;
+
+pub use members::{context_from_json, entries_from_json};

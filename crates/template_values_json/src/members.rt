@@ -1,0 +1,117 @@
+//! A JSON object as a context, and as the entries of a map.
+ghost use Rattle.std.specs.Prelude.{◌≡◌, ◌≤◌, ◌⊎◌, [], ◌∷◌, None, Some, false, IfOk, IfErr, option_map};
+ghost use Rattle.serde_json.specs.Data.{depth as nesting};
+ghost use Rattle.serde_json.specs.Errors.{IsMemory};
+ghost use Rattle.serde_json.specs.Read.{max_depth};
+ghost use Rattle.serde_json.specs.View.{view};
+ghost use Rattle.serde_json.specs.Written.{has_float};
+ghost use Rattle.template_values_errors.specs.Memory.{NoMemory};
+ghost use Rattle.template_values_json.specs.Json.{data_in, fault_of_top, fault_in, value_of, IsRefusal};
+ghost use Rattle.template_values_json.specs.Entries.{SayData, SayMembers, ArePlain};
+
+use crate::floats::holds_float;
+use crate::values::{entries_from, value_from};
+use serde_json::Value as Json;
+use std::alloc::Global;
+use template_values_core::{Entry, Value};
+use template_values_errors::{Error, ErrorKind};
+
+/// The map that the bytes of a JSON object stand for, as a context for a render. Arrays are lists, and
+/// objects are maps in the order of their names, as deep as `serde_json` reads: 127 levels, the outermost
+/// object among them. Of equal names the last one stands, inside of members too. Takes time in proportion
+/// to the bytes, and n log n comparisons for n members.
+///
+/// # Errors
+///
+/// Of these kinds the first that holds, alone:
+///
+/// - `SyntaxError`, if `serde_json` cannot read the bytes, as where they nest deeper or hold a number that
+///   is out of the range of its floats.
+/// - `NoFloats`, if a number that counts is read as a float: one under a name that a later equal name
+///   replaces does not count, and whole numbers past 64 bits are floats.
+/// - `InvalidOperation`, if they are no object.
+/// - `OutOfMemory`, at any time.
+pub fn context_from_json(alloc: Global, bytes: &[u8]) -> Result<Value, Error>
+    ensures faultless { IfOk result (λ _. fault_in bytes.now ≡ None) }
+    ensures is { IfOk result (λ v. option_map value_of (data_in bytes.now) ≡ Some v) }
+    ensures refused { IfErr result (IsRefusal (fault_in bytes.now)) }
+{
+    let document = read_document(alloc, bytes)?;
+    if holds_float(&document) {
+        return Err(Error::new(ErrorKind::NoFloats));
+    }
+    object_value(alloc, document)
+}
+
+/// One entry for each member of the JSON object that the bytes are, for a map that has more entries: a
+/// later entry of an equal name replaces it there. Reads and refuses as [`context_from_json`] does.
+///
+/// # Errors
+///
+/// Those of [`context_from_json`].
+pub fn entries_from_json(alloc: Global, bytes: &[u8]) -> Result<Vec<Entry>, Error>
+    ensures faultless { IfOk result (λ _. fault_in bytes.now ≡ None) }
+    ensures says { IfOk result (λ es. SayMembers bytes.now es.items) }
+    ensures plain { IfOk result (λ es. ArePlain es.items) }
+    ensures refused { IfErr result (IsRefusal (fault_in bytes.now)) }
+{
+    let document = read_document(alloc, bytes)?;
+    if holds_float(&document) {
+        return Err(Error::new(ErrorKind::NoFloats));
+    }
+    object_entries(alloc, document)
+}
+
+/// What the bytes are as JSON.
+fn read_document(alloc: Global, bytes: &[u8]) -> Result<Json, Error>
+    ensures is { IfOk result (λ d. data_in bytes.now ≡ Some (view d)) }
+    ensures nests { IfOk result (λ d. nesting (view d) ≤ max_depth) }
+    ensures refused { IfErr result (λ e. NoMemory e
+        ⊎ ((data_in bytes.now ≡ None) × (e ≡ ErrorKind.SyntaxError ∷ []))) }
+{
+    match Json::from_slice(alloc, bytes) {
+        Ok(document) => Ok(document),
+        Err(error) => Err(refusal_of(error)),
+    }
+}
+
+/// The refusal that a fault of the reader is.
+fn refusal_of(error: serde_json::Error) -> Error
+    ensures { (IsMemory error × NoMemory result)
+        ⊎ ((¬ IsMemory error) × (result ≡ ErrorKind.SyntaxError ∷ [])) }
+{
+    if error.is_memory() {
+        Error::new(ErrorKind::OutOfMemory)
+    } else {
+        Error::new(ErrorKind::SyntaxError)
+    }
+}
+
+/// One entry for each member, where the document is an object.
+fn object_entries(alloc: Global, document: Json) -> Result<Vec<Entry>, Error>
+    requires whole { has_float (view document) ≡ false }
+    requires shallow { nesting (view document) ≤ max_depth }
+    ensures faultless { IfOk result (λ _. fault_of_top (view document) ≡ None) }
+    ensures says { IfOk result (λ es. SayData (view document) es.items) }
+    ensures plain { IfOk result (λ es. ArePlain es.items) }
+    ensures refused { IfErr result (IsRefusal (fault_of_top (view document))) }
+{
+    match document {
+        Json::Object(members) => entries_from(alloc, members),
+        _other => Err(Error::new(ErrorKind::InvalidOperation)),
+    }
+}
+
+/// The value of the document, where it is an object.
+fn object_value(alloc: Global, document: Json) -> Result<Value, Error>
+    requires whole { has_float (view document) ≡ false }
+    requires shallow { nesting (view document) ≤ max_depth }
+    ensures faultless { IfOk result (λ _. fault_of_top (view document) ≡ None) }
+    ensures is { IfOk result (λ v. v ≡ value_of (view document)) }
+    ensures refused { IfErr result (IsRefusal (fault_of_top (view document))) }
+{
+    match document {
+        Json::Object(_) => value_from(alloc, document),
+        _other => Err(Error::new(ErrorKind::InvalidOperation)),
+    }
+}

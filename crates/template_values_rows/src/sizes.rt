@@ -1,0 +1,82 @@
+//! Large values, and what tells of a large text without writing it.
+use crate::calls::place;
+use crate::constructors::text_of;
+use std::alloc::Global;
+use template_values::{Entry, Error, Value};
+
+/// What the call of that name makes of a number, or of a text; none where there is no such call.
+pub(crate) fn large(alloc: Global, name: &str, value: &Value) -> Result<Option<Value>, Error> {
+    Ok(Some(match name {
+        "numbers" => numbers(alloc, place(value)?)?,
+        "names" => names(alloc, place(value)?)?,
+        "nested" => nested(alloc, place(value)?)?,
+        "octets" => octets(alloc, place(value)?)?,
+        "digest" => digest(alloc, text_of(value)?)?,
+        _ => return Ok(None),
+    }))
+}
+
+// The list of the numbers from 0 to below the count.
+fn numbers(alloc: Global, count: usize) -> Result<Value, Error> {
+    let mut numbers = Vec::new(alloc);
+    for number in 0..count {
+        numbers.push(int(number))?;
+    }
+    Value::from_list(alloc, numbers)
+}
+
+// The map of so many names, each with its number, given from the last to the first.
+fn names(alloc: Global, count: usize) -> Result<Value, Error> {
+    let mut entries = Vec::new(alloc);
+    for number in (0..count).rev() {
+        let key = Value::from_text(format!(in alloc; "name {number}")?)?;
+        let value = int(number);
+        entries.push(Entry { key, value })?;
+    }
+    Value::from_map(alloc, entries)
+}
+
+// So many lists, one in the other.
+fn nested(alloc: Global, count: usize) -> Result<Value, Error> {
+    let mut value = Value::none();
+    for _ in 0..count {
+        let mut items = Vec::new(alloc);
+        items.push(value)?;
+        value = Value::from_list(alloc, items)?;
+    }
+    Ok(value)
+}
+
+// The bytes from 0 to 255 so many times over.
+fn octets(alloc: Global, count: usize) -> Result<Value, Error> {
+    let mut bytes = Vec::new(alloc);
+    for _ in 0..count {
+        for byte in 0..=u8::MAX {
+            bytes.push(byte)?;
+        }
+    }
+    Value::from_bytes(alloc, bytes)
+}
+
+// How many bytes a text has, and their Adler-32 checksum.
+fn digest(alloc: Global, text: &str) -> Result<Value, Error> {
+    let mut parts = Vec::new(alloc);
+    parts.push(int(text.len()))?;
+    parts.push(Value::from_int(i128::from(checksum(text.as_bytes()))))?;
+    Value::from_tuple(alloc, parts)
+}
+
+// The sum of the bytes and 1, and the sum of all those sums, each modulo the largest prime below 2^16.
+fn checksum(bytes: &[u8]) -> u32 {
+    let mut sum = 1u32;
+    let mut sums = 0u32;
+    for byte in bytes {
+        sum = (sum % 65521 + u32::from(*byte)) % 65521;
+        sums = (sums % 65521 + sum) % 65521;
+    }
+    (sums % 65521) * 65536 + sum % 65521
+}
+
+fn int(number: usize) -> Value {
+    Value::from_int(number as i128)
+}
