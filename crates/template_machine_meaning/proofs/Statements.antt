@@ -18,7 +18,7 @@ use Rattle.template_walk.specs.Statements.{closing, target_walk, assignments_wal
 use Rattle.template_walk.specs.Runnable.{IsRunnable, IsTarget, IsRunnableStatement, AreRunnableStatements}
 use Rattle.template_machine_meaning.specs.World.{World, has_room}
 use Rattle.template_machine_meaning.specs.Undefined.{forbids_truth, forbids_printing, forbids_iterating}
-use Rattle.template_machine_meaning.specs.Replies.{told, changed, guarded, changed_with}
+use Rattle.template_machine_meaning.specs.Replies.{told, changed, guarded, changed_with, kinded}
 use Rattle.template_machine_meaning.specs.Includes.{include_levels}
 use Rattle.template_machine_meaning.specs.Surroundings.{Programs, printed_reply, empty_frame, loop_frame, opened_loop, gave_none, escape_named, escape_put_back, answer}
 use Rattle.template_machine_meaning.specs.Meaning.{Setting, walks_of}
@@ -64,7 +64,7 @@ module _ (setting : Setting) (all : AreAllRunnable setting) (outer : ℕ) (deepe
       (λ n m le ge go. ap (replied (λ a t. run (answer s n) (on_done (go goes) a) t)) (is n))
       (settles_now s w (LeavesTo looping base) goes (kept, tt)))
 
-  printed_out : (looping : Bool) (base w : World) → Keeps base w → (v : Val) (r : Result (List ℕ) ErrorKind) → guarded (forbids_printing s.undefined v) (escaped w.escape nothing_known v) ≡ r
+  printed_out : (looping : Bool) (base w : World) → Keeps base w → (v : Val) (r : Result (List ℕ) ErrorKind) → guarded (forbids_printing s.undefined v) (kinded (escaped w.escape nothing_known v)) ≡ r
       → Settles {O = Leave} s w (LeavesTo looping base) (λ m go. step (asks (write_value v) (on_done (go goes))))
   printed_out looping base w kept v (Ok text) e = written_out looping base w kept (write_value v) (written text ∷ []) (λ n. ap (printed_reply w) e)
   printed_out looping base w kept v (Err kind) e =
@@ -81,7 +81,7 @@ module _ (setting : Setting) (all : AreAllRunnable setting) (outer : ℕ) (deepe
       → Settles {O = Leave} s w (LeavesTo looping base) (λ m go. step (asks (truth_of v) (on_truth (P m go) (Q m go))))
   tested looping base w v P Q p q =
       settles_step s w (LeavesTo looping base) (λ m go. asks (truth_of v) (on_truth (P m go) (Q m go)))
-      (settles_decided s w (LeavesTo looping base) (truth_of v) (guarded (forbids_truth s.undefined v) (truths.truth_of nothing_known v)) P Q (λ n. refl) p q)
+      (settles_decided s w (LeavesTo looping base) (truth_of v) (guarded (forbids_truth s.undefined v) (kinded (truths.truth_of nothing_known v))) P Q (λ n. refl) p q)
 
   -- a target last
   targeted : (looping : Bool) (base w : World) → Keeps base w → IsFramed base → (target : Expression) → IsTarget target → (v : Val) → Settles {O = Leave} s w (LeavesTo looping base) (λ m go. target_walk target v (go goes))
@@ -184,7 +184,7 @@ module _ (setting : Setting) (all : AreAllRunnable setting) (outer : ℕ) (deepe
       (λ z k. others w (framed_on base w framed.0 kept, kept.outer ∙ framed.1) z k))))
 
   looped : (looping : Bool) (target : Expression) (body otherwise : Statements) (v : Val) → IsTarget target → BodySettles true body → BodySettles looping otherwise
-      → (base : World) → Frames base → (w : World) → Keeps base w → (r : Result (List Val) ErrorKind) → guarded (forbids_iterating s.undefined v) (iterated nothing_known v) ≡ r
+      → (base : World) → Frames base → (w : World) → Keeps base w → (r : Result (List Val) ErrorKind) → guarded (forbids_iterating s.undefined v) (kinded (iterated nothing_known v)) ≡ r
       → Settles {O = Leave} s w (LeavesTo looping base) (λ m go. asks (open_loop v) (on_done (rounds m (round_of target body m) (loop_end otherwise (statements_walk m otherwise (exits_of go) (go goes)) (go goes)))))
   looped looping target body otherwise v h bodies others base framed w kept (Ok vs) e =
       settles_pushed s w (LeavesTo looping base) (open_loop v) (loop_frame vs) (λ m go. rounds m (round_of target body m) (loop_end otherwise (statements_walk m otherwise (exits_of go) (go goes)) (go goes))) (has_room s.limit 1 w) refl
@@ -213,10 +213,10 @@ module _ (setting : Setting) (all : AreAllRunnable setting) (outer : ℕ) (deepe
     settles_statement looping (raw text) h base framed w kept = written_out looping base w kept (write_raw text) (written text ∷ []) (λ n. refl)
     settles_statement looping (print e) h base framed w kept =
         valued looping base w kept e h (λ v m go. step (asks (write_value v) (on_done (go goes))))
-        (λ v x k. printed_out looping base x k v (guarded (forbids_printing s.undefined v) (escaped x.escape nothing_known v)) refl)
+        (λ v x k. printed_out looping base x k v (guarded (forbids_printing s.undefined v) (kinded (escaped x.escape nothing_known v))) refl)
     settles_statement looping (for_loop target e absent false body otherwise) h base framed w kept =
         valued looping base w kept e h.1 (λ v m go. asks (open_loop v) (on_done (rounds m (round_of target body m) (loop_end otherwise (statements_walk m otherwise (exits_of go) (go goes)) (go goes)))))
-        (λ v x k. looped looping target body otherwise v h.0 (settles_statements true body h.2) (settles_statements looping otherwise h.3) base framed x k (guarded (forbids_iterating s.undefined v) (iterated nothing_known v)) refl)
+        (λ v x k. looped looping target body otherwise v h.0 (settles_statements true body h.2) (settles_statements looping otherwise h.3) base framed x k (guarded (forbids_iterating s.undefined v) (kinded (iterated nothing_known v))) refl)
     settles_statement looping (if_condition e body otherwise) h base framed w kept =
         valued looping base w kept e h.0 (λ v m go. step (asks (truth_of v) (on_truth (statements_walk m body (exits_of go) (past otherwise (go goes))) (statements_walk m otherwise (exits_of go) (go goes)))))
         (λ v x k. tested looping base x v (λ m go. statements_walk m body (exits_of go) (past otherwise (go goes))) (body_walk otherwise)

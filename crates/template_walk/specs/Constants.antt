@@ -1,7 +1,7 @@
 -- The constant trees, which are folded: literals, containers of literals, and what operators give for constant trees.
 -- Where an operator refuses its operands, the tree is no constant: it runs, and faults then.
 use Rattle.std.specs.Prelude.{List, [], ◌∷◌, Option, None, Some, option_and_then, Result, Ok, Err, if◌then◌else◌}
-use Rattle.template_values_errors.specs.declared.ErrorKind.{ErrorKind}
+use Rattle.template_values_model.specs.Fault.{Fault}
 use Rattle.template_values_model.specs.Val.{Val}
 use Rattle.template_values_core.specs.Reads.{is_true}
 use Rattle.template_values_forms.specs.Known.{nothing_known}
@@ -15,9 +15,9 @@ use Rattle.template_walk.specs.Operators.{operated, compared, inverted, negated}
 use Rattle.template_walk.specs.Containers.{tuple_made, map_made, pairs_with}
 
 -- what was given, where it was not refused
-abbrev pub made : Result Val ErrorKind → Option Val
+abbrev pub made : Result Val Fault → Option Val
 made (Ok v) = Some v
-made (Err kind) = None
+made (Err fault) = None
 
 -- two things, where both are there
 abbrev pub both : {X Y Z : Type 0} → (X → Y → Z) → Option X → Option Y → Option Z
