@@ -1,0 +1,4 @@
+pub mod Shapes
+pub mod Effects
+pub mod Streams
+pub mod Laws

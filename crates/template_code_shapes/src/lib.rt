@@ -1,0 +1,25 @@
+//! The shapes that a run of a stream of instructions takes, and which streams are good. The functions
+//! do nothing: each stands for the law in its contract.
+#![tactic(auto)]
+
+ghost use Rattle.template_code_shapes.specs.Laws.{CertifiedIsGood, GoodIsUnstuck};
+
+/// Which of the two kinds a stream is.
+#[derive(Clone, Copy, Debug, PartialEq, Eq)]
+pub enum StreamKind {
+    /// A template's: it leaves no operand.
+    Template,
+    /// An expression's: it leaves one value.
+    Expression,
+}
+
+/// A stream with a certificate is good.
+pub fn certified_is_good()
+    ensures { CertifiedIsGood }
+{}
+
+/// A good stream is never stuck: whatever is answered, from any place that is reached with a shape no
+/// instruction lacks an operand.
+pub fn good_is_unstuck()
+    ensures { GoodIsUnstuck }
+{}
