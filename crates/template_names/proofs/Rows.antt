@@ -1,0 +1,66 @@
+-- Worked rows, computed: which of the names each template uses.
+use Rattle.std.proofs.Common.{◌≡◌, ℕ, Bool, true, false, List, [], ◌∷◌, map, codes, refl}
+use Rattle.template_values_model.specs.Val.{none}
+use Rattle.template_tree.specs.Tree.{Expression, Expressions, Statement, Statements, variable, constant, attribute, absent, given, no_expressions, expressions_more, print, for_loop, if_condition, with_block, set, auto_escape, macro, no_statements, statements_more, no_assignments, assignments_more}
+use Rattle.template_names.specs.Names.{is_used}
+
+abbrev name : List ℕ → Expression
+name id = variable id
+
+abbrev statements : List Statement → Statements
+statements [] = no_statements
+statements (s ∷ ss) = statements_more s (statements ss)
+
+abbrev expressions : List Expression → Expressions
+expressions [] = no_expressions
+expressions (e ∷ es) = expressions_more e (expressions es)
+
+abbrev uses : List (List ℕ) → List Statement → List Bool
+uses names tree = map (λ id. is_used id (statements tree)) names
+
+-- `{% set x = foo %}{{ x }}{{ bar.baz }}`
+set_row : uses (codes "foo" ∷ codes "bar" ∷ codes "x" ∷ codes "baz" ∷ []) (set (name (codes "x")) (name (codes "foo")) ∷ print (name (codes "x")) ∷ print (attribute (name (codes "bar")) (codes "baz")) ∷ [])
+    ≡ true ∷ true ∷ false ∷ false ∷ []
+set_row = refl
+
+-- `{% set x = x %}`
+value_row : uses (codes "x" ∷ []) (set (name (codes "x")) (name (codes "x")) ∷ []) ≡ true ∷ []
+value_row = refl
+
+-- `{% if a %}{% set x = b %}{{ x }}{% endif %}{{ x }}`: the branch is over
+branch_row : uses (codes "a" ∷ codes "b" ∷ codes "x" ∷ []) (if_condition (name (codes "a")) (statements (set (name (codes "x")) (name (codes "b")) ∷ print (name (codes "x")) ∷ [])) no_statements ∷ print (name (codes "x")) ∷ [])
+    ≡ true ∷ true ∷ true ∷ []
+branch_row = refl
+
+-- `{% if a %}{% set x = b %}{{ x }}{% endif %}`
+inner_row : uses (codes "x" ∷ []) (if_condition (name (codes "a")) (statements (set (name (codes "x")) (name (codes "b")) ∷ print (name (codes "x")) ∷ [])) no_statements ∷ []) ≡ false ∷ []
+inner_row = refl
+
+-- `{% for x in xs %}{{ x }}{{ loop }}{% else %}{{ y }}{% endfor %}`
+loop_row : uses (codes "xs" ∷ codes "x" ∷ codes "loop" ∷ codes "y" ∷ []) (for_loop (name (codes "x")) (name (codes "xs")) absent false (statements (print (name (codes "x")) ∷ print (name (codes "loop")) ∷ [])) (statements (print (name (codes "y")) ∷ [])) ∷ [])
+    ≡ true ∷ false ∷ false ∷ true ∷ []
+loop_row = refl
+
+-- `{% for x in xs if loop %}{% else %}{{ x }}{% endfor %}`: the filter knows the item, and no `loop`; the else part knows no item
+filter_row : uses (codes "x" ∷ codes "loop" ∷ []) (for_loop (name (codes "x")) (name (codes "xs")) (given (name (codes "loop"))) false no_statements (statements (print (name (codes "x")) ∷ [])) ∷ [])
+    ≡ true ∷ true ∷ []
+filter_row = refl
+
+-- `{% with a = b, c = a %}{{ c }}{% endwith %}{{ a }}`
+with_row : uses (codes "a" ∷ codes "b" ∷ codes "c" ∷ []) (with_block (assignments_more (name (codes "a")) (name (codes "b")) (assignments_more (name (codes "c")) (name (codes "a")) no_assignments)) (statements (print (name (codes "c")) ∷ [])) ∷ print (name (codes "a")) ∷ [])
+    ≡ true ∷ true ∷ false ∷ []
+with_row = refl
+
+-- `{% autoescape a %}{% set x = none %}{% endautoescape %}{{ x }}`
+escape_row : uses (codes "a" ∷ codes "x" ∷ []) (auto_escape (name (codes "a")) (statements (set (name (codes "x")) (constant none) ∷ [])) ∷ print (name (codes "x")) ∷ []) ≡ true ∷ true ∷ []
+escape_row = refl
+
+-- `{% macro m(a, b=a, c=b) %}{{ m }}{{ caller }}{{ a }}{% endmacro %}{{ m }}`: arguments are stored from the last on
+macro_row : uses (codes "a" ∷ codes "b" ∷ codes "c" ∷ codes "m" ∷ codes "caller" ∷ [])
+    (macro (codes "m") (expressions (name (codes "a") ∷ name (codes "b") ∷ name (codes "c") ∷ [])) (expressions (name (codes "a") ∷ name (codes "b") ∷ [])) (statements (print (name (codes "m")) ∷ print (name (codes "caller")) ∷ print (name (codes "a")) ∷ [])) ∷ print (name (codes "m")) ∷ [])
+    ≡ true ∷ true ∷ false ∷ true ∷ false ∷ []
+macro_row = refl
+
+-- `{{ self }}{{ super }}`
+everywhere_row : uses (codes "self" ∷ codes "super" ∷ []) (print (name (codes "self")) ∷ print (name (codes "super")) ∷ []) ≡ false ∷ false ∷ []
+everywhere_row = refl

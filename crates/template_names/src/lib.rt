@@ -1,0 +1,2 @@
+//! Definitions: the names that a template uses.
+#![tactic(auto)]
