@@ -1,1 +1,3 @@
 pub mod Token
+pub mod View
+pub mod Left
