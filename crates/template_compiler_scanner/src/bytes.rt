@@ -1,12 +1,13 @@
 //! Bytes of a text, and what they begin.
-ghost use Rattle.std.specs.Prelude.{◌≡◌, ◌≤◌, length, slice_index, ◌==◌, ◌||◌};
+ghost use Rattle.std.specs.Prelude.{◌≡◌, ◌<◌, length, slice_index};
 ghost use Rattle.std.specs.List.{prefix_len};
 ghost use Rattle.template_compiler_tokens.specs.Lexical.{is_name_start as name_start, is_name_part as name_part, class_of as the_class};
 
 /// The byte at the place, or 0 past the text's end.
 #[inline]
 pub fn byte_at(text: &[u8], at: usize) -> u8
-    ensures { result ≡ slice_index text.now at }
+    ensures byte { result ≡ slice_index text.now at }
+    ensures within { 0 < result → at < length text.now }
 {
     text.get(at).copied().unwrap_or(0)
 }

@@ -2,4 +2,5 @@
 #![tactic(auto)]
 
 mod bytes;
+mod escapes;
 mod numbers;

@@ -1,7 +1,10 @@
 //! Whole numbers.
-ghost use Rattle.std.specs.Prelude.{◌≡◌, ◌^◌, ◌<◌, ◌≤◌, ◌+◌, length, take, drop, slice_index, Some, None, IfSome};
+ghost use Rattle.std.specs.Prelude.{◌≡◌, ◌^◌, ◌<◌, ◌≤◌, ◌+◌, length, take, drop, slice_index, Some, None, IfSome, IsTrue, ◌==◌, ◌&&◌};
 ghost use Rattle.std.specs.Option.{SomeIff};
 ghost use Rattle.template_compiler_tokens.specs.Numbers as number;
+ghost use Rattle.template_compiler_tokens.specs.Token as token;
+ghost use Rattle.template_compiler_tokens.specs.View.{token_of};
+ghost use Rattle.template_compiler_scanner.specs.Scans.{ScansNumber};
 
 use crate::bytes::byte_at;
 use template_compiler_tokens::Token;
@@ -14,7 +17,8 @@ const LIMIT: u128 = 1 << 127;
 fn is_digit(base: u32, byte: u8) -> bool
     requires low { 2 ≤ base }
     requires high { base ≤ 16 }
-    ensures { result ≡ number.is_digit base byte }
+    ensures digit { result ≡ number.is_digit base byte }
+    ensures some { IsTrue result → 0 < byte }
 {
     char::from(byte).is_digit(base)
 }
@@ -40,6 +44,7 @@ fn base_of(text: &[u8]) -> u32
     ensures base { result ≡ number.base_of text.now }
     ensures low { 2 ≤ result }
     ensures high { result ≤ 16 }
+    ensures named { (result ≡ 10 → ⊥) → 2 < length text.now }
 {
     match named_base(byte_at(text, 1)) {
         Some(base) if byte_at(text, 0) == b'0' && is_digit(base, byte_at(text, 2)) => base,
@@ -60,7 +65,8 @@ fn goes_on(base: u32, byte: u8, next: u8) -> bool
 fn digits_len(base: u32, text: &[u8]) -> usize
     requires low { 2 ≤ base }
     requires high { base ≤ 16 }
-    ensures { result ≡ number.digits_len base text.now }
+    ensures len { result ≡ number.digits_len base text.now }
+    ensures within { result ≤ length text.now }
 {
     for (index, byte) in text.iter().enumerate() {
         if !goes_on(base, *byte, byte_at(text, index + 1)) {
@@ -119,5 +125,50 @@ fn begins_fraction(text: &[u8]) -> bool
                 || (matches!(next, b'+' | b'-') && byte_at(text, 2).is_ascii_digit())
         }
         _ => false,
+    }
+}
+
+// The token of a number.
+fn number(value: u128) -> Token<'static>
+    ensures { token_of result ≡ token.number value }
+{
+    match u64::try_from(value) {
+        Ok(small) => Token::Int(small),
+        Err(_wide) => Token::Int128(value),
+    }
+}
+
+// How many bytes name a number's base.
+#[tactic(auto, unfolding(template_compiler_tokens::specs::Numbers::prefix_width))]
+fn prefix_width(text: &[u8], base: u32) -> usize
+    requires base { base ≡ number.base_of text.now }
+    requires named { (base ≡ 10 → ⊥) → 2 < length text.now }
+    ensures width { result ≡ number.prefix_width text.now }
+    ensures within { result ≤ length text.now }
+{
+    if base == 10 { 0 } else { 2 }
+}
+
+fn is_float(base: u32, behind: &[u8]) -> bool
+    ensures { result ≡ (base == 10 && number.begins_fraction behind.now) }
+{
+    base == 10 && begins_fraction(behind)
+}
+
+/// The number that the text begins with, and how many bytes it takes. A fraction or an exponent directly
+/// behind decimal digits is refused by `NoFloats`, a number of 2^127 or more by `SyntaxError`.
+pub fn scan_number<'source>(text: &[u8]) -> Result<(Token<'source>, usize), ErrorKind>
+    ensures { ScansNumber text.now result }
+{
+    let base = base_of(text);
+    let prefix = prefix_width(text, base);
+    let behind_prefix = text.split_at(prefix).1;
+    let (digits, behind) = behind_prefix.split_at(digits_len(base, behind_prefix));
+    if is_float(base, behind) {
+        return Err(ErrorKind::NoFloats);
+    }
+    match value_of(base, digits) {
+        Some(value) => Ok((number(value), prefix + digits.len())),
+        None => Err(ErrorKind::SyntaxError),
     }
 }

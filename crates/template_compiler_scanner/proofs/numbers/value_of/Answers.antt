@@ -1,4 +1,4 @@
-use Rattle.std.proofs.Common.{sym, ◌∙◌, ◌+◌, ◌<◌, ◌^◌, ◌≡◌, true, get_or, take, arith}
+use Rattle.std.proofs.Common.{sym, ◌∙◌, ◌+◌, ◌<◌, ◌^◌, get_or, arith}
 use Rattle.template_compiler_tokens.specs.Numbers.{with_digit}
 use Rattle.template_compiler_scanner.proofs.Digits.{value_so_far, value_next, value_none}
 use Rattle.template_compiler_scanner.proofs.numbers.value_of.Goals as goal
