@@ -97,7 +97,7 @@ pub record EndsInAscii (s : List ℕ) (n : ℕ) : Type 0 where
 nonzero_within : (s : List ℕ) (i : ℕ) → 0 < slice_index s i → i < length s
 nonzero_within s i h = elim (cases_lt i (length s)) [ inl within ↦ within | inr past ↦ let zero = get_or_past s i 0 past in absurd (omega arith) ]
 
-ends_at : (s : List ℕ) (i : ℕ) → (0 < slice_index s i) × (slice_index s i < 128) → EndsInAscii s (i + 1)
+pub ends_at : (s : List ℕ) (i : ℕ) → (0 < slice_index s i) × (slice_index s i < 128) → EndsInAscii s (i + 1)
 ends_at s i h =
     let within = nonzero_within s i h.0 in
     let place : i + 1 - 1 ≡ i = omega arith in

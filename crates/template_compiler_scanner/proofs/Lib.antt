@@ -3,3 +3,5 @@ pub mod Digits
 pub mod Characters
 pub mod Cuts
 pub mod Pieces
+pub mod Tokens
+pub mod Closing

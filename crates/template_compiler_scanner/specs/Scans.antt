@@ -3,14 +3,14 @@ use Rattle.std.specs.Prelude.{◌≡◌, ℕ, ◌⊎◌, ◌+◌, ◌++◌, List
 use Rattle.std.specs.Borrow.{Bor}
 use Rattle.std.specs.declared.alloc.Global.{Global}
 use Rattle.template_values_errors.specs.declared.ErrorKind.{ErrorKind}
-use Rattle.template_values_errors.specs.declared.ErrorKind.TheVariants.{OutOfMemory, BadEscape}
-use Rattle.template_compiler_tokens.specs.Token.{TokenFault, bad}
+use Rattle.template_values_errors.specs.declared.ErrorKind.TheVariants.{OutOfMemory, BadEscape, SyntaxError}
+use Rattle.template_compiler_tokens.specs.Token.{TokenFault, string, bad, bad_syntax}
 use Rattle.template_compiler_tokens.specs.declared.token.Token.{Token}
 use Rattle.template_compiler_tokens.specs.View.{token_of}
 use Rattle.template_compiler_tokens.specs.Left.{kind_of}
 use Rattle.template_compiler_tokens.specs.Numbers.{number_at, number_width}
-use Rattle.template_compiler_tokens.specs.Texts.{HasUnit, IsLowSurrogate, IsEscape, Unescapes}
-use Rattle.template_compiler_tokens.specs.Lexical.{Begins, class_of, text_class}
+use Rattle.template_compiler_tokens.specs.Texts.{HasUnit, IsLowSurrogate, IsEscape, Unescapes, IsText}
+use Rattle.template_compiler_tokens.specs.Lexical.{IsSign, Begins, class_of, text_class}
 
 -- the token that the text begins with, and how many bytes it takes; or why it begins with none;
 -- or want of memory, which a text literal alone takes
@@ -55,3 +55,19 @@ abbrev pub TakesEscape : List ℕ → ℕ → List ℕ → List ℕ → Result (
 TakesEscape s i before after (Ok rest) =
     (c : ℕ) × (n : ℕ) × IsEscape (drop (i + 1) s) c n × (rest.now ≡ drop n (drop (i + 1) s)) × (after ≡ (before ++ take i s) ++ encode_utf8 c)
 TakesEscape s i before after (Err kind) = IsRefused ((c n : ℕ) → IsEscape (drop (i + 1) s) c n → ⊥) kind
+
+-- the token of the literal whose inside the text is
+abbrev pub ReadsText : List ℕ → Result Token ErrorKind → Type 0
+ReadsText s (Ok t) = (text : List ℕ) × (token_of t ≡ string text) × Unescapes s text
+ReadsText s (Err kind) = IsRefused ((text : List ℕ) → Unescapes s text → ⊥) kind
+
+-- the token of the literal that the text begins with, and how many bytes it takes; or why it is none; or want of memory
+abbrev pub ScansText : List ℕ → Result (Token × ℕ) ErrorKind → Type 0
+ScansText s (Ok found) = IsText (slice_index s 0) (drop 1 s) (token_of found.0) found.1
+ScansText s (Err kind) =
+    (kind ≡ OutOfMemory) ⊎ ((fault : TokenFault) × (kind ≡ kind_of fault) × IsText (slice_index s 0) (drop 1 s) (bad fault) 0)
+
+-- the token of the sign that the text begins with, and how many bytes it takes; or none stands there
+abbrev pub ScansSign : List ℕ → Result (Token × ℕ) ErrorKind → Type 0
+ScansSign s (Ok found) = IsSign s (token_of found.0) found.1
+ScansSign s (Err kind) = (kind ≡ SyntaxError) × IsSign s (bad bad_syntax) 0

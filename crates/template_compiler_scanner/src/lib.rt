@@ -4,3 +4,5 @@
 mod bytes;
 mod escapes;
 mod numbers;
+mod signs;
+mod texts;
