@@ -1,13 +1,13 @@
 -- Escapes behind a `\`: which ones stand there, and that they are characters in ASCII bytes.
-use Rattle.std.proofs.Common.{◌≡◌, ℕ, ◌+◌, ◌-◌, ◌*◌, ◌<◌, ◌≤◌, inl, inr, true, List, length, slice_index, None, Some, sym, ◌∙◌, subst, arith}
+use Rattle.std.proofs.Common.{◌≡◌, ℕ, ◌+◌, ◌-◌, ◌*◌, ◌<◌, inl, inr, true, List, slice_index, None, Some, sym, ◌∙◌, subst, arith}
 use Rattle.std.specs.Char.{digit_value, InScalarRange}
 use Rattle.std.proofs.lemmas.Bool.{cases_lt, ltb-true}
 use Rattle.std.proofs.lemmas.Bool.Decides.{nat_tests}
-use Rattle.std.proofs.lemmas.List.{get_or_past}
 use Rattle.template_compiler_tokens.specs.Numbers.{is_digit}
 use Rattle.template_compiler_tokens.specs.Texts.{named_escape, HasByte, HasUnit, IsHighSurrogate, IsLowSurrogate, IsEscape, named, byte, unit, pair}
 use Rattle.template_compiler_tokens.proofs.Texts.{same_unit}
 use Rattle.template_compiler_tokens.proofs.Decided.{escape_none}
+use Rattle.template_compiler_tokens.proofs.Ends.{EndsInAscii, ends_at, digit_ascii}
 use Rattle.template_compiler_scanner.specs.Scans.{HasLowSurrogate, NoLowSurrogate}
 
 pub no_byte_escape : (s : List ℕ) → slice_index s 0 ≡ 120 → ((n : ℕ) → HasByte s 1 n → ⊥) → (c n : ℕ) → IsEscape s c n → ⊥
@@ -51,10 +51,6 @@ hex_small : (b : ℕ) → is_digit 16 b ≡ true → digit_value b < 16
 unfolding is_digit
 hex_small b e = ltb-true (digit_value b) 16 e
 
-hex_ascii : (b : ℕ) → is_digit 16 b ≡ true → (0 < b) × (b < 128)
-unfolding is_digit
-hex_ascii b e = let h = ltb-true (digit_value b) 16 e in grind (arith, nat_tests)
-
 byte_small : {s : List ℕ} {i n : ℕ} → HasByte s i n → n < 256
 byte_small {s} {i} h =
     let high = hex_small (slice_index s i) h.high in
@@ -89,22 +85,8 @@ escape_scalar {c = c} (unit e h not_high not_low) =
 escape_scalar (pair e h high f g k low value) = inr (omega arith, omega arith)
 
 -- an escape's last byte is ASCII
-pub record EndsInAscii (s : List ℕ) (n : ℕ) : Type 0 where
-  pub some : 0 < n
-  pub within : n ≤ length s
-  pub ascii : slice_index s (n - 1) < 128
-
-nonzero_within : (s : List ℕ) (i : ℕ) → 0 < slice_index s i → i < length s
-nonzero_within s i h = elim (cases_lt i (length s)) [ inl within ↦ within | inr past ↦ let zero = get_or_past s i 0 past in absurd (omega arith) ]
-
-pub ends_at : (s : List ℕ) (i : ℕ) → (0 < slice_index s i) × (slice_index s i < 128) → EndsInAscii s (i + 1)
-ends_at s i h =
-    let within = nonzero_within s i h.0 in
-    let place : i + 1 - 1 ≡ i = omega arith in
-    record { some = omega arith; within = omega arith; ascii = rw place h.1 }
-
 pub escape_ends : {s : List ℕ} {c n : ℕ} → IsEscape s c n → EndsInAscii s n
 escape_ends {s} {c} (named e) = let h = named_small (slice_index s 0) c e in ends_at s 0 (h.0, h.1)
-escape_ends {s} (byte e h) = ends_at s 2 (hex_ascii (slice_index s 2) h.low)
-escape_ends {s} (unit e h a b) = ends_at s 4 (hex_ascii (slice_index s 4) h.low_byte.low)
-escape_ends {s} (pair e h a f g k b value) = ends_at s 10 (hex_ascii (slice_index s 10) k.low_byte.low)
+escape_ends {s} (byte e h) = ends_at s 2 (digit_ascii 16 (slice_index s 2) (omega arith) h.low)
+escape_ends {s} (unit e h a b) = ends_at s 4 (digit_ascii 16 (slice_index s 4) (omega arith) h.low_byte.low)
+escape_ends {s} (pair e h a f g k b value) = ends_at s 10 (digit_ascii 16 (slice_index s 10) (omega arith) k.low_byte.low)

@@ -1,7 +1,7 @@
 -- The closing quote of a literal, found piece by piece.
-use Rattle.std.proofs.Common.{◌≡◌, ℕ, zero, suc, ◌+◌, ◌<◌, ◌≤◌, ◌⊎◌, inl, inr, Bool, true, false, ◌==◌, ◌||◌, Option, None, Some, List, [], ◌∷◌, length, take, drop, get_or, slice_index, refl, sym, ◌∙◌, ap, add-one, add-zero, zero-add, arith, length-drop, get_or-drop, ◌-◌}
+use Rattle.std.proofs.Common.{◌≡◌, ℕ, zero, suc, ◌+◌, ◌<◌, ◌≤◌, ◌⊎◌, inl, inr, Bool, true, false, ◌==◌, ◌||◌, None, Some, List, [], ◌∷◌, length, take, drop, get_or, slice_index, refl, sym, ◌∙◌, ap, add-one, add-zero, zero-add, arith, length-drop, get_or-drop, ◌-◌}
 use Rattle.std.proofs.Math.Seq.{drop-cons}
-use Rattle.std.proofs.lemmas.Bool.{eqb-true, eq-eqb, cases_lt}
+use Rattle.std.proofs.lemmas.Bool.{eqb-true, eq-eqb}
 use Rattle.std.proofs.lemmas.List.{drop-drop, drop_all}
 use Rattle.memchr.specs.Find.{IsFirstByte, is_byte2}
 use Rattle.template_compiler_tokens.specs.Texts.{IsClose, close_here, close_behind, close_behind_escape, Unescapes, IsText, closed_text, bad_text}

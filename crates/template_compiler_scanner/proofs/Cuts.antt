@@ -2,7 +2,8 @@
 use Rattle.std.proofs.Common.{◌≡◌, ℕ, ◌+◌, ◌-◌, ◌<◌, List, length, drop, slice_index, IsUtf8, IsCharBoundary, add-zero, zero-add, arith, length-drop, get_or-drop}
 use Rattle.std.proofs.lemmas.Str.{IsCharBoundary-after_ascii, IsCharBoundary-before_ascii, IsUtf8-drop}
 use Rattle.template_compiler_tokens.specs.Texts.{IsEscape}
-use Rattle.template_compiler_scanner.proofs.Characters.{EndsInAscii, escape_ends}
+use Rattle.template_compiler_tokens.proofs.Ends.{EndsInAscii}
+use Rattle.template_compiler_scanner.proofs.Characters.{escape_ends}
 
 -- what stands from an ASCII byte on is a text
 pub ascii_rest : (s : List ℕ) (i : ℕ) → IsUtf8 s → i < length s → slice_index s i < 128 → IsUtf8 (drop i s)

@@ -2,11 +2,12 @@
 use Rattle.std.proofs.Common.{◌≡◌, ℕ, zero, suc, ◌+◌, ◌*◌, ◌^◌, ◌<◌, ◌≤◌, Bool, true, false, if◌then◌else◌, ◌&&◌, ◌==◌, List, [], ◌∷◌, length, take, drop, get_or, fold, refl, sym, ◌∙◌, ap, add-one, arith, length-take}
 use Rattle.std.specs.Char.{digit_value}
 use Rattle.std.specs.Prelude.{nat_lt}
-use Rattle.std.proofs.lemmas.Bool.{ltb-true, lt-ltb, eqb-true, false≢true}
+use Rattle.std.proofs.lemmas.Bool.{ltb-true, lt-ltb, eqb-true}
 use Rattle.std.proofs.lemmas.List.Sums.{fold-append, fold_more}
 use Rattle.std.proofs.Math.Nat.{mul-le-mul_left}
 use Rattle.std.proofs.lemmas.List.{take-append-drop}
 use Rattle.template_compiler_tokens.specs.Numbers.{is_digit, goes_on, digits_len, with_digit, value_of, base_of, prefix_width, begins_fraction, is_float, digits_at, number_at, number_width}
+use Rattle.template_compiler_tokens.proofs.Ends.{digit_ascii}
 use Rattle.template_compiler_tokens.specs.Token.{number, bad, bad_syntax, float_literal}
 
 -- the first place that does not go on with digits
@@ -78,13 +79,8 @@ not_below {a} {b} h = go (nat_lt a b) refl
     go true e = absurd (h (ltb-true a b e))
     go false e = e
 
-pub no_digit : (base : ℕ) → base ≤ 16 → is_digit base 0 ≡ false
-unfolding is_digit
-no_digit base h = not_below (λ l. absurd (omega (arith, l)))
-
 pub some_digit : (base b : ℕ) → base ≤ 16 → is_digit base b ≡ true → 0 < b
-some_digit base zero h e = absurd (false≢true (sym (no_digit base h) ∙ e))
-some_digit base (suc b) h e = omega arith
+some_digit base b small e = (digit_ascii base b small e).0
 
 -- the behind of a number in base 10
 whole_behind : (s : List ℕ) → (base_of s == 10) ≡ true → drop (digits_len (base_of s) (drop (prefix_width s) s)) (drop (prefix_width s) s) ≡ drop (digits_len 10 s) s

@@ -4,5 +4,8 @@
 mod bytes;
 mod escapes;
 mod numbers;
+mod scan;
 mod signs;
 mod texts;
+
+pub use scan::scan_token;

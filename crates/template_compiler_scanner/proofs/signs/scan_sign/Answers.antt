@@ -16,6 +16,6 @@ pub returns-in-None-short_sign : goal.returns-in-None-short_sign
 returns-in-None-short_sign c = (
   refl,
   none_found c.args.text.now
-  (sym (rw (c.byte_at-first.ensures.byte, c.byte_at.ensures.byte) at c.in-None.ensures))
-  (sym (rw c.byte_at-first.ensures.byte at c.in-None-short_sign.ensures)),
+      (sym (rw (c.byte_at-first.ensures.byte, c.byte_at.ensures.byte) at c.in-None.ensures))
+      (sym (rw c.byte_at-first.ensures.byte at c.in-None-short_sign.ensures)),
 )

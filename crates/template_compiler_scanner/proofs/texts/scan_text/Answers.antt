@@ -1,11 +1,11 @@
-use Rattle.std.proofs.Common.{ℕ, drop, ◌≡◌, ◌<◌, ◌⊎◌, inl, inr, sym, ◌∙◌, refl, arith, slice_index, length}
+use Rattle.std.proofs.Common.{ℕ, drop, ◌≡◌, ◌<◌, ◌⊎◌, inl, inr, refl, arith, slice_index}
 use Rattle.std.proofs.lemmas.Result.{err_from_is_err_and}
 use Rattle.std.proofs.lemmas.Str.{IsCharBoundary-before_ascii}
 use Rattle.template_compiler_tokens.specs.Token.{bad_syntax}
-use Rattle.template_compiler_tokens.specs.Texts.{IsClose, IsText, open_text}
+use Rattle.template_compiler_tokens.specs.Texts.{IsClose, open_text}
 use Rattle.template_compiler_tokens.proofs.Texts.{close_within}
 use Rattle.template_compiler_scanner.proofs.Cuts.{cut_behind_ascii}
-use Rattle.template_compiler_scanner.proofs.Characters.{ends_at}
+use Rattle.template_compiler_tokens.proofs.Ends.{ends_at}
 use Rattle.template_compiler_scanner.proofs.Closing.{close_stands, read_token, read_refused}
 use Rattle.template_compiler_scanner.proofs.texts.scan_text.Goals as goal
 use Rattle.template_compiler_scanner.proofs.texts.scan_text.Goals.{In-Some}
