@@ -9,3 +9,6 @@ mod signs;
 mod texts;
 
 pub use scan::scan_token;
+
+#[cfg(test)]
+mod tests;
