@@ -53,7 +53,8 @@ NoLowSurrogate s = (low : ℕ) → HasLowSurrogate s low → ⊥
 -- or the escape is none; or want of memory
 abbrev pub TakesEscape : List ℕ → ℕ → List ℕ → List ℕ → Result (Bor (List ℕ)) ErrorKind → Type 0
 TakesEscape s i before after (Ok rest) =
-    (c : ℕ) × (n : ℕ) × IsEscape (drop (i + 1) s) c n × (rest.now ≡ drop n (drop (i + 1) s)) × (after ≡ (before ++ take i s) ++ encode_utf8 c)
+    (c : ℕ) × (n : ℕ) × IsEscape (drop (i + 1) s) c n × (rest.now ≡ drop n (drop (i + 1) s)) ×
+    (after ≡ (before ++ take i s) ++ encode_utf8 c)
 TakesEscape s i before after (Err kind) = IsRefused ((c n : ℕ) → IsEscape (drop (i + 1) s) c n → ⊥) kind
 
 -- the token of the literal whose inside the text is

@@ -141,7 +141,8 @@ fn no_memory(_refused: AllocError) -> ErrorKind
 }
 
 fn push_text(done: &mut String, text: &str) -> Result<(), ErrorKind>
-    ensures { MatchResult result (λ _. string_bytes done.new ≡ string_bytes done.old ++ text.now) (λ kind. kind ≡ ErrorKind.OutOfMemory) }
+    ensures { MatchResult result (λ _. string_bytes done.new ≡ string_bytes done.old ++ text.now)
+        (λ kind. kind ≡ ErrorKind.OutOfMemory) }
 {
     match done.push_str(text) {
         Ok(()) => Ok(()),
@@ -150,7 +151,8 @@ fn push_text(done: &mut String, text: &str) -> Result<(), ErrorKind>
 }
 
 fn push_character(done: &mut String, character: char) -> Result<(), ErrorKind>
-    ensures { MatchResult result (λ _. string_bytes done.new ≡ string_bytes done.old ++ encode_utf8 character) (λ kind. kind ≡ ErrorKind.OutOfMemory) }
+    ensures { MatchResult result (λ _. string_bytes done.new ≡ string_bytes done.old ++ encode_utf8 character)
+        (λ kind. kind ≡ ErrorKind.OutOfMemory) }
 {
     match done.push(character) {
         Ok(()) => Ok(()),

@@ -8,5 +8,6 @@ ghost use Rattle.template_compiler_tokens.specs.Token.{Token, TokenFault, bad};
 pub fn one_token()
     ensures some { (s : List ℕ) (i : ℕ) → (t : Token) × (n : ℕ) × IsToken s i t n }
     ensures one { (s : List ℕ) (i : ℕ) (t u : Token) (n m : ℕ) → IsToken s i t n → IsToken s i u m → (t ≡ u) × (n ≡ m) }
-    ensures ends { (s : List ℕ) (i n : ℕ) (t : Token) → IsToken s i t n → ((fault : TokenFault) × (t ≡ bad fault) × (n ≡ i)) ⊎ ((i < n) × (n ≤ length s)) }
+    ensures ends { (s : List ℕ) (i n : ℕ) (t : Token) → IsToken s i t n →
+        ((fault : TokenFault) × (t ≡ bad fault) × (n ≡ i)) ⊎ ((i < n) × (n ≤ length s)) }
 {}
