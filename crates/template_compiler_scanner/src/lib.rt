@@ -8,7 +8,7 @@ mod scan;
 mod signs;
 mod texts;
 
-pub use scan::scan_token;
+pub use scan::{leading_name, scan_token};
 
 #[cfg(test)]
 mod tests;

@@ -1,5 +1,6 @@
 //! One token.
-ghost use Rattle.std.specs.Prelude.{ℕ, ◌<◌, IfOk};
+ghost use Rattle.std.specs.Prelude.{◌≡◌, ◌<◌, IfOk, take_while};
+ghost use Rattle.template_compiler_tokens.specs.Lexical.{is_name_part};
 ghost use Rattle.std.specs.Str.{IsCharBoundary};
 ghost use Rattle.template_compiler_scanner.specs.Scans.{Scans};
 
@@ -38,4 +39,11 @@ pub fn scan_token<'source>(
         return scan_text(alloc, text);
     }
     scan_sign(text.as_bytes())
+}
+
+/// The longest beginning of the text that may stand in a name.
+pub fn leading_name(text: &str) -> &str
+    ensures { result.now ≡ take_while is_name_part text.now }
+{
+    text.split_at(name_len(text.as_bytes())).0
 }
