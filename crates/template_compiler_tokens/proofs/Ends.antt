@@ -1,6 +1,6 @@
 -- A token ends behind its place, within the text, in an ASCII byte.
 use Rattle.std.proofs.Common.{◌≡◌, ℕ, zero, suc, ◌+◌, ◌-◌, ◌^◌, ◌<◌, ◌≤◌, ◌⊎◌, inl, inr, Bool, true, false, ◌==◌, ◌||◌, ◌&&◌, if◌then◌else◌, Option, None, Some, List, [], ◌∷◌, length, drop, get_or, slice_index, refl, ◌∙◌, subst, arith, get_or-drop, length-drop}
-use Rattle.std.specs.Prelude.{nat_lt}
+use Rattle.std.specs.Prelude.{take_while, nat_lt}
 use Rattle.std.specs.Char.{digit_value, is_ascii_digit}
 use Rattle.std.specs.List.{prefix_len}
 use Rattle.std.proofs.lemmas.Bool.{cases_lt, ltb-true, eqb-true, false≢true, false_from_ne_true}
@@ -8,7 +8,7 @@ use Rattle.std.proofs.lemmas.Bool.Decides.{nat_tests}
 use Rattle.std.proofs.lemmas.List.{get_or_past}
 use Rattle.std.proofs.lemmas.List.Folds.{length-prefix_len}
 use Rattle.std.proofs.lemmas.List.Sums.{prefix_len_passes}
-use Rattle.template_compiler_tokens.specs.Token.{Symbol, TokenFault, Token, number, bad, bad_syntax, bad_escape, float_literal}
+use Rattle.template_compiler_tokens.specs.Token.{Symbol, TokenFault, Token, identifier, number, bad, bad_syntax, bad_escape, float_literal}
 use Rattle.template_compiler_tokens.specs.Numbers.{is_digit, goes_on, digits_len, named_base, base_by, base_of, prefix_width, number_width, number_at, is_float, value_of, digits_at}
 use Rattle.template_compiler_tokens.specs.Texts.{IsClose, close_here, close_behind, close_behind_escape, IsText, closed_text, bad_text, open_text}
 use Rattle.template_compiler_tokens.specs.Lexical.{is_name_start, is_name_part, long_sign, short_sign, IsSign, long, short, no_sign, Class, name_class, number_class, text_class, sign_class, class_of, taken, BeginsAs, Begins, IsToken, token_at}
@@ -209,7 +209,7 @@ is_text_ends s quote (closed_text {n = n} h u e) = inr (rw e (text_ends s n quot
 is_text_ends s quote (bad_text h none) = inl (bad_escape, refl, refl)
 is_text_ends s quote (open_text none) = inl (bad_syntax, refl, refl)
 
-number_or_none : (s : List ℕ) → ((fault : TokenFault) × (number_at s ≡ bad fault)) ⊎ ((n : ℕ) × (number_at s ≡ number n))
+pub number_or_none : (s : List ℕ) → ((fault : TokenFault) × (number_at s ≡ bad fault)) ⊎ ((n : ℕ) × (number_at s ≡ number n))
 unfolding number_at
 number_or_none s = go (is_float s) (nat_lt (value_of (base_of s) (digits_at s)) (2 ^ 127)) (value_of (base_of s) (digits_at s))
   where
@@ -247,3 +247,16 @@ token_ends s i n t (token_at width h e) = elim (begins_ends (drop i s) h) [
       let within = ends.within in
       inr (omega arith, omega arith)
 ]
+
+name_as : (k : Class) (s name : List ℕ) (n : ℕ) → BeginsAs k s (identifier name) n → name ≡ take_while is_name_part s
+name_as name_class s name n (e, f) = cc
+name_as number_class s name n (e, f) = elim (number_or_none s) [
+    | inl none ↦ let same = e ∙ none.1 in cc
+    | inr some ↦ let same = e ∙ some.1 in cc
+  ]
+name_as text_class s name n h = elim h [ ]
+name_as sign_class s name n h = elim h [ ]
+
+-- a name that stands at a place is the longest that does
+pub name_stands : (s : List ℕ) (i : ℕ) {name : List ℕ} {n : ℕ} → IsToken s i (identifier name) n → name ≡ take_while is_name_part (drop i s)
+name_stands s i {name = name} (token_at width h e) = name_as (class_of (slice_index (drop i s) 0)) (drop i s) name width h
