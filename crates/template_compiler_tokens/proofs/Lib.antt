@@ -1,0 +1,6 @@
+pub mod OneToken
+pub mod Ends
+pub mod Views
+mod Rows
+pub mod Texts
+pub mod Decided

@@ -1,0 +1,13 @@
+-- What the bytes of a source count for.
+use Rattle.std.specs.Prelude.{ℕ, ◌+◌, Bool, ◌||◌, ◌==◌, nat_lt, nat_le, if◌then◌else◌}
+
+abbrev pub is_newline : ℕ → Bool
+is_newline b = b == 10
+
+-- a character begins with the byte: each byte of a text but those from 128 to 191
+abbrev pub begins_character : ℕ → Bool
+begins_character b = nat_lt b 128 || nat_le 192 b
+
+-- a column counts characters, and each newline begins anew
+abbrev pub next_column : ℕ → ℕ → ℕ
+next_column column b = if is_newline b then 0 else if begins_character b then column + 1 else column

@@ -1,0 +1,91 @@
+//! A place in a source.
+ghost use Rattle.std.specs.Prelude.{◌≡◌, ℕ, ◌+◌, ◌++◌, List, [], length, min, count_by, fold};
+ghost use Rattle.template_compiler_places.specs.Bytes.{is_newline, begins_character, next_column};
+
+use memchr::memrchr;
+use template_tree::Span;
+
+/// A place in a source. Lines begin at 1, columns at 0; lines and columns stop at 65535, offsets at 2^32 - 1.
+#[derive(Clone, Copy, Debug, PartialEq, Eq)]
+pub struct Place {
+    pub line: u16,
+    pub column: u16,
+    pub offset: u32,
+}
+
+impl Place {
+    ghost use Rattle.template_compiler_places.specs.Places.{IsBehind, IsBetween};
+
+    /// Where a source begins.
+    pub fn start() -> Place
+        ensures { IsBehind [] result }
+    {
+        Place {
+            line: 1,
+            column: 0,
+            offset: 0,
+        }
+    }
+
+    /// The place behind a text that begins here, in time linear in the text.
+    pub fn after(self, text: &str) -> Place
+        ensures { (before : List ℕ) → IsBehind before self → IsBehind (before ++ text.now) result }
+    {
+        let bytes = text.as_bytes();
+        Place {
+            line: self.line.saturating_add(saturate(count_newlines(bytes))),
+            column: column_after(self.column, bytes),
+            offset: saturate_offset(self.offset, bytes.len()),
+        }
+    }
+
+    /// The span from this place to another.
+    pub fn to(self, end: Place) -> Span
+        ensures { (from upto : List ℕ) → IsBehind from self → IsBehind upto end → IsBetween from upto result }
+    {
+        Span {
+            start_line: self.line,
+            start_col: self.column,
+            start_offset: self.offset,
+            end_line: end.line,
+            end_col: end.column,
+            end_offset: end.offset,
+        }
+    }
+}
+
+fn saturate(count: usize) -> u16
+    ensures { result ≡ min count 65535 }
+{
+    count.min(u16::MAX as usize) as u16
+}
+
+fn saturate_offset(offset: u32, len: usize) -> u32
+    ensures { result ≡ min (offset + len) 4294967295 }
+{
+    offset.saturating_add(len.min(u32::MAX as usize) as u32)
+}
+
+fn count_newlines(bytes: &[u8]) -> usize
+    ensures { result ≡ count_by is_newline bytes.now }
+{
+    bytes.iter().filter(|byte| **byte == b'\n').count()
+}
+
+fn count_characters(bytes: &[u8]) -> usize
+    ensures { result ≡ count_by begins_character bytes.now }
+{
+    bytes
+        .iter()
+        .filter(|byte| **byte < 0x80 || 0xc0 <= **byte)
+        .count()
+}
+
+fn column_after(column: u16, bytes: &[u8]) -> u16
+    ensures { result ≡ min (fold next_column column bytes.now) 65535 }
+{
+    match memrchr(b'\n', bytes) {
+        Some(newline) => saturate(count_characters(bytes.split_at(newline + 1).1)),
+        None => column.saturating_add(saturate(count_characters(bytes))),
+    }
+}
