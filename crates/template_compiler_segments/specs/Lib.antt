@@ -1,0 +1,4 @@
+pub mod Places
+pub mod Segments
+pub mod Stripping
+pub mod Flat
