@@ -141,15 +141,14 @@ pub data IsSegment (x : Syntax) (s : List ℕ) (i : ℕ) : StartMarker → Piece
       next ≡ (if is_first_on_line s i then end + newline_len s end else end) →
       IsSegment x s i LineComment (segment LineComment i [] plain next) next
 
--- the token of a segment's start
-abbrev pub start_token : StartMarker → Token
-start_token Variable = variable_start
-start_token _ = block_start
-
 -- what begins at the place never ends: its tokens, the last of which says why
 pub data IsEndless (x : Syntax) (s : List ℕ) (i : ℕ) : StartMarker → List Token → Type 0 where
-  endless_inside : {k : StartMarker} {tokens : List Token} →
-      HoldsInside x s k i tokens None → IsEndless x s i k (start_token k ∷ tokens)
+  endless_print : {tokens : List Token} →
+      HoldsInside x s Variable i tokens None → IsEndless x s i Variable (variable_start ∷ tokens)
+  endless_block : {tokens : List Token} →
+      HoldsInside x s Block i tokens None → IsEndless x s i Block (block_start ∷ tokens)
+  endless_line_statement : {tokens : List Token} →
+      HoldsInside x s LineStatement i tokens None → IsEndless x s i LineStatement (block_start ∷ tokens)
   endless_raw : {inner : Sign} {from : ℕ} → HoldsInside x s Block i (only (codes "raw")) (Some (inner, from)) →
       IsNowhere (IsRawEnd x s) from → IsEndless x s i Block (bad bad_syntax ∷ [])
   endless_comment : IsNowhere (IsCommentEnd x s) (inside_from x s Comment i) →
