@@ -1,1 +1,3 @@
 pub mod One
+pub mod Some
+pub mod Pieces

@@ -134,9 +134,9 @@ pub data IsSegment (x : Syntax) (s : List ℕ) (i : ℕ) : StartMarker → Piece
   comment_segment : {end next : ℕ} {last : Sign} → IsFirst (IsCommentEnd x s) (inside_from x s Comment i) end →
       last ≡ comment_sign s (inside_from x s Comment i) end → next ≡ end + length (x.comment_end) →
       IsSegment x s i Comment (segment Comment i [] last next) next
-  line_statement_segment : {tokens : List Token} {next : ℕ} →
-      HoldsInside x s LineStatement i tokens (Some (plain, next)) →
-      IsSegment x s i LineStatement (segment LineStatement i tokens plain next) next
+  line_statement_segment : {tokens : List Token} {last : Sign} {next : ℕ} →
+      HoldsInside x s LineStatement i tokens (Some (last, next)) →
+      IsSegment x s i LineStatement (segment LineStatement i tokens last next) next
   line_comment_segment : {end next : ℕ} → IsFirst (IsLineEnd s) (inside_from x s LineComment i) end →
       next ≡ (if is_first_on_line s i then end + newline_len s end else end) →
       IsSegment x s i LineComment (segment LineComment i [] plain next) next
