@@ -12,7 +12,7 @@ use Rattle.template_compiler_tokens.specs.Lexical.{IsToken}
 use Rattle.template_compiler_segments.specs.Places.{StandsAt, IsFirst, IsNowhere, IsLineEnd, newline_len, is_first_on_line, Sign, plain, minus, plus, sign_at, sign_width}
 use Rattle.template_compiler_segments.specs.Segments.{IsEligible, HasStart, IsNextStart, HasNoStart, start_sign, inside_from, IsEnd, bare_end, signed_end, EndsAt, print_end, block_end, line_end, IsOver, open_brackets, is_bad, Ending, HasInside, ended, blank, token, no_token, HoldsInside, only, IsRawEnd, comment_sign, IsCommentEnd, Piece, data_piece, segment, raw_piece, endless_piece, IsSegment, print_segment, block_segment, raw_segment, comment_segment, line_statement_segment, line_comment_segment, IsEndless, endless_print, endless_block, endless_line_statement, endless_raw, endless_comment, HasPieces, no_start, next_start, endless_start}
 use Rattle.template_compiler_segments.proofs.One.{HasOneToken, one_inside}
-use Rattle.template_compiler_segments.proofs.Some.{Settled, settle_only, settle_set, first_within, first_below, settle_stands, stands_below, settle_line_end, settle_over}
+use Rattle.template_compiler_segments.proofs.Some.{Settled, settle_only, settle_set, first_within, first_below, settle_stands, stands_below, settle_line_end, settle_over, set_long}
 
 -- at each place stands a token, or what is none
 abbrev pub HasSomeToken : Type 0
@@ -282,3 +282,85 @@ longest_start x s i any =
     most n a b c d e Comment = c
     most n a b c d e LineStatement = d
     most n a b c d e LineComment = e
+
+settle_any : (x : Syntax) (s : List ℕ) (i : ℕ) → Settled (AnyStart x s i)
+unfolding AnyStart
+settle_any x s i =
+    elim (settle_start x s i Variable) [
+      | inl here ↦ inl (Variable, here)
+      | inr a ↦ elim (settle_start x s i Block) [
+        | inl here ↦ inl (Block, here)
+        | inr b ↦ elim (settle_start x s i Comment) [
+          | inl here ↦ inl (Comment, here)
+          | inr c ↦ elim (settle_start x s i LineStatement) [
+            | inl here ↦ inl (LineStatement, here)
+            | inr d ↦ elim (settle_start x s i LineComment) [
+              | inl here ↦ inl (LineComment, here)
+              | inr e ↦ inr (λ any. none a b c d e (any.0) (any.1))
+            ]
+          ]
+        ]
+      ]
+    ]
+  where
+    none : (HasStart x s i Variable → ⊥) → (HasStart x s i Block → ⊥) → (HasStart x s i Comment → ⊥) →
+        (HasStart x s i LineStatement → ⊥) → (HasStart x s i LineComment → ⊥) → (k : StartMarker) → HasStart x s i k → ⊥
+    none a b c d e Variable = a
+    none a b c d e Block = b
+    none a b c d e Comment = c
+    none a b c d e LineStatement = d
+    none a b c d e LineComment = e
+
+any_below : (x : Syntax) (s : List ℕ) (i : ℕ) → AnyStart x s i → i < length s
+unfolding AnyStart
+any_below x s i any = stands_below s i (start_text x (any.0)) (any.1.is_set) (any.1.stands)
+
+-- the next start marker from a place on, or none
+pub some_start : (x : Syntax) (s : List ℕ) (from : ℕ) →
+    ((i : ℕ) × (k : StartMarker) × IsNextStart x s from i k) ⊎ HasNoStart x s from
+unfolding AnyStart
+some_start x s from =
+    elim (first_below (AnyStart x s) (settle_any x s) from (length s) (any_below x s)) [
+      | inr none ↦ inr (λ i low k here. none i low (k, here))
+      | inl first ↦
+          let best = longest_start x s (first.0) (first.1.here) in
+          inl (first.0, best.0, record {
+            ahead = first.1.ahead;
+            here = best.1;
+            longest = best.2;
+            leftmost = λ j low high l there. first.1.before j low high (l, there);
+          })
+    ]
+
+start_long : (x : Syntax) (s : List ℕ) (i : ℕ) (k : StartMarker) → HasStart x s i k → (0 < length (start_text x k)) × (i < length s)
+start_long x s i k here = (set_long (start_text x k) (here.is_set), stands_below s i (start_text x k) (here.is_set) (here.stands))
+
+module _ (one : HasOneToken) (some : HasSomeToken) (takes : TakesBytes) where
+  pieces_by : (x : Syntax) (s : List ℕ) → IsUsable x → (n from : ℕ) → length s ≤ from + n → (pieces : List Piece) × HasPieces x s from pieces
+  unfolding Begun
+  pieces_by x s usable zero from bound =
+      elim (some_start x s from) [
+        | inr none ↦ (_, no_start none)
+        | inl next ↦
+            let start = next.2 in
+            let within = start_long x s (next.0) (next.1) (start.here) in
+            let low = start.ahead in absurd (omega arith)
+      ]
+  pieces_by x s usable (suc n) from bound =
+      elim (some_start x s from) [
+        | inr none ↦ (_, no_start none)
+        | inl next ↦
+            let start = next.2 in
+            let within = start_long x s (next.0) (next.1) (start.here) in
+            let low = start.ahead in
+            elim (begun one some takes x s (next.0) (next.1) usable) [
+              | inr endless ↦ (_, endless_start start (endless.1))
+              | inl part ↦
+                  let ahead = part.2 in
+                  let rest = pieces_by x s usable n (part.1) (omega arith) in
+                  (_, next_start start (part.3) (rest.1))
+            ]
+      ]
+
+  pub some_list : (x : Syntax) (s : List ℕ) (from : ℕ) → IsUsable x → (pieces : List Piece) × HasPieces x s from pieces
+  some_list x s from usable = pieces_by x s usable (length s) from (omega arith)

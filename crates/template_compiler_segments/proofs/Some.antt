@@ -73,7 +73,7 @@ first_below P settle from bound below =
 pub settle_stands : (s : List ℕ) (i : ℕ) (text : List ℕ) → Settled (StandsAt s i text)
 settle_stands s i text = settle_texts (take (length text) (drop i s)) text
 
-set_long : (text : List ℕ) → IsSet text → 0 < length text
+pub set_long : (text : List ℕ) → IsSet text → 0 < length text
 set_long [] set = absurd (set refl)
 set_long (b ∷ text) set = omega arith
 
