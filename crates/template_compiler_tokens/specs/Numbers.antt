@@ -1,47 +1,43 @@
 -- Whole numbers, as they are written. Texts are lists of bytes: 43 is `+`, 45 `-`, 46 `.`, 48 `0`, 95 `_`.
-use Rattle.std.specs.Prelude.{ℕ, suc, ◌+◌, ◌-◌, ◌*◌, ◌^◌, Bool, ◌&&◌, ◌||◌, ◌==◌, nat_lt, nat_le, if◌then◌else◌, List, [], ◌∷◌, take, drop, fold, slice_index}
-use Rattle.std.specs.Char.{is_ascii_digit}
+use Rattle.std.specs.Prelude.{ℕ, suc, ◌+◌, ◌*◌, ◌^◌, Bool, ◌&&◌, ◌||◌, ◌==◌, nat_lt, if◌then◌else◌, List, [], ◌∷◌, take, drop, fold, slice_index, Option, None, Some}
+use Rattle.std.specs.Char.{is_ascii_digit, digit_value}
 use Rattle.template_compiler_tokens.specs.Token.{Token, number, bad, bad_syntax, float_literal}
 
--- what a digit or letter stands for in bases up to 16; for other bytes 16
-unfoldable pub digit_of : ℕ → ℕ
-digit_of b =
-    if nat_le 48 b && nat_le b 57 then b - 48
-    else if nat_le 97 b && nat_le b 102 then b - 87
-    else if nat_le 65 b && nat_le b 70 then b - 55
-    else 16
-
 unfoldable pub is_digit : ℕ → ℕ → Bool
-is_digit base b = nat_lt (digit_of b) base
+is_digit base b = nat_lt (digit_value b) base
 
--- how many of the first bytes are digits, or a single `_` directly before one
+-- a byte goes on with digits: one itself, or a single `_` directly before one
+unfoldable pub goes_on : ℕ → ℕ → ℕ → Bool
+goes_on base b next = is_digit base b || (b == 95 && is_digit base next)
+
+-- how many of the first bytes go on with digits
 unfoldable pub digits_len : ℕ → List ℕ → ℕ
 digits_len base [] = 0
-digits_len base (b ∷ s) =
-    if is_digit base b || (b == 95 && is_digit base (slice_index s 0)) then suc (digits_len base s) else 0
+digits_len base (b ∷ s) = if goes_on base b (slice_index s 0) then suc (digits_len base s) else 0
 
--- the number with one more digit
-abbrev pub with_digit : ℕ → ℕ → ℕ → ℕ
-with_digit base n b = if b == 95 then n else base * n + digit_of b
+-- the number with one more digit; what is none is passed over
+unfoldable pub with_digit : ℕ → ℕ → ℕ → ℕ
+with_digit base n b = if is_digit base b then base * n + digit_value b else n
 
 -- the number that digits spell
 unfoldable pub value_of : ℕ → List ℕ → ℕ
 value_of base digits = fold (with_digit base) 0 digits
 
 -- the base that a letter behind a `0` names: 16 for `x`, 8 for `o`, 2 for `b`, of either case
-unfoldable pub named_base : ℕ → ℕ
+unfoldable pub named_base : ℕ → Option ℕ
 named_base b =
-    if b == 120 || b == 88 then 16
-    else if b == 111 || b == 79 then 8
-    else if b == 98 || b == 66 then 2
-    else 0
+    if b == 120 || b == 88 then Some 16
+    else if b == 111 || b == 79 then Some 8
+    else if b == 98 || b == 66 then Some 2
+    else None
 
--- a number's base is named where a digit of that base follows
+-- the base is 10 unless a letter behind a `0` names another, and a digit of that one follows
+unfoldable pub base_by : ℕ → Option ℕ → ℕ → ℕ
+base_by first None next = 10
+base_by first (Some base) next = if first == 48 && is_digit base next then base else 10
+
 unfoldable pub base_of : List ℕ → ℕ
-base_of s =
-    if slice_index s 0 == 48 && is_digit (named_base (slice_index s 1)) (slice_index s 2)
-    then named_base (slice_index s 1)
-    else 10
+base_of s = base_by (slice_index s 0) (named_base (slice_index s 1)) (slice_index s 2)
 
 -- how many bytes name the base
 unfoldable pub prefix_width : List ℕ → ℕ

@@ -1,7 +1,8 @@
 -- Text literals. Texts are lists of bytes: 34 is `"`, 39 `'`, 92 `\`, 117 `u`, 120 `x`.
 use Rattle.std.specs.Prelude.{◌≡◌, ℕ, suc, ◌+◌, ◌-◌, ◌*◌, ◌<◌, ◌≤◌, IsTrue, ◌==◌, if◌then◌else◌, List, [], ◌∷◌, ◌++◌, take, drop, slice_index, encode_utf8, Option, None, Some}
+use Rattle.std.specs.Char.{digit_value}
 use Rattle.template_compiler_tokens.specs.Token.{Token, string, bad, bad_syntax, bad_escape}
-use Rattle.template_compiler_tokens.specs.Numbers.{digit_of, is_digit}
+use Rattle.template_compiler_tokens.specs.Numbers.{is_digit}
 
 -- the closing quote stands at the place; a `\` takes the byte behind it along
 pub data IsClose (quote : ℕ) : List ℕ → ℕ → Type 0 where
@@ -29,7 +30,7 @@ named_escape b =
 pub record HasByte (s : List ℕ) (i n : ℕ) : Type 0 where
   pub high : IsTrue (is_digit 16 (slice_index s i))
   pub low : IsTrue (is_digit 16 (slice_index s (i + 1)))
-  pub value : n ≡ 16 * digit_of (slice_index s i) + digit_of (slice_index s (i + 1))
+  pub value : n ≡ 16 * digit_value (slice_index s i) + digit_value (slice_index s (i + 1))
 
 -- four hexadecimal digits stand at the place, and spell this
 pub record HasUnit (s : List ℕ) (i n : ℕ) : Type 0 where
