@@ -67,3 +67,11 @@ IsApart x = (k l : StartMarker) → IsSet (start_text x k) → start_text x k �
 pub record IsUsable (x : Syntax) : Type 0 where
   pub filled : IsFilled x
   pub apart : IsApart x
+
+-- the starts are those of the default syntax, and there are no prefixes
+pub record HasDefaultStarts (x : Syntax) : Type 0 where
+  pub variable_start : x.variable_start ≡ codes "{{"
+  pub block_start : x.block_start ≡ codes "{%"
+  pub comment_start : x.comment_start ≡ codes "{#"
+  pub line_statement_prefix : x.line_statement_prefix ≡ []
+  pub line_comment_prefix : x.line_comment_prefix ≡ []

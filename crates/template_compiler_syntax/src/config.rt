@@ -1,7 +1,8 @@
 //! The syntax in force.
-ghost use Rattle.std.specs.Prelude.{◌≡◌, [], MatchOption, IfOk};
-ghost use Rattle.template_compiler_syntax.specs.Syntax.{IsUsable, IsSet, default_syntax};
+ghost use Rattle.std.specs.Prelude.{◌≡◌, ◌↔◌, [], MatchOption, IfOk, IsTrue, codes};
+ghost use Rattle.template_compiler_syntax.specs.Syntax.{IsUsable, IsSet, HasDefaultStarts, default_syntax, start_text as start_of, end_text as end_of};
 
+use crate::StartMarker;
 use crate::builder::SyntaxConfigBuilder;
 use crate::settings::Settings;
 use std::alloc::{AllocError, Global};
@@ -135,6 +136,59 @@ impl SyntaxConfig {
             Some(shared) => set_text(shared.line_comment_prefix.as_str()),
             None => None,
         }
+    }
+
+    /// What a segment of the kind begins with; an empty prefix is none.
+    pub fn start_text(&self, marker: StartMarker) -> &str
+        ensures { result.now ≡ start_of self.now marker }
+    {
+        match marker {
+            StartMarker::Variable => self.variable_delimiters().0,
+            StartMarker::Block => self.block_delimiters().0,
+            StartMarker::Comment => self.comment_delimiters().0,
+            StartMarker::LineStatement => match &self.settings {
+                Some(shared) => shared.line_statement_prefix.as_str(),
+                None => "",
+            },
+            StartMarker::LineComment => match &self.settings {
+                Some(shared) => shared.line_comment_prefix.as_str(),
+                None => "",
+            },
+        }
+    }
+
+    /// What a segment of the kind ends with; empty for a line's statement and a line's comment.
+    pub fn end_text(&self, marker: StartMarker) -> &str
+        ensures { result.now ≡ end_of self.now marker }
+    {
+        match marker {
+            StartMarker::Variable => self.variable_delimiters().1,
+            StartMarker::Block => self.block_delimiters().1,
+            StartMarker::Comment => self.comment_delimiters().1,
+            StartMarker::LineStatement | StartMarker::LineComment => "",
+        }
+    }
+
+    /// Whether the starts are those of the default syntax, and there are no prefixes.
+    pub fn has_default_starts(&self) -> bool
+        ensures { IsTrue result ↔ HasDefaultStarts self.now }
+    {
+        self.has_default_delimiters() && self.has_no_prefix()
+    }
+
+    fn has_default_delimiters(&self) -> bool
+        ensures { IsTrue result ↔
+            ((self.now.variable_start ≡ codes "{{") × (self.now.block_start ≡ codes "{%") × (self.now.comment_start ≡ codes "{#")) }
+    {
+        self.variable_delimiters().0 == "{{"
+            && self.block_delimiters().0 == "{%"
+            && self.comment_delimiters().0 == "{#"
+    }
+
+    fn has_no_prefix(&self) -> bool
+        ensures { IsTrue result ↔ ((self.now.line_statement_prefix ≡ []) × (self.now.line_comment_prefix ≡ [])) }
+    {
+        self.line_statement_prefix().is_none() && self.line_comment_prefix().is_none()
     }
 
     /// Whether one newline behind a block or a comment goes.
