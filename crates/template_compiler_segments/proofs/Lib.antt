@@ -1,3 +1,4 @@
 pub mod One
 pub mod Some
 pub mod Pieces
+pub mod Searches

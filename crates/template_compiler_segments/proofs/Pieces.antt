@@ -187,7 +187,7 @@ module _ (one : HasOneToken) (some : HasSomeToken) (takes : TakesBytes) where
   unfolding Begun
   begun_comment x s i set =
       elim (first_below (IsCommentEnd x s) (λ j. settle_stands s j (x.comment_end)) (inside_from x s Comment i) (length s)
-          (λ j here. stands_below s j (x.comment_end) set here)) [
+      (λ j here. stands_below s j (x.comment_end) set here)) [
         | inl first ↦ inl (_, _, (let low = first.1.ahead in omega arith), comment_segment (first.1) refl refl)
         | inr none ↦ inr (_, endless_comment none)
       ]
@@ -265,16 +265,20 @@ longest_start x s i any =
     let b = better x s i (a.0) (a.1) Block in
     let c = better x s i (b.0) (b.1) Comment in
     let d = better x s i (c.0) (c.1) LineStatement in
-    let e = better x s i (d.0) (d.1) LineComment in
-    (e.0, e.1, most (length (start_text x (e.0)))
-      (λ h. (let p = a.3 h in let q = b.2 in let r = c.2 in let t = d.2 in let u = e.2 in omega arith))
-      (λ h. (let q = b.3 h in let r = c.2 in let t = d.2 in let u = e.2 in omega arith))
-      (λ h. (let r = c.3 h in let t = d.2 in let u = e.2 in omega arith))
-      (λ h. (let t = d.3 h in let u = e.2 in omega arith))
-      (e.3))
+    let e = better x s i (d.0) (d.1) LineComment in (
+      e.0,
+      e.1,
+      most (length (start_text x (e.0)))
+          (λ h. (let p = a.3 h in let q = b.2 in let r = c.2 in let t = d.2 in let u = e.2 in omega arith))
+          (λ h. (let q = b.3 h in let r = c.2 in let t = d.2 in let u = e.2 in omega arith))
+          (λ h. (let r = c.3 h in let t = d.2 in let u = e.2 in omega arith))
+          (λ h. (let t = d.3 h in let u = e.2 in omega arith))
+          (e.3),
+    )
   where
     AtMost : ℕ → StartMarker → Type 0
     AtMost n l = HasStart x s i l → length (start_text x l) ≤ n
+
     most : (n : ℕ) → AtMost n Variable → AtMost n Block → AtMost n Comment → AtMost n LineStatement → AtMost n LineComment →
         (l : StartMarker) → AtMost n l
     most n a b c d e Variable = a
@@ -324,12 +328,16 @@ some_start x s from =
       | inr none ↦ inr (λ i low k here. none i low (k, here))
       | inl first ↦
           let best = longest_start x s (first.0) (first.1.here) in
-          inl (first.0, best.0, record {
-            ahead = first.1.ahead;
-            here = best.1;
-            longest = best.2;
-            leftmost = λ j low high l there. first.1.before j low high (l, there);
-          })
+          inl (
+            first.0,
+            best.0,
+            record {
+              ahead = first.1.ahead;
+              here = best.1;
+              longest = best.2;
+              leftmost = λ j low high l there. first.1.before j low high (l, there);
+            },
+          )
     ]
 
 start_long : (x : Syntax) (s : List ℕ) (i : ℕ) (k : StartMarker) → HasStart x s i k → (0 < length (start_text x k)) × (i < length s)

@@ -45,15 +45,18 @@ first_within P settle from (suc n) =
       | inl here ↦ inl (from, record { ahead = omega arith; here = here; before = λ j low high. absurd (omega arith) })
       | inr not_here ↦ elim (first_within P settle (suc from) n) [
         | inl found ↦
-            inl (found.0, (let first = found.1 in let ahead = first.ahead in record {
-              ahead = omega arith;
-              here = first.here;
-              before =
-                  λ j low high here. elim (cases_eq from j) [
-                    | inl same ↦ not_here (subst P (sym same) here)
-                    | inr other ↦ first.before j (omega arith) high here
-                  ];
-            }))
+            inl (
+              found.0,
+              (let first = found.1 in let ahead = first.ahead in record {
+                ahead = omega arith;
+                here = first.here;
+                before =
+                    λ j low high here. elim (cases_eq from j) [
+                      | inl same ↦ not_here (subst P (sym same) here)
+                      | inr other ↦ first.before j (omega arith) high here
+                    ];
+              }),
+            )
         | inr none ↦
             inr (λ j low high here. elim (cases_eq from j) [
               | inl same ↦ not_here (subst P (sym same) here)
