@@ -2,3 +2,4 @@ pub mod One
 pub mod Some
 pub mod Pieces
 pub mod Searches
+pub mod NextStart

@@ -2,3 +2,4 @@ pub mod Places
 pub mod Segments
 pub mod Stripping
 pub mod Flat
+pub mod Known
