@@ -3,3 +3,5 @@ pub mod Some
 pub mod Pieces
 pub mod Searches
 pub mod NextStart
+pub mod Bytes
+pub mod Theorems

@@ -12,7 +12,7 @@ use Rattle.template_compiler_tokens.specs.Lexical.{IsToken}
 use Rattle.template_compiler_segments.specs.Places.{StandsAt, IsFirst, IsNowhere, IsLineEnd, newline_len, is_first_on_line, Sign, plain, minus, plus, sign_at, sign_width}
 use Rattle.template_compiler_segments.specs.Segments.{IsEligible, HasStart, IsNextStart, HasNoStart, start_sign, inside_from, IsEnd, bare_end, signed_end, EndsAt, print_end, block_end, line_end, IsOver, open_brackets, is_bad, Ending, HasInside, ended, blank, token, no_token, HoldsInside, only, IsRawEnd, comment_sign, IsCommentEnd, Piece, data_piece, segment, raw_piece, endless_piece, IsSegment, print_segment, block_segment, raw_segment, comment_segment, line_statement_segment, line_comment_segment, IsEndless, endless_print, endless_block, endless_line_statement, endless_raw, endless_comment, HasPieces, no_start, next_start, endless_start}
 use Rattle.template_compiler_segments.proofs.One.{HasOneToken, one_inside}
-use Rattle.template_compiler_segments.proofs.Some.{Settled, settle_only, settle_set, first_within, first_below, settle_stands, stands_below, settle_line_end, settle_over, set_long}
+use Rattle.template_compiler_segments.proofs.Some.{Settled, settle_texts, settle_only, settle_set, first_within, first_below, settle_stands, stands_below, settle_line_end, settle_over, set_long}
 
 -- at each place stands a token, or what is none
 abbrev pub HasSomeToken : Type 0
@@ -183,13 +183,30 @@ module _ (one : HasOneToken) (some : HasSomeToken) (takes : TakesBytes) where
             begun_raw x s i p set (subst P word h)
       ]
 
-  begun_comment : (x : Syntax) (s : List ℕ) (i : ℕ) → IsSet (x.comment_end) → Begun x s i Comment
+  begun_comment_at : (x : Syntax) (s : List ℕ) (i end : ℕ) → IsFirst (IsCommentEnd x s) (inside_from x s Comment i) end → Begun x s i Comment
   unfolding Begun
-  begun_comment x s i set =
+  begun_comment_at x s i end first = inl (_, _, (let low = first.ahead in omega arith), comment_segment first refl refl)
+
+  begun_comment_set : (x : Syntax) (s : List ℕ) (i : ℕ) → IsSet (x.comment_end) → Begun x s i Comment
+  unfolding Begun
+  begun_comment_set x s i set =
       elim (first_below (IsCommentEnd x s) (λ j. settle_stands s j (x.comment_end)) (inside_from x s Comment i) (length s)
       (λ j here. stands_below s j (x.comment_end) set here)) [
-        | inl first ↦ inl (_, _, (let low = first.1.ahead in omega arith), comment_segment (first.1) refl refl)
+        | inl first ↦ begun_comment_at x s i (first.0) (first.1)
         | inr none ↦ inr (_, endless_comment none)
+      ]
+
+  begun_comment : (x : Syntax) (s : List ℕ) (i : ℕ) → Begun x s i Comment
+  begun_comment x s i =
+      elim (settle_texts (x.comment_end) []) [
+        | inr set ↦ begun_comment_set x s i set
+        | inl empty ↦
+            let P : List ℕ → Type 0 = λ t. StandsAt s (inside_from x s Comment i) t in
+            begun_comment_at x s i (inside_from x s Comment i) (record {
+              ahead = omega arith;
+              here = subst P (sym empty) refl;
+              before = λ j low high. absurd (omega arith);
+            })
       ]
 
   begun_line_comment : (x : Syntax) (s : List ℕ) (i : ℕ) → Begun x s i LineComment
@@ -203,16 +220,16 @@ module _ (one : HasOneToken) (some : HasSomeToken) (takes : TakesBytes) where
         | inr none ↦ absurd (line_end_somewhere s from none)
       ]
 
-  pub begun : (x : Syntax) (s : List ℕ) (i : ℕ) (k : StartMarker) → IsUsable x → Begun x s i k
+  pub begun : (x : Syntax) (s : List ℕ) (i : ℕ) (k : StartMarker) → HasStart x s i k → Begun x s i k
   unfolding Inside
-  begun x s i Variable usable =
+  begun x s i Variable here =
       let h = some_inside x s Variable 0 (inside_from x s Variable i) in begun_print x s i (h.0) (h.1) (h.2)
-  begun x s i Block usable =
-      let h = some_inside x s Block 0 (inside_from x s Block i) in begun_block x s i (h.0) (h.1) (usable.filled.block_start) (h.2)
-  begun x s i Comment usable = begun_comment x s i (usable.filled.comment_end)
-  begun x s i LineStatement usable =
+  begun x s i Block here =
+      let h = some_inside x s Block 0 (inside_from x s Block i) in begun_block x s i (h.0) (h.1) (here.is_set) (h.2)
+  begun x s i Comment here = begun_comment x s i
+  begun x s i LineStatement here =
       let h = some_inside x s LineStatement 0 (inside_from x s LineStatement i) in begun_line_statement x s i (h.0) (h.1) (h.2)
-  begun x s i LineComment usable = begun_line_comment x s i
+  begun x s i LineComment here = begun_line_comment x s i
 
 settle_eligible : (k : StartMarker) (s : List ℕ) (i : ℕ) → Settled (IsEligible k s i)
 settle_eligible LineStatement s i =
@@ -344,9 +361,9 @@ start_long : (x : Syntax) (s : List ℕ) (i : ℕ) (k : StartMarker) → HasStar
 start_long x s i k here = (set_long (start_text x k) (here.is_set), stands_below s i (start_text x k) (here.is_set) (here.stands))
 
 module _ (one : HasOneToken) (some : HasSomeToken) (takes : TakesBytes) where
-  pieces_by : (x : Syntax) (s : List ℕ) → IsUsable x → (n from : ℕ) → length s ≤ from + n → (pieces : List Piece) × HasPieces x s from pieces
+  pieces_by : (x : Syntax) (s : List ℕ) (n from : ℕ) → length s ≤ from + n → (pieces : List Piece) × HasPieces x s from pieces
   unfolding Begun
-  pieces_by x s usable zero from bound =
+  pieces_by x s zero from bound =
       elim (some_start x s from) [
         | inr none ↦ (_, no_start none)
         | inl next ↦
@@ -354,21 +371,21 @@ module _ (one : HasOneToken) (some : HasSomeToken) (takes : TakesBytes) where
             let within = start_long x s (next.0) (next.1) (start.here) in
             let low = start.ahead in absurd (omega arith)
       ]
-  pieces_by x s usable (suc n) from bound =
+  pieces_by x s (suc n) from bound =
       elim (some_start x s from) [
         | inr none ↦ (_, no_start none)
         | inl next ↦
             let start = next.2 in
             let within = start_long x s (next.0) (next.1) (start.here) in
             let low = start.ahead in
-            elim (begun one some takes x s (next.0) (next.1) usable) [
+            elim (begun one some takes x s (next.0) (next.1) (start.here)) [
               | inr endless ↦ (_, endless_start start (endless.1))
               | inl part ↦
                   let ahead = part.2 in
-                  let rest = pieces_by x s usable n (part.1) (omega arith) in
+                  let rest = pieces_by x s n (part.1) (omega arith) in
                   (_, next_start start (part.3) (rest.1))
             ]
       ]
 
-  pub some_list : (x : Syntax) (s : List ℕ) (from : ℕ) → IsUsable x → (pieces : List Piece) × HasPieces x s from pieces
-  some_list x s from usable = pieces_by x s usable (length s) from (omega arith)
+  pub some_list : (x : Syntax) (s : List ℕ) (from : ℕ) → (pieces : List Piece) × HasPieces x s from pieces
+  some_list x s from = pieces_by x s (length s) from (omega arith)

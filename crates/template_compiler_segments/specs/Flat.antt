@@ -32,3 +32,8 @@ template_text x source = if x.keep_trailing_newline then source else less_final_
 pub data IsTokens (x : Syntax) (source : List ℕ) : List Token → Type 0 where
   source_tokens : {pieces : List Piece} {tokens : List Token} → HasPieces x (template_text x source) 0 pieces →
       tokens ≡ tokens_of (template_text x source) (stripped x (template_text x source) no_edge pieces) → IsTokens x source tokens
+
+-- the tokens of a text without segments
+abbrev pub plain_tokens : List ℕ → List Token
+plain_tokens [] = []
+plain_tokens (b ∷ s) = template_data (b ∷ s) ∷ []
