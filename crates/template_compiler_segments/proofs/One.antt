@@ -8,7 +8,9 @@ use Rattle.template_compiler_syntax.specs.declared.StartMarker.TheVariants.{Vari
 use Rattle.template_compiler_syntax.specs.Syntax.{Syntax, IsUsable, start_text}
 use Rattle.template_compiler_tokens.specs.Token.{Token, TokenFault, bad}
 use Rattle.template_compiler_tokens.specs.Lexical.{IsToken}
-use Rattle.template_compiler_segments.specs.Places.{StandsAt, IsFirst, IsNowhere, IsLineEnd, newline_len, is_first_on_line, Sign, plain, sign_at}
+use Rattle.template_compiler_segments.specs.Places.{StandsAt, IsFirst, IsNowhere, IsLineEnd, newline_len, is_first_on_line, sign_at}
+use Rattle.template_compiler_segments.specs.declared.edges.Sign.{Sign}
+use Rattle.template_compiler_segments.specs.declared.edges.Sign.TheVariants.{Plain}
 use Rattle.template_compiler_segments.specs.Segments.{HasStart, IsNextStart, HasNoStart, start_sign, inside_from, IsEnd, bare_end, signed_end, EndsAt, print_end, block_end, line_end, IsOver, open_brackets, is_bad, Ending, HasInside, ended, blank, token, no_token, HoldsInside, only, IsRawEnd, comment_sign, IsCommentEnd, Piece, data_piece, segment, raw_piece, endless_piece, IsSegment, print_segment, block_segment, raw_segment, comment_segment, line_statement_segment, line_comment_segment, IsEndless, endless_print, endless_block, endless_line_statement, endless_raw, endless_comment, HasPieces, no_start, next_start, endless_start}
 
 -- at a place stands one token, with one end
@@ -53,7 +55,7 @@ bad_apart : {t : Token} {fault : TokenFault} {a : Type 0} → is_bad t ≡ false
 bad_apart good e = absurd (false≢true (sym good ∙ ap is_bad e))
 
 got : Ending → Sign × ℕ
-got None = (plain, 0)
+got None = (Plain, 0)
 got (Some ending) = ending
 
 some_parts : {last last' : Sign} {next next' : ℕ} → ◌≡◌ {A = Ending} (Some (last, next)) (Some (last', next')) → (last ≡ last') × (next ≡ next')

@@ -9,7 +9,9 @@ use Rattle.template_compiler_syntax.specs.declared.StartMarker.TheVariants.{Vari
 use Rattle.template_compiler_syntax.specs.Syntax.{Syntax, IsSet, IsUsable, IsFilled, start_text}
 use Rattle.template_compiler_tokens.specs.Token.{Token, TokenFault, identifier, bad}
 use Rattle.template_compiler_tokens.specs.Lexical.{IsToken}
-use Rattle.template_compiler_segments.specs.Places.{StandsAt, IsFirst, IsNowhere, IsLineEnd, newline_len, is_first_on_line, Sign, plain, minus, plus, sign_at, sign_width}
+use Rattle.template_compiler_segments.specs.Places.{StandsAt, IsFirst, IsNowhere, IsLineEnd, newline_len, is_first_on_line, sign_at, sign_width}
+use Rattle.template_compiler_segments.specs.declared.edges.Sign.{Sign}
+use Rattle.template_compiler_segments.specs.declared.edges.Sign.TheVariants.{Plain, Minus, Plus}
 use Rattle.template_compiler_segments.specs.Segments.{IsEligible, HasStart, IsNextStart, HasNoStart, start_sign, inside_from, IsEnd, bare_end, signed_end, EndsAt, print_end, block_end, line_end, IsOver, open_brackets, is_bad, Ending, HasInside, ended, blank, token, no_token, HoldsInside, only, IsRawEnd, comment_sign, IsCommentEnd, Piece, data_piece, segment, raw_piece, endless_piece, IsSegment, print_segment, block_segment, raw_segment, comment_segment, line_statement_segment, line_comment_segment, IsEndless, endless_print, endless_block, endless_line_statement, endless_raw, endless_comment, HasPieces, no_start, next_start, endless_start}
 
 -- a fact is settled
@@ -101,16 +103,16 @@ settle_line_end s i =
       ]
     ]
 
-settle_plain : (sign : Sign) → Settled (sign ≡ plain)
-settle_plain plain = inl refl
-settle_plain minus = inr (λ e. cc)
-settle_plain plus = inr (λ e. cc)
+settle_plain : (sign : Sign) → Settled (sign ≡ Plain)
+settle_plain Plain = inl refl
+settle_plain Minus = inr (λ e. cc)
+settle_plain Plus = inr (λ e. cc)
 
 HasEnd : List ℕ → List ℕ → ℕ → Type 0
 HasEnd s end i = (last : Sign) × (next : ℕ) × IsEnd s end i last next
 
 no_end : {s end : List ℕ} {i next : ℕ} {last : Sign} → (StandsAt s i end → ⊥) →
-    ((StandsAt s (i + 1) end → ⊥) ⊎ (sign_at s i ≡ plain)) → IsEnd s end i last next → ⊥
+    ((StandsAt s (i + 1) end → ⊥) ⊎ (sign_at s i ≡ Plain)) → IsEnd s end i last next → ⊥
 no_end bare signed (bare_end stands n) = bare stands
 no_end bare (inl signed) (signed_end none stands l sign n) = signed stands
 no_end bare (inr unsigned) (signed_end none stands l sign n) = sign (l ∙ unsigned)
@@ -119,7 +121,7 @@ settle_end : (s end : List ℕ) (i : ℕ) → Settled (HasEnd s end i)
 unfolding HasEnd
 settle_end s end i =
     elim (settle_stands s i end) [
-      | inl bare ↦ inl (plain, i + length end, bare_end bare refl)
+      | inl bare ↦ inl (Plain, i + length end, bare_end bare refl)
       | inr bare ↦ elim (settle_stands s (i + 1) end) [
         | inr signed ↦ inr (λ h. no_end bare (inl signed) (h.2))
         | inl signed ↦ elim (settle_plain (sign_at s i)) [
@@ -172,7 +174,7 @@ settle_over x s Block i =
     ]
 settle_over x s LineStatement i =
     elim (settle_line_end s i) [
-      | inl over ↦ inl (plain, i + newline_len s i, line_end over refl)
+      | inl over ↦ inl (Plain, i + newline_len s i, line_end over refl)
       | inr none ↦ inr (λ h. none (line_has_end (h.2)))
     ]
 settle_over x s Comment i = inr (λ h. no_comment_end (h.2))

@@ -8,7 +8,8 @@ use Rattle.template_compiler_tokens.specs.Token.{Token, template_data}
 use Rattle.template_compiler_tokens.proofs.OneToken.{one_token, some_token}
 use Rattle.template_compiler_segments.specs.Places.{stretch}
 use Rattle.template_compiler_segments.specs.Segments.{HasNoStart, Piece, data_piece, HasPieces, no_start}
-use Rattle.template_compiler_segments.specs.Stripping.{no_edge, stripped}
+use Rattle.template_compiler_segments.specs.Stripping.{stripped}
+use Rattle.template_compiler_segments.specs.declared.edges.Edge.TheVariants.{Nothing}
 use Rattle.template_compiler_segments.specs.Flat.{tokens_of, template_text, plain_tokens, IsTokens, source_tokens}
 use Rattle.template_compiler_segments.proofs.One.{one_list}
 use Rattle.template_compiler_segments.proofs.Pieces.{some_list}
@@ -23,7 +24,7 @@ some_pieces x s = some_list one_token some_token takes_bytes x s 0
 pub one_tokens : (x : Syntax) (source : List ℕ) (ts us : List Token) → IsUsable x → IsTokens x source ts → IsTokens x source us → ts ≡ us
 one_tokens x source ts us usable (source_tokens {pieces = ps} has e) (source_tokens {pieces = qs} has' e') =
     let same = one_list one_token usable has has' in
-    e ∙ (ap (λ pieces. tokens_of (template_text x source) (stripped x (template_text x source) no_edge pieces)) same ∙ sym e')
+    e ∙ (ap (λ pieces. tokens_of (template_text x source) (stripped x (template_text x source) Nothing pieces)) same ∙ sym e')
 
 pub some_tokens : (x : Syntax) (source : List ℕ) → (tokens : List Token) × IsTokens x source tokens
 some_tokens x source =
@@ -32,7 +33,7 @@ some_tokens x source =
 stretch_all : (s : List ℕ) → stretch s 0 (length s) ≡ s
 stretch_all s = take_all (length s - 0) s (omega arith)
 
-whole : (x : Syntax) (s : List ℕ) → plain_tokens s ≡ tokens_of s (stripped x s no_edge (data_piece 0 (length s) ∷ []))
+whole : (x : Syntax) (s : List ℕ) → plain_tokens s ≡ tokens_of s (stripped x s Nothing (data_piece 0 (length s) ∷ []))
 whole x [] = refl
 whole x (b ∷ s) =
     let some : nat_lt 0 (length (b ∷ s)) ≡ true = lt-ltb 0 (length (b ∷ s)) (omega arith) in

@@ -6,7 +6,8 @@ use Rattle.template_compiler_syntax.specs.Syntax.{Syntax}
 use Rattle.template_compiler_tokens.specs.Token.{Token, template_data, variable_start, variable_end, block_start, block_end}
 use Rattle.template_compiler_segments.specs.Places.{stretch, less_final_newline}
 use Rattle.template_compiler_segments.specs.Segments.{Piece, data_piece, segment, raw_piece, endless_piece, HasPieces}
-use Rattle.template_compiler_segments.specs.Stripping.{no_edge, stripped}
+use Rattle.template_compiler_segments.specs.Stripping.{stripped}
+use Rattle.template_compiler_segments.specs.declared.edges.Edge.TheVariants.{Nothing}
 
 -- a segment's tokens with those of its start and its end; comments have none
 abbrev pub segment_tokens : StartMarker → List Token → List Token → List Token
@@ -31,7 +32,7 @@ template_text x source = if x.keep_trailing_newline then source else less_final_
 -- the tokens of a source
 pub data IsTokens (x : Syntax) (source : List ℕ) : List Token → Type 0 where
   source_tokens : {pieces : List Piece} {tokens : List Token} → HasPieces x (template_text x source) 0 pieces →
-      tokens ≡ tokens_of (template_text x source) (stripped x (template_text x source) no_edge pieces) → IsTokens x source tokens
+      tokens ≡ tokens_of (template_text x source) (stripped x (template_text x source) Nothing pieces) → IsTokens x source tokens
 
 -- the tokens of a text without segments
 abbrev pub plain_tokens : List ℕ → List Token

@@ -1,4 +1,6 @@
 -- What stands at the places of a source. Texts are lists of bytes: 9 is a tab, 10 `\n`, 13 `\r`, 32 a space, 43 `+`, 45 `-`.
+use Rattle.template_compiler_segments.specs.declared.edges.Sign.{Sign}
+use Rattle.template_compiler_segments.specs.declared.edges.Sign.TheVariants.{Plain, Minus, Plus}
 use Rattle.std.specs.Prelude.{◌≡◌, ℕ, zero, suc, ◌+◌, ◌-◌, ◌<◌, ◌≤◌, ◌⊎◌, Bool, ◌&&◌, ◌||◌, ◌==◌, if◌then◌else◌, List, length, take, drop, slice_index}
 
 -- the text between two places
@@ -51,14 +53,11 @@ less_final c s = if slice_index s (length s - 1) == c then take (length s - 1) s
 abbrev pub less_final_newline : List ℕ → List ℕ
 less_final_newline s = less_final 13 (less_final 10 s)
 
--- the sign at an end of a segment
-pub data Sign : Type 0 where
-  plain minus plus : Sign
-
+-- the sign that stands at a place
 abbrev pub sign_at : List ℕ → ℕ → Sign
-sign_at s i = if slice_index s i == 45 then minus else if slice_index s i == 43 then plus else plain
+sign_at s i = if slice_index s i == 45 then Minus else if slice_index s i == 43 then Plus else Plain
 
 abbrev pub sign_width : Sign → ℕ
-sign_width plain = 0
-sign_width minus = 1
-sign_width plus = 1
+sign_width Plain = 0
+sign_width Minus = 1
+sign_width Plus = 1

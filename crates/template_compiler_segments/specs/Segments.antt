@@ -6,7 +6,9 @@ use Rattle.template_compiler_syntax.specs.declared.StartMarker.TheVariants.{Vari
 use Rattle.template_compiler_syntax.specs.Syntax.{Syntax, IsSet, start_text, end_text}
 use Rattle.template_compiler_tokens.specs.Token.{Token, Symbol, TokenFault, bad_syntax, variable_start, block_start, identifier, symbol, bad, bracket_open, bracket_close, paren_open, paren_close, brace_open, brace_close}
 use Rattle.template_compiler_tokens.specs.Lexical.{IsToken}
-use Rattle.template_compiler_segments.specs.Places.{StandsAt, IsFirst, IsNowhere, is_first_on_line, newline_len, IsLineEnd, Sign, plain, sign_at, sign_width}
+use Rattle.template_compiler_segments.specs.Places.{StandsAt, IsFirst, IsNowhere, is_first_on_line, newline_len, IsLineEnd, sign_at, sign_width}
+use Rattle.template_compiler_segments.specs.declared.edges.Sign.{Sign}
+use Rattle.template_compiler_segments.specs.declared.edges.Sign.TheVariants.{Plain}
 
 -- a line statement begins where only blanks stand before it on its line; all others begin anywhere
 abbrev pub IsEligible : StartMarker → List ℕ → ℕ → Type 0
@@ -34,8 +36,8 @@ HasNoStart x s from = (i : ℕ) → from ≤ i → (k : StartMarker) → HasStar
 
 -- a sign directly behind the start of a print, a block or a comment belongs to it
 abbrev pub start_sign : Syntax → List ℕ → StartMarker → ℕ → Sign
-start_sign x s LineStatement i = plain
-start_sign x s LineComment i = plain
+start_sign x s LineStatement i = Plain
+start_sign x s LineComment i = Plain
 start_sign x s k i = sign_at s (i + length (start_text x k))
 
 -- where what is inside the segment begins
@@ -44,9 +46,9 @@ inside_from x s k i = i + length (start_text x k) + sign_width (start_sign x s k
 
 -- an end delimiter, perhaps with a sign directly before it, stands at the place, and ends at `next`
 pub data IsEnd (s end : List ℕ) : ℕ → Sign → ℕ → Type 0 where
-  bare_end : {i next : ℕ} → StandsAt s i end → next ≡ i + length end → IsEnd s end i plain next
+  bare_end : {i next : ℕ} → StandsAt s i end → next ≡ i + length end → IsEnd s end i Plain next
   signed_end : {i next : ℕ} {last : Sign} → (StandsAt s i end → ⊥) → StandsAt s (i + 1) end →
-      last ≡ sign_at s i → (last ≡ plain → ⊥) → next ≡ i + 1 + length end → IsEnd s end i last next
+      last ≡ sign_at s i → (last ≡ Plain → ⊥) → next ≡ i + 1 + length end → IsEnd s end i last next
 
 -- the segment ends at a token's place, and `next` is behind its end: a print and a block at their delimiter,
 -- a line statement with its line
@@ -55,7 +57,7 @@ pub data EndsAt (x : Syntax) (s : List ℕ) : StartMarker → ℕ → Sign → �
       IsEnd s (x.variable_end) i last next → EndsAt x s Variable i last next
   block_end : {i next : ℕ} {last : Sign} → is_ascii_whitespace (slice_index s i) ≡ false →
       IsEnd s (x.block_end) i last next → EndsAt x s Block i last next
-  line_end : {i next : ℕ} → IsLineEnd s i → next ≡ i + newline_len s i → EndsAt x s LineStatement i plain next
+  line_end : {i next : ℕ} → IsLineEnd s i → next ≡ i + newline_len s i → EndsAt x s LineStatement i Plain next
 
 abbrev pub IsOver : Syntax → List ℕ → StartMarker → ℕ → Type 0
 IsOver x s k i = (last : Sign) × (next : ℕ) × EndsAt x s k i last next
@@ -107,7 +109,7 @@ IsRawEnd x s i = StandsAt s i (x.block_start) ×
 
 -- a sign directly before a comment's end is its sign, unless it is the start's own
 abbrev pub comment_sign : List ℕ → ℕ → ℕ → Sign
-comment_sign s from end = if nat_lt from end then sign_at s (end - 1) else plain
+comment_sign s from end = if nat_lt from end then sign_at s (end - 1) else Plain
 
 abbrev pub IsCommentEnd : Syntax → List ℕ → ℕ → Type 0
 IsCommentEnd x s i = StandsAt s i (x.comment_end)
@@ -139,7 +141,7 @@ pub data IsSegment (x : Syntax) (s : List ℕ) (i : ℕ) : StartMarker → Piece
       IsSegment x s i LineStatement (segment LineStatement i tokens last next) next
   line_comment_segment : {end next : ℕ} → IsFirst (IsLineEnd s) (inside_from x s LineComment i) end →
       next ≡ (if is_first_on_line s i then end + newline_len s end else end) →
-      IsSegment x s i LineComment (segment LineComment i [] plain next) next
+      IsSegment x s i LineComment (segment LineComment i [] Plain next) next
 
 -- what begins at the place never ends: its tokens, the last of which says why
 pub data IsEndless (x : Syntax) (s : List ℕ) (i : ℕ) : StartMarker → List Token → Type 0 where
