@@ -5,3 +5,4 @@ pub mod Searches
 pub mod NextStart
 pub mod Bytes
 pub mod Theorems
+pub mod Data

@@ -1,7 +1,7 @@
 -- What white space of the data goes, as the segments beside it say.
 use Rattle.template_compiler_segments.specs.declared.edges.Edge.{Edge}
 use Rattle.template_compiler_segments.specs.declared.edges.Edge.TheVariants.{Nothing, Beside}
-use Rattle.std.specs.Prelude.{ℕ, ◌+◌, ◌-◌, Bool, nat_lt, if◌then◌else◌, List, [], ◌∷◌, length}
+use Rattle.std.specs.Prelude.{ℕ, ◌+◌, ◌-◌, Bool, true, false, nat_lt, if◌then◌else◌, List, [], ◌∷◌, length, drop}
 use Rattle.std.specs.Str.{trim_start, trim_end}
 use Rattle.template_compiler_syntax.specs.declared.StartMarker.{StartMarker}
 use Rattle.template_compiler_syntax.specs.declared.StartMarker.TheVariants.{Variable, Block, Comment, LineStatement, LineComment}
@@ -68,3 +68,29 @@ stripped x s left (segment k begin tokens last next ∷ pieces) =
 stripped x s left (raw_piece begin inner from to last next ∷ pieces) =
     with_stripped x s (Beside Block inner) (Beside Block (start_sign x s Block to)) from to (stripped x s (Beside Block last) pieces)
 stripped x s left (endless_piece k begin tokens ∷ pieces) = endless_piece k begin tokens ∷ stripped x s Nothing pieces
+
+-- the text of data, less what goes on its left
+abbrev pub less_start : Syntax → Edge → List ℕ → List ℕ
+less_start x Nothing text = text
+less_start x (Beside k Minus) text = trim_start text
+less_start x (Beside k Plus) text = text
+less_start x (Beside Block Plain) text = if x.trim_blocks then drop (newline_len text 0) text else text
+less_start x (Beside Comment Plain) text = if x.trim_blocks then drop (newline_len text 0) text else text
+less_start x (Beside k Plain) text = text
+
+-- the blanks that begin a line go before the edge
+abbrev pub strips_blanks : Syntax → Edge → Bool
+strips_blanks x Nothing = false
+strips_blanks x (Beside k Minus) = false
+strips_blanks x (Beside k Plus) = false
+strips_blanks x (Beside Variable Plain) = false
+strips_blanks x (Beside Block Plain) = x.lstrip_blocks
+strips_blanks x (Beside Comment Plain) = x.lstrip_blocks
+strips_blanks x (Beside LineStatement Plain) = true
+strips_blanks x (Beside LineComment Plain) = true
+
+abbrev pub is_minus : Edge → Bool
+is_minus Nothing = false
+is_minus (Beside k Minus) = true
+is_minus (Beside k Plus) = false
+is_minus (Beside k Plain) = false
