@@ -1,3 +1,5 @@
 pub mod OneToken
+pub mod Ends
+pub mod Views
 pub mod Texts
 pub mod Decided

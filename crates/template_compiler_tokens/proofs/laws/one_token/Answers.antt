@@ -1,3 +1,4 @@
+use Rattle.template_compiler_tokens.proofs.Ends.{token_ends}
 use Rattle.template_compiler_tokens.proofs.OneToken.{one_token, some_token}
 use Rattle.template_compiler_tokens.proofs.laws.one_token.Goals as goal
 
@@ -6,3 +7,6 @@ returns-clause-some c = some_token
 
 pub returns-clause-one : goal.returns-clause-one
 returns-clause-one c = one_token
+
+pub returns-clause-ends : goal.returns-clause-ends
+returns-clause-ends c = token_ends

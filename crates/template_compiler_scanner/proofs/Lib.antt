@@ -1,0 +1,7 @@
+pub mod Names
+pub mod Digits
+pub mod Characters
+pub mod Cuts
+pub mod Pieces
+pub mod Tokens
+pub mod Closing

@@ -1,0 +1,14 @@
+//! The scanner of one token: which token a text begins with, and where it ends.
+#![tactic(auto)]
+
+mod bytes;
+mod escapes;
+mod numbers;
+mod scan;
+mod signs;
+mod texts;
+
+pub use scan::scan_token;
+
+#[cfg(test)]
+mod tests;

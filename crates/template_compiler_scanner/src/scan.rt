@@ -1,0 +1,41 @@
+//! One token.
+ghost use Rattle.std.specs.Prelude.{ℕ, ◌<◌, IfOk};
+ghost use Rattle.std.specs.Str.{IsCharBoundary};
+ghost use Rattle.template_compiler_scanner.specs.Scans.{Scans};
+
+use crate::bytes::{byte_at, is_name_start, name_len};
+use crate::numbers::scan_number;
+use crate::signs::scan_sign;
+use crate::texts::scan_text;
+use std::alloc::Global;
+use template_compiler_tokens::Token;
+use template_values_errors::ErrorKind;
+
+/// The token that the text begins with, the longest one, and how many bytes it takes. Names and texts without
+/// escapes are slices of the text. Linear in the token; only a text with escapes takes memory.
+///
+/// # Errors
+///
+/// Where the text begins with no token: `NoFloats` for decimal digits directly before a fraction or an exponent,
+/// `BadEscape` for a text literal with an escape that is none, else `SyntaxError`; `OutOfMemory`.
+pub fn scan_token<'source>(
+    alloc: Global,
+    text: &'source str,
+) -> Result<(Token<'source>, usize), ErrorKind>
+    ensures token { Scans text.now result }
+    ensures cut { IfOk result (λ found. IsCharBoundary text.now found.1) }
+    ensures some { IfOk result (λ found. 0 < found.1) }
+{
+    let first = byte_at(text.as_bytes(), 0);
+    if is_name_start(first) {
+        let width = name_len(text.as_bytes());
+        return Ok((Token::Ident(text.split_at(width).0), width));
+    }
+    if first.is_ascii_digit() {
+        return scan_number(text.as_bytes());
+    }
+    if first == b'"' || first == b'\'' {
+        return scan_text(alloc, text);
+    }
+    scan_sign(text.as_bytes())
+}
