@@ -36,7 +36,7 @@ white_within s i white =
     ]
 
 -- what stands in a segment from a place on
-pub Inside : Syntax → List ℕ → StartMarker → ℕ → ℕ → Type 0
+abbrev pub Inside : Syntax → List ℕ → StartMarker → ℕ → ℕ → Type 0
 Inside x s k d i = (tokens : List Token) × (ending : Ending) × HasInside x s k d i tokens ending
 
 over_here : (x : Syntax) (s : List ℕ) (k : StartMarker) (d i : ℕ) →
@@ -61,7 +61,6 @@ line_end_somewhere s from none = none (from + length s) (omega arith) (omega ari
 module _ (one : HasOneToken) (some : HasSomeToken) (takes : TakesBytes) where
   inside_step : (x : Syntax) (s : List ℕ) (k : StartMarker) (d i : ℕ) →
       ((d' i' : ℕ) → i < i' → i < length s → Inside x s k d' i') → Inside x s k d i
-  unfolding Inside
   inside_step x s k d i later =
       elim (over_here x s k d i) [
         | inl over ↦
@@ -118,7 +117,6 @@ module _ (one : HasOneToken) (some : HasSomeToken) (takes : TakesBytes) where
   inside_ahead (no_token none black t) = omega arith
 
   settle_raw_end : (x : Syntax) (s : List ℕ) (i : ℕ) → Settled (IsRawEnd x s i)
-  unfolding Inside
   settle_raw_end x s i =
       elim (settle_stands s i (x.block_start)) [
         | inr none ↦ inr (λ h. none (h.0))
@@ -142,26 +140,26 @@ module _ (one : HasOneToken) (some : HasSomeToken) (takes : TakesBytes) where
   raw_end_below x s set i h = stands_below s i (x.block_start) set (h.0)
 
   -- a segment of the kind that begins at the place, or what never ends; behind it, the text is shorter
-  pub Begun : Syntax → List ℕ → ℕ → StartMarker → Type 0
+  abbrev pub Begun : Syntax → List ℕ → ℕ → StartMarker → Type 0
   Begun x s i k =
       ((piece : Piece) × (next : ℕ) × (i + length (start_text x k) ≤ next) × IsSegment x s i k piece next) ⊎
       ((tokens : List Token) × IsEndless x s i k tokens)
 
   begun_print : (x : Syntax) (s : List ℕ) (i : ℕ) (tokens : List Token) (ending : Ending) →
       HoldsInside x s Variable i tokens ending → Begun x s i Variable
-  unfolding Begun next_of
+  unfolding next_of
   begun_print x s i tokens None h = inr (_, endless_print h)
   begun_print x s i tokens (Some p) h = inl (_, _, (let ahead = inside_ahead h in omega arith), print_segment h)
 
   begun_line_statement : (x : Syntax) (s : List ℕ) (i : ℕ) (tokens : List Token) (ending : Ending) →
       HoldsInside x s LineStatement i tokens ending → Begun x s i LineStatement
-  unfolding Begun next_of
+  unfolding next_of
   begun_line_statement x s i tokens None h = inr (_, endless_line_statement h)
   begun_line_statement x s i tokens (Some p) h = inl (_, _, (let ahead = inside_ahead h in omega arith), line_statement_segment h)
 
   begun_raw : (x : Syntax) (s : List ℕ) (i : ℕ) (p : Sign × ℕ) → IsSet (x.block_start) →
       HoldsInside x s Block i (only (codes "raw")) (Some p) → Begun x s i Block
-  unfolding Begun next_of
+  unfolding next_of
   begun_raw x s i p set h =
       elim (first_below (IsRawEnd x s) (settle_raw_end x s) (p.1) (length s) (raw_end_below x s set)) [
         | inr none ↦ inr (_, endless_raw h none)
@@ -175,7 +173,7 @@ module _ (one : HasOneToken) (some : HasSomeToken) (takes : TakesBytes) where
 
   begun_block : (x : Syntax) (s : List ℕ) (i : ℕ) (tokens : List Token) (ending : Ending) → IsSet (x.block_start) →
       HoldsInside x s Block i tokens ending → Begun x s i Block
-  unfolding Begun next_of
+  unfolding next_of
   begun_block x s i tokens None set h = inr (_, endless_block h)
   begun_block x s i tokens (Some p) set h =
       elim (settle_only tokens (codes "raw")) [
@@ -186,11 +184,9 @@ module _ (one : HasOneToken) (some : HasSomeToken) (takes : TakesBytes) where
       ]
 
   begun_comment_at : (x : Syntax) (s : List ℕ) (i end : ℕ) → IsFirst (IsCommentEnd x s) (inside_from x s Comment i) end → Begun x s i Comment
-  unfolding Begun
   begun_comment_at x s i end first = inl (_, _, (let low = first.ahead in omega arith), comment_segment first refl refl)
 
   begun_comment_set : (x : Syntax) (s : List ℕ) (i : ℕ) → IsSet (x.comment_end) → Begun x s i Comment
-  unfolding Begun
   begun_comment_set x s i set =
       elim (first_below (IsCommentEnd x s) (λ j. settle_stands s j (x.comment_end)) (inside_from x s Comment i) (length s)
       (λ j here. stands_below s j (x.comment_end) set here)) [
@@ -212,7 +208,6 @@ module _ (one : HasOneToken) (some : HasSomeToken) (takes : TakesBytes) where
       ]
 
   begun_line_comment : (x : Syntax) (s : List ℕ) (i : ℕ) → Begun x s i LineComment
-  unfolding Begun
   begun_line_comment x s i =
       let from = inside_from x s LineComment i in
       elim (first_within (IsLineEnd s) (settle_line_end s) from (length s + 1)) [
@@ -223,7 +218,6 @@ module _ (one : HasOneToken) (some : HasSomeToken) (takes : TakesBytes) where
       ]
 
   pub begun : (x : Syntax) (s : List ℕ) (i : ℕ) (k : StartMarker) → HasStart x s i k → Begun x s i k
-  unfolding Inside
   begun x s i Variable here =
       let h = some_inside x s Variable 0 (inside_from x s Variable i) in begun_print x s i (h.0) (h.1) (h.2)
   begun x s i Block here =
@@ -255,7 +249,7 @@ settle_start x s i k =
     ]
 
 -- a start marker stands at the place
-pub AnyStart : Syntax → List ℕ → ℕ → Type 0
+abbrev pub AnyStart : Syntax → List ℕ → ℕ → Type 0
 AnyStart x s i = (k : StartMarker) × HasStart x s i k
 
 -- the longer of a start and another one, if that stands there
@@ -278,7 +272,7 @@ better x s i k here l =
 -- the longest of the starts that stand at the place
 longest_start : (x : Syntax) (s : List ℕ) (i : ℕ) → AnyStart x s i →
     (k : StartMarker) × HasStart x s i k × ((l : StartMarker) → HasStart x s i l → length (start_text x l) ≤ length (start_text x k))
-unfolding AnyStart Better
+unfolding Better
 longest_start x s i any =
     let a = better x s i (any.0) (any.1) Variable in
     let b = better x s i (a.0) (a.1) Block in
@@ -307,7 +301,6 @@ longest_start x s i any =
     most n a b c d e LineComment = e
 
 settle_any : (x : Syntax) (s : List ℕ) (i : ℕ) → Settled (AnyStart x s i)
-unfolding AnyStart
 settle_any x s i =
     elim (settle_start x s i Variable) [
       | inl here ↦ inl (Variable, here)
@@ -335,13 +328,11 @@ settle_any x s i =
     none a b c d e LineComment = e
 
 any_below : (x : Syntax) (s : List ℕ) (i : ℕ) → AnyStart x s i → i < length s
-unfolding AnyStart
 any_below x s i any = stands_below s i (start_text x (any.0)) (any.1.is_set) (any.1.stands)
 
 -- the next start marker from a place on, or none
 pub some_start : (x : Syntax) (s : List ℕ) (from : ℕ) →
     ((i : ℕ) × (k : StartMarker) × IsNextStart x s from i k) ⊎ HasNoStart x s from
-unfolding AnyStart
 some_start x s from =
     elim (first_below (AnyStart x s) (settle_any x s) from (length s) (any_below x s)) [
       | inr none ↦ inr (λ i low k here. none i low (k, here))
@@ -364,7 +355,6 @@ start_long x s i k here = (set_long (start_text x k) (here.is_set), stands_below
 
 module _ (one : HasOneToken) (some : HasSomeToken) (takes : TakesBytes) where
   pieces_by : (x : Syntax) (s : List ℕ) (n from : ℕ) → length s ≤ from + n → (pieces : List Piece) × HasPieces x s from pieces
-  unfolding Begun
   pieces_by x s zero from bound =
       elim (some_start x s from) [
         | inr none ↦ (_, no_start none)

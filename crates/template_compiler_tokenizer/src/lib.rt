@@ -1,0 +1,4 @@
+//! The tokenizer: the tokens of a template's source, one after another.
+#![tactic(auto)]
+
+mod stage;
