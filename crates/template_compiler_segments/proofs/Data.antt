@@ -116,7 +116,7 @@ blanks_le s (suc i) = step (is_blank (slice_index s i)) (blanks_le s i)
     step true low = omega arith
     step false low = omega arith
 
-less_blanks_le : (s : List ℕ) (i : ℕ) → less_blanks s i ≤ i
+pub less_blanks_le : (s : List ℕ) (i : ℕ) → less_blanks s i ≤ i
 less_blanks_le s i = step (is_first_on_line s i) (blanks_le s i)
   where
     step : (t : Bool) → blanks_from s i ≤ i → (if t then blanks_from s i else i) ≤ i
