@@ -28,7 +28,7 @@ bad_fault : (t : Token) → is_bad t ≡ true → (fault : TokenFault) × (t ≡
 bad_fault (bad fault) e = (fault, refl)
 bad_fault t e = absurd (false≢true e)
 
-white_within : (s : List ℕ) (i : ℕ) → is_ascii_whitespace (slice_index s i) ≡ true → i < length s
+pub white_within : (s : List ℕ) (i : ℕ) → is_ascii_whitespace (slice_index s i) ≡ true → i < length s
 white_within s i white =
     elim (cases_lt i (length s)) [
       | inl within ↦ within

@@ -108,17 +108,16 @@ settle_plain Plain = inl refl
 settle_plain Minus = inr (λ e. cc)
 settle_plain Plus = inr (λ e. cc)
 
-HasEnd : List ℕ → List ℕ → ℕ → Type 0
+abbrev pub HasEnd : List ℕ → List ℕ → ℕ → Type 0
 HasEnd s end i = (last : Sign) × (next : ℕ) × IsEnd s end i last next
 
-no_end : {s end : List ℕ} {i next : ℕ} {last : Sign} → (StandsAt s i end → ⊥) →
+pub no_end : {s end : List ℕ} {i next : ℕ} {last : Sign} → (StandsAt s i end → ⊥) →
     ((StandsAt s (i + 1) end → ⊥) ⊎ (sign_at s i ≡ Plain)) → IsEnd s end i last next → ⊥
 no_end bare signed (bare_end stands n) = bare stands
 no_end bare (inl signed) (signed_end none stands l sign n) = signed stands
 no_end bare (inr unsigned) (signed_end none stands l sign n) = sign (l ∙ unsigned)
 
 settle_end : (s end : List ℕ) (i : ℕ) → Settled (HasEnd s end i)
-unfolding HasEnd
 settle_end s end i =
     elim (settle_stands s i end) [
       | inl bare ↦ inl (Plain, i + length end, bare_end bare refl)
@@ -138,14 +137,12 @@ white_block : {x : Syntax} {s : List ℕ} {i next : ℕ} {last : Sign} → is_as
 white_block white (block_end black end) = false≢true (sym black ∙ white)
 
 print_has_end : {x : Syntax} {s : List ℕ} {i next : ℕ} {last : Sign} → EndsAt x s Variable i last next → HasEnd s (x.variable_end) i
-unfolding HasEnd
 print_has_end {next = next} {last = last} (print_end black end) = (last, next, end)
 
 block_has_end : {x : Syntax} {s : List ℕ} {i next : ℕ} {last : Sign} → EndsAt x s Block i last next → HasEnd s (x.block_end) i
-unfolding HasEnd
 block_has_end {next = next} {last = last} (block_end black end) = (last, next, end)
 
-line_has_end : {x : Syntax} {s : List ℕ} {i next : ℕ} {last : Sign} → EndsAt x s LineStatement i last next → IsLineEnd s i
+pub line_has_end : {x : Syntax} {s : List ℕ} {i next : ℕ} {last : Sign} → EndsAt x s LineStatement i last next → IsLineEnd s i
 line_has_end (line_end over n) = over
 
 no_comment_end : {x : Syntax} {s : List ℕ} {i next : ℕ} {last : Sign} → EndsAt x s Comment i last next → ⊥
@@ -155,7 +152,6 @@ no_line_comment_end : {x : Syntax} {s : List ℕ} {i next : ℕ} {last : Sign} �
 no_line_comment_end over = elim over [ ]
 
 pub settle_over : (x : Syntax) (s : List ℕ) (k : StartMarker) (i : ℕ) → Settled (IsOver x s k i)
-unfolding HasEnd
 settle_over x s Variable i =
     elim (cases_Bool (is_ascii_whitespace (slice_index s i))) [
       | inl white ↦ inr (λ h. white_print white (h.2))

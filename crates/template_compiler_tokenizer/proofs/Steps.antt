@@ -35,7 +35,7 @@ empty_if s true i = less_blanks_le s i
 empty_if s false i = omega arith
 
 module _ (x : Syntax) (s : List ℕ) where
-  inside_is : (k : StartMarker) (d i : ℕ) (tokens : List Token) (ending : Ending) → HasInside x s k d i tokens ending →
+  pub inside_is : (k : StartMarker) (d i : ℕ) (tokens : List Token) (ending : Ending) → HasInside x s k d i tokens ending →
       inside_tokens x s k d i ≡ with_ending x s k tokens ending
   unfolding inside_tokens
   inside_is k d i tokens ending has =
