@@ -1,4 +1,5 @@
 //! Calls and their arguments.
+ghost use Rattle.std.specs.Prelude.{◌≡◌};
 
 use crate::expressions::Expr;
 
@@ -22,4 +23,39 @@ pub enum CallArg<'source> {
     PosSplat(Expr<'source>),
     /// The pairs of a map, by name: `**xs`.
     KwargSplat(Expr<'source>),
+}
+
+/// What a call calls.
+#[derive(Clone, Copy)]
+pub enum CallType<'ast, 'source> {
+    /// What a name stands for: `name(..)`.
+    Function(&'source str),
+    /// A method of a value: `expr.name(..)`.
+    Method(&'ast Expr<'source>, &'source str),
+    /// A block of the template: `self.name()`.
+    Block(&'source str),
+    /// A value: `expr(..)`.
+    Object(&'ast Expr<'source>),
+}
+
+impl<'source> Call<'source> {
+    ghost use Rattle.template_tree.specs.View.{expression_of, arguments_in};
+    ghost use Rattle.template_tree.specs.Kinds.{called_by};
+    ghost use Rattle.template_tree.specs.CallView.{called};
+
+    /// What the call calls: by a name, a method, a block or a value.
+    pub fn identify_call<'ast>(&'ast self) -> CallType<'ast, 'source>
+        ensures { called result ≡ called_by (expression_of self.now.expr) (arguments_in self.now.args.items) }
+    {
+        match &self.expr {
+            Expr::Var(n) => CallType::Function(n.node.id),
+            Expr::GetAttr(n) => {
+                if let Expr::Var(object) = &n.node.expr && self.args.is_empty() && object.node.id == "self" {
+                    return CallType::Block(n.node.name);
+                }
+                CallType::Method(&n.node.expr, n.node.name)
+            }
+            expr => CallType::Object(expr),
+        }
+    }
 }

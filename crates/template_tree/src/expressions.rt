@@ -1,8 +1,9 @@
 //! Expressions.
+ghost use Rattle.std.specs.Prelude.{◌≡◌};
 
 use crate::calls::{Call, CallArg};
 use crate::operators::{BinOpKind, CompareOpKind, UnaryOpKind};
-use crate::span::Spanned;
+use crate::span::{Span, Spanned};
 use std::borrow::CowStr;
 use template_values_core::Value;
 
@@ -161,6 +162,58 @@ pub struct Tuple<'source> {
 pub struct Map<'source> {
     pub keys: Vec<Expr<'source>>,
     pub values: Vec<Expr<'source>>,
+}
+
+impl<'source> Expr<'source> {
+    ghost use Rattle.template_tree.specs.View.{expression_of};
+    ghost use Rattle.template_tree.specs.Kinds.{description_of};
+    ghost use Rattle.template_tree.specs.Places.{expression_span};
+
+    /// The words for an expression of this kind, as `item lookup`.
+    pub fn description(&self) -> &'static str
+        ensures { result.now ≡ description_of (expression_of self.now) }
+    {
+        match self {
+            Expr::Var(_) => "variable",
+            Expr::Const(_) => "constant",
+            Expr::Slice(_) => "slice",
+            Expr::UnaryOp(_) => "unary operator",
+            Expr::BinOp(_) => "binary operator",
+            Expr::Compare(_) => "comparison",
+            Expr::IfExpr(_) => "if expression",
+            Expr::Filter(_) => "filter expression",
+            Expr::Test(_) => "test expression",
+            Expr::GetAttr(_) => "attribute lookup",
+            Expr::GetItem(_) => "item lookup",
+            Expr::Call(_) => "call",
+            Expr::List(_) => "list literal",
+            Expr::Tuple(_) => "tuple literal",
+            Expr::Map(_) => "map literal",
+        }
+    }
+
+    /// The stretch of the source that the expression was read from.
+    pub fn span(&self) -> Span
+        ensures { result ≡ expression_span self.now }
+    {
+        match self {
+            Expr::Var(n) => n.span,
+            Expr::Const(n) => n.span,
+            Expr::Slice(n) => n.span,
+            Expr::UnaryOp(n) => n.span,
+            Expr::BinOp(n) => n.span,
+            Expr::Compare(n) => n.span,
+            Expr::IfExpr(n) => n.span,
+            Expr::Filter(n) => n.span,
+            Expr::Test(n) => n.span,
+            Expr::GetAttr(n) => n.span,
+            Expr::GetItem(n) => n.span,
+            Expr::Call(n) => n.span,
+            Expr::List(n) => n.span,
+            Expr::Tuple(n) => n.span,
+            Expr::Map(n) => n.span,
+        }
+    }
 }
 
 impl<'source> Drop for Expr<'source> {

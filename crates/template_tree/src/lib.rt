@@ -7,7 +7,7 @@ mod operators;
 mod span;
 mod statements;
 
-pub use calls::{Call, CallArg};
+pub use calls::{Call, CallArg, CallType};
 pub use expressions::{
     BinOp, Compare, CompareOp, Const, Expr, Filter, GetAttr, GetItem, IfExpr, List, Map, Slice,
     Test, Tuple, UnaryOp, Var,

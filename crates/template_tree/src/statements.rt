@@ -1,8 +1,9 @@
 //! Statements.
+ghost use Rattle.std.specs.Prelude.{◌≡◌};
 
 use crate::calls::Call;
 use crate::expressions::Expr;
-use crate::span::Spanned;
+use crate::span::{Span, Spanned};
 
 /// A statement. A chain of `elif` may be as long as the source, other bodies nest at most 150 deep: what
 /// goes over a tree goes along `elif_chain` in a loop, and calls itself for bodies alone.
@@ -201,6 +202,38 @@ pub struct Break;
 #[derive(Drop)]
 pub struct Do<'source> {
     pub call: Spanned<Box<Call<'source>>>,
+}
+
+impl<'source> Stmt<'source> {
+    ghost use Rattle.template_tree.specs.Places.{statement_span};
+
+    /// The stretch of the source that the statement was read from.
+    pub fn span(&self) -> Span
+        ensures { result ≡ statement_span self.now }
+    {
+        match self {
+            Stmt::Template(n) => n.span,
+            Stmt::EmitExpr(n) => n.span,
+            Stmt::EmitRaw(n) => n.span,
+            Stmt::ForLoop(n) => n.span,
+            Stmt::IfCond(n) => n.span,
+            Stmt::WithBlock(n) => n.span,
+            Stmt::Set(n) => n.span,
+            Stmt::SetBlock(n) => n.span,
+            Stmt::AutoEscape(n) => n.span,
+            Stmt::FilterBlock(n) => n.span,
+            Stmt::Block(n) => n.span,
+            Stmt::Import(n) => n.span,
+            Stmt::FromImport(n) => n.span,
+            Stmt::Extends(n) => n.span,
+            Stmt::Include(n) => n.span,
+            Stmt::Macro(n) => n.span,
+            Stmt::CallBlock(n) => n.span,
+            Stmt::Continue(n) => n.span,
+            Stmt::Break(n) => n.span,
+            Stmt::Do(n) => n.span,
+        }
+    }
 }
 
 impl<'source> Drop for Stmt<'source> {
