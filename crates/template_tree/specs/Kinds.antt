@@ -1,5 +1,5 @@
 -- What kind of expression or call stands at a node.
-use Rattle.std.specs.Prelude.{ℕ, List, codes, bytes_eq, if◌then◌else◌}
+use Rattle.std.specs.Prelude.{ℕ, Bool, true, false, ◌&&◌, List, codes, bytes_eq, if◌then◌else◌}
 use Rattle.template_tree.specs.Tree.{Expression, variable, constant, slice, unary, binary, chain, conditional, filtered, tested, attribute, item, call, list_literal, tuple_literal, map_literal, Arguments, no_arguments, arguments_more}
 
 -- the words for an expression of this kind
@@ -27,11 +27,18 @@ pub data Called : Type 0 where
   calls_block : List ℕ → Called  -- a block of the template
   calls_value : Expression → Called
 
+abbrev pub is_self_name : Expression → Bool
+is_self_name (variable name) = bytes_eq name (codes "self")
+is_self_name _ = false
+
+abbrev pub is_empty : Arguments → Bool
+is_empty no_arguments = true
+is_empty (arguments_more arg rest) = false
+
 -- an attribute of `self` that is called without arguments is a block
 abbrev pub called_attribute : Expression → List ℕ → Arguments → Called
-called_attribute (variable id) name no_arguments =
-    if bytes_eq id (codes "self") then calls_block name else calls_method (variable id) name
-called_attribute callee name args = calls_method callee name
+called_attribute callee name args =
+    if is_self_name callee && is_empty args then calls_block name else calls_method callee name
 
 abbrev pub called_by : Expression → Arguments → Called
 called_by (variable name) args = calls_function name

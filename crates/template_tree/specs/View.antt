@@ -30,7 +30,7 @@ abbrev mutual
   expression_of (Map' p shape keys shape' values span) =
       map_literal (expressions_of keys) (expressions_of values)
 
-  chain_of : Compare → Expression
+  pub chain_of : Compare → Expression
   chain_of (compared expr shape ops) = chain (expression_of expr) (links_of ops)
 
   pub optional_of : Held-Filter-expr → Optional

@@ -40,7 +40,7 @@ pub enum CallType<'ast, 'source> {
 
 impl<'source> Call<'source> {
     ghost use Rattle.template_tree.specs.View.{expression_of, arguments_in};
-    ghost use Rattle.template_tree.specs.Kinds.{called_by};
+    ghost use Rattle.template_tree.specs.Kinds.{called_by, called_attribute};
     ghost use Rattle.template_tree.specs.CallView.{called};
 
     /// What the call calls: by a name, a method, a block or a value.
@@ -49,13 +49,23 @@ impl<'source> Call<'source> {
     {
         match &self.expr {
             Expr::Var(n) => CallType::Function(n.node.id),
-            Expr::GetAttr(n) => {
-                if let Expr::Var(object) = &n.node.expr && self.args.is_empty() && object.node.id == "self" {
-                    return CallType::Block(n.node.name);
-                }
-                CallType::Method(&n.node.expr, n.node.name)
-            }
+            Expr::GetAttr(n) => self.identify_attribute(&n.node.expr, n.node.name),
             expr => CallType::Object(expr),
+        }
+    }
+
+    // An attribute of `self` that is called without arguments is a block.
+    fn identify_attribute<'ast>(
+        &self,
+        object: &'ast Expr<'source>,
+        name: &'source str,
+    ) -> CallType<'ast, 'source>
+        ensures { called result ≡ called_attribute (expression_of object.now) name.now (arguments_in self.now.args.items) }
+    {
+        if object.is_self() && self.args.as_slice().is_empty() {
+            CallType::Block(name)
+        } else {
+            CallType::Method(object, name)
         }
     }
 }

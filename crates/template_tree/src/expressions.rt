@@ -216,6 +216,21 @@ impl<'source> Expr<'source> {
     }
 }
 
+impl<'source> Expr<'source> {
+    ghost use Rattle.template_tree.specs.View.{expression_of};
+    ghost use Rattle.template_tree.specs.Kinds.{is_self_name};
+
+    // The name `self`.
+    pub(crate) fn is_self(&self) -> bool
+        ensures { result ≡ is_self_name (expression_of self.now) }
+    {
+        match self {
+            Expr::Var(n) => n.node.id == "self",
+            _ => false,
+        }
+    }
+}
+
 impl<'source> Drop for Expr<'source> {
     #[cycle(expr)]
     fn drop(mut self) {
