@@ -3,6 +3,7 @@
 
 mod calls;
 mod expressions;
+mod makers;
 mod operators;
 mod span;
 mod statements;
