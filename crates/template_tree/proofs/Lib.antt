@@ -1,3 +1,4 @@
 pub mod Arms
 pub mod Chains
 pub mod Rows
+pub mod Walks

@@ -37,7 +37,7 @@ abbrev mutual
   spine_of (tuple_literal items) = tuple_literal items ∷ []
   spine_of (map_literal keys values) = map_literal keys values ∷ []
 
-  spine_before : Optional → List Expression
+  pub spine_before : Optional → List Expression
   spine_before absent = []
   spine_before (given e) = spine_of e
 
