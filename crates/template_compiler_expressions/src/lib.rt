@@ -1,0 +1,2 @@
+//! The grammar of expressions over the tokens of a template.
+#![tactic(auto)]
