@@ -1,0 +1,5 @@
+mod Rows
+pub mod Ranks
+pub mod Loops
+pub mod Shrinks
+pub mod Opens

@@ -1,3 +1,6 @@
 pub mod Words
 pub mod Trees
 pub mod Grammar
+pub mod Ends
+pub mod Steps
+pub mod Reader
