@@ -3,3 +3,6 @@ pub mod Ranks
 pub mod Loops
 pub mod Shrinks
 pub mod Opens
+pub mod Stops
+pub mod Complete
+pub mod Laws

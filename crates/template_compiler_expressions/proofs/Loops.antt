@@ -1,5 +1,5 @@
 -- Readings behind one another, and repetitions round by round.
-use Rattle.std.proofs.Common.{◌≡◌, ℕ, zero, suc, ◌<◌, ◌≤◌, List, [], ◌∷◌, length, Result, Ok, Err, refl, ◌∙◌, ap, arith}
+use Rattle.std.proofs.Common.{◌≡◌, ℕ, zero, suc, ◌<◌, ◌≤◌, List, [], ◌∷◌, length, Result, Ok, Err, refl, ◌∙◌, ap, subst, arith}
 use Rattle.template_compiler_tokens.specs.Token.{Token, TokenFault}
 use Rattle.template_compiler_expressions.specs.Steps.{Read, and_then, Step, goes, stops, fails, under, goes_on, many, all}
 
@@ -7,6 +7,10 @@ pub then_goes : {A B : Type 0} {m : Read A} {a : A} {ts : List Token} {r : Read 
     m ≡ Ok (a, ts) → go a ts ≡ r → and_then m go ≡ r
 unfolding and_then
 then_goes go e f = ap (λ m. and_then m go) e ∙ f
+
+pub then_fails : {A B : Type 0} {m : Read A} {f : TokenFault} (go : A → List Token → Read B) → m ≡ Err f → and_then m go ≡ Err f
+unfolding and_then
+then_fails go e = ap (λ m. and_then m go) e
 
 pub under_goes : {A B : Type 0} {m : Read A} {a : A} {ts : List Token} {r : Step B} (go : A → List Token → Step B) →
     m ≡ Ok (a, ts) → go a ts ≡ r → under m go ≡ r
@@ -25,6 +29,10 @@ loop_stops {step = step} {a = a} {ts = ts} e = record { within = go }
     go : (n : ℕ) → length ts < n → many n step a ts ≡ Ok (a, ts)
     go zero h = absurd (omega arith)
     go (suc n) h = ap (λ s. goes_on s (Ok (a, ts)) (many n step)) e
+
+pub loop_stops_at : {A : Type 0} {step : A → List Token → Step A} {a b : A} {ts : List Token} →
+    a ≡ b → step a ts ≡ stops → Loops step a ts (Ok (b, ts))
+loop_stops_at {step = step} {a = a} {ts = ts} e f = subst (λ x. Loops step a ts (Ok (x, ts))) e (loop_stops f)
 
 pub loop_goes : {A : Type 0} {step : A → List Token → Step A} {a b : A} {ts us : List Token} {r : Read A} →
     step a ts ≡ goes b us → length us < length ts → Loops step b us r → Loops step a ts r

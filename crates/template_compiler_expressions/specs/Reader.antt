@@ -241,15 +241,18 @@ unfoldable pub expression_by : Deeper → List Token → Read Expression
 expression_by r ts = and_then (binary_by r disjunction ts) (if_behind r)
 
 -- what stands in brackets
+abbrev pub items_step : (List Token → Read Expression) → Expressions → List Token → Step Expressions
+items_step read es ts = unless_closing (under (read ts) (λ e us. separated (and_expression es e) us)) ts
+
 unfoldable pub items_by : (List Token → Read Expression) → Expressions → List Token → Read Expressions
-items_by read =
-    all (λ es ts. unless_closing (under (read ts) (λ e us. separated (and_expression es e) us)) ts)
+items_by read = all (items_step read)
+
+abbrev pub pairs_step : (List Token → Read Expression) → Paired → List Token → Step Paired
+pairs_step read p ts =
+    unless_closing (under (and_then (read ts) colon_end) (λ k us. under (read us) (λ v vs. separated (and_pair p k v) vs))) ts
 
 unfoldable pub pairs_by : (List Token → Read Expression) → List Token → Read Paired
-pairs_by read =
-    all (λ p ts. unless_closing
-        (under (and_then (read ts) colon_end) (λ k us. under (read us) (λ v vs. separated (and_pair p k v) vs))) ts)
-    nothing_paired
+pairs_by read = all (pairs_step read) nothing_paired
 
 unfoldable pub paren_behind : (List Token → Read Expression) → Expression → List Token → Read Expression
 paren_behind read e (symbol comma ∷ ts) =
@@ -308,10 +311,12 @@ argument_by read ts = and_then (read ts) (λ e us. Ok (positional e, us))
 unfoldable pub few_arguments : Written → List Token → Read Arguments
 few_arguments w ts = if nat_le (argument_count (in_order w)) 2000 then Ok (in_order w, ts) else Err bad_syntax
 
+abbrev pub arguments_step : (List Token → Read Expression) → Written → List Token → Step Written
+arguments_step read w ts = unless_closing (under (argument_by read ts) (λ a us. separated (and_written w a) us)) ts
+
 unfoldable pub arguments_by : (List Token → Read Expression) → List Token → Read Arguments
 arguments_by read ts =
-    and_then (all (λ w us. unless_closing (under (argument_by read us) (λ a vs. separated (and_written w a) vs)) us) nothing_written ts)
-        (λ w us. and_then (paren_end w us) few_arguments)
+    and_then (all (arguments_step read) nothing_written ts) (λ w us. and_then (paren_end w us) few_arguments)
 
 -- what can be read with so many levels left, one level deeper
 abbrev pub one_deeper : Deeper → Deeper
