@@ -17,6 +17,7 @@ use Rattle.template_compiler_expressions.specs.Grammar.{IsNameTail, name_end, na
 use Rattle.template_compiler_expressions.specs.Reader.{Deeper, deeper, expression_by, dotted_step, name_of, text_step, paren_end, bracket_end, brace_end, colon_end, separated, unless_closing, primary_by, dot_part, part_step, parts_by, unary_by, optional_arguments_by, filter_by, test_arguments_by, test_by, is_by, filter_step, filtered_by, power_behind, power_by, operand_behind, operand_step, binary_of, terms_by, not_in_link, link_behind, link_step, comparison_by, negation_by, operand_by, binary_by, else_behind, if_behind, items_by, items_step, pairs_step, arguments_step, word_tree, pairs_by, paren_behind, paren_by, list_by, map_by, bound_by, step_by, slice_by, subscript_behind, subscript_by, named_argument, argument_by, few_arguments, arguments_by, begins_closing, begins_bound_end}
 use Rattle.template_compiler_expressions.proofs.Ranks.{weaker, level_rank, operand_rank, operand-le, operator_rank, comparison_rank}
 use Rattle.template_compiler_expressions.proofs.Loops.{then_goes, then_fails, under_goes, Loops, loop_stops, loop_stops_at, loop_goes, all_of}
+use Rattle.template_compiler_expressions.proofs.Readings.{ok_tree, ok_rest}
 use Rattle.template_compiler_expressions.proofs.Opens.{begins_opener, expression_opens}
 use Rattle.template_compiler_expressions.proofs.Shrinks as shrinks
 use Rattle.template_compiler_expressions.proofs.Stops.{dotted_stops, texts_stop, parts_stop, filters_stop, powers_stop, operands_stop, links_stop, if_stops, else_stops, no_negation_by, no_negated_test, no_arguments_by, begins_closing_behind, opener_closing, opener_bound, closing_bound, bound_end_behind, separated_last, unless_closed, unless_open, paren_open_by, bound_left_out, bound_read_by, step_left_out}
@@ -83,19 +84,6 @@ primary_unary r (text_primary t) = refl
 primary_unary r (paren_primary e) = refl
 primary_unary r (list_primary i) = refl
 primary_unary r (map_primary i e) = refl
-
--- the parts of what is read
-ok_pair : {A : Type 0} (a : A) (ts : List Token) (r : Read A) → A × List Token
-ok_pair a ts (Ok x) = x
-ok_pair a ts (Err f) = (a, ts)
-
-pub ok_tree : {A : Type 0} {a b : A} {ts us : List Token} → ◌≡◌ {A = Read A} (Ok (a, ts)) (Ok (b, us)) → a ≡ b
-unfolding ok_pair
-ok_tree {a = a} {ts = ts} e = ap (λ r. (ok_pair a ts r).0) e
-
-pub ok_rest : {A : Type 0} {a b : A} {ts us : List Token} → ◌≡◌ {A = Read A} (Ok (a, ts)) (Ok (b, us)) → ts ≡ us
-unfolding ok_pair
-ok_rest {a = a} {ts = ts} e = ap (λ r. (ok_pair a ts r).1) e
 
 -- arguments
 abbrev begins_assign : List Token → Bool

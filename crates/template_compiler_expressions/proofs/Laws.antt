@@ -4,7 +4,8 @@ use Rattle.template_tree.specs.Tree.{Expression}
 use Rattle.template_compiler_tokens.specs.Token.{Token}
 use Rattle.template_compiler_expressions.specs.Ends.{Ends}
 use Rattle.template_compiler_expressions.specs.Grammar.{IsExpression}
-use Rattle.template_compiler_expressions.proofs.Complete.{expression_read, ok_tree, ok_rest}
+use Rattle.template_compiler_expressions.proofs.Readings.{ok_tree, ok_rest}
+use Rattle.template_compiler_expressions.proofs.Complete.{expression_read}
 
 pub one_expression : (d : ℕ) (ts us vs : List Token) (e f : Expression) →
     IsExpression d ts e us → Ends us → IsExpression d ts f vs → Ends vs → (e ≡ f) × (us ≡ vs)
