@@ -101,7 +101,7 @@ few_goes w ts {args = args} e l =
     let few : nat_le (argument_count (in_order w)) 2000 ≡ true = grind (arith, nat_tests) in
     ap (λ b. if b then Ok (in_order w, ts) else Err bad_syntax) few ∙ ap (λ a. Ok (a, ts)) (sym e)
 
-argument_closing : {d : ℕ} {a : Argument} {ts us : List Token} → IsArgument d ts a us → begins_closing ts ≡ false
+pub argument_closing : {d : ℕ} {a : Argument} {ts us : List Token} → IsArgument d ts a us → begins_closing ts ≡ false
 argument_closing (positional_argument {ts = ts} e) = opener_closing ts (expression_opens e)
 argument_closing (keyword_argument e) = refl
 argument_closing (spread_argument e) = refl
