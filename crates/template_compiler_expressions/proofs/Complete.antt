@@ -8,13 +8,13 @@ use Rattle.template_tree.specs.declared.operators.BinOpKind.{BinOpKind}
 use Rattle.template_tree.specs.declared.operators.CompareOpKind.{CompareOpKind}
 use Rattle.template_tree.specs.declared.operators.CompareOpKind.TheVariants as comparisons
 use Rattle.template_tree.specs.Tree.{Expression, variable, constant, unary, binary, conditional, Optional, absent, given, Expressions, Links, no_links, Arguments, arguments_more, no_arguments, Argument, positional}
-use Rattle.template_compiler_tokens.specs.Token.{Token, bad_syntax, identifier, symbol, comma, colon, assign, mul, pow}
+use Rattle.template_compiler_tokens.specs.Token.{Token, bad_syntax, identifier, symbol, comma, colon, assign, mul, pow, pipe}
 use Rattle.template_compiler_expressions.specs.Words.{is_word, word_not, word_in, begins_bare, literal_word, Level, terms, disjunction, operator, comparison_operator}
 use Rattle.template_compiler_expressions.specs.Trees.{compared, and_link, tested_as, Paired, Written, argument_count, in_order}
 use Rattle.template_compiler_expressions.specs.Ends.{rank, Behind}
 use Rattle.template_compiler_expressions.specs.Steps.{Read, Step, goes, stops, fails, fault, and_then, under, goes_on, many, all}
-use Rattle.template_compiler_expressions.specs.Grammar.{IsNameTail, name_end, name_more, IsName, name, IsTexts, texts_end, texts_more, IsExpression, unconditional, if_alone, if_else, IsBinary, operands, IsOperands, operands_end, operands_more, IsOperand, factor, text_operand, term, conjunct, disjunct, IsNegation, negation, no_negation, IsComparison, comparison, IsLinks, links_end, links_operator, links_not_in, IsPower, no_power, power, IsFiltered, filtered_value, IsFilters, filters_end, filters_more, IsFilterParts, filter_parts, is_test, is_not_test, IsFilter, filter, IsTest, test, bare_test, IsOptionalArguments, no_list, a_list, IsUnary, minus_sign, primary, IsParts, parts_end, parts_more, IsPart, attribute_part, number_part, subscript_part, call_part, IsSubscript, item_subscript, slice_subscript, IsBound, no_bound, a_bound, IsStep, no_step, a_step, IsPrimary, name_primary, word_primary, number_primary, text_primary, paren_primary, list_primary, map_primary, IsParen, empty_tuple, in_parens, tuple, IsItems, items_end, items_last, items_more, IsPairs, pairs_end, pairs_last, pairs_more, IsArgumentList, argument_list, IsArguments, arguments_end, arguments_last, arguments_next, IsArgument, positional_argument, keyword_argument, spread_argument, keyword_spread_argument}
-use Rattle.template_compiler_expressions.specs.Reader.{Deeper, deeper, expression_by, dotted_step, name_of, text_step, paren_end, bracket_end, brace_end, colon_end, separated, unless_closing, primary_by, dot_part, part_step, parts_by, unary_by, optional_arguments_by, filter_by, test_arguments_by, test_by, is_by, filter_step, filtered_by, power_behind, power_by, operand_behind, operand_step, binary_of, terms_by, not_in_link, link_behind, link_step, comparison_by, negation_by, operand_by, binary_by, else_behind, if_behind, items_by, items_step, pairs_step, arguments_step, word_tree, pairs_by, paren_behind, paren_by, list_by, map_by, bound_by, step_by, slice_by, subscript_behind, subscript_by, named_argument, argument_by, few_arguments, arguments_by, begins_closing, begins_bound_end}
+use Rattle.template_compiler_expressions.specs.Grammar.{IsNameTail, name_end, name_more, IsName, name, IsTexts, texts_end, texts_more, IsExpression, unconditional, if_alone, if_else, IsBinary, operands, IsOperands, operands_end, operands_more, IsOperand, factor, text_operand, term, conjunct, disjunct, IsNegation, negation, no_negation, IsComparison, comparison, IsLinks, links_end, links_operator, links_not_in, IsPower, no_power, power, IsFiltered, filtered_value, IsFilters, filters_end, filters_more, IsFilterParts, filter_parts, is_test, is_not_test, IsFilter, filter, IsTest, test, bare_test, IsOptionalArguments, no_list, a_list, IsUnary, minus_sign, primary, IsParts, parts_end, parts_more, IsPart, attribute_part, number_part, subscript_part, call_part, IsSubscript, item_subscript, slice_subscript, IsBound, no_bound, a_bound, IsStep, no_step, a_step, IsPrimary, name_primary, word_primary, number_primary, text_primary, paren_primary, list_primary, map_primary, IsParen, empty_tuple, in_parens, tuple, IsItems, items_end, items_last, items_more, IsPairs, pairs_end, pairs_last, pairs_more, IsArgumentList, argument_list, IsArguments, arguments_end, arguments_last, arguments_next, IsArgument, positional_argument, keyword_argument, spread_argument, keyword_spread_argument, IsFilterChain, chain_end, chain_more}
+use Rattle.template_compiler_expressions.specs.Reader.{Deeper, deeper, expression_by, dotted_step, name_of, text_step, paren_end, bracket_end, brace_end, colon_end, separated, unless_closing, primary_by, dot_part, part_step, parts_by, unary_by, optional_arguments_by, filter_by, test_arguments_by, test_by, is_by, filter_step, filtered_by, power_behind, power_by, operand_behind, operand_step, binary_of, terms_by, not_in_link, link_behind, link_step, comparison_by, negation_by, operand_by, binary_by, else_behind, if_behind, items_by, items_step, pairs_step, arguments_step, word_tree, pairs_by, paren_behind, paren_by, list_by, map_by, bound_by, step_by, slice_by, subscript_behind, subscript_by, named_argument, argument_by, few_arguments, arguments_by, begins_closing, begins_bound_end, chain_step, filter_chain_by, expression_at, condition_at, filter_at, filter_chain_at, optional_arguments_at}
 use Rattle.template_compiler_expressions.proofs.Ranks.{weaker, level_rank, operand_rank, operand-le, operator_rank, comparison_rank}
 use Rattle.template_compiler_expressions.proofs.Loops.{then_goes, then_fails, under_goes, Loops, loop_stops, loop_stops_at, loop_goes, all_of}
 use Rattle.template_compiler_expressions.proofs.Readings.{ok_tree, ok_rest}
@@ -380,3 +380,38 @@ mutual
   argument_read (keyword_argument e) h g = then_goes _ (expression_read e h) refl
   argument_read (spread_argument e) h g = then_goes _ (expression_read e h) refl
   argument_read (keyword_spread_argument e) h g = then_goes _ (expression_read e h) refl
+
+-- the readings that statements use
+pub expression_complete : (d : ℕ) (ts us : List Token) (e : Expression) → IsExpression d ts e us → Behind 10 us → expression_at d ts ≡ Ok (e, us)
+unfolding expression_at
+expression_complete d ts us e x h = expression_read x h
+
+pub condition_complete : (d : ℕ) (ts us : List Token) (e : Expression) → IsBinary d disjunction ts e us → Behind 9 us → condition_at d ts ≡ Ok (e, us)
+unfolding condition_at
+condition_complete d ts us e x h = binary_read x h
+
+pub filter_complete : (d : ℕ) (value : Optional) (ts us : List Token) (e : Expression) → IsFilter d value ts e us → filter_at d value ts ≡ Ok (e, us)
+unfolding filter_at
+filter_complete d value ts us e x = filter_read x
+
+pub optional_arguments_complete : (d : ℕ) (ts us : List Token) (args : Arguments) → IsOptionalArguments d ts args us →
+    optional_arguments_at d ts ≡ Ok (args, us)
+unfolding optional_arguments_at
+optional_arguments_complete d ts us args x = optional_arguments_read x
+
+chain_stops : (r : Deeper) (value : Optional) (ts : List Token) → Behind 2 ts → chain_step r value ts ≡ stops
+unfolding chain_step
+chain_stops r value (symbol pipe ∷ ts) h = absurd (omega arith)
+chain_stops r value _ h = refl
+
+chain_read : {d : ℕ} {value all : Optional} {ts us : List Token} → IsFilterChain d value ts all us → Behind 2 us →
+    Loops (chain_step (deeper d)) value ts (Ok (all, us))
+unfolding chain_step
+chain_read (chain_end {d = d} {value = value} {ts = ts}) h = loop_stops (chain_stops (deeper d) value ts h)
+chain_read (chain_more x p) h =
+    let l = shrinks.filter_shrinks x in loop_goes (under_goes _ (filter_read x) refl) (omega arith) (chain_read p h)
+
+pub filter_chain_complete : (d : ℕ) (value all : Optional) (ts us : List Token) → IsFilterChain d value ts all us → Behind 2 us →
+    filter_chain_at d value ts ≡ Ok (all, us)
+unfolding filter_chain_at filter_chain_by
+filter_chain_complete d value all ts us x h = all_of (chain_read x h)

@@ -14,8 +14,8 @@ use Rattle.template_compiler_expressions.specs.Words.{is_word, word_if, word_els
 use Rattle.template_compiler_expressions.specs.Trees.{dotted, and_expression, compared, and_link, tested_as, Paired, nothing_paired, and_pair, Written, nothing_written, and_written, argument_count, in_order}
 use Rattle.template_compiler_expressions.specs.Blame.{Stands, Blamed}
 use Rattle.template_compiler_expressions.specs.Steps.{Read, Step, goes, stops, fails, fault, and_then, under, goes_on, many, all}
-use Rattle.template_compiler_expressions.specs.Grammar.{IsNameTail, name_end, name_more, IsName, name, IsTexts, texts_end, texts_more, IsExpression, unconditional, if_alone, if_else, IsBinary, operands, IsOperands, operands_end, operands_more, IsOperand, factor, text_operand, term, conjunct, disjunct, IsNegation, negation, no_negation, IsComparison, comparison, IsLinks, links_end, links_operator, links_not_in, IsPower, no_power, power, IsFiltered, filtered_value, IsFilters, filters_end, filters_more, IsFilterParts, filter_parts, is_test, is_not_test, IsFilter, filter, IsTest, test, bare_test, IsOptionalArguments, no_list, a_list, IsUnary, minus_sign, primary, IsParts, parts_end, parts_more, IsPart, attribute_part, number_part, subscript_part, call_part, IsSubscript, item_subscript, slice_subscript, IsBound, no_bound, a_bound, IsStep, no_step, a_step, IsPrimary, name_primary, word_primary, number_primary, text_primary, paren_primary, list_primary, map_primary, IsParen, empty_tuple, in_parens, tuple, IsItems, items_end, items_last, items_more, IsPairs, pairs_end, pairs_last, pairs_more, IsArgumentList, argument_list, IsArguments, arguments_end, arguments_last, arguments_next, IsArgument, positional_argument, keyword_argument, spread_argument, keyword_spread_argument}
-use Rattle.template_compiler_expressions.specs.Reader.{Deeper, deeper, expression_by, dotted_step, name_of, text_step, paren_end, bracket_end, brace_end, colon_end, separated, unless_closing, word_tree, primary_by, dot_part, part_step, parts_by, unary_by, optional_arguments_by, filter_by, test_arguments_by, test_by, is_by, filter_step, filtered_by, power_behind, power_by, operand_behind, operand_step, binary_of, terms_by, not_in_link, link_behind, link_step, comparison_by, negation_by, operand_by, binary_by, else_behind, if_behind, items_step, items_by, pairs_step, pairs_by, paren_behind, paren_by, list_by, map_by, bound_by, step_by, slice_by, subscript_behind, subscript_by, named_argument, argument_by, few_arguments, arguments_step, arguments_by, begins_closing, begins_bound_end}
+use Rattle.template_compiler_expressions.specs.Grammar.{IsNameTail, name_end, name_more, IsName, name, IsTexts, texts_end, texts_more, IsExpression, unconditional, if_alone, if_else, IsBinary, operands, IsOperands, operands_end, operands_more, IsOperand, factor, text_operand, term, conjunct, disjunct, IsNegation, negation, no_negation, IsComparison, comparison, IsLinks, links_end, links_operator, links_not_in, IsPower, no_power, power, IsFiltered, filtered_value, IsFilters, filters_end, filters_more, IsFilterParts, filter_parts, is_test, is_not_test, IsFilter, filter, IsTest, test, bare_test, IsOptionalArguments, no_list, a_list, IsUnary, minus_sign, primary, IsParts, parts_end, parts_more, IsPart, attribute_part, number_part, subscript_part, call_part, IsSubscript, item_subscript, slice_subscript, IsBound, no_bound, a_bound, IsStep, no_step, a_step, IsPrimary, name_primary, word_primary, number_primary, text_primary, paren_primary, list_primary, map_primary, IsParen, empty_tuple, in_parens, tuple, IsItems, items_end, items_last, items_more, IsPairs, pairs_end, pairs_last, pairs_more, IsArgumentList, argument_list, IsArguments, arguments_end, arguments_last, arguments_next, IsArgument, positional_argument, keyword_argument, spread_argument, keyword_spread_argument, IsFilterChain, chain_end, chain_more}
+use Rattle.template_compiler_expressions.specs.Reader.{Deeper, deeper, expression_by, dotted_step, name_of, text_step, paren_end, bracket_end, brace_end, colon_end, separated, unless_closing, word_tree, primary_by, dot_part, part_step, parts_by, unary_by, optional_arguments_by, filter_by, test_arguments_by, test_by, is_by, filter_step, filtered_by, power_behind, power_by, operand_behind, operand_step, binary_of, terms_by, not_in_link, link_behind, link_step, comparison_by, negation_by, operand_by, binary_by, else_behind, if_behind, items_step, items_by, pairs_step, pairs_by, paren_behind, paren_by, list_by, map_by, bound_by, step_by, slice_by, subscript_behind, subscript_by, named_argument, argument_by, few_arguments, arguments_step, arguments_by, begins_closing, begins_bound_end, chain_step, filter_chain_by, expression_at, condition_at, filter_at, filter_chain_at, optional_arguments_at}
 use Rattle.template_compiler_expressions.proofs.Ranks.{same_name}
 use Rattle.template_compiler_expressions.proofs.Opens.{expression_opens}
 use Rattle.template_compiler_expressions.proofs.Stops.{opener_closing}
@@ -512,5 +512,29 @@ deeper_reads (suc d) = let r = deeper_reads d in record {
 }
 
 -- what is read is a tree
-pub expression_sound : (d : ℕ) (ts : List Token) → Reads (IsExpression d ts) ts (expression_by (deeper d) ts)
+pub expression_sound : (d : ℕ) (ts : List Token) → Reads (IsExpression d ts) ts (expression_at d ts)
+unfolding expression_at
 expression_sound d ts = expression_reads d (deeper_reads d) ts
+
+pub condition_sound : (d : ℕ) (ts : List Token) → Reads (IsBinary d disjunction ts) ts (condition_at d ts)
+unfolding condition_at
+condition_sound d ts = condition_reads d (deeper_reads d) ts
+
+pub filter_sound : (d : ℕ) (value : Optional) (ts : List Token) → Reads (IsFilter d value ts) ts (filter_at d value ts)
+unfolding filter_at
+filter_sound d value ts = filter_reads d (deeper_reads d) value ts
+
+chain_reads : (d : ℕ) (value : Optional) (ts : List Token) →
+    StepReads (λ o us. (c : Optional) (vs : List Token) → IsFilterChain d o us c vs → IsFilterChain d value ts c vs) ts (chain_step (deeper d) value ts)
+unfolding chain_step
+chain_reads d value (symbol pipe ∷ ts) =
+    step_behind (step_under _ (filter_reads d (deeper_reads d) value ts) (λ e us x. step_goes (λ c vs p. chain_more x p) (same us)))
+chain_reads d value _ = step_stops
+
+pub filter_chain_sound : (d : ℕ) (value : Optional) (ts : List Token) → Reads (IsFilterChain d value ts) ts (filter_chain_at d value ts)
+unfolding filter_chain_at filter_chain_by
+filter_chain_sound d value ts = reads_all (chain_step (deeper d)) (IsFilterChain d) (λ o ts. chain_end) (chain_reads d) value ts
+
+pub optional_arguments_sound : (d : ℕ) (ts : List Token) → Reads (IsOptionalArguments d ts) ts (optional_arguments_at d ts)
+unfolding optional_arguments_at
+optional_arguments_sound d ts = optional_reads d (deeper_reads d) ts

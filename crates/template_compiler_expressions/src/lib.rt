@@ -1,7 +1,7 @@
 //! The grammar of expressions over the tokens of a template.
 #![tactic(auto)]
 
-ghost use Rattle.std.specs.Prelude.{◌≡◌, ℕ, List};
+ghost use Rattle.std.specs.Prelude.{◌≡◌, ℕ, ◌⊎◌, List, []};
 ghost use Rattle.template_compiler_expressions.specs.Ends.{Ends};
 ghost use Rattle.template_compiler_expressions.specs.Grammar.{IsExpression};
 ghost use Rattle.template_compiler_tokens.specs.Token.{Token};
@@ -13,6 +13,15 @@ pub fn one_expression()
     ensures {
         (d : ℕ) (ts us vs : List Token) (e f : Expression) →
         IsExpression d ts e us → Ends us → IsExpression d ts f vs → Ends vs → (e ≡ f) × (us ≡ vs)
+    }
+{
+}
+
+/// A law, as the contract of a function that does nothing: tokens are one expression, or they are none.
+pub fn is_decided()
+    ensures {
+        (d : ℕ) (ts : List Token) →
+        ((e : Expression) × IsExpression d ts e []) ⊎ ((e : Expression) → IsExpression d ts e [] → ⊥)
     }
 {
 }
