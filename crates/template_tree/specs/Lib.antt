@@ -1,1 +1,7 @@
 pub mod Tree
+pub mod View
+pub mod StatementView
+pub mod Places
+pub mod Kinds
+pub mod CallView
+pub mod Spine
