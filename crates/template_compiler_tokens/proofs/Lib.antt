@@ -1,0 +1,3 @@
+pub mod OneToken
+pub mod Texts
+pub mod Decided

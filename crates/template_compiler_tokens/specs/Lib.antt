@@ -1,1 +1,6 @@
 pub mod Token
+pub mod View
+pub mod Left
+pub mod Numbers
+pub mod Texts
+pub mod Lexical

@@ -1,0 +1,7 @@
+pub mod Words
+pub mod Trees
+pub mod Grammar
+pub mod Ends
+pub mod Blame
+pub mod Steps
+pub mod Reader

@@ -1,0 +1,6 @@
+//! The scanner of one token: which token a text begins with, and where it ends.
+#![tactic(auto)]
+
+mod bytes;
+mod escapes;
+mod numbers;
