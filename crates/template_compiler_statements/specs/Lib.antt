@@ -1,0 +1,3 @@
+pub mod Words
+pub mod Trees
+pub mod Grammar

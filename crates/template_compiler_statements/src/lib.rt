@@ -1,0 +1,2 @@
+//! The grammar of templates over their tokens.
+#![tactic(auto)]
