@@ -7,7 +7,7 @@ use Rattle.template_compiler_expressions.specs.Words.{word_if, word_in, begins_p
 use Rattle.template_compiler_expressions.specs.Trees.{and_expression}
 use Rattle.template_compiler_expressions.specs.Grammar.{IsExpression, IsBinary, IsFilter, IsFilterChain}
 use Rattle.template_compiler_statements.specs.Words.{word, opens, tag, is_reserved}
-use Rattle.template_compiler_statements.specs.Trees.{and_statement, and_assignment, and_import, Branches, no_branches, and_branch, branched, Parameters, no_parameters, and_plain, and_default, is_block_body, blocks_among, are_distinct}
+use Rattle.template_compiler_statements.specs.Trees.{and_statement, and_assignment, and_import, Branches, no_branches, and_branch, branched, Parameters, no_parameters, and_plain, and_default, is_block_body, blocks_among, are_distinct, unpacked, together}
 
 -- what stands around a statement: a loop of the same body, a macro
 pub record Around : Type 0 where
@@ -36,6 +36,12 @@ pub data IsPath : Expression → List Token → Expression → List Token → Ty
   path_more : {e f : Expression} {n : List ℕ} {ts us : List Token} →
       IsPath (attribute e n) ts f us → IsPath e (symbol dot ∷ identifier n ∷ ts) f us
 
+-- { "," item }, where the relation puts one item more behind an accumulator
+pub data IsMore {A : Type 0} (item : A → List Token → A → List Token → Type 0) : A → List Token → A → List Token → Type 0 where
+  more_end : {a : A} {ts : List Token} → IsMore item a ts a ts
+  more_next : {a b c : A} {ts us vs : List Token} →
+      item a ts b us → IsMore item b us c vs → IsMore item a (symbol comma ∷ ts) c vs
+
 mutual
   -- target = ident | "(" targets ")", and with dots ident { "." ident }
   pub data IsTarget (dots : Bool) : ℕ → List Token → Expression → List Token → Type 0 where
@@ -47,44 +53,35 @@ mutual
 
   -- targets = target { "," target }: one is itself, several are unpacked
   pub data IsTargets (dots : Bool) : ℕ → List Token → Expression → List Token → Type 0 where
-    one_target : {d : ℕ} {e : Expression} {ts us : List Token} → IsTarget dots d ts e us → IsTargets dots d ts e us
-    several_targets : {d : ℕ} {a : Expression} {es : Expressions} {ts us vs : List Token} →
-        IsTarget dots d ts a (symbol comma ∷ us) → IsTargetList dots d (expressions_more a no_expressions) us es vs →
-        IsTargets dots d ts (list_literal es) vs
+    targets : {d : ℕ} {a e : Expression} {es : Expressions} {ts us vs : List Token} →
+        IsTarget dots d ts a us → IsMoreTargets dots d (expressions_more a no_expressions) us es vs → e ≡ unpacked es →
+        IsTargets dots d ts e vs
 
-  pub data IsTargetList (dots : Bool) : ℕ → Expressions → List Token → Expressions → List Token → Type 0 where
-    target_last : {d : ℕ} {e : Expression} {es fs : Expressions} {ts us : List Token} →
-        IsTarget dots d ts e us → fs ≡ and_expression es e → IsTargetList dots d es ts fs us
-    target_next : {d : ℕ} {e : Expression} {es fs : Expressions} {ts us vs : List Token} →
-        IsTarget dots d ts e (symbol comma ∷ us) → IsTargetList dots d (and_expression es e) us fs vs →
-        IsTargetList dots d es ts fs vs
+  pub data IsMoreTargets (dots : Bool) : ℕ → Expressions → List Token → Expressions → List Token → Type 0 where
+    targets_end : {d : ℕ} {es : Expressions} {ts : List Token} → IsMoreTargets dots d es ts es ts
+    targets_next : {d : ℕ} {e : Expression} {es fs : Expressions} {ts us vs : List Token} →
+        IsTarget dots d ts e us → IsMoreTargets dots d (and_expression es e) us fs vs →
+        IsMoreTargets dots d es (symbol comma ∷ ts) fs vs
 
 -- expr { "," expr }: several are a tuple
-pub data IsValueList : ℕ → Expressions → List Token → Expressions → List Token → Type 0 where
-  value_last : {d : ℕ} {e : Expression} {es fs : Expressions} {ts us : List Token} →
-      IsExpression d ts e us → fs ≡ and_expression es e → IsValueList d es ts fs us
-  value_next : {d : ℕ} {e : Expression} {es fs : Expressions} {ts us vs : List Token} →
-      IsExpression d ts e (symbol comma ∷ us) → IsValueList d (and_expression es e) us fs vs → IsValueList d es ts fs vs
+pub data IsValue (d : ℕ) : Expressions → List Token → Expressions → List Token → Type 0 where
+  value : {e : Expression} {es fs : Expressions} {ts us : List Token} →
+      IsExpression d ts e us → fs ≡ and_expression es e → IsValue d es ts fs us
 
 pub data IsValues : ℕ → List Token → Expression → List Token → Type 0 where
-  one_value : {d : ℕ} {e : Expression} {ts us : List Token} → IsExpression d ts e us → IsValues d ts e us
-  several_values : {d : ℕ} {a : Expression} {es : Expressions} {ts us vs : List Token} →
-      IsExpression d ts a (symbol comma ∷ us) → IsValueList d (expressions_more a no_expressions) us es vs →
-      IsValues d ts (tuple_literal es) vs
+  values : {d : ℕ} {e : Expression} {es fs : Expressions} {ts us vs : List Token} →
+      IsValue d no_expressions ts es us → IsMore (IsValue d) es us fs vs → e ≡ together fs → IsValues d ts e vs
 
 -- [target "=" expr {"," target "=" expr}]
-pub data IsAssignmentList : ℕ → Assignments → List Token → Assignments → List Token → Type 0 where
-  assignment_last : {d : ℕ} {t e : Expression} {gs hs : Assignments} {ts us vs : List Token} →
+pub data IsAssignment (d : ℕ) : Assignments → List Token → Assignments → List Token → Type 0 where
+  assignment : {t e : Expression} {gs hs : Assignments} {ts us vs : List Token} →
       IsTarget false d ts t (symbol assign ∷ us) → IsExpression d us e vs → hs ≡ and_assignment gs t e →
-      IsAssignmentList d gs ts hs vs
-  assignment_next : {d : ℕ} {t e : Expression} {gs hs : Assignments} {ts us vs ws : List Token} →
-      IsTarget false d ts t (symbol assign ∷ us) → IsExpression d us e (symbol comma ∷ vs) →
-      IsAssignmentList d (and_assignment gs t e) vs hs ws → IsAssignmentList d gs ts hs ws
+      IsAssignment d gs ts hs vs
 
 pub data IsAssignments : ℕ → List Token → Assignments → List Token → Type 0 where
   none_assigned : {d : ℕ} {ts : List Token} → IsAssignments d ts no_assignments ts
-  some_assigned : {d : ℕ} {gs : Assignments} {ts us : List Token} →
-      IsAssignmentList d no_assignments ts gs us → IsAssignments d ts gs us
+  some_assigned : {d : ℕ} {gs hs : Assignments} {ts us vs : List Token} →
+      IsAssignment d no_assignments ts gs us → IsMore (IsAssignment d) gs us hs vs → IsAssignments d ts hs vs
 
 -- ["if" expr], whose branch is no level deeper
 pub data IsLoopFilter : ℕ → List Token → Optional → List Token → Type 0 where
@@ -108,37 +105,26 @@ pub data IsMissing : List Token → Bool → List Token → Type 0 where
   ignored : {ts us vs : List Token} →
       IsContext ts (word (codes "ignore") ∷ word (codes "missing") ∷ us) → IsContext us vs → IsMissing ts true vs
 
--- ident ["as" ident] {"," ident ["as" ident]}
-pub data IsImport : List Token → Expression → Optional → List Token → Type 0 where
-  same_name : {n : Expression} {ts us : List Token} → IsStored ts n us → IsImport ts n absent us
-  other_name : {n a : Expression} {ts us vs : List Token} →
-      IsStored ts n (word (codes "as") ∷ us) → IsStored us a vs → IsImport ts n (given a) vs
-
-pub data IsImports : Imports → List Token → Imports → List Token → Type 0 where
-  import_last : {n : Expression} {a : Optional} {is js : Imports} {ts us : List Token} →
-      IsImport ts n a us → js ≡ and_import is n a → IsImports is ts js us
-  import_next : {n : Expression} {a : Optional} {is js : Imports} {ts us vs : List Token} →
-      IsImport ts n a (symbol comma ∷ us) → IsImports (and_import is n a) us js vs → IsImports is ts js vs
+-- ident ["as" ident]
+pub data IsImport : Imports → List Token → Imports → List Token → Type 0 where
+  same_name : {n : Expression} {is js : Imports} {ts us : List Token} →
+      IsStored ts n us → js ≡ and_import is n absent → IsImport is ts js us
+  other_name : {n a : Expression} {is js : Imports} {ts us vs : List Token} →
+      IsStored ts n (word (codes "as") ∷ us) → IsStored us a vs → js ≡ and_import is n (given a) → IsImport is ts js vs
 
 -- ident ["=" expr]: behind a default, each argument has one
-pub data IsParameter : ℕ → Parameters → List Token → Parameters → List Token → Type 0 where
-  plain_parameter : {d : ℕ} {a : Expression} {p q : Parameters} {ts us : List Token} →
+pub data IsParameter (d : ℕ) : Parameters → List Token → Parameters → List Token → Type 0 where
+  plain_parameter : {a : Expression} {p q : Parameters} {ts us : List Token} →
       IsStored ts a us → p.1 ≡ no_expressions → q ≡ and_plain p a → IsParameter d p ts q us
-  default_parameter : {d : ℕ} {a e : Expression} {p q : Parameters} {ts us vs : List Token} →
+  default_parameter : {a e : Expression} {p q : Parameters} {ts us vs : List Token} →
       IsStored ts a (symbol assign ∷ us) → IsExpression d us e vs → q ≡ and_default p a e → IsParameter d p ts q vs
 
-pub data IsParameterList : ℕ → Parameters → List Token → Parameters → List Token → Type 0 where
-  parameter_last : {d : ℕ} {p q : Parameters} {ts us : List Token} →
-      IsParameter d p ts q us → IsParameterList d p ts q us
-  parameter_next : {d : ℕ} {p q r : Parameters} {ts us vs : List Token} →
-      IsParameter d p ts q (symbol comma ∷ us) → IsParameterList d q us r vs → IsParameterList d p ts r vs
-
--- [ident ["=" expr] {"," ident ["=" expr]}] ")"
+-- [parameter {"," parameter}] ")"
 pub data IsParameters : ℕ → List Token → Parameters → List Token → Type 0 where
   none_declared : {d : ℕ} {p : Parameters} {ts : List Token} →
       p ≡ no_parameters → IsParameters d (symbol paren_close ∷ ts) p ts
-  some_declared : {d : ℕ} {p : Parameters} {ts us : List Token} →
-      IsParameterList d no_parameters ts p (symbol paren_close ∷ us) → IsParameters d ts p us
+  some_declared : {d : ℕ} {p q : Parameters} {ts us vs : List Token} →
+      IsParameter d no_parameters ts p us → IsMore (IsParameter d) p us q (symbol paren_close ∷ vs) → IsParameters d ts q vs
 
 -- ["(" parameters ")"]: the next `(` begins them
 pub data IsOptionalParameters : ℕ → List Token → Parameters → List Token → Type 0 where
@@ -211,9 +197,9 @@ mutual
         IsExpression d ts e (word (codes "as") ∷ us) → IsStored us a vs → IsContext vs (block_end ∷ ws) →
         IsStatement d p (opens (codes "import") ts) (import e a) ws
     -- from expr import ident [as ident] {, ident [as ident]}
-    from_statement : {d : ℕ} {p : Around} {e : Expression} {is : Imports} {ts us vs ws : List Token} →
-        IsExpression d ts e (word (codes "import") ∷ us) → IsImports no_imports us is vs → IsContext vs (block_end ∷ ws) →
-        IsStatement d p (opens (codes "from") ts) (from_import e is) ws
+    from_statement : {d : ℕ} {p : Around} {e : Expression} {is js : Imports} {ts us vs ws xs : List Token} →
+        IsExpression d ts e (word (codes "import") ∷ us) → IsImport no_imports us is vs → IsMore IsImport is vs js ws →
+        IsContext ws (block_end ∷ xs) → IsStatement d p (opens (codes "from") ts) (from_import e js) xs
     extends_statement : {d : ℕ} {p : Around} {e : Expression} {ts us : List Token} →
         IsExpression d ts e (block_end ∷ us) → IsStatement d p (opens (codes "extends") ts) (extends e) us
     -- include expr [ignore missing]

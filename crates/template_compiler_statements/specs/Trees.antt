@@ -2,7 +2,7 @@
 use Rattle.std.specs.Prelude.{ℕ, Bool, true, false, ◌&&◌, not, if◌then◌else◌, List, [], ◌∷◌, ◌++◌, bytes_eq}
 use Rattle.std.specs.List.{list_any}
 use Rattle.std.specs.Str.{trim_start}
-use Rattle.template_tree.specs.Tree.{Expression, Expressions, no_expressions, Optional, Statement, template, raw, for_loop, if_condition, with_block, set_block, auto_escape, filter_block, block, macro, call_block, Statements, no_statements, statements_more, Assignments, no_assignments, assignments_more, Imports, no_imports, imports_more}
+use Rattle.template_tree.specs.Tree.{Expression, list_literal, tuple_literal, Expressions, no_expressions, expressions_more, Optional, Statement, template, raw, for_loop, if_condition, with_block, set_block, auto_escape, filter_block, block, macro, call_block, Statements, no_statements, statements_more, Assignments, no_assignments, assignments_more, Imports, no_imports, imports_more}
 use Rattle.template_compiler_expressions.specs.Trees.{and_expression}
 
 -- lists with one more at the end
@@ -17,6 +17,16 @@ and_assignment (assignments_more u f rest) t e = assignments_more u f (and_assig
 abbrev pub and_import : Imports → Expression → Optional → Imports
 and_import no_imports n a = imports_more n a no_imports
 and_import (imports_more m b rest) n a = imports_more m b (and_import rest n a)
+
+-- one target is itself, several are unpacked
+abbrev pub unpacked : Expressions → Expression
+unpacked (expressions_more e no_expressions) = e
+unpacked es = list_literal es
+
+-- one value is itself, several are a tuple
+abbrev pub together : Expressions → Expression
+together (expressions_more e no_expressions) = e
+together es = tuple_literal es
 
 -- conditions with their bodies
 pub data Branches : Type 0 where
