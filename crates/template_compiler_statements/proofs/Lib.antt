@@ -1,2 +1,3 @@
 pub mod Shrinks
 pub mod Complete
+pub mod Laws

@@ -1,9 +1,8 @@
 -- What is read takes tokens.
-use Rattle.std.proofs.Common.{◌≡◌, ℕ, suc, ◌<◌, ◌≤◌, Bool, List, [], ◌∷◌, length, arith}
+use Rattle.std.proofs.Common.{ℕ, ◌<◌, ◌≤◌, Bool, List, length, arith}
 use Rattle.template_tree.specs.Tree.{Expression, Optional, Expressions, Statement, Statements, Assignments, Imports}
 use Rattle.template_compiler_tokens.specs.Token.{Token}
-use Rattle.template_compiler_expressions.specs.Words.{disjunction}
-use Rattle.template_compiler_expressions.specs.Grammar.{IsExpression, IsBinary, IsFilter, IsFilterChain, chain_end, chain_more}
+use Rattle.template_compiler_expressions.specs.Grammar.{IsFilterChain, chain_end, chain_more}
 use Rattle.template_compiler_expressions.proofs.Shrinks.{expression_shrinks, binary_shrinks, filter_shrinks}
 use Rattle.template_compiler_statements.specs.Trees.{Branches, Parameters}
 use Rattle.template_compiler_statements.specs.Grammar.{Around, IsStored, stored, IsPath, path_end, path_more, IsMore, more_end, more_next, IsTarget, name_target, path_target, paren_target, IsTargets, targets, IsMoreTargets, targets_end, targets_next, IsValue, value, IsValues, values, IsAssignment, assignment, IsAssignments, none_assigned, some_assigned, IsLoopFilter, no_loop_filter, a_loop_filter, IsWord, no_word, a_word, IsContext, no_context, with_context, IsMissing, not_ignored, ignored, IsImport, same_name, other_name, IsParameter, plain_parameter, default_parameter, IsParameters, none_declared, some_declared, IsOptionalParameters, not_declared, declared, IsBlockEnd, plain_end, named_end, IsStatements, statements_end, statements_next, IsStatement, text_statement, print_statement, for_statement, if_statement, with_statement, set_statement, set_block_statement, autoescape_statement, filter_statement, block_statement, import_statement, from_statement, extends_statement, include_statement, macro_statement, call_statement, do_statement, break_statement, continue_statement, IsBranches, branches_end, branches_next, IsElse, no_else, an_else}

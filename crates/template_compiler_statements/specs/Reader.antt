@@ -3,7 +3,7 @@
 use Rattle.std.specs.Prelude.{ℕ, zero, suc, Bool, true, false, if◌then◌else◌, codes, List, [], ◌∷◌, Option, None, Some, Result, Ok, Err, bytes_eq}
 use Rattle.template_tree.specs.Tree.{Expression, variable, attribute, call, Optional, absent, given, Expressions, no_expressions, expressions_more, Arguments, Statement, raw, print, for_loop, if_condition, with_block, set, set_block, auto_escape, filter_block, block, import, from_import, extends, include, macro, call_block, continue_loop, break_loop, do_call, Statements, no_statements, Assignments, no_assignments, Imports, no_imports}
 use Rattle.template_compiler_tokens.specs.Token.{Token, TokenFault, bad_syntax, template_data, variable_start, variable_end, block_start, block_end, identifier, symbol, dot, comma, assign, paren_open, paren_close}
-use Rattle.template_compiler_expressions.specs.Words.{is_word, begins_word}
+use Rattle.template_compiler_expressions.specs.Words.{is_word}
 use Rattle.template_compiler_expressions.specs.Trees.{and_expression}
 use Rattle.template_compiler_expressions.specs.Steps.{Read, fault, and_then, Step, goes, stops, under, all}
 use Rattle.template_compiler_expressions.specs.Reader.{too_deep, paren_end, expression_at, condition_at, filter_at, filter_chain_at}
@@ -90,7 +90,7 @@ values_by read ts =
 unfoldable pub assignment_by : Here → Assignments → List Token → Read Assignments
 assignment_by r gs ts =
     and_then (target_by false (r.inner false) ts) (λ t us.
-      and_then (expect_assign t us) (λ t vs. and_then (r.expression vs) (λ e ws. Ok (and_assignment gs t e, ws))))
+    and_then (expect_assign t us) (λ t vs. and_then (r.expression vs) (λ e ws. Ok (and_assignment gs t e, ws))))
 
 unfoldable pub assignments_by : Here → List Token → Read Assignments
 assignments_by r (block_end ∷ ts) = Ok (no_assignments, block_end ∷ ts)
@@ -167,12 +167,12 @@ else_by r p end ts =
 unfoldable pub for_body : Here → Around → Expression → Expression → Optional → Bool → List Token → Read Statement
 for_body r p t i f b ts =
     and_then (tag_end b ts) (λ b us. and_then (r.body (loop_around p) us) (λ body vs.
-      and_then (else_by r p (codes "endfor") vs) (λ other ws. Ok (for_loop t i f b body other, ws))))
+    and_then (else_by r p (codes "endfor") vs) (λ other ws. Ok (for_loop t i f b body other, ws))))
 
 unfoldable pub for_in : Here → Around → Expression → List Token → Read Statement
 for_in r p t ts =
     and_then (r.condition ts) (λ i us. and_then (loop_filter_by r.expression us) (λ f vs.
-      and_then (word_by (codes "recursive") vs) (for_body r p t i f)))
+    and_then (word_by (codes "recursive") vs) (for_body r p t i f)))
 
 unfoldable pub for_by : Here → Around → List Token → Read Statement
 for_by r p ts =
@@ -194,7 +194,7 @@ branch_step r p bs ts = stops
 unfoldable pub if_by : Here → Around → List Token → Read Statement
 if_by r p ts =
     and_then (branch_by r p ts) (λ b us. and_then (all (branch_step r p) no_branches us) (λ bs vs.
-      and_then (else_by r p (codes "endif") vs) (λ other ws. Ok (if_condition b.0 b.1 (branched bs other), ws))))
+    and_then (else_by r p (codes "endif") vs) (λ other ws. Ok (if_condition b.0 b.1 (branched bs other), ws))))
 
 -- scopes, sets and filters
 unfoldable pub with_by : Here → Around → List Token → Read Statement
@@ -234,7 +234,7 @@ filtered_body absent body = raw []
 unfoldable pub filter_block_by : Here → Around → List Token → Read Statement
 filter_block_by r p ts =
     and_then (r.filter absent ts) (λ e us. and_then (r.filters (given e) us) (λ f vs.
-      and_then (tag_end f vs) (λ f ws. body_by r p (codes "endfilter") (filtered_body f) ws)))
+    and_then (tag_end f vs) (λ f ws. body_by r p (codes "endfilter") (filtered_body f) ws)))
 
 -- blocks
 unfoldable pub end_name_by : {A : Type 0} → List ℕ → A → List Token → Read A
@@ -248,7 +248,7 @@ block_end_by name a ts = Err (fault ts)
 unfoldable pub block_body : Here → Around → List ℕ → Bool → List Token → Read Statement
 block_body r p n b ts =
     and_then (tag_end b ts) (λ b us. and_then (r.body (block_around p) us) (λ body vs.
-      if is_block_body b body then block_end_by n (block n b body) vs else Err bad_syntax))
+    if is_block_body b body then block_end_by n (block n b body) vs else Err bad_syntax))
 
 unfoldable pub block_by : Here → Around → List Token → Read Statement
 block_by r p (identifier n ∷ ts) =
@@ -259,13 +259,13 @@ block_by r p ts = Err (fault ts)
 unfoldable pub import_statement_by : Here → List Token → Read Statement
 import_statement_by r ts =
     and_then (r.expression ts) (λ e us. and_then (expect_word (codes "as") e us) (λ e vs.
-      and_then (stored_by vs) (λ a ws. and_then (context_by (import e a) ws) tag_end)))
+    and_then (stored_by vs) (λ a ws. and_then (context_by (import e a) ws) tag_end)))
 
 unfoldable pub from_by : Here → List Token → Read Statement
 from_by r ts =
     and_then (r.expression ts) (λ e us. and_then (expect_word (codes "import") e us) (λ e vs.
-      and_then (import_by no_imports vs) (λ is ws. and_then (all (more_step import_by) is ws) (λ js xs.
-        and_then (context_by (from_import e js) xs) tag_end))))
+    and_then (import_by no_imports vs) (λ is ws. and_then (all (more_step import_by) is ws) (λ js xs.
+    and_then (context_by (from_import e js) xs) tag_end))))
 
 unfoldable pub extends_by : Here → List Token → Read Statement
 extends_by r ts = and_then (r.expression ts) (λ e us. tag_end (extends e) us)

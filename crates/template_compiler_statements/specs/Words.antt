@@ -1,5 +1,5 @@
 -- What the grammar of statements asks of tokens: words and tags.
-use Rattle.std.specs.Prelude.{ℕ, Bool, true, false, ◌||◌, List, [], ◌∷◌, codes, bytes_eq}
+use Rattle.std.specs.Prelude.{ℕ, Bool, List, [], ◌∷◌, codes, bytes_eq}
 use Rattle.std.specs.List.{list_any}
 use Rattle.template_compiler_tokens.specs.Token.{Token, identifier, block_start, block_end}
 
