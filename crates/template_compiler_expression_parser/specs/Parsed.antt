@@ -4,7 +4,7 @@ use Rattle.template_tree.specs.Tree.{Expression}
 use Rattle.template_tree.specs.View.{expression_of}
 use Rattle.template_tree.specs.declared.expressions.Expr.{Expr}
 use Rattle.template_compiler_tokens.specs.Token.{Token}
-use Rattle.template_compiler_expressions.specs.Steps.{Read}
+use Rattle.template_compiler_reading.specs.Steps.{Read}
 use Rattle.template_compiler_expression_parser.specs.Refusals.{Refused}
 use Rattle.template_compiler_expression_parser.specs.declared.refusal.Fault.TheVariants.{Syntax}
 use Rattle.template_compiler_expression_parser.specs.declared.refusal.Refusal.{Refusal}

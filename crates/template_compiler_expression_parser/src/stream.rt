@@ -94,6 +94,15 @@ impl<'source> TokenStream<'source> {
         }
     }
 
+    /// Where the next token stands, or where the last one stood.
+    pub fn span(&self) -> Span {
+        match &self.first {
+            First::Token(_, span) => *span,
+            First::End => self.last,
+            First::Bad(_) => self.last,
+        }
+    }
+
     /// Passes the next token.
     pub fn advance(&mut self)
         ensures { self.new ≡ passed self.old }
