@@ -3,7 +3,7 @@ use Rattle.std.proofs.Common.{◌≡◌, ℕ, Bool, true, false, List, [], ◌�
 use Rattle.template_tree.specs.Tree.{Expression}
 use Rattle.template_compiler_tokens.specs.Token.{Token, identifier, string, number, symbol, minus, bracket_open, paren_open, brace_open}
 use Rattle.template_compiler_expressions.specs.Words.{Level}
-use Rattle.template_compiler_expressions.specs.Grammar.{IsExpression, unconditional, if_alone, if_else, IsBinary, operands, IsOperand, factor, text_operand, term, conjunct, disjunct, IsNegation, negation, no_negation, IsComparison, comparison, IsPower, no_power, power, IsFiltered, filtered_value, IsUnary, minus_sign, primary, IsPrimary, name_primary, word_primary, number_primary, text_primary, paren_primary, list_primary, map_primary}
+use Rattle.template_compiler_expressions.specs.Grammar.{IsExpression, unconditional, if_alone, if_else, IsBinary, operands, IsOperand, factor, text_operand, term, conjunct, disjunct, IsNegation, negation, no_negation, IsComparison, comparison, IsPower, no_power, power, filtered_value, IsUnary, minus_sign, primary, IsPrimary, name_primary, word_primary, number_primary, text_primary, paren_primary, list_primary, map_primary}
 
 abbrev pub is_opener : Token → Bool
 is_opener (identifier name) = true

@@ -1,10 +1,10 @@
 -- What the rank of a token rules out, and which rank the operators have.
-use Rattle.std.proofs.Common.{◌≡◌, ℕ, ◌<◌, ◌≤◌, Bool, true, false, if◌then◌else◌, List, [], ◌∷◌, codes, Option, None, Some, refl, sym, ◌∙◌, ap, subst, arith, lit<}
+use Rattle.std.proofs.Common.{◌≡◌, ℕ, ◌<◌, ◌≤◌, Bool, true, false, if◌then◌else◌, List, [], ◌∷◌, codes, Option, None, Some, refl, sym, ◌∙◌, ap, arith, lit<}
 use Rattle.std.specs.Prelude.{bytes_eq}
 use Rattle.std.specs.Cmp.Lexicographic.{same_text}
 use Rattle.template_tree.specs.declared.operators.BinOpKind.{BinOpKind}
 use Rattle.template_tree.specs.declared.operators.CompareOpKind.{CompareOpKind}
-use Rattle.template_compiler_tokens.specs.Token.{Symbol, plus, minus, mul, div, floor_div, pow, modulo, dot, tilde, pipe, eq, ne, gt, gte, lt, lte, bracket_open, paren_open, Token, template_data, variable_start, variable_end, block_start, block_end, identifier, string, number, symbol, bad}
+use Rattle.template_compiler_tokens.specs.Token.{plus, minus, mul, div, floor_div, modulo, tilde, eq, ne, gt, gte, lt, lte, Token, identifier, symbol}
 use Rattle.template_compiler_expressions.specs.Words.{is_word, Level, factors, texts, terms, conjunction, disjunction, operator, comparison_operator}
 use Rattle.template_compiler_expressions.specs.Ends.{word_rank, rank, Behind}
 

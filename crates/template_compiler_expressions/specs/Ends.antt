@@ -1,5 +1,5 @@
 -- Which tokens an expression goes on with.
-use Rattle.std.specs.Prelude.{ℕ, ◌<◌, ◌||◌, if◌then◌else◌, List, [], ◌∷◌, codes, bytes_eq}
+use Rattle.std.specs.Prelude.{ℕ, ◌<◌, if◌then◌else◌, List, [], ◌∷◌, codes, bytes_eq}
 use Rattle.template_compiler_tokens.specs.Token.{Symbol, plus, minus, mul, div, floor_div, pow, modulo, dot, tilde, pipe, eq, ne, gt, gte, lt, lte, bracket_open, paren_open, Token, identifier, string, symbol}
 
 abbrev pub symbol_rank : Symbol → ℕ

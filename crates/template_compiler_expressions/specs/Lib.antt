@@ -2,6 +2,4 @@ pub mod Words
 pub mod Trees
 pub mod Grammar
 pub mod Ends
-pub mod Blame
-pub mod Steps
 pub mod Reader

@@ -1,6 +1,6 @@
 -- The reading of an expression from left to right: what the grammar's relation computes to. The parser's
 -- functions cite it; that it is the grammar is proved.
-use Rattle.std.specs.Prelude.{ℕ, zero, suc, pos, Bool, true, false, nat_le, if◌then◌else◌, codes, List, [], ◌∷◌, ◌++◌, Option, None, Some, Result, Ok, Err}
+use Rattle.std.specs.Prelude.{ℕ, zero, suc, pos, Bool, true, false, nat_le, if◌then◌else◌, codes, List, [], ◌∷◌, ◌++◌, Option, None, Some, Ok, Err}
 use Rattle.template_values_model.specs.Val.{Val, int, text}
 use Rattle.template_tree.specs.Tree.{Expression, variable, constant, slice, unary, binary, conditional, filtered, attribute, item, call, list_literal, tuple_literal, map_literal, Optional, absent, given, Expressions, no_expressions, expressions_more, Links, no_links, Arguments, no_arguments, arguments_more, Argument, positional, keyword, positional_spread, keyword_spread}
 use Rattle.template_tree.specs.declared.operators.UnaryOpKind.TheVariants as unaries
@@ -8,10 +8,10 @@ use Rattle.template_tree.specs.declared.operators.BinOpKind.{BinOpKind}
 use Rattle.template_tree.specs.declared.operators.BinOpKind.TheVariants as operators
 use Rattle.template_tree.specs.declared.operators.CompareOpKind.{CompareOpKind}
 use Rattle.template_tree.specs.declared.operators.CompareOpKind.TheVariants as comparisons
-use Rattle.template_compiler_tokens.specs.Token.{Token, TokenFault, bad_syntax, identifier, string, number, symbol, minus, mul, pow, dot, comma, colon, assign, pipe, bracket_open, bracket_close, paren_open, paren_close, brace_open, brace_close}
-use Rattle.template_compiler_expressions.specs.Words.{is_word, begins_word, begins_bare, literal_word, Level, factors, texts, terms, conjunction, disjunction, operator, comparison_operator}
+use Rattle.template_compiler_tokens.specs.Token.{Token, bad_syntax, identifier, string, number, symbol, minus, mul, pow, dot, comma, colon, assign, pipe, bracket_open, bracket_close, paren_open, paren_close, brace_open, brace_close}
+use Rattle.template_compiler_expressions.specs.Words.{is_word, begins_bare, literal_word, Level, factors, texts, terms, conjunction, disjunction, operator, comparison_operator}
 use Rattle.template_compiler_expressions.specs.Trees.{dotted, and_expression, and_link, compared, tested_as, Paired, nothing_paired, and_pair, Written, nothing_written, and_written, in_order, argument_count}
-use Rattle.template_compiler_expressions.specs.Steps.{Read, fault, and_then, Step, goes, stops, fails, under, all}
+use Rattle.template_compiler_reading.specs.Steps.{Read, fault, and_then, Step, goes, stops, fails, under, all}
 
 -- what can be read one nesting level deeper
 pub record Deeper : Type 0 where

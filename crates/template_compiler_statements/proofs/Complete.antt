@@ -6,11 +6,11 @@ use Rattle.template_tree.specs.Tree.{Expression, Optional, absent, given, Expres
 use Rattle.template_compiler_tokens.specs.Token.{Token, bad_syntax, variable_end, block_end, identifier, symbol, dot, comma, assign, paren_open}
 use Rattle.template_compiler_expressions.specs.Words.{is_word, begins_paren}
 use Rattle.template_compiler_expressions.specs.Ends.{Behind}
-use Rattle.template_compiler_expressions.specs.Steps.{Read, goes, stops, and_then, all}
+use Rattle.template_compiler_reading.specs.Steps.{Read, goes, stops, and_then, all}
 use Rattle.template_compiler_expressions.specs.Reader.{paren_end, expression_at}
 use Rattle.template_compiler_expressions.specs.Grammar.{IsFilterChain, chain_end, chain_more}
-use Rattle.template_compiler_expressions.proofs.Loops.{then_goes, under_goes, Loops, loop_stops, loop_goes, all_of}
-use Rattle.template_compiler_expressions.proofs.Complete.{expression_complete, condition_complete, filter_complete, filter_chain_complete}
+use Rattle.template_compiler_reading.proofs.Loops.{then_goes, under_goes, Loops, loop_stops, loop_goes, all_of}
+use Rattle.template_compiler_expression_laws.proofs.Complete.{expression_complete, condition_complete, filter_complete, filter_chain_complete}
 use Rattle.template_compiler_expressions.proofs.Shrinks.{expression_shrinks}
 use Rattle.template_compiler_statements.specs.Words.{tag, opens, word}
 use Rattle.template_compiler_statements.specs.Trees.{and_statement, and_import, Branches, Parameters, no_parameters, and_plain}

@@ -5,7 +5,7 @@ use Rattle.template_tree.specs.Tree.{Expression, variable, attribute, call, Opti
 use Rattle.template_compiler_tokens.specs.Token.{Token, TokenFault, bad_syntax, template_data, variable_start, variable_end, block_start, block_end, identifier, symbol, dot, comma, assign, paren_open, paren_close}
 use Rattle.template_compiler_expressions.specs.Words.{is_word}
 use Rattle.template_compiler_expressions.specs.Trees.{and_expression}
-use Rattle.template_compiler_expressions.specs.Steps.{Read, fault, and_then, Step, goes, stops, under, all}
+use Rattle.template_compiler_reading.specs.Steps.{Read, fault, and_then, Step, goes, stops, under, all}
 use Rattle.template_compiler_expressions.specs.Reader.{too_deep, paren_end, expression_at, condition_at, filter_at, filter_chain_at}
 use Rattle.template_compiler_statements.specs.Words.{is_reserved}
 use Rattle.template_compiler_statements.specs.Trees.{and_statement, and_assignment, and_import, unpacked, together, Branches, no_branches, and_branch, branched, Parameters, no_parameters, and_plain, and_default, is_block_body, blocks_among, are_distinct}

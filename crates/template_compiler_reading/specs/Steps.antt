@@ -1,5 +1,5 @@
 -- The forms of the reading of tokens: one reading behind another, and repetitions.
-use Rattle.std.specs.Prelude.{ℕ, zero, suc, List, [], ◌∷◌, length, Result, Ok, Err}
+use Rattle.std.specs.Prelude.{ℕ, zero, suc, List, ◌∷◌, length, Result, Ok, Err}
 use Rattle.template_compiler_tokens.specs.Token.{Token, bad, TokenFault, bad_syntax}
 
 -- what is read with the tokens behind it, or why nothing is

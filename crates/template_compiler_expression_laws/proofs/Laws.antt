@@ -1,14 +1,14 @@
 -- What follows from the laws on the reader.
-use Rattle.std.proofs.Common.{◌≡◌, ℕ, ◌⊎◌, inl, inr, List, [], ◌∷◌, Result, Ok, Err, refl, sym, ◌∙◌, subst}
+use Rattle.std.proofs.Common.{◌≡◌, ℕ, ◌⊎◌, inl, inr, List, [], ◌∷◌, Ok, Err, refl, sym, ◌∙◌}
 use Rattle.template_tree.specs.Tree.{Expression}
 use Rattle.template_compiler_tokens.specs.Token.{Token}
 use Rattle.template_compiler_expressions.specs.Ends.{Ends}
-use Rattle.template_compiler_expressions.specs.Steps.{Read}
+use Rattle.template_compiler_reading.specs.Steps.{Read}
 use Rattle.template_compiler_expressions.specs.Reader.{expression_at}
 use Rattle.template_compiler_expressions.specs.Grammar.{IsExpression}
-use Rattle.template_compiler_expressions.proofs.Readings.{ok_tree, ok_rest}
-use Rattle.template_compiler_expressions.proofs.Complete.{expression_complete}
-use Rattle.template_compiler_expressions.proofs.Sound.{expression_sound}
+use Rattle.template_compiler_reading.proofs.Readings.{ok_tree, ok_rest}
+use Rattle.template_compiler_expression_laws.proofs.Complete.{expression_complete}
+use Rattle.template_compiler_expression_laws.proofs.Sound.{expression_sound}
 
 pub one_expression : (d : ℕ) (ts us vs : List Token) (e f : Expression) →
     IsExpression d ts e us → Ends us → IsExpression d ts f vs → Ends vs → (e ≡ f) × (us ≡ vs)

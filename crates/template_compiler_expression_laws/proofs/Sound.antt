@@ -1,26 +1,24 @@
 -- What is read has that tree, and a refusal's reason stands among the tokens.
-use Rattle.std.proofs.Common.{◌≡◌, ℕ, zero, suc, ◌<◌, ◌≤◌, Bool, true, false, if◌then◌else◌, List, [], ◌∷◌, codes, length, Option, None, Some, Result, Ok, Err, refl, sym, ◌∙◌, ap, subst, arith, inl, inr}
-use Rattle.std.specs.Prelude.{bytes_eq, nat_le}
+use Rattle.std.proofs.Common.{◌≡◌, ℕ, zero, suc, ◌<◌, ◌≤◌, Bool, true, false, if◌then◌else◌, List, [], ◌∷◌, codes, length, Option, None, Some, Ok, refl, sym, ap, subst, arith, inl, inr}
+use Rattle.std.specs.Prelude.{nat_le}
 use Rattle.std.proofs.lemmas.Bool.Decides.{nat_tests}
-use Rattle.template_values_model.specs.Val.{Val, int, text}
+use Rattle.template_values_model.specs.Val.{Val}
 use Rattle.template_tree.specs.declared.operators.UnaryOpKind.TheVariants as unaries
 use Rattle.template_tree.specs.declared.operators.BinOpKind.{BinOpKind}
 use Rattle.template_tree.specs.declared.operators.BinOpKind.TheVariants as operators
 use Rattle.template_tree.specs.declared.operators.CompareOpKind.{CompareOpKind}
-use Rattle.template_tree.specs.declared.operators.CompareOpKind.TheVariants as comparisons
-use Rattle.template_tree.specs.Tree.{Expression, variable, constant, unary, binary, call, item, slice, list_literal, tuple_literal, map_literal, conditional, Optional, absent, given, Expressions, no_expressions, expressions_more, Links, no_links, Arguments, arguments_more, no_arguments, Argument, positional}
-use Rattle.template_compiler_tokens.specs.Token.{Token, TokenFault, bad_syntax, identifier, string, number, symbol, minus, mul, pow, dot, comma, colon, assign, pipe, bracket_open, bracket_close, paren_open, paren_close, brace_open, brace_close}
-use Rattle.template_compiler_expressions.specs.Words.{is_word, word_if, word_else, word_not, word_in, word_is, begins_bare, begins_dotted, begins_word, literal_word, Level, factors, texts, terms, conjunction, disjunction, operator, comparison_operator}
-use Rattle.template_compiler_expressions.specs.Trees.{dotted, and_expression, compared, and_link, tested_as, Paired, nothing_paired, and_pair, Written, nothing_written, and_written, argument_count, in_order}
-use Rattle.template_compiler_expressions.specs.Blame.{Stands, Blamed}
-use Rattle.template_compiler_expressions.specs.Steps.{Read, Step, goes, stops, fails, fault, and_then, under, goes_on, many, all}
+use Rattle.template_tree.specs.Tree.{Expression, unary, binary, call, item, slice, list_literal, tuple_literal, map_literal, conditional, Optional, absent, given, Expressions, no_expressions, expressions_more, Links, no_links}
+use Rattle.template_compiler_tokens.specs.Token.{Token, bad_syntax, identifier, string, number, symbol, minus, mul, pow, dot, comma, colon, assign, pipe, bracket_open, bracket_close, paren_open, paren_close, brace_open, brace_close}
+use Rattle.template_compiler_expressions.specs.Words.{is_word, word_if, word_else, word_not, word_is, begins_bare, literal_word, Level, factors, texts, terms, conjunction, disjunction, operator, comparison_operator}
+use Rattle.template_compiler_expressions.specs.Trees.{dotted, and_expression, tested_as, Paired, nothing_paired, and_pair, Written, nothing_written, and_written, argument_count, in_order}
+use Rattle.template_compiler_reading.specs.Steps.{Read, Step, goes, fails, fault, and_then, goes_on, many, all}
 use Rattle.template_compiler_expressions.specs.Grammar.{IsNameTail, name_end, name_more, IsName, name, IsTexts, texts_end, texts_more, IsExpression, unconditional, if_alone, if_else, IsBinary, operands, IsOperands, operands_end, operands_more, IsOperand, factor, text_operand, term, conjunct, disjunct, IsNegation, negation, no_negation, IsComparison, comparison, IsLinks, links_end, links_operator, links_not_in, IsPower, no_power, power, IsFiltered, filtered_value, IsFilters, filters_end, filters_more, IsFilterParts, filter_parts, is_test, is_not_test, IsFilter, filter, IsTest, test, bare_test, IsOptionalArguments, no_list, a_list, IsUnary, minus_sign, primary, IsParts, parts_end, parts_more, IsPart, attribute_part, number_part, subscript_part, call_part, IsSubscript, item_subscript, slice_subscript, IsBound, no_bound, a_bound, IsStep, no_step, a_step, IsPrimary, name_primary, word_primary, number_primary, text_primary, paren_primary, list_primary, map_primary, IsParen, empty_tuple, in_parens, tuple, IsItems, items_end, items_last, items_more, IsPairs, pairs_end, pairs_last, pairs_more, IsArgumentList, argument_list, IsArguments, arguments_end, arguments_last, arguments_next, IsArgument, positional_argument, keyword_argument, spread_argument, keyword_spread_argument, IsFilterChain, chain_end, chain_more}
-use Rattle.template_compiler_expressions.specs.Reader.{Deeper, deeper, expression_by, dotted_step, name_of, text_step, paren_end, bracket_end, brace_end, colon_end, separated, unless_closing, word_tree, primary_by, dot_part, part_step, parts_by, unary_by, optional_arguments_by, filter_by, test_arguments_by, test_by, is_by, filter_step, filtered_by, power_behind, power_by, operand_behind, operand_step, binary_of, terms_by, not_in_link, link_behind, link_step, comparison_by, negation_by, operand_by, binary_by, else_behind, if_behind, items_step, items_by, pairs_step, pairs_by, paren_behind, paren_by, list_by, map_by, bound_by, step_by, slice_by, subscript_behind, subscript_by, named_argument, argument_by, few_arguments, arguments_step, arguments_by, begins_closing, begins_bound_end, chain_step, filter_chain_by, expression_at, condition_at, filter_at, filter_chain_at, optional_arguments_at}
+use Rattle.template_compiler_expressions.specs.Reader.{deeper, expression_by, dotted_step, name_of, text_step, paren_end, bracket_end, brace_end, colon_end, separated, unless_closing, word_tree, primary_by, dot_part, part_step, parts_by, unary_by, optional_arguments_by, filter_by, test_arguments_by, test_by, is_by, filter_step, filtered_by, power_behind, power_by, operand_behind, operand_step, binary_of, terms_by, not_in_link, link_behind, link_step, comparison_by, negation_by, operand_by, binary_by, else_behind, if_behind, items_step, items_by, pairs_step, pairs_by, paren_behind, paren_by, list_by, map_by, bound_by, step_by, slice_by, subscript_behind, subscript_by, named_argument, argument_by, few_arguments, arguments_step, arguments_by, begins_closing, begins_bound_end, chain_step, filter_chain_by, expression_at, condition_at, filter_at, filter_chain_at, optional_arguments_at}
 use Rattle.template_compiler_expressions.proofs.Ranks.{same_name}
 use Rattle.template_compiler_expressions.proofs.Opens.{expression_opens}
-use Rattle.template_compiler_expressions.proofs.Stops.{opener_closing}
-use Rattle.template_compiler_expressions.proofs.Complete.{argument_closing}
-use Rattle.template_compiler_expressions.proofs.Readings.{Kept, Reads, StepReads, fault_blamed, reads_ok, reads_end, reads_fault, reads_none, reads_syntax, reads_within, reads_behind, reads_as, reads_then, reads_if, step_goes, step_stops, step_fails, step_behind, step_under, step_if, step_as, reads_all}
+use Rattle.template_compiler_expression_laws.proofs.Stops.{opener_closing}
+use Rattle.template_compiler_expression_laws.proofs.Complete.{argument_closing}
+use Rattle.template_compiler_reading.proofs.Readings.{Kept, Reads, StepReads, fault_blamed, reads_ok, reads_end, reads_none, reads_syntax, reads_behind, reads_as, reads_then, reads_if, step_goes, step_stops, step_fails, step_behind, step_under, step_if, step_as, reads_all}
 
 -- of the level below, where there is one
 unfoldable Below : ℕ → (ℕ → Type 0) → Type 0
@@ -194,10 +192,10 @@ module _ (d : ℕ) (r : DeeperReads d) where
   part_reads a (symbol dot ∷ ts) = step_behind (dot_reads a ts)
   part_reads a (symbol bracket_open ∷ ts) =
       step_behind (step_under _ (r.subscript a ts) (λ e us x.
-          step_goes (below d _ (λ n. IsPart n a (symbol bracket_open ∷ ts) e us) (λ n y. subscript_part y) x) (same us)))
+      step_goes (below d _ (λ n. IsPart n a (symbol bracket_open ∷ ts) e us) (λ n y. subscript_part y) x) (same us)))
   part_reads a (symbol paren_open ∷ ts) =
       step_behind (step_under _ (r.arguments ts) (λ args us x.
-          step_goes (below d _ (λ n. IsPart n a (symbol paren_open ∷ ts) (call a args) us) (λ n y. call_part y) x) (same us)))
+      step_goes (below d _ (λ n. IsPart n a (symbol paren_open ∷ ts) (call a args) us) (λ n y. call_part y) x) (same us)))
   part_reads a _ = step_stops
 
   parts_reads : (a : Expression) (ts : List Token) → Reads (IsParts d a ts) ts (parts_by (deeper d) a ts)
@@ -209,7 +207,7 @@ module _ (d : ℕ) (r : DeeperReads d) where
   unfolding unary_by
   unary_reads (symbol minus ∷ ts) =
       reads_behind (reads_then _ (r.unary_sign ts) (λ e us x.
-          reads_end (below d _ (λ n. IsUnary n (symbol minus ∷ ts) (unary unaries.Neg e) us) (λ n y. minus_sign y) x)))
+      reads_end (below d _ (λ n. IsUnary n (symbol minus ∷ ts) (unary unaries.Neg e) us) (λ n y. minus_sign y) x)))
   unary_reads ts = reads_then _ (primary_reads ts) (λ a us x. reads_as (λ e vs p. primary x p) (parts_reads a us))
 
   -- filters and tests
@@ -240,19 +238,19 @@ module _ (d : ℕ) (r : DeeperReads d) where
   is_reads a [] = reads_syntax
   is_reads a (t ∷ ts) = reads_if (is_word (codes "not") t)
       (λ e. reads_behind (reads_as
-          (λ f us x. subst (λ t. IsFilterParts d a (word_is ∷ t ∷ ts) f us) (sym (word_same (codes "not") t e)) (is_not_test x))
-          (test_reads true a ts)))
+      (λ f us x. subst (λ t. IsFilterParts d a (word_is ∷ t ∷ ts) f us) (sym (word_same (codes "not") t e)) (is_not_test x))
+      (test_reads true a ts)))
       (λ e. reads_as (λ f us x. is_test e x) (test_reads false a (t ∷ ts)))
 
   filter_step_reads : (a : Expression) (ts : List Token) → StepReads (IsFilterParts d a ts) ts (filter_step (deeper d) a ts)
   unfolding filter_step
   filter_step_reads a (symbol pipe ∷ ts) =
       step_behind (step_under _
-          (reads_then _ (filter_reads (given a) ts) (λ b us x. reads_as (λ e vs p. filter_parts x p) (parts_reads b us)))
-          (λ e us x. step_goes x (same us)))
+      (reads_then _ (filter_reads (given a) ts) (λ b us x. reads_as (λ e vs p. filter_parts x p) (parts_reads b us)))
+      (λ e us x. step_goes x (same us)))
   filter_step_reads a (identifier n ∷ ts) = step_if (is_word (codes "is") (identifier n))
       (λ e. step_behind (step_under _ (is_reads a ts) (λ f us x.
-          step_goes (subst (λ t. IsFilterParts d a (t ∷ ts) f us) (sym (word_same (codes "is") (identifier n) e)) x) (same us))))
+      step_goes (subst (λ t. IsFilterParts d a (t ∷ ts) f us) (sym (word_same (codes "is") (identifier n) e)) x) (same us))))
       (λ e. step_stops)
   filter_step_reads a _ = step_stops
 
@@ -260,7 +258,7 @@ module _ (d : ℕ) (r : DeeperReads d) where
   unfolding filtered_by
   filtered_reads ts = reads_then _ (unary_reads ts) (λ a us x. reads_as (λ e vs p. filtered_value x p)
       (reads_all (filter_step (deeper d)) (IsFilters d) (λ a ts. filters_end)
-          (λ a ts. step_as (λ b us x c vs p. filters_more x p) (filter_step_reads a ts)) a us))
+      (λ a ts. step_as (λ b us x c vs p. filters_more x p) (filter_step_reads a ts)) a us))
 
   -- operators
   power_behind_reads : (a : Expression) (ts us : List Token) → IsFiltered d ts a us → Reads (IsPower d ts) us (power_behind (deeper d) a us)
@@ -311,9 +309,9 @@ module _ (d : ℕ) (r : DeeperReads d) where
   not_in_reads ls t [] e = step_fails bad_syntax (inl refl)
   not_in_reads ls t (u ∷ ts) e = step_if (is_word (codes "in") u)
       (λ f. step_behind (step_under _ (terms_reads ts) (λ b us y. step_goes
-          (λ c vs p. subst (λ t. IsLinks d ls (t ∷ u ∷ ts) c vs) (sym (word_same (codes "not") t e))
-              (subst (λ u. IsLinks d ls (word_not ∷ u ∷ ts) c vs) (sym (word_same (codes "in") u f)) (links_not_in y p)))
-          (same us))))
+      (λ c vs p. subst (λ t. IsLinks d ls (t ∷ u ∷ ts) c vs) (sym (word_same (codes "not") t e))
+      (subst (λ u. IsLinks d ls (word_not ∷ u ∷ ts) c vs) (sym (word_same (codes "in") u f)) (links_not_in y p)))
+      (same us))))
       (λ f. step_fails (fault (u ∷ ts)) (fault_blamed (u ∷ ts)))
 
   link_behind_reads : (ls : Links) (t : Token) (ts : List Token) (o : Option CompareOpKind) (b : Bool) → comparison_operator t ≡ o →
@@ -342,8 +340,8 @@ module _ (d : ℕ) (r : DeeperReads d) where
   negation_reads [] = reads_as (λ e us x. no_negation refl x) (comparison_reads [])
   negation_reads (t ∷ ts) = reads_if (is_word (codes "not") t)
       (λ f. reads_behind (reads_then _ (r.negation ts) (λ e us x. reads_end
-          (subst (λ t. IsNegation d (t ∷ ts) (unary unaries.Not e) us) (sym (word_same (codes "not") t f))
-              (below d _ (λ n. IsNegation n (word_not ∷ ts) (unary unaries.Not e) us) (λ n y. negation y) x)))))
+      (subst (λ t. IsNegation d (t ∷ ts) (unary unaries.Not e) us) (sym (word_same (codes "not") t f))
+      (below d _ (λ n. IsNegation n (word_not ∷ ts) (unary unaries.Not e) us) (λ n y. negation y) x)))))
       (λ f. reads_as (λ e us x. no_negation f x) (comparison_reads (t ∷ ts)))
 
   conjunction_reads : (ts : List Token) → Reads (IsBinary d conjunction ts) ts (binary_of conjunction (negation_by (deeper d)) ts)
@@ -360,8 +358,8 @@ module _ (d : ℕ) (r : DeeperReads d) where
   else_reads a c ts us [] x y = reads_end (no_else d a c ts us [] x y)
   else_reads a c ts us (t ∷ vs) x y = reads_if (is_word (codes "else") t)
       (λ f. reads_behind (reads_then _ (r.expression vs) (λ b ws z. reads_end
-          (an_else d a b c ts us vs ws x
-              (subst (λ t. Below d (λ n. IsBinary n disjunction us c (t ∷ vs))) (word_same (codes "else") t f) y) z))))
+      (an_else d a b c ts us vs ws x
+      (subst (λ t. Below d (λ n. IsBinary n disjunction us c (t ∷ vs))) (word_same (codes "else") t f) y) z))))
       (λ f. reads_end (no_else d a c ts us (t ∷ vs) x y))
 
   if_reads : (a : Expression) (ts us : List Token) → IsBinary d disjunction ts a us → Reads (IsExpression d ts) us (if_behind (deeper d) a us)
@@ -369,7 +367,7 @@ module _ (d : ℕ) (r : DeeperReads d) where
   if_reads a ts [] x = reads_end (unconditional x)
   if_reads a ts (t ∷ us) x = reads_if (is_word (codes "if") t)
       (λ f. reads_behind (reads_then _ (r.condition us) (λ c vs y.
-          else_reads a c ts us vs (subst (λ t. IsBinary d disjunction ts a (t ∷ us)) (word_same (codes "if") t f) x) y)))
+      else_reads a c ts us vs (subst (λ t. IsBinary d disjunction ts a (t ∷ us)) (word_same (codes "if") t f) x) y)))
       (λ f. reads_end (unconditional x))
 
   expression_reads : (ts : List Token) → Reads (IsExpression d ts) ts (expression_by (deeper d) ts)
@@ -394,8 +392,8 @@ module _ (d : ℕ) (r : DeeperReads d) where
       StepReads (λ q us. (c : Paired) (vs : List Token) → IsPairs d q us c vs → IsPairs d p ts c vs) ts (pairs_step (expression_by (deeper d)) p ts)
   pair_reads p ts = unless_reads _ ts (step_under _ (key_reads ts) (λ k us x. step_under _ (expression_reads us) (λ v vs y.
       separated_reads _ (and_pair p k v) vs
-          (λ ws f c zs q. pairs_more x (subst (λ vs. IsExpression d us v vs) f y) q)
-          (λ f c ws q. let z = pairs_closed q f in pairs_last x (subst (λ vs. IsExpression d us v vs) z.1 y) (sym z.0)))))
+      (λ ws f c zs q. pairs_more x (subst (λ vs. IsExpression d us v vs) f y) q)
+      (λ f c ws q. let z = pairs_closed q f in pairs_last x (subst (λ vs. IsExpression d us v vs) z.1 y) (sym z.0)))))
 
   pairs_reads : (ts : List Token) → Reads (IsPairs d nothing_paired ts) ts (pairs_by (expression_by (deeper d)) ts)
   unfolding pairs_by
@@ -476,8 +474,8 @@ module _ (d : ℕ) (r : DeeperReads d) where
   argument_list_reads ts =
       reads_then _ (reads_all (arguments_step (expression_by (deeper d))) (IsArguments d) (λ w ts. arguments_end) next_argument_reads nothing_written ts)
       (λ w us x. reads_then _ (paren_end_reads (λ w vs. IsArguments d nothing_written ts w (symbol paren_close ∷ vs)) w us
-              (λ vs f. subst (λ us. IsArguments d nothing_written ts w us) f x))
-          (λ w vs y. few_reads w ts vs y))
+      (λ vs f. subst (λ us. IsArguments d nothing_written ts w us) f x))
+      (λ w vs y. few_reads w ts vs y))
 
 -- what can be read one level deeper
 nothing_deeper_reads : DeeperReads zero

@@ -1,26 +1,26 @@
 -- What has a tree is read as that tree.
-use Rattle.std.proofs.Common.{◌≡◌, ℕ, zero, suc, ◌<◌, ◌≤◌, Bool, true, false, if◌then◌else◌, List, [], ◌∷◌, codes, Option, None, Some, Result, Ok, Err, refl, sym, ◌∙◌, ap, subst, arith, lit<, lit≤}
-use Rattle.std.specs.Prelude.{bytes_eq, nat_le}
+use Rattle.std.proofs.Common.{◌≡◌, ℕ, zero, suc, ◌≤◌, Bool, true, false, if◌then◌else◌, List, [], ◌∷◌, codes, Option, Some, Ok, Err, refl, sym, ◌∙◌, ap, arith, lit<, lit≤}
+use Rattle.std.specs.Prelude.{nat_le}
 use Rattle.std.proofs.lemmas.Bool.Decides.{nat_tests}
 use Rattle.template_values_model.specs.Val.{Val}
 use Rattle.template_tree.specs.declared.operators.UnaryOpKind.TheVariants as unaries
 use Rattle.template_tree.specs.declared.operators.BinOpKind.{BinOpKind}
 use Rattle.template_tree.specs.declared.operators.CompareOpKind.{CompareOpKind}
 use Rattle.template_tree.specs.declared.operators.CompareOpKind.TheVariants as comparisons
-use Rattle.template_tree.specs.Tree.{Expression, variable, constant, unary, binary, conditional, Optional, absent, given, Expressions, Links, no_links, Arguments, arguments_more, no_arguments, Argument, positional}
-use Rattle.template_compiler_tokens.specs.Token.{Token, bad_syntax, identifier, symbol, comma, colon, assign, mul, pow, pipe}
-use Rattle.template_compiler_expressions.specs.Words.{is_word, word_not, word_in, begins_bare, literal_word, Level, terms, disjunction, operator, comparison_operator}
-use Rattle.template_compiler_expressions.specs.Trees.{compared, and_link, tested_as, Paired, Written, argument_count, in_order}
-use Rattle.template_compiler_expressions.specs.Ends.{rank, Behind}
-use Rattle.template_compiler_expressions.specs.Steps.{Read, Step, goes, stops, fails, fault, and_then, under, goes_on, many, all}
+use Rattle.template_tree.specs.Tree.{Expression, unary, binary, Optional, Expressions, Links, Arguments, arguments_more, no_arguments, Argument, positional}
+use Rattle.template_compiler_tokens.specs.Token.{Token, bad_syntax, identifier, symbol, assign, mul, pow, pipe}
+use Rattle.template_compiler_expressions.specs.Words.{is_word, word_not, word_in, begins_bare, literal_word, Level, disjunction, operator, comparison_operator}
+use Rattle.template_compiler_expressions.specs.Trees.{and_link, tested_as, Paired, Written, argument_count, in_order}
+use Rattle.template_compiler_expressions.specs.Ends.{Behind}
+use Rattle.template_compiler_reading.specs.Steps.{Read, goes, stops, and_then, under, goes_on, many, all}
 use Rattle.template_compiler_expressions.specs.Grammar.{IsNameTail, name_end, name_more, IsName, name, IsTexts, texts_end, texts_more, IsExpression, unconditional, if_alone, if_else, IsBinary, operands, IsOperands, operands_end, operands_more, IsOperand, factor, text_operand, term, conjunct, disjunct, IsNegation, negation, no_negation, IsComparison, comparison, IsLinks, links_end, links_operator, links_not_in, IsPower, no_power, power, IsFiltered, filtered_value, IsFilters, filters_end, filters_more, IsFilterParts, filter_parts, is_test, is_not_test, IsFilter, filter, IsTest, test, bare_test, IsOptionalArguments, no_list, a_list, IsUnary, minus_sign, primary, IsParts, parts_end, parts_more, IsPart, attribute_part, number_part, subscript_part, call_part, IsSubscript, item_subscript, slice_subscript, IsBound, no_bound, a_bound, IsStep, no_step, a_step, IsPrimary, name_primary, word_primary, number_primary, text_primary, paren_primary, list_primary, map_primary, IsParen, empty_tuple, in_parens, tuple, IsItems, items_end, items_last, items_more, IsPairs, pairs_end, pairs_last, pairs_more, IsArgumentList, argument_list, IsArguments, arguments_end, arguments_last, arguments_next, IsArgument, positional_argument, keyword_argument, spread_argument, keyword_spread_argument, IsFilterChain, chain_end, chain_more}
-use Rattle.template_compiler_expressions.specs.Reader.{Deeper, deeper, expression_by, dotted_step, name_of, text_step, paren_end, bracket_end, brace_end, colon_end, separated, unless_closing, primary_by, dot_part, part_step, parts_by, unary_by, optional_arguments_by, filter_by, test_arguments_by, test_by, is_by, filter_step, filtered_by, power_behind, power_by, operand_behind, operand_step, binary_of, terms_by, not_in_link, link_behind, link_step, comparison_by, negation_by, operand_by, binary_by, else_behind, if_behind, items_by, items_step, pairs_step, arguments_step, word_tree, pairs_by, paren_behind, paren_by, list_by, map_by, bound_by, step_by, slice_by, subscript_behind, subscript_by, named_argument, argument_by, few_arguments, arguments_by, begins_closing, begins_bound_end, chain_step, filter_chain_by, expression_at, condition_at, filter_at, filter_chain_at, optional_arguments_at}
+use Rattle.template_compiler_expressions.specs.Reader.{Deeper, deeper, expression_by, dotted_step, name_of, text_step, paren_end, bracket_end, brace_end, colon_end, separated, primary_by, dot_part, part_step, parts_by, unary_by, optional_arguments_by, filter_by, test_arguments_by, test_by, is_by, filter_step, filtered_by, power_behind, power_by, operand_behind, operand_step, binary_of, terms_by, not_in_link, link_behind, link_step, comparison_by, negation_by, operand_by, binary_by, else_behind, if_behind, items_by, items_step, pairs_step, arguments_step, word_tree, pairs_by, paren_behind, paren_by, list_by, map_by, bound_by, step_by, slice_by, subscript_behind, subscript_by, named_argument, argument_by, few_arguments, arguments_by, begins_closing, begins_bound_end, chain_step, filter_chain_by, expression_at, condition_at, filter_at, filter_chain_at, optional_arguments_at}
 use Rattle.template_compiler_expressions.proofs.Ranks.{weaker, level_rank, operand_rank, operand-le, operator_rank, comparison_rank}
-use Rattle.template_compiler_expressions.proofs.Loops.{then_goes, then_fails, under_goes, Loops, loop_stops, loop_stops_at, loop_goes, all_of}
-use Rattle.template_compiler_expressions.proofs.Readings.{ok_tree, ok_rest}
+use Rattle.template_compiler_reading.proofs.Loops.{then_goes, then_fails, under_goes, Loops, loop_stops, loop_stops_at, loop_goes, all_of}
+use Rattle.template_compiler_reading.proofs.Readings.{ok_rest}
 use Rattle.template_compiler_expressions.proofs.Opens.{begins_opener, expression_opens}
 use Rattle.template_compiler_expressions.proofs.Shrinks as shrinks
-use Rattle.template_compiler_expressions.proofs.Stops.{dotted_stops, texts_stop, parts_stop, filters_stop, powers_stop, operands_stop, links_stop, if_stops, else_stops, no_negation_by, no_negated_test, no_arguments_by, begins_closing_behind, opener_closing, opener_bound, closing_bound, bound_end_behind, separated_last, unless_closed, unless_open, paren_open_by, bound_left_out, bound_read_by, step_left_out}
+use Rattle.template_compiler_expression_laws.proofs.Stops.{dotted_stops, texts_stop, parts_stop, filters_stop, powers_stop, operands_stop, links_stop, if_stops, else_stops, no_negation_by, no_negated_test, no_arguments_by, begins_closing_behind, opener_closing, closing_bound, bound_end_behind, separated_last, unless_closed, unless_open, paren_open_by, bound_left_out, bound_read_by, step_left_out}
 
 name_tail_read : {n m : List ℕ} {ts us : List Token} → IsNameTail n ts m us → Loops dotted_step n ts (Ok (m, us))
 unfolding dotted_step
@@ -94,12 +94,17 @@ closing_assign : (ts : List Token) → begins_closing ts ≡ true → begins_ass
 closing_assign (symbol assign ∷ ts) h = cc
 closing_assign _ h = refl
 
+few_by : (w : Written) (ts : List Token) (b : Bool) → b ≡ true →
+    ◌≡◌ {A = Read Arguments} (if b then Ok (in_order w, ts) else Err bad_syntax) (Ok (in_order w, ts))
+few_by w ts true e = refl
+few_by w ts false e = cc
+
 few_goes : (w : Written) (ts : List Token) {args : Arguments} → args ≡ in_order w → argument_count args ≤ 2000 → few_arguments w ts ≡ Ok (args, ts)
 unfolding few_arguments
 few_goes w ts {args = args} e l =
     let within : argument_count (in_order w) ≤ 2000 = rw e at l in
     let few : nat_le (argument_count (in_order w)) 2000 ≡ true = grind (arith, nat_tests) in
-    ap (λ b. if b then Ok (in_order w, ts) else Err bad_syntax) few ∙ ap (λ a. Ok (a, ts)) (sym e)
+    few_by w ts (nat_le (argument_count (in_order w)) 2000) few ∙ ap (λ a. Ok (a, ts)) (sym e)
 
 pub argument_closing : {d : ℕ} {a : Argument} {ts us : List Token} → IsArgument d ts a us → begins_closing ts ≡ false
 argument_closing (positional_argument {ts = ts} e) = opener_closing ts (expression_opens e)
@@ -124,8 +129,8 @@ negation_alone : (d : ℕ) (n : List ℕ) (vs : List Token) → is_word (codes "
 unfolding expression_by binary_by operand_by binary_of negation_by
 negation_alone d n vs h =
     then_fails _ (then_fails _ (then_fails _ (
-        ap (λ b. if b then and_then ((deeper d).negation (symbol assign ∷ vs)) (λ e us. Ok (unary unaries.Not e, us)) else comparison_by (deeper d) (identifier n ∷ symbol assign ∷ vs)) h ∙
-        then_fails _ (no_sign_read d vs))))
+    ap (λ b. if b then and_then ((deeper d).negation (symbol assign ∷ vs)) (λ e us. Ok (unary unaries.Not e, us)) else comparison_by (deeper d) (identifier n ∷ symbol assign ∷ vs)) h ∙
+    then_fails _ (no_sign_read d vs))))
 
 named_alone_by : (d : ℕ) (n : List ℕ) (vs us : List Token) (e : Expression) (b : Bool) → is_word (codes "not") (identifier n) ≡ b →
     expression_by (deeper d) (identifier n ∷ symbol assign ∷ vs) ≡ Ok (e, us) → begins_assign us ≡ true
@@ -177,6 +182,7 @@ step_front (a_step b) h = refl
 
 mutual
   unfolding deeper expression_by binary_by operand_by binary_of if_behind else_behind negation_by comparison_by terms_by power_by power_behind filtered_by filter_step is_by filter_by parts_by part_step dot_part subscript_by subscript_behind slice_by step_by paren_by paren_behind list_by map_by pairs_by items_by paren_end bracket_end brace_end colon_end separated argument_by named_argument arguments_by optional_arguments_by few_arguments primary_by unary_by
+
   pub expression_read : {d : ℕ} {ts us : List Token} {e : Expression} → IsExpression d ts e us → Behind 10 us →
       expression_by (deeper d) ts ≡ Ok (e, us)
   expression_read (unconditional {d = d} {us = us} {e = e} b) h =
@@ -324,15 +330,15 @@ mutual
   items_read (items_end {d = d} {es = es} {ts = ts}) h = loop_stops (unless_closed _ ts h)
   items_read (items_last {d = d} {es = es} {ts = ts} {us = us} e f) h =
       loop_goes
-          (unless_open _ ts (opener_closing ts (expression_opens e)) ∙
-          under_goes _ (expression_read e (begins_closing_behind 10 us h (lit< tt))) (separated_last _ us h))
-          (shrinks.expression_shrinks e)
-          (loop_stops_at (sym f) (unless_closed _ us h))
+      (unless_open _ ts (opener_closing ts (expression_opens e)) ∙
+      under_goes _ (expression_read e (begins_closing_behind 10 us h (lit< tt))) (separated_last _ us h))
+      (shrinks.expression_shrinks e)
+      (loop_stops_at (sym f) (unless_closed _ us h))
   items_read (items_more {ts = ts} e i) h =
       let l = shrinks.expression_shrinks e in
       loop_goes
-          (unless_open _ ts (opener_closing ts (expression_opens e)) ∙ under_goes _ (expression_read e (lit< tt)) refl)
-          (omega arith) (items_read i h)
+      (unless_open _ ts (opener_closing ts (expression_opens e)) ∙ under_goes _ (expression_read e (lit< tt)) refl)
+      (omega arith) (items_read i h)
 
   pairs_read : {d : ℕ} {p q : Paired} {ts us : List Token} → IsPairs d p ts q us → begins_closing us ≡ true →
       Loops (pairs_step (expression_by (deeper d))) p ts (Ok (q, us))
@@ -340,18 +346,18 @@ mutual
   pairs_read (pairs_last {ts = ts} {vs = vs} k v f) h =
       let l = shrinks.expression_shrinks k in let m = shrinks.expression_shrinks v in
       loop_goes
-          (unless_open _ ts (opener_closing ts (expression_opens k)) ∙
-          under_goes _ (then_goes _ (expression_read k (lit< tt)) refl)
-          (under_goes _ (expression_read v (begins_closing_behind 10 vs h (lit< tt))) (separated_last _ vs h)))
-          (omega arith)
-          (loop_stops_at (sym f) (unless_closed _ vs h))
+      (unless_open _ ts (opener_closing ts (expression_opens k)) ∙
+      under_goes _ (then_goes _ (expression_read k (lit< tt)) refl)
+      (under_goes _ (expression_read v (begins_closing_behind 10 vs h (lit< tt))) (separated_last _ vs h)))
+      (omega arith)
+      (loop_stops_at (sym f) (unless_closed _ vs h))
   pairs_read (pairs_more {ts = ts} k v i) h =
       let l = shrinks.expression_shrinks k in let m = shrinks.expression_shrinks v in
       loop_goes
-          (unless_open _ ts (opener_closing ts (expression_opens k)) ∙
-          under_goes _ (then_goes _ (expression_read k (lit< tt)) refl)
-          (under_goes _ (expression_read v (lit< tt)) refl))
-          (omega arith) (pairs_read i h)
+      (unless_open _ ts (opener_closing ts (expression_opens k)) ∙
+      under_goes _ (then_goes _ (expression_read k (lit< tt)) refl)
+      (under_goes _ (expression_read v (lit< tt)) refl))
+      (omega arith) (pairs_read i h)
 
   argument_list_read : {d : ℕ} {args : Arguments} {ts us : List Token} → IsArgumentList d ts args us →
       arguments_by (expression_by (deeper d)) ts ≡ Ok (args, us)
@@ -363,15 +369,15 @@ mutual
   arguments_read (arguments_end {ts = ts}) h = loop_stops (unless_closed _ ts h)
   arguments_read (arguments_last {ts = ts} {us = us} a f) h =
       loop_goes
-          (unless_open _ ts (argument_closing a) ∙
-          under_goes _ (argument_read a (begins_closing_behind 10 us h (lit< tt)) (closing_assign us h)) (separated_last _ us h))
-          (shrinks.argument_shrinks a)
-          (loop_stops_at (sym f) (unless_closed _ us h))
+      (unless_open _ ts (argument_closing a) ∙
+      under_goes _ (argument_read a (begins_closing_behind 10 us h (lit< tt)) (closing_assign us h)) (separated_last _ us h))
+      (shrinks.argument_shrinks a)
+      (loop_stops_at (sym f) (unless_closed _ us h))
   arguments_read (arguments_next {ts = ts} a i) h =
       let l = shrinks.argument_shrinks a in
       loop_goes
-          (unless_open _ ts (argument_closing a) ∙ under_goes _ (argument_read a (lit< tt) refl) refl)
-          (omega arith) (arguments_read i h)
+      (unless_open _ ts (argument_closing a) ∙ under_goes _ (argument_read a (lit< tt) refl) refl)
+      (omega arith) (arguments_read i h)
 
   argument_read : {d : ℕ} {a : Argument} {ts us : List Token} → IsArgument d ts a us → Behind 10 us → begins_assign us ≡ false →
       argument_by (expression_by (deeper d)) ts ≡ Ok (a, us)

@@ -1,15 +1,14 @@
 -- Where repetitions stop, and what the reader does at tokens that are given by a test alone.
-use Rattle.std.proofs.Common.{◌≡◌, ℕ, ◌<◌, ◌≤◌, Bool, true, false, if◌then◌else◌, List, [], ◌∷◌, codes, Option, None, Some, Result, Ok, Err, refl, sym, ◌∙◌, ap, subst, arith}
-use Rattle.std.specs.Prelude.{bytes_eq}
-use Rattle.template_tree.specs.Tree.{Expression, Optional, absent, given, Expressions, Links, Arguments, no_arguments, conditional}
-use Rattle.template_compiler_tokens.specs.Token.{Symbol, Token, template_data, variable_start, variable_end, block_start, block_end, identifier, string, number, symbol, bad, plus, minus, mul, div, floor_div, pow, modulo, dot, comma, colon, tilde, assign, pipe, bracket_open, bracket_close, paren_open, paren_close, brace_open, brace_close}
-use Rattle.template_compiler_expressions.specs.Words.{is_word, begins_word, begins_paren, begins_dotted, Level, operator, comparison_operator}
+use Rattle.std.proofs.Common.{◌≡◌, ℕ, ◌<◌, true, false, List, [], ◌∷◌, codes, None, Ok, refl, ◌∙◌, ap, arith}
+use Rattle.template_tree.specs.Tree.{Expression, absent, given, Links, no_arguments, conditional}
+use Rattle.template_compiler_tokens.specs.Token.{Token, identifier, string, symbol, pow, dot, colon, pipe, bracket_open, bracket_close, paren_open, paren_close, brace_close}
+use Rattle.template_compiler_expressions.specs.Words.{is_word, begins_word, begins_paren, begins_dotted, Level}
 use Rattle.template_compiler_expressions.specs.Trees.{}
-use Rattle.template_compiler_expressions.specs.Ends.{rank, word_rank, Behind}
-use Rattle.template_compiler_expressions.specs.Steps.{Read, Step, goes, stops, fails, fault, and_then, under}
-use Rattle.template_compiler_expressions.specs.Reader.{Deeper, dotted_step, text_step, part_step, filter_step, power_behind, operand_behind, operand_step, link_behind, link_step, else_behind, if_behind, negation_by, comparison_by, is_by, test_by, name_of, optional_arguments_by, begins_closing, is_closing, begins_bound_end, is_bound_end, separated, unless_closing, bound_by, step_by, subscript_behind, paren_by, paren_behind, paren_end}
-use Rattle.template_compiler_expressions.proofs.Ranks.{weaker, level_rank, no_is, no_operator, no_comparison, is_no_not, is_no_if, is_no_else}
-use Rattle.template_compiler_expressions.proofs.Opens.{is_opener, begins_opener}
+use Rattle.template_compiler_expressions.specs.Ends.{Behind}
+use Rattle.template_compiler_reading.specs.Steps.{Read, Step, goes, stops, and_then}
+use Rattle.template_compiler_expressions.specs.Reader.{Deeper, dotted_step, text_step, part_step, filter_step, power_behind, operand_behind, operand_step, link_behind, link_step, else_behind, if_behind, negation_by, comparison_by, is_by, test_by, name_of, optional_arguments_by, begins_closing, begins_bound_end, separated, unless_closing, bound_by, step_by, paren_by, paren_behind}
+use Rattle.template_compiler_expressions.proofs.Ranks.{level_rank, no_is, no_operator, no_comparison, is_no_not, is_no_if, is_no_else}
+use Rattle.template_compiler_expressions.proofs.Opens.{begins_opener}
 
 pub dotted_stops : (n : List ℕ) (ts : List Token) → begins_dotted ts ≡ false → dotted_step n ts ≡ stops
 unfolding dotted_step

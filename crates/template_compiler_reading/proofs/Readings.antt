@@ -1,9 +1,9 @@
 -- What a reading answers: a tree by a relation, tokens behind it in which nothing stands that did not stand before,
 -- or a fault that is to blame.
-use Rattle.std.proofs.Common.{◌≡◌, ℕ, zero, suc, ◌<◌, ◌⊎◌, inl, inr, Bool, true, false, if◌then◌else◌, List, [], ◌∷◌, length, Result, Ok, Err, refl, sym, ◌∙◌, ap, subst, arith}
+use Rattle.std.proofs.Common.{◌≡◌, ℕ, zero, suc, inl, inr, Bool, true, false, if◌then◌else◌, List, ◌∷◌, length, Ok, Err, refl, ap, subst}
 use Rattle.template_compiler_tokens.specs.Token.{Token, TokenFault, bad, bad_syntax}
-use Rattle.template_compiler_expressions.specs.Blame.{Stands, Blamed}
-use Rattle.template_compiler_expressions.specs.Steps.{Read, fault, and_then, Step, goes, stops, fails, under, goes_on, many, all}
+use Rattle.template_compiler_reading.specs.Blame.{Stands, Blamed}
+use Rattle.template_compiler_reading.specs.Steps.{Read, fault, and_then, Step, goes, stops, fails, under, goes_on, many, all}
 
 -- the parts of what is read
 ok_pair : {A : Type 0} (a : A) (ts : List Token) (r : Read A) → A × List Token
@@ -43,7 +43,8 @@ pub reads_ok : {A : Type 0} {P : A → List Token → Type 0} {a : A} {ts us : L
 reads_ok {P = P} {a = a} {ts = ts} {us = us} p k = record {
   tree = λ b vs e. (
     subst (λ vs. P b vs) (ok_rest e) (subst (λ b. P b us) (ok_tree e) p),
-    subst (λ vs. Kept vs ts) (ok_rest e) k);
+    subst (λ vs. Kept vs ts) (ok_rest e) k,
+  );
   blames = λ f e. cc;
 }
 
@@ -98,7 +99,8 @@ pub step_goes : {A : Type 0} {P : A → List Token → Type 0} {a : A} {ts us : 
 step_goes {P = P} {a = a} {ts = ts} {us = us} p k = record {
   tree = λ b vs e. let same : a ≡ b = cc in let rest : us ≡ vs = cc in (
     subst (λ vs. P b vs) rest (subst (λ b. P b us) same p),
-    subst (λ vs. Kept vs ts) rest k);
+    subst (λ vs. Kept vs ts) rest k,
+  );
   blames = λ f e. cc;
 }
 

@@ -1,7 +1,7 @@
 -- Readings behind one another, and repetitions round by round.
-use Rattle.std.proofs.Common.{◌≡◌, ℕ, zero, suc, ◌<◌, ◌≤◌, List, [], ◌∷◌, length, Result, Ok, Err, refl, ◌∙◌, ap, subst, arith}
+use Rattle.std.proofs.Common.{◌≡◌, ℕ, zero, suc, ◌<◌, List, length, Ok, Err, ◌∙◌, ap, subst, arith}
 use Rattle.template_compiler_tokens.specs.Token.{Token, TokenFault}
-use Rattle.template_compiler_expressions.specs.Steps.{Read, and_then, Step, goes, stops, fails, under, goes_on, many, all}
+use Rattle.template_compiler_reading.specs.Steps.{Read, and_then, Step, goes, stops, under, goes_on, many, all}
 
 pub then_goes : {A B : Type 0} {m : Read A} {a : A} {ts : List Token} {r : Read B} (go : A → List Token → Read B) →
     m ≡ Ok (a, ts) → go a ts ≡ r → and_then m go ≡ r
