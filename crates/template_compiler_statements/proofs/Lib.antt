@@ -1,3 +1,4 @@
 pub mod Shrinks
 pub mod Complete
+pub mod Sound
 pub mod Laws
