@@ -1,4 +1,1 @@
 pub mod Shrinks
-pub mod Complete
-pub mod Sound
-pub mod Laws

@@ -1,12 +1,5 @@
-//! The grammar of templates over their tokens.
+//! The grammar of templates over their tokens, and a reader of them from left to right.
+//!
+//! The grammar is in `specs/Grammar.antt`, one constructor a production. That the reader reads exactly what has a tree
+//! is proved in `template_compiler_statement_laws`.
 #![tactic(auto)]
-
-ghost use Rattle.std.specs.Prelude.{◌≡◌, List};
-ghost use Rattle.template_compiler_statements.specs.Grammar.{IsTemplate};
-ghost use Rattle.template_compiler_tokens.specs.Token.{Token};
-ghost use Rattle.template_tree.specs.Tree.{Statements};
-
-/// A law, as the contract of a function that does nothing: tokens are one template at most.
-pub fn one_template()
-    ensures { (ts : List Token) (ss us : Statements) → IsTemplate ts ss → IsTemplate ts us → ss ≡ us }
-{}
