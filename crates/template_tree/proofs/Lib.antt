@@ -1,4 +1,2 @@
 pub mod Arms
-pub mod Chains
 pub mod Rows
-pub mod Walks

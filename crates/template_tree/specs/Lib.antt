@@ -4,4 +4,3 @@ pub mod StatementView
 pub mod Places
 pub mod Kinds
 pub mod CallView
-pub mod Spine

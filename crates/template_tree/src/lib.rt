@@ -6,7 +6,6 @@ mod expressions;
 mod makers;
 mod operators;
 mod span;
-mod spines;
 mod statements;
 
 pub use calls::{Call, CallArg, CallType};
@@ -16,7 +15,6 @@ pub use expressions::{
 };
 pub use operators::{BinOpKind, CompareOpKind, UnaryOpKind};
 pub use span::{Span, Spanned};
-pub use spines::spine;
 pub use statements::{
     AutoEscape, Block, Break, CallBlock, Continue, Do, EmitExpr, EmitRaw, Extends, FilterBlock,
     ForLoop, FromImport, IfCond, Import, Include, Macro, Set, SetBlock, Stmt, Template, WithBlock,

@@ -42,7 +42,8 @@ impl<'source> Expr<'source> {
         step: Option<Expr<'source>>,
         span: Span,
     ) -> Result<Expr<'source>, AllocError>
-        ensures tree { IfOk result (λ e. expression_of e ≡ slice (expression_of expr.entry) (optional_in start.entry) (optional_in stop.entry) (optional_in step.entry)) }
+        ensures tree { IfOk result
+            (λ e. expression_of e ≡ slice (expression_of expr.entry) (optional_in start.entry) (optional_in stop.entry) (optional_in step.entry)) }
         ensures span { IfOk result (λ e. expression_span e ≡ span) }
     {
         let node = Box::new(
@@ -108,7 +109,8 @@ impl<'source> Expr<'source> {
         false_expr: Option<Expr<'source>>,
         span: Span,
     ) -> Result<Expr<'source>, AllocError>
-        ensures tree { IfOk result (λ e. expression_of e ≡ conditional (expression_of test_expr.entry) (expression_of true_expr.entry) (optional_in false_expr.entry)) }
+        ensures tree { IfOk result
+            (λ e. expression_of e ≡ conditional (expression_of test_expr.entry) (expression_of true_expr.entry) (optional_in false_expr.entry)) }
         ensures span { IfOk result (λ e. expression_span e ≡ span) }
     {
         let node = Box::new(
@@ -130,7 +132,8 @@ impl<'source> Expr<'source> {
         args: Vec<CallArg<'source>>,
         span: Span,
     ) -> Result<Expr<'source>, AllocError>
-        ensures tree { IfOk result (λ e. expression_of e ≡ filtered (cow_str_bytes name.entry) (optional_in expr.entry) (arguments_in args.entry.items)) }
+        ensures tree { IfOk result
+            (λ e. expression_of e ≡ filtered (cow_str_bytes name.entry) (optional_in expr.entry) (arguments_in args.entry.items)) }
         ensures span { IfOk result (λ e. expression_span e ≡ span) }
     {
         let node = Box::new(alloc, Filter { name, expr, args })?;
@@ -145,7 +148,8 @@ impl<'source> Expr<'source> {
         args: Vec<CallArg<'source>>,
         span: Span,
     ) -> Result<Expr<'source>, AllocError>
-        ensures tree { IfOk result (λ e. expression_of e ≡ tested (cow_str_bytes name.entry) (expression_of expr.entry) (arguments_in args.entry.items)) }
+        ensures tree { IfOk result
+            (λ e. expression_of e ≡ tested (cow_str_bytes name.entry) (expression_of expr.entry) (arguments_in args.entry.items)) }
         ensures span { IfOk result (λ e. expression_span e ≡ span) }
     {
         let node = Box::new(alloc, Test { name, expr, args })?;
@@ -233,7 +237,8 @@ impl<'source> Expr<'source> {
         values: Vec<Expr<'source>>,
         span: Span,
     ) -> Result<Expr<'source>, AllocError>
-        ensures tree { IfOk result (λ e. expression_of e ≡ map_literal (expressions_in keys.entry.items) (expressions_in values.entry.items)) }
+        ensures tree { IfOk result
+            (λ e. expression_of e ≡ map_literal (expressions_in keys.entry.items) (expressions_in values.entry.items)) }
         ensures span { IfOk result (λ e. expression_span e ≡ span) }
     {
         let node = Box::new(alloc, Map { keys, values })?;

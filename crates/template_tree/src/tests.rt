@@ -68,14 +68,13 @@ fn expressions_are_described_in_words(rt: HostRuntime) -> Result<(), Fail> {
 }
 
 #[test]
-fn a_long_left_chain_is_gone_along_and_dropped(rt: HostRuntime) -> Result<(), Fail> {
+fn a_long_left_chain_is_dropped(rt: HostRuntime) -> Result<(), Fail> {
     let alloc = rt.alloc();
     let mut chain = Expr::variable("x", at());
     for _ in 0..500_000 {
         chain = Expr::attribute(alloc, chain, "a", at())?;
     }
-    let nodes = spine(alloc, &chain)?;
-    assert_eq!(rt; nodes.len(), 500_001);
+    assert_eq!(rt; chain.description(), "attribute lookup");
     Ok(())
 }
 

@@ -1,10 +1,10 @@
 //! The left chain of an expression, which may be as long as the source.
 ghost use Rattle.std.specs.Prelude.{◌≡◌, ◌≤◌, ◌<◌, All, IfOk, IfSome, map, option_map};
-ghost use Rattle.template_tree.specs.Spine.{left_of, spine_of};
+ghost use Rattle.template_tree_spines.specs.Spine.{left_of, spine_of};
 ghost use Rattle.template_tree.specs.View.{expression_of};
 ghost use Rattle.template_tree.specs.declared.expressions.Expr.{size-Expr};
 
-use crate::expressions::Expr;
+use template_tree::Expr;
 use std::alloc::{AllocError, Global};
 
 /// The expression, its left part, that one's left part and so on, the last one first: what goes over a

@@ -3,7 +3,7 @@ use Rattle.std.proofs.Common.{◌≡◌, List, [], ◌∷◌, ◌++◌, map, rev
 use Rattle.std.proofs.lemmas.List.{reverse-append}
 use denote.Hole.Carrier.{out}
 use Rattle.template_tree.specs.Tree.{Expression}
-use Rattle.template_tree.specs.Spine.{left_of, spine_of}
+use Rattle.template_tree_spines.specs.Spine.{left_of, spine_of}
 use Rattle.template_tree.specs.View.{expression_of, chain_of}
 use Rattle.template_tree.specs.declared.span.Spanned.{Spanned}
 use Rattle.template_tree.specs.declared.expressions.Filter.{Filter as FilterNode}
