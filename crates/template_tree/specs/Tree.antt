@@ -50,6 +50,7 @@ mutual
 
 mutual
   pub data Statement : Type 0 where
+    template : Statements → Statement  -- a whole template; it stands in no other
     raw : List ℕ → Statement  -- a text written as it stands
     print : Expression → Statement
     for_loop : Expression → Expression → Optional → Bool → Statements → Statements → Statement  -- target, iterable, filter, recursive, body, else part

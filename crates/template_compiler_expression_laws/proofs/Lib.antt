@@ -1,0 +1,4 @@
+pub mod Stops
+pub mod Complete
+pub mod Sound
+pub mod Laws

@@ -1,0 +1,5 @@
+pub mod Signs
+pub mod Refusals
+pub mod Left
+pub mod Skips
+pub mod Parsed

@@ -1,0 +1,6 @@
+//! The parser of expressions.
+#![tactic(auto)]
+
+mod refusal;
+mod sign;
+mod stream;

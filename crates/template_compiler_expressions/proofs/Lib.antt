@@ -1,0 +1,4 @@
+pub mod Ranks
+pub mod Opens
+pub mod Shrinks
+mod Rows

@@ -1,0 +1,5 @@
+pub mod Words
+pub mod Trees
+pub mod Grammar
+pub mod Ends
+pub mod Reader

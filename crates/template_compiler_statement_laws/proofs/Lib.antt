@@ -1,0 +1,3 @@
+pub mod Complete
+pub mod Sound
+pub mod Laws

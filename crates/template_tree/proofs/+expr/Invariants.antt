@@ -1,0 +1,8 @@
+-- What is left to drop is no deeper than what was passed.
+use Rattle.std.proofs.Common.{◌≤◌}
+use Rattle.template_tree.specs.declared.expressions.Expr.{size-Expr}
+use Rattle.template_tree.proofs.+expr.Given as goal
+
+abbrev pub invariant-expressions::Expr::drop-loop-self :
+    goal.invariant-expressions::Expr::drop-loop-self
+invariant-expressions::Expr::drop-loop-self l = size-Expr l.self ≤ size-Expr l.initial.self

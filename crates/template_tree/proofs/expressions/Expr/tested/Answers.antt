@@ -1,0 +1,7 @@
+use Rattle.std.proofs.Common.{rules}
+use Rattle.template_tree.specs.declared.expressions.Expr.{the_lemmas}
+use Rattle.template_tree.proofs.Rows.{arguments_row}
+use Rattle.template_tree.proofs.expressions.Expr.tested.Goals as goal
+
+pub returns-clause-tree : goal.returns-clause-tree
+returns-clause-tree c = search (rules, the_lemmas, arguments_row)
