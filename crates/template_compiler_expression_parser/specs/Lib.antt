@@ -1,5 +1,0 @@
-pub mod Signs
-pub mod Refusals
-pub mod Left
-pub mod Skips
-pub mod Parsed

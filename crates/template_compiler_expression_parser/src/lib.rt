@@ -1,6 +1,0 @@
-//! The parser of expressions.
-#![tactic(auto)]
-
-mod refusal;
-mod sign;
-mod stream;
