@@ -3,7 +3,7 @@
 -- not known behind it.
 use Rattle.std.specs.Prelude.{ℕ, Bool, true, false, not, ◌&&◌, ◌||◌, List, codes}
 use Rattle.std.specs.Str.{bytes_eq}
-use Rattle.template_tree.specs.Tree.{Expression, Optional, Expressions, Links, Arguments, Argument, variable, constant, slice, unary, binary, chain, conditional, filtered, tested, attribute, item, call, list_literal, tuple_literal, map_literal, absent, given, no_expressions, expressions_more, no_links, links_more, no_arguments, arguments_more, positional, keyword, positional_spread, keyword_spread, Statement, Statements, Assignments, Imports, raw, print, for_loop, if_condition, with_block, set, set_block, auto_escape, filter_block, block, import, from_import, extends, include, macro, call_block, continue_loop, break_loop, do_call, no_statements, statements_more, no_assignments, assignments_more, no_imports, imports_more}
+use Rattle.template_tree.specs.Tree.{Expression, Optional, Expressions, Links, Arguments, Argument, variable, constant, slice, unary, binary, chain, conditional, filtered, tested, attribute, item, call, list_literal, tuple_literal, map_literal, absent, given, no_expressions, expressions_more, no_links, links_more, no_arguments, arguments_more, positional, keyword, positional_spread, keyword_spread, Statement, Statements, Assignments, Imports, template, raw, print, for_loop, if_condition, with_block, set, set_block, auto_escape, filter_block, block, import, from_import, extends, include, macro, call_block, continue_loop, break_loop, do_call, no_statements, statements_more, no_assignments, assignments_more, no_imports, imports_more}
 
 abbrev mutual
   -- the name stands in the expression
@@ -110,6 +110,7 @@ is_stored_by name _ = false
 abbrev mutual
   -- the statement uses the name, where nothing before it stores the name; in a loop's body `loop` is stored
   pub is_used_by : List ℕ → Statement → Bool
+  is_used_by name (template ss) = is_used_in name ss
   is_used_by name (raw text) = false
   is_used_by name (print e) = stands_in name e
   is_used_by name (for_loop target e filter recursive body otherwise) =
