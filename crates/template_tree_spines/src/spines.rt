@@ -4,8 +4,8 @@ ghost use Rattle.template_tree_spines.specs.Spine.{left_of, spine_of};
 ghost use Rattle.template_tree.specs.View.{expression_of};
 ghost use Rattle.template_tree.specs.declared.expressions.Expr.{size-Expr};
 
-use template_tree::Expr;
 use std::alloc::{AllocError, Global};
+use template_tree::Expr;
 
 /// The expression, its left part, that one's left part and so on, the last one first: what goes over a
 /// tree goes along this list, and calls itself for the other parts alone. Linear in its length.

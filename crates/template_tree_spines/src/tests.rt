@@ -13,4 +13,3 @@ fn a_long_left_chain_is_gone_along(rt: HostRuntime) -> Result<(), Fail> {
     assert_eq!(rt; nodes.len(), 500_001);
     Ok(())
 }
-
