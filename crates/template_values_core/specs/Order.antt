@@ -141,13 +141,16 @@ key_trans (leaf n s) (branch a b) (leaf k u) e f = absurd (cc)
 key_trans (branch a b) (leaf m t) z e f = absurd (cc)
 key_trans (branch a b) (branch c d) (leaf k u) e f = absurd (cc)
 key_trans (branch a b) (branch c d) (branch g h) e f = elim (then_less (key_cmp a c) (key_cmp b d) e) [
-    inl less ↦ elim (then_less (key_cmp c g) (key_cmp d h) f) [
-      inl later ↦ less_first (key_cmp a g) (key_cmp b h) (key_trans a c g less later)
-    | inr later ↦ less_first (key_cmp a g) (key_cmp b h) (sym (key_alike c g a later.0) ∙ less) ]
+  | inl less ↦ elim (then_less (key_cmp c g) (key_cmp d h) f) [
+    | inl later ↦ less_first (key_cmp a g) (key_cmp b h) (key_trans a c g less later)
+    | inr later ↦ less_first (key_cmp a g) (key_cmp b h) (sym (key_alike c g a later.0) ∙ less)
+  ]
   | inr less ↦ elim (then_less (key_cmp c g) (key_cmp d h) f) [
-      inl later ↦ less_first (key_cmp a g) (key_cmp b h) (key_congr a c g less.0 ∙ later)
+    | inl later ↦ less_first (key_cmp a g) (key_cmp b h) (key_congr a c g less.0 ∙ later)
     | inr later ↦ less_second (key_cmp a g) (key_cmp b h) (key_congr a c g less.0 ∙ later.0)
-        (key_trans b d h less.1 later.1) ] ]
+        (key_trans b d h less.1 later.1)
+  ]
+]
 
 pub val_total : IsTotalOrder val_cmp
 val_total = on_total key (record { antisymm = key_antisymm; trans = key_trans; congr = key_congr })
