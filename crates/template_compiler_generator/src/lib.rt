@@ -31,7 +31,12 @@ impl<'source> Model for CodeGenerator<'source> {
 
     ghost Value = { Progress };
 
-    ghost view = { λ g. record { name = g.instructions.name; source = g.instructions.source; code = g.instructions.code; refused = g.refused } };
+    ghost view = { λ g. record {
+      name = g.instructions.name;
+      source = g.instructions.source;
+      code = g.instructions.code;
+      refused = g.refused;
+    } };
 
     ghost invariant = { λ g. length g.instructions.code < too_many };
 }

@@ -1,8 +1,9 @@
 //! The names that a template uses.
 #![tactic(auto)]
 
-ghost use Rattle.std.specs.Prelude.{◌≡◌, ℕ, List, ◌∷◌, [], ◌||◌, ◌↔◌, ◌⊎◌, IfOk, OnOk, OnErr, IsTrue, IfErr, bytes_eq};
+ghost use Rattle.std.specs.Prelude.{◌≡◌, ℕ, List, ◌||◌, ◌↔◌, ◌⊎◌, IfOk, OnOk, OnErr, IsTrue, IfErr, bytes_eq};
 ghost use Rattle.std.specs.BTreeSet.{contains_text};
+ghost use Rattle.template_values_errors.specs.Memory.{NoMemory};
 ghost use Rattle.template_compiler_names.specs.Used.{GrowsBy, HasJust, HasMore, uses};
 ghost use Rattle.template_compiler_tree.specs.Names.{IsUsed};
 ghost use Rattle.template_compiler_tree.specs.View.{statement_of, tree_of};
@@ -20,7 +21,7 @@ use template_values_errors::{Error, ErrorKind};
 /// [`ErrorKind::OutOfMemory`].
 pub fn find_undeclared(alloc: Global, template: &Template<'_>) -> Result<BTreeSet<String>, Error>
     ensures found { IfOk result (λ names. HasJust (tree_of template.now) names) }
-    ensures refused { IfErr result (λ kinds. kinds ≡ ErrorKind.OutOfMemory ∷ []) }
+    ensures refused { IfErr result NoMemory }
 {
     let mut names = BTreeSet::new(alloc);
     add_undeclared(alloc, &mut names, template)?;
@@ -39,7 +40,7 @@ pub fn add_undeclared(
     template: &Template<'_>,
 ) -> Result<(), Error>
     ensures added { OnOk result (HasMore (tree_of template.now) names.old names.new) }
-    ensures refused { IfErr result (λ kinds. kinds ≡ ErrorKind.OutOfMemory ∷ []) }
+    ensures refused { IfErr result NoMemory }
     ensures partial { OnErr result (GrowsBy (λ name. IsUsed name (tree_of template.now)) names.old names.new) }
 {
     for statement in &template.children {
@@ -55,7 +56,7 @@ fn add_statement(
 ) -> Result<(), Error>
     ensures added { OnOk result ((q : List ℕ)
         → contains_text names.new q ≡ (contains_text names.old q || uses q (statement_of statement.now))) }
-    ensures refused { IfErr result (λ kinds. kinds ≡ ErrorKind.OutOfMemory ∷ []) }
+    ensures refused { IfErr result NoMemory }
     ensures unchanged { OnErr result ((q : List ℕ) → contains_text names.new q ≡ contains_text names.old q) }
 {
     match statement {
@@ -73,7 +74,7 @@ fn add_statement(
 /// [`ErrorKind::OutOfMemory`], and the set is as it was.
 pub fn add_name(alloc: Global, names: &mut BTreeSet<String>, name: &str) -> Result<(), Error>
     ensures added { OnOk result ((q : List ℕ) → contains_text names.new q ≡ (contains_text names.old q || bytes_eq name.now q)) }
-    ensures refused { IfErr result (λ kinds. kinds ≡ ErrorKind.OutOfMemory ∷ []) }
+    ensures refused { IfErr result NoMemory }
     ensures unchanged { OnErr result ((q : List ℕ) → contains_text names.new q ≡ contains_text names.old q) }
 {
     if names.contains(name) {

@@ -1,7 +1,8 @@
 -- When a source is accepted as a template, and when it is refused.
 use Rattle.std.specs.Prelude.{◌≡◌, ℕ, ◌^◌, ◌<◌, ◌≤◌, ◌⊎◌, List, [], ◌∷◌, length}
 use Rattle.template_values_errors.specs.declared.ErrorKind.{ErrorKind}
-use Rattle.template_values_errors.specs.declared.ErrorKind.TheVariants.{SyntaxError, TooLarge, OutOfMemory}
+use Rattle.template_values_errors.specs.declared.ErrorKind.TheVariants.{SyntaxError, TooLarge}
+use Rattle.template_values_errors.specs.Memory.{NoMemory}
 use Rattle.template_compiler_tree.specs.Tree.{Statement}
 use Rattle.template_compiler_grammar.specs.Grammar.{IsTemplate}
 
@@ -25,4 +26,4 @@ IsAccepted source = IsSmall source × HasTree source
 abbrev pub IsRefusedWith : List ℕ → List ErrorKind → Type 0
 IsRefusedWith source kinds =
     (IsTooLarge source × (kinds ≡ TooLarge ∷ []))
-    ⊎ (IsSmall source × (((kinds ≡ SyntaxError ∷ []) × ¬ HasTree source) ⊎ (kinds ≡ OutOfMemory ∷ [])))
+    ⊎ (IsSmall source × (((kinds ≡ SyntaxError ∷ []) × ¬ HasTree source) ⊎ NoMemory kinds))

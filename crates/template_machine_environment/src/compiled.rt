@@ -1,6 +1,7 @@
 //! Templates that were accepted.
 ghost use Rattle.std.specs.Prelude.{◌≡◌, ℕ, List, ◌∷◌, [], ◌⊎◌, ◌↔◌, IsTrue, IfOk, IfErr, OnOk, OnErr, Option};
 ghost use Rattle.std.specs.Option.{option_map};
+ghost use Rattle.template_values_errors.specs.Memory.{NoMemory};
 ghost use Rattle.template_compiler_tree.specs.Tree.{Statement};
 ghost use Rattle.template_compiler_grammar.specs.Grammar.{IsTemplate};
 ghost use Rattle.template_machine_world.specs.Laws.{remaining};
@@ -108,7 +109,7 @@ impl<'source> CompiledTemplate<'source> {
     pub fn add_undeclared(&self, alloc: Global, names: &mut BTreeSet<String>) -> Result<(), Error>
         ensures added { OnOk result ((q : List ℕ) → IsTrue (contains_text names.new q)
             ↔ (IsTrue (contains_text names.old q) ⊎ UsesName self.now.source q)) }
-        ensures refused { IfErr result (λ kinds. kinds ≡ ErrorKind.OutOfMemory ∷ []) }
+        ensures refused { IfErr result NoMemory }
         ensures partial { OnErr result (GrowsBy (UsesName self.now.source) names.old names.new) }
     {
         let source = self.instructions.instructions().source();

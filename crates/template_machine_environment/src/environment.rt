@@ -3,6 +3,7 @@ ghost use Rattle.std.specs.Prelude.{◌≡◌, ◌≢◌, ℕ, List, ◌+◌, �
 ghost use Rattle.std.specs.BTreeMap.{get_by_text};
 ghost use Rattle.std.specs.BTreeSet.{contains_text};
 ghost use Rattle.std.specs.Option.{ForSome};
+ghost use Rattle.template_values_errors.specs.Memory.{NoMemory};
 ghost use Rattle.template_values_model.specs.Val.{Val};
 ghost use Rattle.template_compiler_tree.specs.Tree.{Statement};
 ghost use Rattle.template_compiler_grammar.specs.Grammar.{IsTemplate};
@@ -141,7 +142,7 @@ impl<'source> Environment<'source> {
         ensures isolated { IfOk result (λ names. (c d : Val) → AgreeAt names c d → (rule : AutoEscape) → (tree : List Statement)
             → IsTemplate (source_of template.now) tree →
             (fuel : Option ℕ) → IsSameRun (rendered rule fuel tree c) (rendered rule fuel tree d)) }
-        ensures refused { IfErr result (λ kinds. kinds ≡ ErrorKind.OutOfMemory ∷ []) }
+        ensures refused { IfErr result NoMemory }
     {
         let mut names = common_names(self.alloc)?;
         template.compiled.add_undeclared(self.alloc, &mut names)?;
@@ -154,7 +155,7 @@ impl<'source> Environment<'source> {
     fn add_standing(&self, names: &mut BTreeSet<String>) -> Result<(), Error>
         ensures added { OnOk result ((name : List ℕ) → IsTrue (contains_text names.new name)
             ↔ (IsTrue (contains_text names.old name) ⊎ IsUsedByOne self.now name)) }
-        ensures refused { IfErr result (λ kinds. kinds ≡ ErrorKind.OutOfMemory ∷ []) }
+        ensures refused { IfErr result NoMemory }
     {
         for (_name, compiled) in &self.templates {
             compiled.add_undeclared(self.alloc, names)?;

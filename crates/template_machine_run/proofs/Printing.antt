@@ -5,7 +5,7 @@ use Rattle.template_values_errors.specs.declared.ErrorKind.TheVariants.{WriteFai
 use Rattle.template_values_model.specs.Fault.{Fault, kind_of, invalid_operation, bad_serialization, missing_argument}
 use Rattle.template_values_modes.specs.declared.AutoEscape.{AutoEscape}
 use Rattle.template_values_model.specs.Val.{Val}
-use Rattle.template_values_forms.specs.Answers.{Appends}
+use Rattle.template_values_forms.specs.Answers.{AppendsOrRefuses}
 use Rattle.template_values_forms.specs.Escaped.{escaped}
 use Rattle.template_values_forms.specs.Known.{Known}
 use Rattle.template_machine_run.specs.Outcomes.{TellsFailures}
@@ -15,13 +15,13 @@ no_writer invalid_operation is = cc
 no_writer bad_serialization is = cc
 no_writer missing_argument is = cc
 
-no_failure : (made : Result (List ℕ) Fault) (before : List ℕ) (kinds : List ErrorKind) (after : List ℕ) → Appends before made (Err kinds) after → kinds ≡ WriteFailure ∷ [] → ⊥
+no_failure : (made : Result (List ℕ) Fault) (before : List ℕ) (kinds : List ErrorKind) (after : List ℕ) → AppendsOrRefuses before made (Err kinds) after → kinds ≡ WriteFailure ∷ [] → ⊥
 no_failure (Ok s) before kinds after refused is = let memory = refused.0 in cc
 no_failure (Err fault) before kinds after (inl same, kept) is = no_writer fault (sym same ∙ is)
 no_failure (Err fault) before kinds after (inr memory, kept) is = cc
 
 pub tells_nothing : {X : Type 0} (escape : AutoEscape) (known : Known) (v : Val) (before : List ℕ) (kinds : List ErrorKind) (after : List ℕ) (result : Result X (List ErrorKind)) (count : ℕ)
-    → Appends before (escaped escape known v) (Err kinds) after → result ≡ Err kinds → TellsFailures result count count
+    → AppendsOrRefuses before (escaped escape known v) (Err kinds) after → result ≡ Err kinds → TellsFailures result count count
 tells_nothing {X} escape known v before kinds after result count refused is =
     subst (λ (r : Result X (List ErrorKind)). TellsFailures r count count) (sym is)
     (inr (no_failure (escaped escape known v) before kinds after refused, refl))

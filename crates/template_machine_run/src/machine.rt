@@ -1,6 +1,7 @@
 //! The run of a template's code.
 ghost use Rattle.std.specs.Prelude.{◌≡◌, ◌∷◌, [], ◌↔◌, ◌-◌, IsOk, IsSome, IfErr, OnOk, Some, reverse, vec_len, IsErrAnd};
 ghost use Rattle.std.specs.Option.{option_map};
+ghost use Rattle.template_values_errors.specs.Memory.{NoMemory};
 ghost use Rattle.template_compiler_code.specs.View.{code_of};
 ghost use Rattle.template_compiler_code.specs.Prices.{charge_of};
 ghost use Rattle.template_compiler_code.specs.Shapes.{depth_after};
@@ -40,7 +41,7 @@ fn charge(fuel: &mut Option<FuelTracker>, instruction: &Instruction<'_>) -> Resu
 // Puts a value on the operands. Refused for want of memory.
 fn push(operands: &mut Vec<Value>, value: Value) -> Result<(), Error>
     ensures pushed { OnOk result (reverse operands.new.items ≡ value ∷ reverse operands.old.items) }
-    ensures refused { IfErr result (λ kinds. kinds ≡ ErrorKind.OutOfMemory ∷ []) }
+    ensures refused { IfErr result NoMemory }
 {
     match operands.push(value) {
         Ok(()) => Ok(()),

@@ -1,6 +1,6 @@
 //! Texts and values on their way into a sink.
 ghost use Rattle.std.specs.Prelude.{◌≡◌, [], Ok, IfSome, string_bytes};
-ghost use Rattle.template_values_forms.specs.Answers.{Appends};
+ghost use Rattle.template_values_forms.specs.Answers.{AppendsOrRefuses};
 ghost use Rattle.template_values_forms.specs.Escaped.{escaped};
 ghost use Rattle.template_values_forms.specs.Known.{nothing_known};
 ghost use Rattle.template_machine_run.specs.Outcomes.{TellsFailures, Writes, Prints};
@@ -34,7 +34,7 @@ fn standing_text(value: &Value, escape: AutoEscape) -> Option<&str>
 // Makes the text of a value under an escape in `scratch`, which loses what it holds and keeps its room.
 // Refused where the value has no text, and for want of memory.
 fn make_text(value: &Value, escape: AutoEscape, scratch: &mut String) -> Result<(), Error>
-    ensures { Appends [] (escaped escape nothing_known value.now) result (string_bytes scratch.new) }
+    ensures { AppendsOrRefuses [] (escaped escape nothing_known value.now) result (string_bytes scratch.new) }
 {
     scratch.clear();
     escape_to(value, escape, &NoRecords, scratch)

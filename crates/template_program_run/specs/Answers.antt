@@ -5,7 +5,8 @@ use Rattle.std.specs.String.{string_cmp}
 use Rattle.std.specs.declared.alloc.Global.{Global}
 use Rattle.std.specs.Io.KnownBytes.{Appends}
 use Rattle.template_values_errors.specs.declared.ErrorKind.{ErrorKind}
-use Rattle.template_values_errors.specs.declared.ErrorKind.TheVariants.{InvalidOperation, OutOfMemory, TemplateNotFound}
+use Rattle.template_values_errors.specs.declared.ErrorKind.TheVariants.{InvalidOperation, TemplateNotFound}
+use Rattle.template_values_errors.specs.Memory.{NoMemory}
 use Rattle.template_values_modes.specs.declared.AutoEscape.{AutoEscape}
 use Rattle.template_values_model.specs.Val.{Val}
 use Rattle.template_compiler_tree.specs.Tree.{Statement}
@@ -78,7 +79,7 @@ Told environment source (Render kinds) before after failed fails =
     × AppendsBeginning before after (lines_of names.keys)
     × ((result : Result (Unit {0}) (List ErrorKind)) × (result ≡ Err kinds) × TellsFailures result failed fails)
 Told environment source (Template kinds) before after failed fails =
-    (kinds ≡ OutOfMemory ∷ []) × IsUntouched before after failed fails
+    NoMemory kinds × IsUntouched before after failed fails
 Told environment source _ before after failed fails = ⊥
 
 -- what is done with the main template, once it stands

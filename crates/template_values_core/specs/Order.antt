@@ -2,7 +2,7 @@
 -- bytes, lists and tuples by items, maps, keyword maps and modules by pairs, then functions, namespaces,
 -- loops and macros by id and number.
 use Rattle.std.specs.Prelude.{◌≡◌, ℕ, ℤ, pos, true, false, List, [], refl}
-use Rattle.std.proofs.Common.{ap, sym, ◌∙◌}
+use Rattle.std.proofs.Common.{ap, sym, ◌∙◌, ◌⊎◌, inl, inr}
 use Rattle.std.specs.declared.cmp.Ordering.{Ordering}
 use Rattle.std.specs.declared.cmp.Ordering.TheVariants.{Less, Equal, Greater}
 use Rattle.std.specs.Ordering.{int_cmp, nat_cmp, on, then_cmp, ordering_then, ordering_reverse}
@@ -122,16 +122,17 @@ key_congr (branch a b) (branch c d) (branch f g) e =
 key_alike : (x y z : Key) → key_cmp x y ≡ Equal → key_cmp z x ≡ key_cmp z y
 key_alike x y z e = key_antisymm z x ∙ ap ordering_reverse (key_congr x y z e) ∙ sym (key_antisymm z y)
 
--- of three parts' comparisons
-then_trans : (p r t q s u : Ordering) → (p ≡ Less → r ≡ Less → t ≡ Less) → (p ≡ Equal → t ≡ r) → (r ≡ Equal → p ≡ t)
-    → (q ≡ Less → s ≡ Less → u ≡ Less) → ordering_then p q ≡ Less → ordering_then r s ≡ Less → ordering_then t u ≡ Less
-then_trans Less Less t q s u f g h k a b = ap (λ o. ordering_then o u) (f refl refl)
-then_trans Less Equal t q s u f g h k a b = ap (λ o. ordering_then o u) (sym (h refl))
-then_trans Less Greater t q s u f g h k a b = absurd (cc)
-then_trans Equal Less t q s u f g h k a b = ap (λ o. ordering_then o u) (g refl)
-then_trans Equal Equal t q s u f g h k a b = ap (λ o. ordering_then o u) (g refl) ∙ k a b
-then_trans Equal Greater t q s u f g h k a b = absurd (cc)
-then_trans Greater r t q s u f g h k a b = absurd (cc)
+-- parts that compare as less in turn do so at the first, or at the second where the first are equal
+then_less : (p q : Ordering) → ordering_then p q ≡ Less → (p ≡ Less) ⊎ ((p ≡ Equal) × (q ≡ Less))
+then_less Less q e = inl refl
+then_less Equal q e = inr (refl, e)
+then_less Greater q e = absurd (cc)
+
+less_first : (p q : Ordering) → p ≡ Less → ordering_then p q ≡ Less
+less_first p q e = ap (λ o. ordering_then o q) e
+
+less_second : (p q : Ordering) → p ≡ Equal → q ≡ Less → ordering_then p q ≡ Less
+less_second p q e f = ap (λ o. ordering_then o q) e ∙ f
 
 key_trans : (x y z : Key) → key_cmp x y ≡ Less → key_cmp y z ≡ Less → key_cmp x z ≡ Less
 key_trans (leaf n s) (leaf m t) (leaf k u) e f = leaf_total.trans (n, s) (m, t) (k, u) e f
@@ -139,9 +140,17 @@ key_trans (leaf n s) y (branch c d) e f = refl
 key_trans (leaf n s) (branch a b) (leaf k u) e f = absurd (cc)
 key_trans (branch a b) (leaf m t) z e f = absurd (cc)
 key_trans (branch a b) (branch c d) (leaf k u) e f = absurd (cc)
-key_trans (branch a b) (branch c d) (branch g h) e f =
-    then_trans (key_cmp a c) (key_cmp c g) (key_cmp a g) (key_cmp b d) (key_cmp d h) (key_cmp b h) (key_trans a c g) (key_congr a c g)
-    (key_alike c g a) (key_trans b d h) e f
+key_trans (branch a b) (branch c d) (branch g h) e f = elim (then_less (key_cmp a c) (key_cmp b d) e) [
+  | inl less ↦ elim (then_less (key_cmp c g) (key_cmp d h) f) [
+    | inl later ↦ less_first (key_cmp a g) (key_cmp b h) (key_trans a c g less later)
+    | inr later ↦ less_first (key_cmp a g) (key_cmp b h) (sym (key_alike c g a later.0) ∙ less)
+  ]
+  | inr less ↦ elim (then_less (key_cmp c g) (key_cmp d h) f) [
+    | inl later ↦ less_first (key_cmp a g) (key_cmp b h) (key_congr a c g less.0 ∙ later)
+    | inr later ↦ less_second (key_cmp a g) (key_cmp b h) (key_congr a c g less.0 ∙ later.0)
+        (key_trans b d h less.1 later.1)
+  ]
+]
 
 pub val_total : IsTotalOrder val_cmp
 val_total = on_total key (record { antisymm = key_antisymm; trans = key_trans; congr = key_congr })

@@ -81,7 +81,7 @@ impl Value {
     }
 
     /// Whether the value counts as true: all but undefined, none, false, 0 and empty texts, bytes,
-    /// lists, tuples, maps and modules. Keyword maps and functions count as true, and so do records
+    /// lists, tuples, maps and modules. An empty keyword map counts as true, and so does every record
     /// here, also an empty namespace: only its state knows what it holds.
     #[tactic(auto, using(crate::proofs::ReadLemmas::reading))]
     pub fn is_true(&self) -> bool

@@ -246,24 +246,26 @@ mod tests {
     #[test]
     fn an_error_tells_its_chain(rt: HostRuntime) {
         let inner = Error::new(ErrorKind::OutOfFuel);
-        assert!(rt; inner.kind() == ErrorKind::OutOfFuel);
+        assert_eq!(rt; inner.kind(), ErrorKind::OutOfFuel);
         assert!(rt; inner.cause().is_none());
         let outer = Error::with_cause(rt.alloc(), ErrorKind::BadInclude, inner);
-        assert!(rt; outer.kind() == ErrorKind::BadInclude);
+        assert_eq!(rt; outer.kind(), ErrorKind::BadInclude);
         match outer.cause() {
-            Some(cause) => assert!(rt; cause.kind() == ErrorKind::OutOfFuel),
+            Some(cause) => assert_eq!(rt; cause.kind(), ErrorKind::OutOfFuel),
             None => panic!(rt; "the cause is gone"),
         }
-        assert!(rt; outer.kind().name() == "BadInclude");
+        assert_eq!(rt; outer.kind().name(), "BadInclude");
     }
 
     #[test]
     fn an_error_prints_its_kinds(rt: HostRuntime) -> Result<(), Fail> {
         let inner = Error::new(ErrorKind::WriteFailure);
         let middle = Error::with_cause(rt.alloc(), ErrorKind::BadInclude, inner);
+        assert_eq!(rt; middle.kind(), ErrorKind::BadInclude);
         let outer = Error::with_cause(rt.alloc(), ErrorKind::EvalBlock, middle);
+        assert_eq!(rt; outer.kind(), ErrorKind::EvalBlock);
         let text = format!(in rt.alloc(); "{outer}")?;
-        assert!(rt; text.as_str() == "EvalBlock: BadInclude: WriteFailure");
+        assert_eq!(rt; text.as_str(), "EvalBlock: BadInclude: WriteFailure");
         Ok(())
     }
 
@@ -272,7 +274,8 @@ mod tests {
         let alone = Error::new(ErrorKind::BadInclude);
         let inner = Error::new(ErrorKind::OutOfFuel);
         let outer = Error::with_cause(rt.alloc(), ErrorKind::BadInclude, inner);
-        assert!(rt; alone == Error::new(ErrorKind::BadInclude));
+        assert_eq!(rt; outer.kind(), ErrorKind::BadInclude);
+        assert_eq!(rt; alone, Error::new(ErrorKind::BadInclude));
         assert!(rt; outer != alone);
     }
 }

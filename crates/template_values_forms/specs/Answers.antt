@@ -11,11 +11,11 @@ joined (Ok s) (Err fault) = Err fault
 joined (Err fault) _ = Err fault
 
 -- the text is appended; or it is refused with the kind of a fault alone, or for want of memory, and nothing is appended
-abbrev pub Appends : List ℕ → Result (List ℕ) Fault → Result (Unit {0}) (List ErrorKind) → List ℕ → Type 0
-Appends before (Ok s) (Ok _) after = after ≡ before ++ s
-Appends before (Ok s) (Err kinds) after = NoMemory kinds × (after ≡ before)
-Appends before (Err fault) (Ok _) after = ⊥
-Appends before (Err fault) (Err kinds) after = ((kinds ≡ kind_of fault ∷ []) ⊎ NoMemory kinds) × (after ≡ before)
+abbrev pub AppendsOrRefuses : List ℕ → Result (List ℕ) Fault → Result (Unit {0}) (List ErrorKind) → List ℕ → Type 0
+AppendsOrRefuses before (Ok s) (Ok _) after = after ≡ before ++ s
+AppendsOrRefuses before (Ok s) (Err kinds) after = NoMemory kinds × (after ≡ before)
+AppendsOrRefuses before (Err fault) (Ok _) after = ⊥
+AppendsOrRefuses before (Err fault) (Err kinds) after = ((kinds ≡ kind_of fault ∷ []) ⊎ NoMemory kinds) × (after ≡ before)
 
 -- what is made of an answer, where there is one
 abbrev pub mapped : {T U : Type 0} → (T → U) → Result T Fault → Result U Fault

@@ -1,18 +1,20 @@
 -- The JSON of a value, as data of serde_json.
-use Rattle.std.specs.Prelude.{ℕ, zero, suc, ◌^◌, ℤ, pos, negsuc, List, [], ◌∷◌, ◌++◌, Option, None, Some, Result, Ok, Err, if◌then◌else◌, nat_lt}
+use Rattle.std.specs.Prelude.{ℕ, zero, suc, ℤ, pos, negsuc, List, [], ◌∷◌, ◌++◌, Option, None, Some, Result, Ok, Err, if◌then◌else◌, nat_le, int_le}
 use Rattle.json.specs.Print.{quoted}
 use Rattle.serde_json.specs.Data.{unsigned, negative, Data, null, boolean, number, string, array, object, Items, no_items, item, Members, no_members, member}
 use Rattle.template_values_model.specs.Fault.{Fault, invalid_operation, bad_serialization}
 use Rattle.template_values_model.specs.Val.{Val, Vals, Pairs, undefined, silent_undefined, none, truth, int, text, safe_text, bytes, list, tuple, map, keyword_map, «module», function, namespace, loop_record, macro_record, no_vals, vals_more, no_pairs, pairs_more}
 use Rattle.template_values_core.specs.Maps.{pairs_of}
+use Rattle.template_values_forms.specs.declared.TheConstants.{GREATEST_JSON_NUMBER, LEAST_JSON_NUMBER}
 use Rattle.template_values_forms.specs.Answers.{mapped}
 use Rattle.template_values_forms.specs.Known.{Known}
 use Rattle.template_values_forms.specs.Printed.{level_limit}
 
--- a number from -2^63 to 2^64 - 1
+-- a number from the least to the greatest
 abbrev pub number_data : ℤ → Result Data Fault
-number_data (pos n) = if nat_lt n (2 ^ 64) then Ok (number (unsigned n)) else Err bad_serialization
-number_data (negsuc n) = if nat_lt n (2 ^ 63) then Ok (number (negative (negsuc n))) else Err bad_serialization
+number_data (pos n) = if nat_le n GREATEST_JSON_NUMBER then Ok (number (unsigned n)) else Err bad_serialization
+number_data (negsuc n) =
+    if int_le LEAST_JSON_NUMBER (negsuc n) then Ok (number (negative (negsuc n))) else Err bad_serialization
 
 abbrev pub byte_items : List ℕ → Items
 byte_items [] = no_items

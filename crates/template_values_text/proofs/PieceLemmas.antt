@@ -9,7 +9,7 @@ use Rattle.json.proofs.Printed.Utf8.{IsUtf8-are_ascii}
 use Rattle.std.proofs.lemmas.List.Concat.{flat_map-append}
 use Rattle.template_values_errors.specs.declared.ErrorKind.{ErrorKind}
 use Rattle.template_values_model.specs.Fault.{Fault}
-use Rattle.template_values_forms.specs.Answers.{Appends, joined, mapped}
+use Rattle.template_values_forms.specs.Answers.{AppendsOrRefuses, joined, mapped}
 use Rattle.template_values_forms.specs.Escapes.{html_byte, html}
 use Rattle.template_values_text.specs.Pieces.{encoded, Begins, Writes}
 use Rattle.template_values_text.specs.declared.pieces.Markup.{Markup}
@@ -171,14 +171,14 @@ Writes-begins k b a (Ok s) ks (memory, begins) = begins
 Writes-begins k b a (Err kind) ks (why, begins) = begins
 
 -- a whole text is appended
-pub Appends-whole : (b a : List ℕ) (r : Result (List ℕ) Fault) (u : Unit {0}) → Writes Plain b r (Ok u) a → Appends b r (Ok u) a
-Appends-whole b a (Ok s) u w = w
-Appends-whole b a (Err kind) u w = w
+pub AppendsOrRefuses-whole : (b a : List ℕ) (r : Result (List ℕ) Fault) (u : Unit {0}) → Writes Plain b r (Ok u) a → AppendsOrRefuses b r (Ok u) a
+AppendsOrRefuses-whole b a (Ok s) u w = w
+AppendsOrRefuses-whole b a (Err kind) u w = w
 
 -- what was written is cut off
-pub Appends-cut : (b m a : List ℕ) (r : Result (List ℕ) Fault) (ks : List ErrorKind) → Writes Plain b r (Err ks) m → a ≡ take (length b) m → Appends b r (Err ks) a
-Appends-cut b m a (Ok s) ks (memory, begins) cut = (memory, cut ∙ Begins-take b m begins)
-Appends-cut b m a (Err kind) ks (why, begins) cut = (why, cut ∙ Begins-take b m begins)
+pub AppendsOrRefuses-cut : (b m a : List ℕ) (r : Result (List ℕ) Fault) (ks : List ErrorKind) → Writes Plain b r (Err ks) m → a ≡ take (length b) m → AppendsOrRefuses b r (Err ks) a
+AppendsOrRefuses-cut b m a (Ok s) ks (memory, begins) cut = (memory, cut ∙ Begins-take b m begins)
+AppendsOrRefuses-cut b m a (Err kind) ks (why, begins) cut = (why, cut ∙ Begins-take b m begins)
 
 -- a text with no markup
 pub Writes-unmarked : (b a s : List ℕ) (res : Result (Unit {0}) (List ErrorKind)) → html s ≡ s → Writes Plain b (Ok s) res a → Writes Html b (Ok s) res a

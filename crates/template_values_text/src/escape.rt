@@ -1,6 +1,6 @@
 //! The text of a value under an escape.
 ghost use Rattle.std.specs.Prelude.{string_bytes};
-ghost use Rattle.template_values_forms.specs.Answers.{Appends, mapped};
+ghost use Rattle.template_values_forms.specs.Answers.{AppendsOrRefuses, mapped};
 ghost use Rattle.template_values_forms.specs.Escaped.{escaped, html_text, json_text};
 ghost use Rattle.template_values_forms.specs.Escapes.{html};
 ghost use Rattle.template_values_text.specs.Pieces.{Writes};
@@ -34,7 +34,7 @@ pub fn escape_to<R: Records>(
     records: &R,
     out: &mut String,
 ) -> Result<(), Error>
-    ensures { Appends (string_bytes out.old) (escaped rule (R.known records.now) value.now) result (string_bytes out.new) }
+    ensures { AppendsOrRefuses (string_bytes out.old) (escaped rule (R.known records.now) value.now) result (string_bytes out.new) }
 {
     let length = out.as_str().len();
     match escape_outer(value, rule, records, out) {

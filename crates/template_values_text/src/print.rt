@@ -3,7 +3,7 @@ ghost use Rattle.std.specs.Prelude.{◌≡◌, [], Ok, codes, string_bytes};
 ghost use Rattle.template_values_model.specs.Val.{vals_of};
 ghost use Rattle.template_values_core.specs.Maps.{pairs_of};
 ghost use Rattle.template_values_core.specs.Shape.{pairs_in};
-ghost use Rattle.template_values_forms.specs.Answers.{Appends, joined};
+ghost use Rattle.template_values_forms.specs.Answers.{AppendsOrRefuses, joined};
 ghost use Rattle.template_values_text.specs.Pieces.{Writes};
 ghost use Rattle.template_values_forms.specs.Printed.{enclosed, flat_text, inner_text, level_limit, loop_text, macro_text, map_text, namespace_text, nested_text, pair_text, pairs_text, place_text, printed, tuple_end, vals_text};
 
@@ -26,7 +26,7 @@ use template_values_records::Records;
 ///   what it holds is not met.
 /// - [`ErrorKind::OutOfMemory`]
 pub fn print_to<R: Records>(value: &Value, records: &R, out: &mut String) -> Result<(), Error>
-    ensures { Appends (string_bytes out.old) (printed (R.known records.now) value.now) result (string_bytes out.new) }
+    ensures { AppendsOrRefuses (string_bytes out.old) (printed (R.known records.now) value.now) result (string_bytes out.new) }
 {
     let length = out.as_str().len();
     match print_outer(value, Markup::Plain, records, out) {

@@ -13,6 +13,7 @@ use crate::print::deepest;
 use itoa::Buffer;
 use template_values_core::{Content, Entry, Value};
 use template_values_errors::{Error, ErrorKind};
+use template_values_forms::{GREATEST_JSON_NUMBER, LEAST_JSON_NUMBER};
 use template_values_records::Records;
 
 /// Writes the JSON of the value.
@@ -231,16 +232,10 @@ fn json_flat(value: &Value, out: &mut String) -> Result<(), Error>
     }
 }
 
-// The least number that JSON has.
-const LEAST_NUMBER: i128 = -9223372036854775808;
-
-// The greatest number that JSON has.
-const GREATEST_NUMBER: i128 = 18446744073709551615;
-
 fn json_number(number: i128, out: &mut String) -> Result<(), Error>
     ensures { Writes Markup.Plain (string_bytes out.old) (mapped compact_text (number_data number)) result (string_bytes out.new) }
 {
-    if number < LEAST_NUMBER || GREATEST_NUMBER < number {
+    if number < i128::from(LEAST_JSON_NUMBER) || i128::from(GREATEST_JSON_NUMBER) < number {
         return Err(Error::new(ErrorKind::BadSerialization));
     }
     push(out, Markup::Plain, Buffer::new().format(number))

@@ -3,7 +3,7 @@ use Rattle.std.specs.Str.{IsCharBoundary}
 use Rattle.std.proofs.lemmas.Str.{IsUtf8-string_bytes}
 use Rattle.template_values_forms.specs.Printed.{printed}
 use Rattle.template_values_text.specs.declared.pieces.Markup.TheVariants.{Plain}
-use Rattle.template_values_text.proofs.PieceLemmas.{Appends-cut, Appends-whole, Begins-boundary, Writes-begins}
+use Rattle.template_values_text.proofs.PieceLemmas.{AppendsOrRefuses-cut, AppendsOrRefuses-whole, Begins-boundary, Writes-begins}
 use Rattle.template_values_text.proofs.print.print_to.Goals as goal
 
 pub truncate-requires : goal.truncate-requires
@@ -14,7 +14,7 @@ truncate-requires g c =
     λ _. rw (ap length c.as_str-length.ensures.value) (place.0, λ _. place.1)
 
 pub returns-in-Ok : goal.returns-in-Ok
-returns-in-Ok g c = Appends-whole (string_bytes c.args.out.now) (string_bytes c.print_outer.new.out) (printed (g.R.Records.known c.args.records.now) c.args.value.now) tt c.in-Ok.ensures
+returns-in-Ok g c = AppendsOrRefuses-whole (string_bytes c.args.out.now) (string_bytes c.print_outer.new.out) (printed (g.R.Records.known c.args.records.now) c.args.value.now) tt c.in-Ok.ensures
 
 pub returns-in-Err : goal.returns-in-Err
-returns-in-Err g c = Appends-cut (string_bytes c.args.out.now) (string_bytes c.print_outer.new.out) (string_bytes c.truncate.new.self) (printed (g.R.Records.known c.args.records.now) c.args.value.now) c.in-Err.error c.in-Err.ensures (c.truncate.ensures.bytes ∙ ap (λ (n : ℕ). take n (string_bytes c.print_outer.new.out)) (ap length c.as_str-length.ensures.value))
+returns-in-Err g c = AppendsOrRefuses-cut (string_bytes c.args.out.now) (string_bytes c.print_outer.new.out) (string_bytes c.truncate.new.self) (printed (g.R.Records.known c.args.records.now) c.args.value.now) c.in-Err.error c.in-Err.ensures (c.truncate.ensures.bytes ∙ ap (λ (n : ℕ). take n (string_bytes c.print_outer.new.out)) (ap length c.as_str-length.ensures.value))
