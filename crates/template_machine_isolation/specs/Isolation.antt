@@ -12,10 +12,13 @@ use Rattle.template_machine_meaning.specs.Meaning.{Standing, Setting, rendered}
 abbrev pub is_given : List ℕ → Bool
 is_given name = is_stored_everywhere name || bytes_eq name (codes "loop") || bytes_eq name (codes "caller")
 
--- the context names of a template: those that the engine gives, and those that the template uses, or one that stands
+-- a template that stands uses the name
+abbrev pub IsUsedByOne : Setting → List ℕ → Type 0
+IsUsedByOne setting name = (other : List ℕ) × (t : Standing) × (setting.templates other ≡ Some t) × IsTrue (is_used name t.tree)
+
+-- the context names of a template: those that the engine gives, and those that it uses, or a template that stands
 abbrev pub IsContextName : Setting → Statements → List ℕ → Type 0
-IsContextName setting tree name =
-    IsTrue (is_given name) ⊎ IsTrue (is_used name tree) ⊎ ((other : List ℕ) × (t : Standing) × (setting.templates other ≡ Some t) × IsTrue (is_used name t.tree))
+IsContextName setting tree name = IsTrue (is_given name) ⊎ IsTrue (is_used name tree) ⊎ IsUsedByOne setting name
 
 -- the two contexts hold the same under the name, or neither holds anything
 abbrev pub AgreesAt : Val → Val → List ℕ → Type 0
@@ -24,5 +27,6 @@ AgreesAt c d name = value_at name c ≡ value_at name d
 -- Over contexts that agree at the context names a render leaves the same items and comes to the same end, under every
 -- bound and every fuel.
 abbrev pub IsolatesNames : Type 0
-IsolatesNames = (setting : Setting) (t : Standing) (c d : Val) → ((name : List ℕ) → IsContextName setting t.tree name → AgreesAt c d name)
+IsolatesNames = (setting : Setting) (t : Standing) (c d : Val)
+    → ((name : List ℕ) → IsContextName setting t.tree name → AgreesAt c d name)
     → (n : ℕ) (fuel : Option ℕ) → IsSameRun (under fuel (rendered setting n t c)) (under fuel (rendered setting n t d))
