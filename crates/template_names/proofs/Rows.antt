@@ -1,7 +1,7 @@
 -- Worked rows, computed: which of the names each template uses.
 use Rattle.std.proofs.Common.{◌≡◌, ℕ, Bool, true, false, List, [], ◌∷◌, map, codes, refl}
 use Rattle.template_values_model.specs.Val.{none}
-use Rattle.template_tree.specs.Tree.{Expression, Expressions, Statement, Statements, variable, constant, attribute, absent, given, no_expressions, expressions_more, print, for_loop, if_condition, with_block, set, auto_escape, macro, no_statements, statements_more, no_assignments, assignments_more}
+use Rattle.template_tree.specs.Tree.{Expression, Expressions, Statement, Statements, variable, constant, attribute, list_literal, absent, given, no_expressions, expressions_more, print, for_loop, if_condition, with_block, set, auto_escape, block, macro, no_statements, statements_more, no_assignments, assignments_more}
 use Rattle.template_names.specs.Names.{is_used}
 
 abbrev name : List ℕ → Expression
@@ -60,6 +60,22 @@ macro_row : uses (codes "a" ∷ codes "b" ∷ codes "c" ∷ codes "m" ∷ codes 
     (macro (codes "m") (expressions (name (codes "a") ∷ name (codes "b") ∷ name (codes "c") ∷ [])) (expressions (name (codes "a") ∷ name (codes "b") ∷ [])) (statements (print (name (codes "m")) ∷ print (name (codes "caller")) ∷ print (name (codes "a")) ∷ [])) ∷ print (name (codes "m")) ∷ [])
     ≡ true ∷ true ∷ false ∷ true ∷ false ∷ []
 macro_row = refl
+
+-- `{% macro m(a, b=a) %}{% endmacro %}`
+default_row : uses (codes "a" ∷ codes "b" ∷ codes "m" ∷ []) (macro (codes "m") (expressions (name (codes "a") ∷ name (codes "b") ∷ [])) (expressions (name (codes "a") ∷ [])) no_statements ∷ []) ≡ true ∷ false ∷ false ∷ []
+default_row = refl
+
+-- `{% for x in [] %}{% block b %}{{ x }}{% endblock %}{% endfor %}`: the block is gone through where it stands
+block_row : uses (codes "x" ∷ []) (for_loop (name (codes "x")) (list_literal no_expressions) absent false (statements (block (codes "b") false (statements (print (name (codes "x")) ∷ [])) ∷ [])) no_statements ∷ []) ≡ false ∷ []
+block_row = refl
+
+-- `{% set n.a = b %}{{ a }}`
+dotted_row : uses (codes "n" ∷ codes "a" ∷ codes "b" ∷ []) (set (attribute (name (codes "n")) (codes "a")) (name (codes "b")) ∷ print (name (codes "a")) ∷ []) ≡ true ∷ true ∷ true ∷ []
+dotted_row = refl
+
+-- `{% set (x, y) = z %}{{ x }}{{ y }}`
+unpacked_row : uses (codes "x" ∷ codes "y" ∷ codes "z" ∷ []) (set (list_literal (expressions (name (codes "x") ∷ name (codes "y") ∷ []))) (name (codes "z")) ∷ print (name (codes "x")) ∷ print (name (codes "y")) ∷ []) ≡ false ∷ false ∷ true ∷ []
+unpacked_row = refl
 
 -- `{{ self }}{{ super }}`
 everywhere_row : uses (codes "self" ∷ codes "super" ∷ []) (print (name (codes "self")) ∷ print (name (codes "super")) ∷ []) ≡ false ∷ false ∷ []

@@ -1,7 +1,7 @@
 -- The names that a template uses: those with a place of use that no store of the name precedes, earlier in the order of
 -- execution and in a region that is still open. Branches, bodies and else parts are regions: what is stored in one is
 -- not known behind it.
-use Rattle.std.specs.Prelude.{ℕ, Bool, true, false, not, ◌&&◌, ◌||◌, List, codes}
+use Rattle.std.specs.Prelude.{ℕ, Bool, false, not, ◌&&◌, ◌||◌, List, codes}
 use Rattle.std.specs.Str.{bytes_eq}
 use Rattle.template_tree.specs.Tree.{Expression, Optional, Expressions, Links, Arguments, Argument, variable, constant, slice, unary, binary, chain, conditional, filtered, tested, attribute, item, call, list_literal, tuple_literal, map_literal, absent, given, no_expressions, expressions_more, no_links, links_more, no_arguments, arguments_more, positional, keyword, positional_spread, keyword_spread, Statement, Statements, Assignments, Imports, template, raw, print, for_loop, if_condition, with_block, set, set_block, auto_escape, filter_block, block, import, from_import, extends, include, macro, call_block, continue_loop, break_loop, do_call, no_statements, statements_more, no_assignments, assignments_more, no_imports, imports_more}
 
@@ -10,7 +10,8 @@ abbrev mutual
   pub stands_in : List ℕ → Expression → Bool
   stands_in name (variable id) = bytes_eq id name
   stands_in name (constant v) = false
-  stands_in name (slice e start stop by) = stands_in name e || stands_if_given name start || stands_if_given name stop || stands_if_given name by
+  stands_in name (slice e start stop by) =
+      stands_in name e || stands_if_given name start || stands_if_given name stop || stands_if_given name by
   stands_in name (unary op e) = stands_in name e
   stands_in name (binary op left right) = stands_in name left || stands_in name right
   stands_in name (chain first links) = stands_in name first || stands_in_links name links
@@ -67,7 +68,8 @@ abbrev mutual
   -- they are stored from the first to the last
   pub is_used_by_targets : List ℕ → Expressions → Bool
   is_used_by_targets name no_expressions = false
-  is_used_by_targets name (expressions_more target targets) = is_used_by_target name target || not (is_stored_in name target) && is_used_by_targets name targets
+  is_used_by_targets name (expressions_more target targets) =
+      is_used_by_target name target || not (is_stored_in name target) && is_used_by_targets name targets
 
 -- each value, then its target, and what follows them
 abbrev pub is_used_from : List ℕ → Assignments → Bool → Bool
@@ -90,7 +92,8 @@ is_used_by_arguments name (expressions_more argument arguments) (expressions_mor
 -- in a macro `caller` is stored
 abbrev pub is_used_by_macro : List ℕ → Expressions → Expressions → Bool → Bool
 is_used_by_macro name arguments defaults body =
-    is_used_by_arguments name (reversed arguments no_expressions) (reversed defaults no_expressions) (not (bytes_eq name (codes "caller")) && body)
+    let inside = not (bytes_eq name (codes "caller")) && body in
+    is_used_by_arguments name (reversed arguments no_expressions) (reversed defaults no_expressions) inside
 
 -- an import stores each name, or the other name that is given for it
 abbrev pub is_imported : List ℕ → Imports → Bool

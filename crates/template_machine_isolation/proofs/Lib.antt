@@ -1,0 +1,5 @@
+pub mod Known
+pub mod Walks
+pub mod Turned
+pub mod Replies
+pub mod Isolated

@@ -1,0 +1,355 @@
+-- A walk looks up used names, and what is known from a store in a frame that is still open.
+use Rattle.std.proofs.Common.{◌≡◌, ℕ, suc, inl, inr, Bool, true, false, List, [], ◌∷◌, ◌==◌, length, Option, None, Some, codes, refl, arith}
+use Rattle.std.specs.Prelude.{IsTrue, not, ◌&&◌, ◌||◌, if◌then◌else◌, zero}
+use Rattle.std.specs.Str.{bytes_eq}
+use Rattle.std.proofs.lemmas.Bool.{or_cases, or_left, or_right}
+use Rattle.std.proofs.lemmas.Bool.Decides.{nat_tests}
+use Rattle.std.proofs.lemmas.Slice.Eq.{bytes_eq-Decides}
+use Rattle.template_values_model.specs.Val.{Val}
+use Rattle.template_tree.specs.declared.operators.UnaryOpKind.{UnaryOpKind}
+use Rattle.template_tree.specs.declared.operators.UnaryOpKind.TheVariants.{Not, Neg}
+use Rattle.template_tree.specs.declared.operators.BinOpKind.{BinOpKind}
+use Rattle.template_tree.specs.declared.operators.BinOpKind.TheVariants.{ScAnd, ScOr}
+use Rattle.template_tree.specs.Tree.{Expression, Optional, Expressions, Links, variable, constant, slice, unary, binary, chain, conditional, attribute, item, list_literal, tuple_literal, map_literal, absent, given, no_expressions, expressions_more, no_links, links_more, Statement, Statements, Assignments, raw, print, for_loop, if_condition, with_block, set, auto_escape, include, continue_loop, break_loop, no_statements, statements_more, no_assignments, assignments_more}
+use Rattle.template_names.specs.Names.{stands_in, stands_if_given, stands_in_one, stands_in_links, is_stored_in, is_stored_in_one, is_used_by_target, is_used_from, is_stored_by, is_used_by, is_used_in}
+use Rattle.template_process.specs.Process as events
+use Rattle.template_process.specs.Process.{Ask, look_up, operate, compare, get_attribute, get_item, get_slice, build_list, build_tuple, build_map, store, truth_of, unpack, write_raw, write_value, open_frame, close_frame, open_loop, next_item, did_not_iterate, close_loop, open_escape, close_escape, Answer, done, value, truth, items, no_item, Process, over, step, asks, amiss, on_done, on_value, on_truth, on_item, on_items}
+use Rattle.template_walk.specs.Constants.{constant_of}
+use Rattle.template_walk.specs.Expressions.{folded, unary_ask, binary_walk, expression_walk, optional_walk, expressions_walk, walks_of, entries_walk, chain_walk, linked_walk}
+use Rattle.template_walk.specs.Statements.{Exits, outside, closing, number_of, target_walk, targets_walk, assignments_walk, rounds, loop_end, past, statement_walk, statements_walk, template_walk}
+use Rattle.template_machine_isolation.proofs.Known.{Known, base, inner, IsKnown, Grows, grows_itself, grows_on, known_on, stored, cleared, grows_stored, knows_stored, IsSafe, Within}
+
+module _ (names : List ℕ → Type 0) (start : Known) where
+  abbrev In : Known → Process → Type 0
+  In = Within names start
+
+  -- each of the names is safe
+  abbrev Sees : Known → (List ℕ → Bool) → Type 0
+  Sees k names_of = (name : List ℕ) → IsTrue (names_of name) → IsSafe names k name
+
+  sees_left : (k : Known) (f g : List ℕ → Bool) → Sees k (λ name. f name || g name) → Sees k f
+  sees_left k f g h name i = h name (or_left (f name) (g name) i)
+
+  sees_right : (k : Known) (f g : List ℕ → Bool) → Sees k (λ name. f name || g name) → Sees k g
+  sees_right k f g h name i = h name (or_right (f name) (g name) i)
+
+  sees_on : (k l : Known) (f : List ℕ → Bool) → Grows k l → Sees k f → Sees l f
+  sees_on k l f grows h name i = elim (h name i) [ inl n ↦ inl n | inr n ↦ inr (known_on k l grows name n) ]
+
+  -- how a process goes on at each answer
+  at_done : (k : Known) (go : Process) → In k go → (a : Answer) → In k (on_done go a)
+  at_done k go h done = h
+  at_done k go h _ = tt
+
+  at_value : (k : Known) (go : Val → Process) → ((v : Val) → In k (go v)) → (a : Answer) → In k (on_value go a)
+  at_value k go h (value v) = h v
+  at_value k go h _ = tt
+
+  at_truth : (k : Known) (go other : Process) → In k go → In k other → (a : Answer) → In k (on_truth go other a)
+  at_truth k go other h i (truth true) = h
+  at_truth k go other h i (truth false) = i
+  at_truth k go other h i _ = tt
+
+  at_item : (k : Known) (go : Val → Process) (finished : Process) → ((v : Val) → In k (go v)) → In k finished → (a : Answer) → In k (on_item go finished a)
+  at_item k go finished h i (events.item v) = h v
+  at_item k go finished h i no_item = i
+  at_item k go finished h i _ = tt
+
+  counted : (k : Known) (go : Process) (b : Bool) → (b ≡ true → In k go) → In k (if b then go else amiss)
+  counted k go true h = h refl
+  counted k go false h = tt
+
+  as_many : (n m : ℕ) → (n == m) ≡ true → n ≡ m
+  as_many n m h = grind (arith, nat_tests)
+
+  at_items : (k : Known) (n : ℕ) (go : List Val → Process) → ((vs : List Val) → length vs ≡ n → In k (go vs)) → (a : Answer) → In k (on_items n go a)
+  at_items k n go h (items vs) = counted k (go vs) (length vs == n) (λ e. h vs (as_many (length vs) n e))
+  at_items k n go h _ = tt
+
+  module _ (k : Known) where
+    -- a walk that keeps to what is safe where what follows does, whatever value it is given
+    abbrev Keeps : ((Val → Process) → Process) → Type 0
+    Keeps walk = (go : Val → Process) → ((v : Val) → In k (go v)) → In k (walk go)
+
+    data Each : List ((Val → Process) → Process) → Type 0 where
+      none_left : Each []
+      each_more : {walk : (Val → Process) → Process} {walks : List ((Val → Process) → Process)} → Keeps walk → Each walks → Each (walk ∷ walks)
+
+    in_folded : (o : Option Val) (go : Val → Process) (p : Process) → ((v : Val) → In k (go v)) → In k p → In k (folded o go p)
+    in_folded None go p h i = i
+    in_folded (Some v) go p h i = h v
+
+    in_unary : (op : UnaryOpKind) (v : Val) → Keeps (λ go. asks (unary_ask op v) (on_value go))
+    in_unary Not v go h = (tt, at_value k go h)
+    in_unary Neg v go h = (tt, at_value k go h)
+
+    in_binary : (op : BinOpKind) (left right : (Val → Process) → Process) → Keeps left → Keeps right → Keeps (binary_walk op left right)
+    in_binary ScAnd left right f g go h = f _ (λ v. (tt, at_truth k (right go) (go v) (g go h) (h v)))
+    in_binary ScOr left right f g go h = f _ (λ v. (tt, at_truth k (go v) (right go) (h v) (g go h)))
+    in_binary op left right f g go h = f _ (λ v. g _ (λ w. (tt, at_value k go h)))
+
+    mutual
+      in_expression : (e : Expression) → Sees k (λ name. stands_in name e) → Keeps (expression_walk e)
+      in_expression (variable name) sees go h = (sees name ((bytes_eq-Decides name name).1 refl), at_value k go h)
+      in_expression (constant v) sees go h = h v
+      in_expression (unary op e) sees go h =
+          in_folded (constant_of (unary op e)) go _ h (in_expression e sees _ (λ v. in_unary op v go h))
+      in_expression (binary op left right) sees go h =
+          in_folded (constant_of (binary op left right)) go _ h
+          (in_binary op (expression_walk left) (expression_walk right) (in_expression left (sees_left k (λ name. stands_in name left) (λ name. stands_in name right) sees))
+          (in_expression right (sees_right k (λ name. stands_in name left) (λ name. stands_in name right) sees)) go h)
+      in_expression (chain first links) sees go h =
+          in_folded (constant_of (chain first links)) go _ h
+          (in_expression first (sees_left k (λ name. stands_in name first) (λ name. stands_in_links name links) sees) _
+          (λ v. in_chain links v (sees_right k (λ name. stands_in name first) (λ name. stands_in_links name links) sees) go h))
+      in_expression (conditional test branch otherwise) sees go h =
+          let both = sees_left k (λ name. stands_in name test || stands_in name branch) (λ name. stands_if_given name otherwise) sees in
+          in_expression test (sees_left k (λ name. stands_in name test) (λ name. stands_in name branch) both) _
+          (λ v. (
+            tt,
+            at_truth k _ _ (in_expression branch (sees_right k (λ name. stands_in name test) (λ name. stands_in name branch) both) _ (λ w. h w))
+                (in_optional otherwise _ (sees_right k (λ name. stands_in name test || stands_in name branch) (λ name. stands_if_given name otherwise) sees) go h),
+          ))
+      in_expression (attribute e field) sees go h = in_expression e sees _ (λ v. (tt, at_value k go h))
+      in_expression (item e key) sees go h =
+          in_expression e (sees_left k (λ name. stands_in name e) (λ name. stands_in name key) sees) _
+          (λ v. in_expression key (sees_right k (λ name. stands_in name e) (λ name. stands_in name key) sees) _ (λ w. (tt, at_value k go h)))
+      in_expression (slice e from to by) sees go h =
+          let three = sees_left k (λ name. stands_in name e || stands_if_given name from || stands_if_given name to) (λ name. stands_if_given name by) sees in
+          let two = sees_left k (λ name. stands_in name e || stands_if_given name from) (λ name. stands_if_given name to) three in
+          in_expression e (sees_left k (λ name. stands_in name e) (λ name. stands_if_given name from) two) _
+          (λ v. in_optional from _ (sees_right k (λ name. stands_in name e) (λ name. stands_if_given name from) two) _
+          (λ a. in_optional to _ (sees_right k (λ name. stands_in name e || stands_if_given name from) (λ name. stands_if_given name to) three) _
+          (λ b. in_optional by _ (sees_right k (λ name. stands_in name e || stands_if_given name from || stands_if_given name to) (λ name. stands_if_given name by) sees) _
+          (λ c. (tt, at_value k go h)))))
+      in_expression (list_literal es) sees go h = in_folded (constant_of (list_literal es)) go _ h (in_all es sees _ (λ vs. (tt, at_value k go h)))
+      in_expression (tuple_literal es) sees go h = in_folded (constant_of (tuple_literal es)) go _ h (in_all es sees _ (λ vs. (tt, at_value k go h)))
+      in_expression (map_literal ks vs) sees go h =
+          in_folded (constant_of (map_literal ks vs)) go _ h
+          (in_entries ks (walks_of vs) (sees_left k (λ name. stands_in_one name ks) (λ name. stands_in_one name vs) sees)
+          (in_each vs (sees_right k (λ name. stands_in_one name ks) (λ name. stands_in_one name vs) sees)) _ (λ entries. (tt, at_value k go h)))
+      in_expression _ sees go h = tt
+
+      in_optional : (o : Optional) (missing : Val) → Sees k (λ name. stands_if_given name o) → Keeps (optional_walk missing o)
+      in_optional absent missing sees go h = h missing
+      in_optional (given e) missing sees go h = in_expression e sees go h
+
+      in_all : (es : Expressions) → Sees k (λ name. stands_in_one name es) → (go : List Val → Process) → ((vs : List Val) → In k (go vs)) → In k (expressions_walk es go)
+      in_all no_expressions sees go h = h []
+      in_all (expressions_more e es) sees go h =
+          in_expression e (sees_left k (λ name. stands_in name e) (λ name. stands_in_one name es) sees) _
+          (λ v. in_all es (sees_right k (λ name. stands_in name e) (λ name. stands_in_one name es) sees) _ (λ vs. h (v ∷ vs)))
+
+      in_each : (es : Expressions) → Sees k (λ name. stands_in_one name es) → Each (walks_of es)
+      in_each no_expressions sees = none_left
+      in_each (expressions_more e es) sees =
+          each_more (in_expression e (sees_left k (λ name. stands_in name e) (λ name. stands_in_one name es) sees))
+          (in_each es (sees_right k (λ name. stands_in name e) (λ name. stands_in_one name es) sees))
+
+      in_entries : (ks : Expressions) (walks : List ((Val → Process) → Process)) → Sees k (λ name. stands_in_one name ks) → Each walks
+          → (go : List (Val × Val) → Process) → ((entries : List (Val × Val)) → In k (go entries)) → In k (entries_walk ks walks go)
+      in_entries no_expressions walks sees each go h = h []
+      in_entries (expressions_more e ks) [] sees each go h = h []
+      in_entries (expressions_more e ks) (walk ∷ walks) sees (each_more f each) go h =
+          in_expression e (sees_left k (λ name. stands_in name e) (λ name. stands_in_one name ks) sees) _
+          (λ key. f _ (λ held. in_entries ks walks (sees_right k (λ name. stands_in name e) (λ name. stands_in_one name ks) sees) each _ (λ entries. h ((key, held) ∷ entries))))
+
+      in_chain : (links : Links) (v : Val) → Sees k (λ name. stands_in_links name links) → Keeps (chain_walk v links)
+      in_chain no_links v sees go h = tt
+      in_chain (links_more op e links) v sees go h =
+          in_expression e (sees_left k (λ name. stands_in name e) (λ name. stands_in_links name links) sees) _
+          (λ w. (tt, at_value k _ (λ holds. in_linked links w holds (sees_right k (λ name. stands_in name e) (λ name. stands_in_links name links) sees) go h)))
+
+      in_linked : (links : Links) (v holds : Val) → Sees k (λ name. stands_in_links name links) → Keeps (linked_walk v holds links)
+      in_linked no_links v holds sees go h = h holds
+      in_linked (links_more op e links) v holds sees go h = (
+        tt,
+        at_truth k _ _
+            (in_expression e (sees_left k (λ name. stands_in name e) (λ name. stands_in_links name links) sees) _
+            (λ w. (tt, at_value k _ (λ later. in_linked links w later (sees_right k (λ name. stands_in name e) (λ name. stands_in_links name links) sees) go h))))
+            (h holds),
+      )
+
+  -- what stays within, whatever more is known
+  abbrev Stays : Known → Process → Type 0
+  Stays k go = (l : Known) → Grows k l → In l go
+
+  -- the same once each of the names is known
+  abbrev Goes : Known → (List ℕ → Bool) → Process → Type 0
+  Goes k names_of go = (l : Known) → Grows k l → ((name : List ℕ) → IsTrue (names_of name) → IsKnown l name) → In l go
+
+  stays_on : (k l : Known) (go : Process) → Grows k l → Stays k go → Stays l go
+  stays_on k l go grows h m more = h m (grows_on k l m grows more)
+
+  nothing_stored : (k : Known) (go : Process) → Goes k (λ name. false) go → Stays k go
+  nothing_stored k go h l grows = h l grows (λ name e. absurd (cc))
+
+  safe_on : (k l : Known) → Grows k l → (name : List ℕ) → IsSafe names k name → IsSafe names l name
+  safe_on k l grows name (inl n) = inl n
+  safe_on k l grows name (inr n) = inr (known_on k l grows name n)
+
+  unless : (k l : Known) (name : List ℕ) (b c : Bool) → Grows k l → (b ≡ true → IsSafe names l name) → (IsTrue (not b && c) → IsSafe names k name) → IsTrue c → IsSafe names l name
+  unless k l name true c grows kept sees used = kept refl
+  unless k l name false c grows kept sees used = safe_on k l grows name (sees used)
+
+  -- behind a store
+  sees_behind : (k l : Known) (f g : List ℕ → Bool) → Grows k l → ((name : List ℕ) → IsTrue (f name) → IsKnown l name) → Sees k (λ name. not (f name) && g name) → Sees l g
+  sees_behind k l f g grows knows sees name used = unless k l name (f name) (g name) grows (λ e. inr (knows name e)) (sees name) used
+
+  -- in another frame
+  sees_inner : (k : Known) (f : List ℕ → Bool) → Sees k f → Sees (inner [] k) f
+  sees_inner k f sees name used = elim (sees name used) [ inl n ↦ inl n | inr n ↦ inr (inr n) ]
+
+  mutual
+    in_target : (target : Expression) (v : Val) (k : Known) (go : Process) → Goes k (λ name. is_stored_in name target) go → In k (target_walk target v go)
+    in_target (variable id) v k go h = (tt, at_done (stored id k) go (h (stored id k) (grows_stored id k) (λ name e. knows_stored id k name e)))
+    in_target (list_literal targets) v k go h = (tt, at_items k (number_of targets) _ (λ vs many. in_targets targets vs k go many h))
+    in_target _ v k go h = tt
+
+    in_targets : (targets : Expressions) (vs : List Val) (k : Known) (go : Process) → length vs ≡ number_of targets → Goes k (λ name. is_stored_in_one name targets) go → In k (targets_walk targets vs go)
+    in_targets no_expressions vs k go many h = nothing_stored k go h k (grows_itself k)
+    in_targets (expressions_more target targets) [] k go many h = absurd (omega (arith, many))
+    in_targets (expressions_more target targets) (v ∷ vs) k go many h =
+        in_target target v k _ (λ l grows knows. in_targets targets vs l go (omega (arith, many))
+        (λ m more others. h m (grows_on k l m grows more)
+        (λ name e. elim (or_cases (is_stored_in name target) (is_stored_in_one name targets) e) [ inl i ↦ known_on l m more name (knows name i) | inr i ↦ others name i ])))
+
+  in_assignments : (assignments : Assignments) (k : Known) (go : Process) (follows : List ℕ → Bool) → Sees k (λ name. is_used_from name assignments (follows name))
+      → ((l : Known) → Grows k l → Sees l follows → In l go) → In k (assignments_walk assignments go)
+  in_assignments no_assignments k go follows sees h = h k (grows_itself k) sees
+  in_assignments (assignments_more target e more) k go follows sees h =
+      let first : List ℕ → Bool = λ name. stands_in name e || is_used_by_target name target in
+      let later : List ℕ → Bool = λ name. not (is_stored_in name target) && is_used_from name more (follows name) in
+      in_expression k e (sees_left k (λ name. stands_in name e) (λ name. is_used_by_target name target) (sees_left k first later sees)) _
+      (λ v. in_target target v k _ (λ l grows knows.
+      in_assignments more l go follows (sees_behind k l (λ name. is_stored_in name target) (λ name. is_used_from name more (follows name)) grows knows (sees_right k first later sees))
+      (λ m wider. h m (grows_on k l m grows wider))))
+
+  -- a frame that was opened is closed
+  in_close_frame : (k l : Known) (go : Process) → Grows (inner [] k) l → Stays k go → In l (asks close_frame (on_done go))
+  in_close_frame k (base ids) go grows h = absurd grows
+  in_close_frame k (inner ids l) go grows h = (tt, at_done l go (h l grows.1))
+
+  in_close_loop : (k l : Known) (go : Process) → Grows (inner [] k) l → Stays k go → In l (asks close_loop (on_done go))
+  in_close_loop k (base ids) go grows h = absurd grows
+  in_close_loop k (inner ids l) go grows h = (tt, at_done l go (h l grows.1))
+
+  -- the ways out
+  abbrev Leads : Known → Exits → Type 0
+  Leads k x = Stays k x.on_break × Stays k x.on_continue
+
+  leads_on : (k l : Known) (x : Exits) → Grows k l → Leads k x → Leads l x
+  leads_on k l x grows h = (stays_on k l x.on_break grows h.0, stays_on k l x.on_continue grows h.1)
+
+  closing_frame : (k l : Known) (x : Exits) → Grows (inner [] k) l → Leads k x → Leads l (closing close_frame x)
+  closing_frame k l x grows h =
+      (λ m more. in_close_frame k m x.on_break (grows_on (inner [] k) l m grows more) h.0, λ m more. in_close_frame k m x.on_continue (grows_on (inner [] k) l m grows more) h.1)
+
+  in_close_escape : (k : Known) (go : Process) → Stays k go → Stays k (asks close_escape (on_done go))
+  in_close_escape k go h l grows = (tt, at_done l go (h l grows))
+
+  closing_escape : (k : Known) (x : Exits) → Leads k x → Leads k (closing close_escape x)
+  closing_escape k x h = (in_close_escape k x.on_break h.0, in_close_escape k x.on_continue h.1)
+
+  -- a round, where a loop's frame is open around what is known
+  abbrev Turns : Known → (Val → Exits → Process → Process) → Type 0
+  Turns k round = (l : Known) → Grows (inner [] k) l → (v : Val) (x : Exits) (again : Process) → Leads (inner [] k) x → Stays (inner [] k) again → In l (round v x again)
+
+  grows_cleared : (k l : Known) → Grows (inner [] k) l → Grows (inner [] k) (cleared l)
+  grows_cleared k (base ids) grows = absurd grows
+  grows_cleared k (inner ids l) grows = (λ name i. i, grows.1)
+
+  in_rounds : (n : ℕ) (k : Known) (round : Val → Exits → Process → Process) (finished : Process) → Turns k round → Stays (inner [] k) finished → Stays (inner [] k) (rounds n round finished)
+  in_rounds zero k round finished turns h l grows = tt
+  in_rounds (suc n) k round finished turns h l grows =
+      let again : Stays (inner [] k) (step (rounds n round finished)) = λ m more. in_rounds n k round finished turns h m more in
+      (tt, at_item (cleared l) _ finished (λ v. turns (cleared l) (grows_cleared k l grows) v _ _ (h, again) again) (h (cleared l) (grows_cleared k l grows)))
+
+  in_end : (otherwise : Statements) (k : Known) (p go : Process) → Stays k p → Stays k go → Stays (inner [] k) (loop_end otherwise p go)
+  in_end no_statements k p go h i l grows = in_close_loop k l go grows i
+  in_end (statements_more _ _) k p go h i l grows =
+      (tt, at_value l _ (λ flag. in_close_loop k l _ grows (λ m more. (tt, at_truth m p go (h m more) (i m more)))))
+
+  in_past : (otherwise : Statements) (k : Known) (go : Process) → Stays k go → Stays k (past otherwise go)
+  in_past no_statements k go h = h
+  in_past (statements_more _ _) k go h = h
+
+  module _ (loop_is : (name : List ℕ) → IsTrue (bytes_eq name (codes "loop")) → names name) where
+    -- in the body of a loop
+    sees_body : (k : Known) (f : List ℕ → Bool) → Sees k (λ name. not (bytes_eq name (codes "loop")) && f name) → Sees k f
+    sees_body k f sees name used = unless k k name (bytes_eq name (codes "loop")) (f name) (grows_itself k) (λ e. inl (loop_is name e)) (sees name) used
+
+    mutual
+      in_statement : (n : ℕ) (s : Statement) (k : Known) (x : Exits) (go : Process) → Sees k (λ name. is_used_by name s) → Leads k x → Goes k (λ name. is_stored_by name s) go → In k (statement_walk n s x go)
+      in_statement n (raw text) k x go sees leads h = (tt, at_done k go (nothing_stored k go h k (grows_itself k)))
+      in_statement n (print e) k x go sees leads h = in_expression k e sees _ (λ v. (tt, at_done k go (nothing_stored k go h k (grows_itself k))))
+      in_statement n (for_loop target e absent false body otherwise) k x go sees leads h =
+          let after : Stays k go = nothing_stored k go h in
+          let item : List ℕ → Bool = λ name. is_stored_in name target in
+          let within : List ℕ → Bool = λ name. not (bytes_eq name (codes "loop")) && is_used_in name body in
+          let head : List ℕ → Bool = λ name. stands_in name e || is_used_by_target name target in
+          let most : List ℕ → Bool = λ name. head name || not (item name) && within name in
+          let sees_most = sees_left k most (λ name. is_used_in name otherwise) sees in
+          let sees_round = sees_inner k (λ name. not (item name) && within name) (sees_right k head (λ name. not (item name) && within name) sees_most) in
+          in_expression k e (sees_left k (λ name. stands_in name e) (λ name. is_used_by_target name target) (sees_left k head (λ name. not (item name) && within name) sees_most)) _
+          (λ v. (
+            tt,
+            at_done (inner [] k) _
+                (in_rounds n k _ _
+                (λ l grows v y again out back. in_target target v l _ (λ m more knows.
+                in_statements n body m y again
+                (sees_body m (λ name. is_used_in name body) (sees_behind l m item within more knows (sees_on (inner [] k) l (λ name. not (item name) && within name) grows sees_round)))
+                (leads_on (inner [] k) m y (grows_on (inner [] k) l m grows more) out)
+                (stays_on (inner [] k) m again (grows_on (inner [] k) l m grows more) back)))
+                (in_end otherwise k _ go
+                (λ l grows. in_statements n otherwise l x go (sees_on k l (λ name. is_used_in name otherwise) grows (sees_right k most (λ name. is_used_in name otherwise) sees)) (leads_on k l x grows leads) (stays_on k l go grows after))
+                after)
+                (inner [] k) (grows_itself (inner [] k))),
+          ))
+      in_statement n (if_condition e body otherwise) k x go sees leads h =
+          let after : Stays k go = nothing_stored k go h in
+          let head : List ℕ → Bool = λ name. stands_in name e || is_used_in name body in
+          let sees_head = sees_left k head (λ name. is_used_in name otherwise) sees in
+          in_expression k e (sees_left k (λ name. stands_in name e) (λ name. is_used_in name body) sees_head) _
+          (λ v. (
+            tt,
+            at_truth k _ _
+                (in_statements n body k x _ (sees_right k (λ name. stands_in name e) (λ name. is_used_in name body) sees_head) leads (in_past otherwise k go after))
+                (in_statements n otherwise k x go (sees_right k head (λ name. is_used_in name otherwise) sees) leads after),
+          ))
+      in_statement n (with_block assignments body) k x go sees leads h = (
+        tt,
+        at_done (inner [] k) _
+            (in_assignments assignments (inner [] k) _ (λ name. is_used_in name body) (sees_inner k (λ name. is_used_from name assignments (is_used_in name body)) sees)
+            (λ l grows inside. in_statements n body l (closing close_frame x) _ inside (closing_frame k l x grows leads)
+            (λ m more. in_close_frame k m go (grows_on (inner [] k) l m grows more) (nothing_stored k go h)))),
+      )
+      in_statement n (set target e) k x go sees leads h =
+          in_expression k e (sees_left k (λ name. stands_in name e) (λ name. is_used_by_target name target) sees) _ (λ v. in_target target v k go h)
+      in_statement n (auto_escape e body) k x go sees leads h =
+          in_expression k e (sees_left k (λ name. stands_in name e) (λ name. is_used_in name body) sees) _
+          (λ v. (
+            tt,
+            at_done k _
+                (in_statements n body k (closing close_escape x) _ (sees_right k (λ name. stands_in name e) (λ name. is_used_in name body) sees) (closing_escape k x leads)
+                (in_close_escape k go (nothing_stored k go h))),
+          ))
+      in_statement n (include e ignore_missing) k x go sees leads h = in_expression k e sees _ (λ v. (tt, at_done k go (nothing_stored k go h k (grows_itself k))))
+      in_statement n continue_loop k x go sees leads h = leads.1 k (grows_itself k)
+      in_statement n break_loop k x go sees leads h = leads.0 k (grows_itself k)
+      in_statement n _ k x go sees leads h = tt
+
+      in_statements : (n : ℕ) (ss : Statements) (k : Known) (x : Exits) (go : Process) → Sees k (λ name. is_used_in name ss) → Leads k x → Stays k go → In k (statements_walk n ss x go)
+      in_statements n no_statements k x go sees leads h = h k (grows_itself k)
+      in_statements n (statements_more s ss) k x go sees leads h =
+          let later : List ℕ → Bool = λ name. not (is_stored_by name s) && is_used_in name ss in
+          in_statement n s k x _ (sees_left k (λ name. is_used_by name s) later sees) leads
+          (λ l grows knows. in_statements n ss l x go
+          (sees_behind k l (λ name. is_stored_by name s) (λ name. is_used_in name ss) grows knows (sees_right k (λ name. is_used_by name s) later sees))
+          (leads_on k l x grows leads) (stays_on k l go grows h))
+
+-- a template, from what is known on
+pub template_within : (names : List ℕ → Type 0) → ((name : List ℕ) → IsTrue (bytes_eq name (codes "loop")) → names name)
+    → (n : ℕ) (tree : Statements) → ((name : List ℕ) → IsTrue (is_used_in name tree) → names name) → (k : Known) → Within names k k (template_walk n tree)
+template_within names loop_is n tree used k =
+    in_statements names k loop_is n tree k outside (over []) (λ name u. inl (used name u)) (λ l grows. tt, λ l grows. tt) (λ l grows. grows)

@@ -1,0 +1,32 @@
+-- What a template's render takes of its context.
+use Rattle.std.specs.Prelude.{◌≡◌, ℕ, ◌⊎◌, Bool, ◌||◌, IsTrue, List, Option, Some, codes}
+use Rattle.std.specs.Str.{bytes_eq}
+use Rattle.template_values_model.specs.Val.{Val}
+use Rattle.template_values_model.specs.Lookup.{value_at}
+use Rattle.template_tree.specs.Tree.{Statements}
+use Rattle.template_names.specs.Names.{is_used, is_stored_everywhere}
+use Rattle.template_process.specs.Fuel.{IsSameRun, under}
+use Rattle.template_machine_meaning.specs.Meaning.{Standing, Setting, rendered}
+
+-- the names that the engine gives, in places
+abbrev pub is_given : List ℕ → Bool
+is_given name = is_stored_everywhere name || bytes_eq name (codes "loop") || bytes_eq name (codes "caller")
+
+-- a template that stands uses the name
+abbrev pub IsUsedByOne : Setting → List ℕ → Type 0
+IsUsedByOne setting name = (other : List ℕ) × (t : Standing) × (setting.templates other ≡ Some t) × IsTrue (is_used name t.tree)
+
+-- the context names of a template: those that the engine gives, and those that it uses, or a template that stands
+abbrev pub IsContextName : Setting → Statements → List ℕ → Type 0
+IsContextName setting tree name = IsTrue (is_given name) ⊎ IsTrue (is_used name tree) ⊎ IsUsedByOne setting name
+
+-- the two contexts hold the same under the name, or neither holds anything
+abbrev pub AgreesAt : Val → Val → List ℕ → Type 0
+AgreesAt c d name = value_at name c ≡ value_at name d
+
+-- Over contexts that agree at the context names a render leaves the same items and comes to the same end, under every
+-- bound and every fuel.
+abbrev pub IsolatesNames : Type 0
+IsolatesNames = (setting : Setting) (t : Standing) (c d : Val)
+    → ((name : List ℕ) → IsContextName setting t.tree name → AgreesAt c d name)
+    → (n : ℕ) (fuel : Option ℕ) → IsSameRun (under fuel (rendered setting n t c)) (under fuel (rendered setting n t d))
