@@ -1,2 +1,4 @@
 pub mod Certificates
-pub mod Unstuck
+pub mod Leading
+pub mod Within
+pub mod Ending

@@ -2,7 +2,7 @@
 //! do nothing: each stands for the law in its contract.
 #![tactic(auto)]
 
-ghost use Rattle.template_code_shapes.specs.Laws.{CertifiedIsGood, GoodIsUnstuck};
+ghost use Rattle.template_code_shapes.specs.Laws.{CertifiedIsGood, GoodEndsWell};
 
 /// Which of the two kinds a stream is.
 #[derive(Clone, Copy, Debug, PartialEq, Eq)]
@@ -18,8 +18,9 @@ pub fn certified_is_good()
     ensures { CertifiedIsGood }
 {}
 
-/// A good stream is never stuck: whatever is answered, from any place that is reached with a shape no
-/// instruction lacks an operand.
-pub fn good_is_unstuck()
-    ensures { GoodIsUnstuck }
+/// A good stream is never stuck, and ends well: from any place that is reached with a shape, whatever is
+/// answered, no instruction lacks an operand, and at the end no operand is left, or an expression's
+/// value.
+pub fn good_ends_well()
+    ensures { GoodEndsWell }
 {}
