@@ -270,3 +270,20 @@ blanks_cut s r from begin to end n has high text at start width =
 pub begin_at : (s r : List ℕ) (from begin to : ℕ) → IsBegun s r from begin to → to ≤ length s → begin ≡ to - length r
 begin_at s r from begin to has high =
     let ordered = has.high in omega (arith, ap length (has.text), length-stretch s begin to ordered high)
+
+pub minus_within : (x : Syntax) (s r u : List ℕ) (right : Edge) (from begin to n : ℕ) → IsBegun s r from begin to → to ≤ length s →
+    is_minus right ≡ true → u ≡ trim_end r → length u ≡ n → n ≤ length r → stripped_to x s right begin to ≤ to
+minus_within x s r u right from begin to n has high e trimmed long bound =
+    let text = has.text in
+    let ordered = has.high in
+    let size : length r ≡ to - begin = ap length text ∙ length-stretch s begin to ordered high in
+    let place : stripped_to x s right begin to ≡ begin + n =
+    minus_to x s right begin to e ∙ ap (λ m. begin + m) (ap length (ap trim_end (sym text) ∙ sym trimmed) ∙ long) in
+    omega arith
+
+pub blanks_within : (x : Syntax) (s : List ℕ) (right : Edge) (begin to : ℕ) → strips_blanks x right ≡ true → stripped_to x s right begin to ≤ to
+blanks_within x s right begin to f = (let place = blanks_to x s right begin to f in let low = less_blanks_le s to in omega arith)
+
+pub rest_within : (x : Syntax) (s : List ℕ) (right : Edge) (begin to : ℕ) → is_minus right ≡ false → strips_blanks x right ≡ false →
+    stripped_to x s right begin to ≤ to
+rest_within x s right begin to e f = (let place = rest_to x s right begin to e f in omega arith)

@@ -116,6 +116,11 @@ module _ (one : HasOneToken) (some : HasSomeToken) (takes : TakesBytes) where
       let bounds = takes s i n u t good in omega arith
   inside_ahead (no_token none black t) = omega arith
 
+  pub ends_ahead : {x : Syntax} {s : List ℕ} {k : StartMarker} {d i next : ℕ} {tokens : List Token} {last : Sign} →
+      HasInside x s k d i tokens (Some (last, next)) → i ≤ next
+  unfolding next_of
+  ends_ahead h = inside_ahead h
+
   settle_raw_end : (x : Syntax) (s : List ℕ) (i : ℕ) → Settled (IsRawEnd x s i)
   settle_raw_end x s i =
       elim (settle_stands s i (x.block_start)) [

@@ -1,15 +1,16 @@
 -- Where a source may be cut: behind the ends of segments and behind tokens.
 use Rattle.std.proofs.Common.{◌≡◌, ℕ, ◌+◌, ◌-◌, ◌<◌, ◌≤◌, ◌⊎◌, inl, inr, Bool, true, false, List, [], ◌∷◌, length, take, drop, slice_index, refl, sym, ◌∙◌, ap, subst, arith, length-take, length-drop, get_or-drop}
-use Rattle.std.proofs.lemmas.Bool.{cases_lt}
+use Rattle.std.proofs.lemmas.Bool.{cases_lt, cases_Bool, eqb-true}
 use Rattle.std.proofs.lemmas.List.{get_or-take, get_or_past}
-use Rattle.std.proofs.lemmas.Str.{IsUtf8-drop, IsCharBoundary-start, IsCharBoundary-end, IsCharBoundary-from_take, IsCharBoundary-from_rest, IsCharBoundary-after_ascii}
+use Rattle.std.proofs.lemmas.Str.{IsUtf8-drop, IsCharBoundary-start, IsCharBoundary-end, IsCharBoundary-before_ascii, IsCharBoundary-from_take, IsCharBoundary-from_rest, IsCharBoundary-after_ascii}
 use Rattle.std.specs.Str.{IsUtf8, IsCharBoundary}
-use Rattle.template_compiler_syntax.specs.Syntax.{Syntax, IsSet}
-use Rattle.template_compiler_syntax.specs.declared.StartMarker.TheVariants.{LineStatement}
+use Rattle.template_compiler_syntax.specs.Syntax.{Syntax, IsSet, start_text}
+use Rattle.template_compiler_syntax.specs.declared.StartMarker.{StartMarker}
+use Rattle.template_compiler_syntax.specs.declared.StartMarker.TheVariants.{Variable, Block, Comment, LineStatement, LineComment}
 use Rattle.template_compiler_segments.specs.declared.edges.Sign.{Sign}
-use Rattle.template_compiler_segments.specs.Places.{StandsAt, IsLineEnd, newline_len}
-use Rattle.template_compiler_segments.specs.Segments.{IsEnd, bare_end, signed_end, EndsAt, line_end}
-use Rattle.std.specs.Prelude.{Option, None, Some, IfSome}
+use Rattle.template_compiler_segments.specs.Places.{StandsAt, IsLineEnd, newline_len, sign_at, sign_width}
+use Rattle.template_compiler_segments.specs.Segments.{IsEnd, bare_end, signed_end, EndsAt, line_end, inside_from}
+use Rattle.std.specs.Prelude.{Option, None, Some, IfSome, ◌==◌, if◌then◌else◌}
 use Rattle.template_compiler_tokenizer.specs.Finds.{FindsDelimitedEnd, FindsEnd}
 use Rattle.template_compiler_segments.proofs.Searches.{newline_at}
 use Rattle.template_compiler_segments.proofs.Some.{stands_below, set_long}
@@ -75,3 +76,39 @@ pub line_end_cut : (x : Syntax) (s : List ℕ) (i : ℕ) (r : Option (Sign × �
     IfSome r (λ p. IsUtf8 s → IsCharBoundary s (p.1))
 line_end_cut x s i None within none = tt
 line_end_cut x s i (Some p) within over = λ source. line_cut source within over
+
+sign_cut : (s : List ℕ) (i : ℕ) → IsUtf8 s → IsCharBoundary s i → IsCharBoundary s (i + sign_width (sign_at s i))
+sign_cut s i source cut =
+    elim (cases_Bool (slice_index s i == 45)) [
+      | inl minus ↦
+          let e = eqb-true (slice_index s i) 45 minus in
+          rw minus (IsCharBoundary-after_ascii s i source (read_within s i 45 e (omega arith)) (omega arith))
+      | inr other ↦ elim (cases_Bool (slice_index s i == 43)) [
+        | inl plus ↦
+            let e = eqb-true (slice_index s i) 43 plus in
+            rw (other, plus) (IsCharBoundary-after_ascii s i source (read_within s i 43 e (omega arith)) (omega arith))
+        | inr none ↦ rw (other, none) (subst (λ m. IsCharBoundary s m) (let e : i ≡ i + 0 = omega arith in e) cut)
+      ]
+    ]
+
+pub inside_cut : (x : Syntax) (s : List ℕ) (k : StartMarker) (i : ℕ) → IsUtf8 s → IsUtf8 (start_text x k) → IsSet (start_text x k) →
+    StandsAt s i (start_text x k) → IsCharBoundary s (inside_from x s k i)
+inside_cut x s Variable i source utf8 set stands = sign_cut s (i + length (x.variable_start)) source (stands_cut s (x.variable_start) i source utf8 set stands)
+inside_cut x s Block i source utf8 set stands = sign_cut s (i + length (x.block_start)) source (stands_cut s (x.block_start) i source utf8 set stands)
+inside_cut x s Comment i source utf8 set stands = sign_cut s (i + length (x.comment_start)) source (stands_cut s (x.comment_start) i source utf8 set stands)
+inside_cut x s LineStatement i source utf8 set stands =
+    subst (λ m. IsCharBoundary s m) (let e : i + length (x.line_statement_prefix) ≡ i + length (x.line_statement_prefix) + 0 = omega arith in e)
+    (stands_cut s (x.line_statement_prefix) i source utf8 set stands)
+inside_cut x s LineComment i source utf8 set stands =
+    subst (λ m. IsCharBoundary s m) (let e : i + length (x.line_comment_prefix) ≡ i + length (x.line_comment_prefix) + 0 = omega arith in e)
+    (stands_cut s (x.line_comment_prefix) i source utf8 set stands)
+
+pub newline_before : (s : List ℕ) (i : ℕ) → i ≤ length s → IsLineEnd s i → IsCharBoundary s i
+newline_before s i within over =
+    elim over [
+      | inr past ↦ subst (λ m. IsCharBoundary s m) (let e : length s ≡ i = omega arith in e) (IsCharBoundary-end s)
+      | inl newline ↦ elim (newline_at s i newline) [
+        | inl feed ↦ IsCharBoundary-before_ascii s i (read_within s i 10 feed (omega arith)) (omega arith)
+        | inr both ↦ (let first = both.0 in IsCharBoundary-before_ascii s i (read_within s i 13 first (omega arith)) (omega arith))
+      ]
+    ]

@@ -1,12 +1,16 @@
 -- What a tokenizer finds inside a segment.
-use Rattle.std.specs.Prelude.{◌≡◌, ℕ, ◌≤◌, false, List, [], length, slice_index, Option, None, Some}
+use Rattle.std.specs.Prelude.{codes, ◌≡◌, ℕ, ◌≤◌, false, List, [], length, slice_index, Option, None, Some}
 use Rattle.std.specs.Str.{IsCharBoundary}
 use Rattle.std.specs.Char.{is_ascii_whitespace}
 use Rattle.template_compiler_syntax.specs.declared.StartMarker.{StartMarker}
 use Rattle.template_compiler_syntax.specs.Syntax.{Syntax}
-use Rattle.template_compiler_tokens.specs.Token.{Token}
+use Rattle.std.specs.Borrow.{Bor}
+use Rattle.template_compiler_syntax.specs.declared.StartMarker.TheVariants.{Block}
+use Rattle.template_compiler_tokens.specs.Token.{Token, identifier}
+use Rattle.template_compiler_tokens.specs.Lexical.{Begins}
 use Rattle.template_compiler_segments.specs.declared.edges.Sign.{Sign}
-use Rattle.template_compiler_segments.specs.Segments.{IsEnd, EndsAt, IsOver, Ending, HasInside}
+use Rattle.template_compiler_segments.specs.Segments.{IsEnd, EndsAt, IsOver, Ending, HasInside, HoldsInside, only, IsRawEnd}
+use Rattle.template_compiler_segments.specs.Places.{IsFirst, IsNowhere}
 use Rattle.template_compiler_tokenizer.specs.declared.inside.Found.{Found}
 use Rattle.template_compiler_tokenizer.specs.declared.inside.Found.TheVariants.{End, Token as Other}
 
@@ -35,3 +39,27 @@ abbrev pub FindsPlace : Syntax → List ℕ → StartMarker → ℕ → ℕ → 
 FindsPlace x s k d from (End last next) = HasInside x s k d from [] (Some (last, next)) × IsCharBoundary s next
 FindsPlace x s k d from (Other i) = (from ≤ i) × IsCharBoundary s i × IsTokenPlace x s k d i ×
     ((tokens : List Token) (ending : Ending) → HasInside x s k d i tokens ending → HasInside x s k d from tokens ending)
+
+abbrev pub word_in : Token → Option (List ℕ)
+word_in (identifier word) = Some word
+word_in _ = None
+
+-- the word that the text begins with, and how many bytes it takes; or it begins with none
+abbrev pub ScansWord : List ℕ → Option (Bor (List ℕ) × ℕ) → Type 0
+ScansWord s None = (word : List ℕ) (n : ℕ) → Begins s (identifier word) n → ⊥
+ScansWord s (Some found) = Begins s (identifier (found.0.now)) (found.1)
+
+-- the block has no further word, and ends so; or it has one
+abbrev pub FindsEndBehind : Syntax → List ℕ → ℕ → Option (Sign × ℕ) → Type 0
+FindsEndBehind x s from None = (last : Sign) (next : ℕ) → HasInside x s Block 0 from [] (Some (last, next)) → ⊥
+FindsEndBehind x s from (Some p) = HasInside x s Block 0 from [] (Some (p.0, p.1))
+
+-- this is the block's only word, and the block ends so; or it isn't
+abbrev pub FindsWord : Syntax → List ℕ → ℕ → List ℕ → Option (Sign × ℕ) → Type 0
+FindsWord x s from word None = (last : Sign) (next : ℕ) → HasInside x s Block 0 from (only word) (Some (last, next)) → ⊥
+FindsWord x s from word (Some p) = HasInside x s Block 0 from (only word) (Some (p.0, p.1))
+
+-- the first block from the place on that ends raw data, and how it ends; or there is none
+abbrev pub FindsRawEnd : Syntax → List ℕ → ℕ → Option (ℕ × Sign × ℕ) → Type 0
+FindsRawEnd x s from None = IsNowhere (IsRawEnd x s) from
+FindsRawEnd x s from (Some p) = IsFirst (IsRawEnd x s) from (p.0) × HoldsInside x s Block (p.0) (only (codes "endraw")) (Some (p.1, p.2))
