@@ -1,16 +1,14 @@
 -- What is left of data between two places.
-use Rattle.std.proofs.Common.{◌≡◌, ℕ, zero, suc, ◌+◌, ◌-◌, ◌<◌, ◌≤◌, ◌⊎◌, inl, inr, Bool, true, false, List, [], ◌∷◌, length, take, drop, slice_index, refl, sym, ◌∙◌, ap, subst, arith, length-take, length-drop, get_or-drop}
-use Rattle.std.proofs.lemmas.Bool.{cases_lt, cases_eq, cases_Bool, false≢true, eqb-true, or_cases}
-use Rattle.std.proofs.lemmas.List.{get_or-take, get_or_past, take-take, drop-take, drop-drop, drop_all, take_all}
+use Rattle.std.proofs.Common.{◌≡◌, ℕ, zero, suc, ◌+◌, ◌-◌, ◌<◌, ◌≤◌, inl, inr, Bool, true, false, List, [], ◌∷◌, length, take, drop, slice_index, refl, sym, ◌∙◌, ap, subst, arith, length-take, length-drop, get_or-drop}
+use Rattle.std.proofs.lemmas.Bool.{cases_lt, false≢true, eqb-true, or_cases}
+use Rattle.std.proofs.lemmas.List.{get_or-take, take-take, drop-take, drop-drop, drop_all}
 use Rattle.std.proofs.lemmas.Str.{IsCharBoundary-start, IsCharBoundary-end, IsCharBoundary-before_ascii, IsCharBoundary-after_ascii}
-use Rattle.std.specs.Prelude.{if◌then◌else◌, ◌==◌, ◌&&◌, ◌||◌}
-use Rattle.std.specs.Str.{IsUtf8, IsCharBoundary, trim_start, trim_end}
-use Rattle.template_compiler_syntax.specs.declared.StartMarker.{StartMarker}
+use Rattle.std.specs.Prelude.{if◌then◌else◌, ◌==◌, ◌&&◌}
+use Rattle.std.specs.Str.{IsUtf8, IsCharBoundary, trim_end}
 use Rattle.template_compiler_syntax.specs.declared.StartMarker.TheVariants.{Variable, Block, Comment, LineStatement, LineComment}
 use Rattle.template_compiler_syntax.specs.Syntax.{Syntax}
 use Rattle.template_compiler_segments.specs.declared.edges.Edge.{Edge}
 use Rattle.template_compiler_segments.specs.declared.edges.Edge.TheVariants.{Nothing, Beside}
-use Rattle.template_compiler_segments.specs.declared.edges.Sign.{Sign}
 use Rattle.template_compiler_segments.specs.declared.edges.Sign.TheVariants.{Plain, Minus, Plus}
 use Rattle.template_compiler_segments.specs.Places.{stretch, is_blank, blanks_from, is_first_on_line, newline_len}
 use Rattle.template_compiler_segments.specs.Stripping.{stripped_from, stripped_to, past_newline, less_start, less_blanks, strips_blanks, is_minus}
@@ -270,3 +268,20 @@ blanks_cut s r from begin to end n has high text at start width =
 pub begin_at : (s r : List ℕ) (from begin to : ℕ) → IsBegun s r from begin to → to ≤ length s → begin ≡ to - length r
 begin_at s r from begin to has high =
     let ordered = has.high in omega (arith, ap length (has.text), length-stretch s begin to ordered high)
+
+pub minus_within : (x : Syntax) (s r u : List ℕ) (right : Edge) (from begin to n : ℕ) → IsBegun s r from begin to → to ≤ length s →
+    is_minus right ≡ true → u ≡ trim_end r → length u ≡ n → n ≤ length r → stripped_to x s right begin to ≤ to
+minus_within x s r u right from begin to n has high e trimmed long bound =
+    let text = has.text in
+    let ordered = has.high in
+    let size : length r ≡ to - begin = ap length text ∙ length-stretch s begin to ordered high in
+    let place : stripped_to x s right begin to ≡ begin + n =
+    minus_to x s right begin to e ∙ ap (λ m. begin + m) (ap length (ap trim_end (sym text) ∙ sym trimmed) ∙ long) in
+    omega arith
+
+pub blanks_within : (x : Syntax) (s : List ℕ) (right : Edge) (begin to : ℕ) → strips_blanks x right ≡ true → stripped_to x s right begin to ≤ to
+blanks_within x s right begin to f = (let place = blanks_to x s right begin to f in let low = less_blanks_le s to in omega arith)
+
+pub rest_within : (x : Syntax) (s : List ℕ) (right : Edge) (begin to : ℕ) → is_minus right ≡ false → strips_blanks x right ≡ false →
+    stripped_to x s right begin to ≤ to
+rest_within x s right begin to e f = (let place = rest_to x s right begin to e f in omega arith)

@@ -21,8 +21,9 @@ pub fn data_text<'source>(
     requires ordered { from ≤ to }
     requires start { IsCharBoundary source.now from }
     requires end { IsCharBoundary source.now to }
-    ensures { let begin = stripped_from syntax.now source.now left from to in
+    ensures text { let begin = stripped_from syntax.now source.now left from to in
         result.now ≡ stretch source.now begin (stripped_to syntax.now source.now right begin to) }
+    ensures within { stripped_to syntax.now source.now right (stripped_from syntax.now source.now left from to) to ≤ to }
 {
     let text = without_start(&source[from..to], syntax, left);
     if is_minus(right) {

@@ -1,0 +1,4 @@
+pub mod Left
+pub mod Finds
+pub mod Reads
+pub mod Steps
