@@ -1,0 +1,5 @@
+pub mod Places
+pub mod Segments
+pub mod Stripping
+pub mod Flat
+pub mod Known

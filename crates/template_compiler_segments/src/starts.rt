@@ -1,0 +1,253 @@
+//! The search for the next start marker.
+ghost use Rattle.std.specs.Prelude.{◌≡◌, ◌≤◌, ◌+◌, ◌<◌, ◌↔◌, ℕ, List, [], ◌∷◌, IsTrue, MatchOption, Option, None, slice_index, length};
+ghost use Rattle.template_compiler_syntax.specs.Syntax.{Syntax, HasDefaultStarts, start_text as start_of};
+ghost use Rattle.template_compiler_syntax.specs.declared.StartMarker.{StartMarker};
+ghost use Rattle.template_compiler_segments.specs.Places.{IsFirst, IsNowhere};
+ghost use Rattle.template_compiler_segments.specs.Segments.{IsEligible};
+ghost use Rattle.template_compiler_segments.specs.Known.{IsKnown, IsSought, IsNearer, StaysNearest, IsNextOrNone, IsBraces, IsBracesOf};
+
+use crate::places::{find_text, is_first_on_line, rest_from};
+use memchr::memchr;
+use template_compiler_syntax::{StartMarker, SyntaxConfig};
+
+/// What is known of the start markers of one kind from a place on.
+#[derive(Clone, Copy)]
+pub enum Known {
+    /// Nothing yet.
+    Unsearched,
+    /// None stands before this one.
+    At(usize),
+    /// There is none.
+    Nowhere,
+}
+
+/// Searches one source for start markers, from left to right, in time that grows with the source alone:
+/// it keeps where the next marker of each kind stands.
+#[derive(Drop)]
+pub struct StartFinder {
+    pub has_default_starts: bool,
+    pub variable: Known,
+    pub block: Known,
+    pub comment: Known,
+    pub line_statement: Known,
+    pub line_comment: Known,
+}
+
+impl StartFinder {
+    ghost use Rattle.template_compiler_segments.specs.Known.{Knows};
+
+    /// A finder for one source under the syntax.
+    pub fn new(syntax: &SyntaxConfig) -> StartFinder
+        ensures { (s : List ℕ) → Knows syntax.now s 0 result }
+    {
+        StartFinder {
+            has_default_starts: syntax.has_default_starts(),
+            variable: Known::Unsearched,
+            block: Known::Unsearched,
+            comment: Known::Unsearched,
+            line_statement: Known::Unsearched,
+            line_comment: Known::Unsearched,
+        }
+    }
+
+    /// The next start marker from a place on: the leftmost that is eligible, and there the longest.
+    /// The searches of one source go from left to right.
+    pub fn next_start(
+        &mut self,
+        bytes: &[u8],
+        syntax: &SyntaxConfig,
+        from: usize,
+    ) -> Option<(usize, StartMarker)>
+        requires within { from ≤ length bytes.now }
+        requires knows { Knows syntax.now bytes.now from self.old }
+        ensures found { IsNextOrNone syntax.now bytes.now from result }
+        ensures knows { Knows syntax.now bytes.now from self.new }
+    {
+        if self.has_default_starts {
+            find_braces(bytes, from)
+        } else {
+            self.find_nearest(bytes, syntax, from)
+        }
+    }
+
+    fn find_nearest(
+        &mut self,
+        bytes: &[u8],
+        syntax: &SyntaxConfig,
+        from: usize,
+    ) -> Option<(usize, StartMarker)>
+        requires within { from ≤ length bytes.now }
+        requires knows { Knows syntax.now bytes.now from self.old }
+        ensures found { IsNextOrNone syntax.now bytes.now from result }
+        ensures knows { Knows syntax.now bytes.now from self.new }
+    {
+        let variable = next_known(self.variable, bytes, syntax, from, StartMarker::Variable);
+        let block = next_known(self.block, bytes, syntax, from, StartMarker::Block);
+        let comment = next_known(self.comment, bytes, syntax, from, StartMarker::Comment);
+        let line_statement = next_known(
+            self.line_statement,
+            bytes,
+            syntax,
+            from,
+            StartMarker::LineStatement,
+        );
+        let line_comment = next_known(
+            self.line_comment,
+            bytes,
+            syntax,
+            from,
+            StartMarker::LineComment,
+        );
+        self.variable = variable;
+        self.block = block;
+        self.comment = comment;
+        self.line_statement = line_statement;
+        self.line_comment = line_comment;
+        let nearest = nearer(syntax, None, variable, StartMarker::Variable);
+        let nearest = nearer(syntax, nearest, block, StartMarker::Block);
+        let nearest = nearer(syntax, nearest, comment, StartMarker::Comment);
+        let nearest = nearer(syntax, nearest, line_statement, StartMarker::LineStatement);
+        nearer(syntax, nearest, line_comment, StartMarker::LineComment)
+    }
+}
+
+// The nearer of a start marker and the first one of another kind; of two at one place the longer.
+fn nearer(
+    syntax: &SyntaxConfig,
+    nearest: Option<(usize, StartMarker)>,
+    known: Known,
+    kind: StartMarker,
+) -> Option<(usize, StartMarker)>
+    ensures { IsNearer syntax.now nearest known kind result }
+{
+    let Known::At(place) = known else {
+        return nearest;
+    };
+    match nearest {
+        Some((nearest_place, nearest_kind)) => {
+            if stays_nearest(syntax, nearest_place, nearest_kind, place, kind) {
+                nearest
+            } else {
+                Some((place, kind))
+            }
+        }
+        None => Some((place, kind)),
+    }
+}
+
+fn stays_nearest(
+    syntax: &SyntaxConfig,
+    nearest_place: usize,
+    nearest_kind: StartMarker,
+    place: usize,
+    kind: StartMarker,
+) -> bool
+    ensures { IsTrue result ↔ StaysNearest syntax.now nearest_place nearest_kind place kind }
+{
+    if nearest_place == place {
+        start_len(syntax, kind) <= start_len(syntax, nearest_kind)
+    } else {
+        nearest_place < place
+    }
+}
+
+fn start_len(syntax: &SyntaxConfig, kind: StartMarker) -> usize
+    ensures { result ≡ length (start_of syntax.now kind) }
+{
+    syntax.start_text(kind).len()
+}
+
+// Where the first start marker of the kind stands from the place on; it is sought where the one that is known is behind.
+fn next_known(
+    known: Known,
+    bytes: &[u8],
+    syntax: &SyntaxConfig,
+    from: usize,
+    kind: StartMarker,
+) -> Known
+    requires within { from ≤ length bytes.now }
+    requires known { IsKnown syntax.now bytes.now from kind known }
+    ensures { IsSought syntax.now bytes.now from kind result }
+{
+    match known {
+        Known::Nowhere => known,
+        Known::At(place) if place >= from => known,
+        _ => find_marker(bytes, syntax, from, kind),
+    }
+}
+
+// The first start marker of the kind from the place on.
+fn find_marker(bytes: &[u8], syntax: &SyntaxConfig, from: usize, kind: StartMarker) -> Known
+    requires { from ≤ length bytes.now }
+    ensures { IsSought syntax.now bytes.now from kind result }
+{
+    let text = syntax.start_text(kind).as_bytes();
+    if text.is_empty() {
+        return Known::Nowhere;
+    }
+    let mut at = from;
+    while let Some(place) = find_text(bytes, at, text) {
+        if is_eligible(bytes, place, kind) {
+            return Known::At(place);
+        }
+        at = place + 1;
+    }
+    Known::Nowhere
+}
+
+// A line statement begins where only spaces and tabs stand before it on its line.
+fn is_eligible(bytes: &[u8], place: usize, kind: StartMarker) -> bool
+    requires { place ≤ length bytes.now }
+    ensures { IsTrue result ↔ IsEligible kind bytes.now place }
+{
+    match kind {
+        StartMarker::LineStatement => is_first_on_line(bytes, place),
+        _ => true,
+    }
+}
+
+// The next start marker of the default syntax.
+fn find_braces(bytes: &[u8], from: usize) -> Option<(usize, StartMarker)>
+    requires { from ≤ length bytes.now }
+    ensures { (x : Syntax) → HasDefaultStarts x → IsNextOrNone x bytes.now from result }
+{
+    match find_braces_place(bytes, from) {
+        Some(place) => Some((place, braces_at(bytes, place))),
+        None => None,
+    }
+}
+
+fn braces_at(bytes: &[u8], place: usize) -> StartMarker
+    requires { place < length bytes.now }
+    ensures { IsBracesOf bytes.now place result }
+{
+    match bytes.get(place + 1) {
+        Some(b'{') => StartMarker::Variable,
+        Some(b'%') => StartMarker::Block,
+        _ => StartMarker::Comment,
+    }
+}
+
+fn find_braces_place(bytes: &[u8], from: usize) -> Option<usize>
+    requires { from ≤ length bytes.now }
+    ensures { MatchOption result (IsNowhere (λ i. IsBraces bytes.now i) from) (λ i. IsFirst (λ j. IsBraces bytes.now j) from i) }
+{
+    let mut at = from;
+    while let Some(skipped) = memchr(b'{', rest_from(bytes, at)) {
+        let brace = at + skipped;
+        if follows_brace(bytes, brace) {
+            return Some(brace);
+        }
+        at = brace + 1;
+    }
+    None
+}
+
+// A start marker stands where its `{` does.
+fn follows_brace(bytes: &[u8], brace: usize) -> bool
+    requires within { brace < length bytes.now }
+    requires opens { slice_index bytes.now brace ≡ 123 }
+    ensures { IsTrue result ↔ IsBraces bytes.now brace }
+{
+    matches!(bytes.get(brace + 1), Some(b'{' | b'%' | b'#'))
+}

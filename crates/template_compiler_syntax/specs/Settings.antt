@@ -1,0 +1,26 @@
+-- The syntax that settings stand for.
+use Rattle.std.specs.Prelude.{Option, None, Some}
+use Rattle.std.specs.Cow.{cow_str_bytes}
+use Rattle.std.specs.declared.rc.Rc.{Rc}
+use Rattle.template_compiler_syntax.specs.Syntax.{Syntax, default_syntax}
+use Rattle.template_compiler_syntax.specs.declared.settings.Settings.{Settings}
+
+abbrev pub syntax_of : Settings → Syntax
+syntax_of s = record {
+  block_start = cow_str_bytes s.block_start;
+  block_end = cow_str_bytes s.block_end;
+  variable_start = cow_str_bytes s.variable_start;
+  variable_end = cow_str_bytes s.variable_end;
+  comment_start = cow_str_bytes s.comment_start;
+  comment_end = cow_str_bytes s.comment_end;
+  line_statement_prefix = cow_str_bytes s.line_statement_prefix;
+  line_comment_prefix = cow_str_bytes s.line_comment_prefix;
+  trim_blocks = s.trim_blocks;
+  lstrip_blocks = s.lstrip_blocks;
+  keep_trailing_newline = s.keep_trailing_newline;
+}
+
+-- no settings stand for the default syntax
+abbrev pub chosen_syntax : {Z : Type 0} → Option (Rc Settings Z) → Syntax
+chosen_syntax None = default_syntax
+chosen_syntax (Some shared) = syntax_of shared.value

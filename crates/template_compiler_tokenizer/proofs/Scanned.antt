@@ -1,0 +1,65 @@
+-- What a scanned token inside a segment leaves.
+use Rattle.std.proofs.Common.{◌≡◌, ℕ, suc, ◌+◌, ◌-◌, ◌<◌, ◌≤◌, ◌⊎◌, inl, inr, Bool, true, false, List, [], ◌∷◌, length, drop, slice_index, Option, None, Some, Result, Ok, Err, refl, sym, ◌∙◌, ap, subst, arith}
+use Rattle.std.proofs.lemmas.Str.{IsCharBoundary-from_rest}
+use Rattle.std.specs.Char.{is_ascii_whitespace}
+use Rattle.std.specs.Str.{IsCharBoundary}
+use Rattle.template_values_errors.specs.declared.ErrorKind.{ErrorKind}
+use Rattle.template_compiler_syntax.specs.declared.StartMarker.{StartMarker}
+use Rattle.template_compiler_syntax.specs.Syntax.{Syntax}
+use Rattle.template_compiler_tokens.specs.Token as spec
+use Rattle.template_compiler_tokens.specs.Token.{bad, symbol, bracket_open, bracket_close, paren_open, paren_close, brace_open, brace_close}
+use Rattle.template_compiler_tokens.specs.Lexical.{Begins, IsToken, token_at}
+use Rattle.template_compiler_tokens.specs.View.{token_of}
+use Rattle.template_compiler_tokens.specs.declared.token.Token.{Token}
+use Rattle.template_compiler_tokens.specs.declared.token.Token.TheVariants.{Plus}
+use Rattle.template_compiler_scanner.specs.Scans.{Scans}
+use Rattle.template_compiler_segments.specs.Segments.{IsOver, Ending, HasInside, is_bad, open_brackets}
+use Rattle.template_compiler_segments.proofs.Pieces.{some_inside}
+use Rattle.template_compiler_tokens.proofs.OneToken.{one_token, some_token}
+use Rattle.template_compiler_segments.proofs.Bytes.{takes_bytes}
+use Rattle.template_compiler_tokenizer.specs.Left.{inside_tokens}
+use Rattle.template_compiler_tokenizer.specs.Finds.{IsTokenPlace}
+use Rattle.template_compiler_tokenizer.specs.Reads.{IsRefusedKind}
+use Rattle.template_compiler_tokenizer.proofs.Steps.{inside_is, inside_token, inside_bad}
+use Rattle.template_compiler_tokenizer.proofs.Delimiters.{Lifts}
+
+pub not_bad : (t : Token) → is_bad (token_of t) ≡ false
+not_bad Plus = refl
+not_bad t = refl
+
+pub open_le : (t : spec.Token) (d : ℕ) → open_brackets t d ≤ d + 1
+open_le (symbol bracket_open) d = omega arith
+open_le (symbol paren_open) d = omega arith
+open_le (symbol brace_open) d = omega arith
+open_le (symbol bracket_close) d = omega arith
+open_le (symbol paren_close) d = omega arith
+open_le (symbol brace_close) d = omega arith
+open_le t d = omega arith
+
+pub lifted : (x : Syntax) (s : List ℕ) (k : StartMarker) (d i from : ℕ) → Lifts x s k d i from → inside_tokens x s k d from ≡ inside_tokens x s k d i
+lifted x s k d i from lifts =
+    let inside = some_inside one_token some_token takes_bytes x s k d i in
+    inside_is x s k d from (inside.0) (inside.1) (lifts (inside.0) (inside.1) (inside.2)) ∙ sym (inside_is x s k d i (inside.0) (inside.1) (inside.2))
+
+pub scanned : (x : Syntax) (s rest : List ℕ) (k : StartMarker) (d i from depth width : ℕ) (t : Token) → rest ≡ drop i s → IsTokenPlace x s k d i →
+    Lifts x s k d i from → Scans rest (Ok (t, width)) → depth ≡ open_brackets (token_of t) d →
+    inside_tokens x s k d from ≡ token_of t ∷ inside_tokens x s k depth (i + width)
+scanned x s rest k d i from depth width t e place lifts begins brackets =
+    lifted x s k d i from lifts ∙
+    (inside_token x s k d i (i + width) (token_of t) (place.none) (place.black)
+    (token_at width (subst (λ r. Begins r (token_of t) width) e begins) refl) (not_bad t) ∙
+    ap (λ m. token_of t ∷ inside_tokens x s k m (i + width)) (sym brackets))
+
+pub not_scanned : (x : Syntax) (s rest : List ℕ) (k : StartMarker) (d i from : ℕ) (kind : ErrorKind) → rest ≡ drop i s → IsTokenPlace x s k d i →
+    Lifts x s k d i from → Scans rest (Err kind) → IsRefusedKind (inside_tokens x s k d from) kind
+not_scanned x s rest k d i from kind e place lifts (inr memory) = inl (memory.0)
+not_scanned x s rest k d i from kind e place lifts (inl fault) =
+    inr (
+      fault.0,
+      lifted x s k d i from lifts ∙
+          inside_bad x s k d i (i + 0) (fault.0) (place.none) (place.black) (token_at 0 (subst (λ r. Begins r (bad (fault.0)) 0) e (fault.2)) refl),
+      fault.1,
+    )
+
+pub scanned_cut : (s rest : List ℕ) (i width : ℕ) → rest ≡ drop i s → i ≤ length s → IsCharBoundary rest width → IsCharBoundary s (i + width)
+scanned_cut s rest i width e within cut = IsCharBoundary-from_rest s i width within (subst (λ r. IsCharBoundary r width) e cut)

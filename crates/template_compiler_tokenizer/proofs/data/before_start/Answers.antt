@@ -1,0 +1,55 @@
+use Rattle.std.proofs.Common.{◌≡◌, ◌≤◌, ◌∷◌, inl, inr, sym, ◌∙◌, ap, subst, arith, length}
+use Rattle.std.proofs.lemmas.Bool.{false≢true}
+use Rattle.template_compiler_segments.specs.declared.edges.Edge.TheVariants.{Nothing, Beside}
+use Rattle.template_compiler_segments.specs.Places.{stretch}
+use Rattle.template_compiler_segments.specs.Segments.{start_sign}
+use Rattle.template_compiler_segments.specs.Stripping.{stripped_from, stripped_to}
+use Rattle.template_compiler_tokenizer.specs.Left.{data_tokens}
+use Rattle.template_compiler_tokenizer.proofs.Steps.{data_next}
+use Rattle.template_compiler_tokenizer.proofs.Parts.{steps_from}
+use Rattle.template_compiler_tokenizer.proofs.data.before_start.Goals as goal
+
+pub returns-then-is_nothing : goal.returns-then-is_nothing
+returns-then-is_nothing c =
+    let x = c.args.syntax.now in
+    let s = c.args.source.now in
+    let kind = c.args.kind in
+    let from = c.args.from in
+    let start = c.args.start in
+    let left = c.args.left in
+    let text = c.data_text-text.result.now in
+    let begin = stripped_from x s left from start in
+    let signs = c.start_sign.ensures ∙ ap (λ t. start_sign x t kind start) c.as_bytes.ensures.value in
+    let e = subst (λ g. text ≡ stretch s begin (stripped_to x s (Beside kind g) begin start)) signs c.data_text-text.ensures.text in
+    let bound = subst (λ g. stripped_to x s (Beside kind g) begin start ≤ start) signs c.data_text-text.ensures.within in
+    let within = c.inside_from-inside.ensures.start.0 in
+    let none = c.is_nothing.ensures.0 c.if-is_nothing.true in
+    let high : stripped_to x s (Beside kind (start_sign x s kind start)) begin start ≤ length s = omega arith in
+    let same : data_tokens x s left from ≡ data_tokens x s Nothing start = elim (data_next x s c.requires.usable left from start kind text c.requires.start e high) [
+      | inl empty ↦ empty.1
+      | inr some ↦ absurd (let long = some.0 in omega arith)
+    ] in
+    steps_from x s from start (data_tokens x s left from) (data_tokens x s Nothing start) c.enter.result same c.requires.start.ahead c.enter.ensures
+
+pub returns : goal.returns
+returns c =
+    let x = c.args.syntax.now in
+    let s = c.args.source.now in
+    let kind = c.args.kind in
+    let from = c.args.from in
+    let start = c.args.start in
+    let left = c.args.left in
+    let text = c.data_text-text.result.now in
+    let begin = stripped_from x s left from start in
+    let signs = c.start_sign.ensures ∙ ap (λ t. start_sign x t kind start) c.as_bytes.ensures.value in
+    let e = subst (λ g. text ≡ stretch s begin (stripped_to x s (Beside kind g) begin start)) signs c.data_text-text.ensures.text in
+    let bound = subst (λ g. stripped_to x s (Beside kind g) begin start ≤ start) signs c.data_text-text.ensures.within in
+    let within = c.inside_from-inside.ensures.start.0 in
+    let high : stripped_to x s (Beside kind (start_sign x s kind start)) begin start ≤ length s = omega arith in (
+      elim (data_next x s c.requires.usable left from start kind text c.requires.start e high) [
+        | inl empty ↦ absurd (false≢true (sym c.if-is_nothing.false ∙ c.is_nothing.ensures.1 empty.0))
+        | inr some ↦ some.1
+      ],
+      c.inside_from-inside.ensures.start,
+      c.requires.start.ahead,
+    )

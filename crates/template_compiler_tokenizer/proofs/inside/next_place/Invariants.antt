@@ -1,0 +1,17 @@
+use Rattle.std.proofs.Common.{ℕ, ◌-◌, ◌≤◌, length, List}
+use Rattle.std.specs.Str.{IsCharBoundary}
+use Rattle.template_compiler_tokens.specs.Token.{Token}
+use Rattle.template_compiler_segments.specs.Segments.{Ending, HasInside}
+use Rattle.template_compiler_tokenizer.proofs.inside.next_place.Given as goal
+
+-- what stands inside from `place` on stands there from `from` on, behind white space
+abbrev pub invariant-blanks : goal.invariant-blanks
+invariant-blanks l = record {
+  low : l.from ≤ l.place;
+  cut : IsCharBoundary l.bytes l.place;
+  inside : (tokens : List Token) (ending : Ending) → HasInside l.syntax l.bytes l.kind l.depth l.place tokens ending →
+      HasInside l.syntax l.bytes l.kind l.depth l.from tokens ending;
+}
+
+abbrev pub decreases-blanks : goal.decreases-blanks
+decreases-blanks l = length l.bytes - l.place
