@@ -1,13 +1,13 @@
 -- A token takes a byte at least.
-use Rattle.std.proofs.Common.{◌≡◌, ℕ, zero, suc, ◌+◌, ◌-◌, ◌<◌, ◌≤◌, ◌⊎◌, inl, inr, Bool, true, false, cond, List, [], ◌∷◌, length, take, drop, slice_index, Option, None, Some, refl, sym, ◌∙◌, ap, subst, arith, length-drop, length-take}
-use Rattle.std.proofs.lemmas.Bool.{cases_lt, cases_Bool, false≢true, eqb-true, or_cases, and_parts}
-use Rattle.std.specs.Prelude.{if◌then◌else◌, ◌||◌, ◌&&◌, ◌==◌, nat_le, nat_lt}
+use Rattle.std.proofs.Common.{◌≡◌, ℕ, ◌+◌, ◌<◌, inl, inr, Bool, true, false, cond, List, [], ◌∷◌, length, take, drop, refl, ◌∙◌, ap, arith, length-drop, length-take}
+use Rattle.std.proofs.lemmas.Bool.{cases_Bool, eqb-true}
+use Rattle.std.specs.Prelude.{if◌then◌else◌, ◌||◌, ◌==◌}
 use Rattle.std.specs.List.{prefix_len}
-use Rattle.std.specs.Char.{is_ascii_digit, is_ascii_alphabetic, is_ascii_alphanumeric}
-use Rattle.template_compiler_tokens.specs.Token.{Token, TokenFault, bad}
-use Rattle.template_compiler_tokens.specs.Numbers.{is_digit, goes_on, digits_len, base_of, prefix_width, number_at, number_width}
+use Rattle.std.specs.Char.{is_ascii_digit}
+use Rattle.template_compiler_tokens.specs.Token.{Token, bad}
+use Rattle.template_compiler_tokens.specs.Numbers.{is_digit, goes_on, digits_len, base_of, prefix_width, number_width}
 use Rattle.template_compiler_tokens.specs.Texts.{IsText, closed_text, bad_text, open_text}
-use Rattle.template_compiler_tokens.specs.Lexical.{is_name_start, is_name_part, long_sign, short_sign, IsSign, long, short, no_sign, Class, name_class, number_class, text_class, sign_class, class_of, taken, BeginsAs, Begins, IsToken, token_at}
+use Rattle.template_compiler_tokens.specs.Lexical.{is_name_start, is_name_part, long_sign, short_sign, IsSign, long, short, no_sign, Class, name_class, number_class, text_class, sign_class, class_of, taken, BeginsAs, Begins, token_at}
 use Rattle.template_compiler_segments.specs.Segments.{is_bad}
 use Rattle.template_compiler_segments.proofs.Pieces.{TakesBytes}
 

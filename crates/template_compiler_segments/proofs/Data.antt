@@ -1,16 +1,14 @@
 -- What is left of data between two places.
-use Rattle.std.proofs.Common.{◌≡◌, ℕ, zero, suc, ◌+◌, ◌-◌, ◌<◌, ◌≤◌, ◌⊎◌, inl, inr, Bool, true, false, List, [], ◌∷◌, length, take, drop, slice_index, refl, sym, ◌∙◌, ap, subst, arith, length-take, length-drop, get_or-drop}
-use Rattle.std.proofs.lemmas.Bool.{cases_lt, cases_eq, cases_Bool, false≢true, eqb-true, or_cases}
-use Rattle.std.proofs.lemmas.List.{get_or-take, get_or_past, take-take, drop-take, drop-drop, drop_all, take_all}
+use Rattle.std.proofs.Common.{◌≡◌, ℕ, zero, suc, ◌+◌, ◌-◌, ◌<◌, ◌≤◌, inl, inr, Bool, true, false, List, [], ◌∷◌, length, take, drop, slice_index, refl, sym, ◌∙◌, ap, subst, arith, length-take, length-drop, get_or-drop}
+use Rattle.std.proofs.lemmas.Bool.{cases_lt, false≢true, eqb-true, or_cases}
+use Rattle.std.proofs.lemmas.List.{get_or-take, take-take, drop-take, drop-drop, drop_all}
 use Rattle.std.proofs.lemmas.Str.{IsCharBoundary-start, IsCharBoundary-end, IsCharBoundary-before_ascii, IsCharBoundary-after_ascii}
-use Rattle.std.specs.Prelude.{if◌then◌else◌, ◌==◌, ◌&&◌, ◌||◌}
-use Rattle.std.specs.Str.{IsUtf8, IsCharBoundary, trim_start, trim_end}
-use Rattle.template_compiler_syntax.specs.declared.StartMarker.{StartMarker}
+use Rattle.std.specs.Prelude.{if◌then◌else◌, ◌==◌, ◌&&◌}
+use Rattle.std.specs.Str.{IsUtf8, IsCharBoundary, trim_end}
 use Rattle.template_compiler_syntax.specs.declared.StartMarker.TheVariants.{Variable, Block, Comment, LineStatement, LineComment}
 use Rattle.template_compiler_syntax.specs.Syntax.{Syntax}
 use Rattle.template_compiler_segments.specs.declared.edges.Edge.{Edge}
 use Rattle.template_compiler_segments.specs.declared.edges.Edge.TheVariants.{Nothing, Beside}
-use Rattle.template_compiler_segments.specs.declared.edges.Sign.{Sign}
 use Rattle.template_compiler_segments.specs.declared.edges.Sign.TheVariants.{Plain, Minus, Plus}
 use Rattle.template_compiler_segments.specs.Places.{stretch, is_blank, blanks_from, is_first_on_line, newline_len}
 use Rattle.template_compiler_segments.specs.Stripping.{stripped_from, stripped_to, past_newline, less_start, less_blanks, strips_blanks, is_minus}

@@ -1,17 +1,16 @@
 -- How the search for start markers finds the next one.
-use Rattle.std.proofs.Common.{◌≡◌, ℕ, zero, suc, ◌+◌, ◌-◌, ◌<◌, ◌≤◌, ◌⊎◌, inl, inr, Bool, true, false, List, [], ◌∷◌, length, take, drop, slice_index, Option, None, Some, refl, sym, ◌∙◌, ap, subst, arith, length-take, length-drop, get_or-drop, zero-add}
-use Rattle.std.proofs.lemmas.Bool.{cases_lt, cases_eq, false≢true}
+use Rattle.std.proofs.Common.{◌≡◌, ℕ, ◌+◌, ◌<◌, ◌≤◌, inl, inr, List, [], ◌∷◌, length, drop, slice_index, Option, None, Some, sym, ◌∙◌, ap, subst, arith, get_or-drop, zero-add}
+use Rattle.std.proofs.lemmas.Bool.{cases_lt, cases_eq}
 use Rattle.std.proofs.lemmas.List.{get_or-take, get_or_past}
-use Rattle.std.specs.Prelude.{codes}
 use Rattle.memchr.specs.Find.{IsFirstByte, is_byte}
 use Rattle.template_compiler_syntax.specs.declared.StartMarker.{StartMarker}
 use Rattle.template_compiler_syntax.specs.declared.StartMarker.TheVariants.{Variable, Block, Comment, LineStatement, LineComment}
 use Rattle.template_compiler_syntax.specs.Syntax.{Syntax, IsSet, start_text, HasDefaultStarts}
 use Rattle.template_compiler_segments.specs.declared.starts.Known.{Known}
-use Rattle.template_compiler_segments.specs.declared.starts.Known.TheVariants.{Unsearched, At, Nowhere}
+use Rattle.template_compiler_segments.specs.declared.starts.Known.TheVariants.{At}
 use Rattle.template_compiler_segments.specs.Places.{StandsAt, IsFirst, IsNowhere}
 use Rattle.template_compiler_segments.specs.Segments.{HasStart, HasNoStart, IsNextStart}
-use Rattle.template_compiler_segments.specs.Known.{IsSought, IsBehind, EachOf, IsNearest, IsNearer, StaysNearest, IsNextOrNone, IsBraces, IsBracesOf}
+use Rattle.template_compiler_segments.specs.Known.{IsBehind, EachOf, IsNearest, IsNearer, StaysNearest, IsNextOrNone, IsBraces, IsBracesOf}
 use Rattle.template_compiler_segments.proofs.Searches.{byte_found, no_byte, occurs_stands}
 
 each_map : (P Q : StartMarker → Type 0) → ((k : StartMarker) → P k → Q k) → (ks : List StartMarker) → EachOf ks P → EachOf ks Q

@@ -1,10 +1,10 @@
 -- What searches in the rest of a source tell of its places.
-use Rattle.std.proofs.Common.{◌≡◌, ℕ, zero, suc, ◌+◌, ◌-◌, ◌<◌, ◌≤◌, ◌⊎◌, inl, inr, Bool, true, false, List, [], ◌∷◌, length, take, drop, slice_index, Option, None, Some, refl, sym, ◌∙◌, ap, subst, arith, length-take, length-drop, get_or-drop}
-use Rattle.std.proofs.lemmas.Bool.{cases_lt, cases_eq, cases_Bool, false≢true, eqb-true, eq-eqb, and_parts, or_cases}
+use Rattle.std.proofs.Common.{◌≡◌, ℕ, suc, ◌+◌, ◌-◌, ◌<◌, ◌≤◌, ◌⊎◌, inl, inr, true, false, List, [], ◌∷◌, length, take, drop, slice_index, Option, None, Some, refl, sym, ◌∙◌, ap, subst, arith, length-take, length-drop, get_or-drop}
+use Rattle.std.proofs.lemmas.Bool.{cases_eq, cases_Bool, eqb-true, eq-eqb, and_parts}
 use Rattle.std.proofs.lemmas.List.{ext_get_or, get_or-take, get_or_past}
-use Rattle.std.specs.Prelude.{if◌then◌else◌, ◌&&◌, ◌||◌, ◌==◌, MatchOption}
-use Rattle.memchr.specs.Find.{OccursAt, FindsNeedle, IsFirstByte, is_byte, Passes, Nowhere, NoneBefore}
-use Rattle.template_compiler_segments.specs.Places.{StandsAt, IsFirst, IsNowhere, IsLineEnd, newline_len, is_blank, blanks_from}
+use Rattle.std.specs.Prelude.{if◌then◌else◌, ◌&&◌, ◌==◌}
+use Rattle.memchr.specs.Find.{OccursAt, FindsNeedle, IsFirstByte, is_byte, Passes}
+use Rattle.template_compiler_segments.specs.Places.{StandsAt, IsFirst, IsLineEnd, newline_len, is_blank, blanks_from}
 
 pub occurs_stands : (s text : List ℕ) (from k : ℕ) → OccursAt (drop from s) text k → StandsAt s (from + k) text
 occurs_stands s text from k occurs =

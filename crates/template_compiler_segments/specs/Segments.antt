@@ -1,10 +1,10 @@
 -- How a source is parted into data and segments: the next segment begins at the leftmost start marker, there at the longest.
-use Rattle.std.specs.Prelude.{◌≡◌, ℕ, zero, suc, ◌+◌, ◌-◌, ◌<◌, ◌≤◌, ◌⊎◌, Bool, true, false, nat_lt, if◌then◌else◌, IsTrue, List, [], ◌∷◌, length, slice_index, codes, Option, None, Some}
+use Rattle.std.specs.Prelude.{◌≡◌, ℕ, suc, ◌+◌, ◌-◌, ◌<◌, ◌≤◌, Bool, true, false, nat_lt, if◌then◌else◌, IsTrue, List, [], ◌∷◌, length, slice_index, codes, Option, None, Some}
 use Rattle.std.specs.Char.{is_ascii_whitespace}
 use Rattle.template_compiler_syntax.specs.declared.StartMarker.{StartMarker}
 use Rattle.template_compiler_syntax.specs.declared.StartMarker.TheVariants.{Variable, Block, Comment, LineStatement, LineComment}
-use Rattle.template_compiler_syntax.specs.Syntax.{Syntax, IsSet, start_text, end_text}
-use Rattle.template_compiler_tokens.specs.Token.{Token, Symbol, TokenFault, bad_syntax, variable_start, block_start, identifier, symbol, bad, bracket_open, bracket_close, paren_open, paren_close, brace_open, brace_close}
+use Rattle.template_compiler_syntax.specs.Syntax.{Syntax, IsSet, start_text}
+use Rattle.template_compiler_tokens.specs.Token.{Token, TokenFault, bad_syntax, variable_start, block_start, identifier, symbol, bad, bracket_open, bracket_close, paren_open, paren_close, brace_open, brace_close}
 use Rattle.template_compiler_tokens.specs.Lexical.{IsToken}
 use Rattle.template_compiler_segments.specs.Places.{StandsAt, IsFirst, IsNowhere, is_first_on_line, newline_len, IsLineEnd, sign_at, sign_width}
 use Rattle.template_compiler_segments.specs.declared.edges.Sign.{Sign}

@@ -3,11 +3,9 @@ use Rattle.template_compiler_segments.specs.declared.edges.Edge.{Edge}
 use Rattle.template_compiler_segments.specs.declared.edges.Edge.TheVariants.{Nothing, Beside}
 use Rattle.std.specs.Prelude.{ℕ, ◌+◌, ◌-◌, Bool, true, false, nat_lt, if◌then◌else◌, List, [], ◌∷◌, length, drop}
 use Rattle.std.specs.Str.{trim_start, trim_end}
-use Rattle.template_compiler_syntax.specs.declared.StartMarker.{StartMarker}
 use Rattle.template_compiler_syntax.specs.declared.StartMarker.TheVariants.{Variable, Block, Comment, LineStatement, LineComment}
 use Rattle.template_compiler_syntax.specs.Syntax.{Syntax}
 use Rattle.template_compiler_segments.specs.Places.{stretch, blanks_from, is_first_on_line, newline_len}
-use Rattle.template_compiler_segments.specs.declared.edges.Sign.{Sign}
 use Rattle.template_compiler_segments.specs.declared.edges.Sign.TheVariants.{Plain, Minus, Plus}
 use Rattle.template_compiler_segments.specs.Segments.{Piece, data_piece, segment, raw_piece, endless_piece, start_sign}
 

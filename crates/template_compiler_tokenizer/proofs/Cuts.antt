@@ -1,5 +1,5 @@
 -- Where a source may be cut: behind the ends of segments and behind tokens.
-use Rattle.std.proofs.Common.{◌≡◌, ℕ, ◌+◌, ◌-◌, ◌<◌, ◌≤◌, ◌⊎◌, inl, inr, Bool, true, false, List, [], ◌∷◌, length, take, drop, slice_index, refl, sym, ◌∙◌, ap, subst, arith, length-take, length-drop, get_or-drop}
+use Rattle.std.proofs.Common.{◌≡◌, ℕ, ◌+◌, ◌<◌, ◌≤◌, inl, inr, List, length, drop, slice_index, refl, sym, ◌∙◌, ap, subst, arith, length-take, get_or-drop}
 use Rattle.std.proofs.lemmas.Bool.{cases_lt, cases_Bool, eqb-true}
 use Rattle.std.proofs.lemmas.List.{get_or-take, get_or_past}
 use Rattle.std.proofs.lemmas.Str.{IsUtf8-drop, IsCharBoundary-start, IsCharBoundary-end, IsCharBoundary-before_ascii, IsCharBoundary-from_take, IsCharBoundary-from_rest, IsCharBoundary-after_ascii}
@@ -10,7 +10,7 @@ use Rattle.template_compiler_syntax.specs.declared.StartMarker.TheVariants.{Vari
 use Rattle.template_compiler_segments.specs.declared.edges.Sign.{Sign}
 use Rattle.template_compiler_segments.specs.Places.{StandsAt, IsLineEnd, newline_len, sign_at, sign_width}
 use Rattle.template_compiler_segments.specs.Segments.{IsEnd, bare_end, signed_end, EndsAt, line_end, inside_from}
-use Rattle.std.specs.Prelude.{Option, None, Some, IfSome, ◌==◌, if◌then◌else◌}
+use Rattle.std.specs.Prelude.{Option, None, Some, IfSome, ◌==◌}
 use Rattle.template_compiler_tokenizer.specs.Finds.{FindsDelimitedEnd, FindsEnd}
 use Rattle.template_compiler_segments.proofs.Searches.{newline_at}
 use Rattle.template_compiler_segments.proofs.Some.{stands_below, set_long}

@@ -1,16 +1,14 @@
 -- Where segments end, and where they don't.
-use Rattle.std.proofs.Common.{◌≡◌, ℕ, suc, ◌+◌, ◌<◌, ◌≤◌, ◌⊎◌, inl, inr, true, false, List, [], length, slice_index, Option, None, Some, refl, sym, ◌∙◌, ap, subst, arith}
-use Rattle.std.proofs.lemmas.Bool.{false≢true}
+use Rattle.std.proofs.Common.{◌≡◌, ℕ, suc, ◌+◌, ◌<◌, ◌≤◌, inl, inr, true, false, List, [], length, slice_index, Option, None, Some, refl, sym, subst, arith}
 use Rattle.std.proofs.lemmas.List.{get_or_past}
-use Rattle.std.specs.Prelude.{if◌then◌else◌, ◌==◌}
 use Rattle.std.specs.Char.{is_ascii_whitespace}
 use Rattle.template_compiler_syntax.specs.declared.StartMarker.{StartMarker}
 use Rattle.template_compiler_syntax.specs.declared.StartMarker.TheVariants.{Variable, Block, Comment, LineStatement, LineComment}
 use Rattle.template_compiler_syntax.specs.Syntax.{Syntax}
 use Rattle.template_compiler_segments.specs.declared.edges.Sign.{Sign}
-use Rattle.template_compiler_segments.specs.declared.edges.Sign.TheVariants.{Plain, Minus, Plus}
-use Rattle.template_compiler_segments.specs.Places.{sign_at, IsLineEnd, newline_len}
-use Rattle.template_compiler_segments.specs.Segments.{IsEnd, EndsAt, print_end, block_end, line_end, IsOver, Ending, HasInside, ended, blank}
+use Rattle.template_compiler_segments.specs.declared.edges.Sign.TheVariants.{Plain}
+use Rattle.template_compiler_segments.specs.Places.{sign_at, newline_len}
+use Rattle.template_compiler_segments.specs.Segments.{IsEnd, EndsAt, print_end, block_end, IsOver, Ending, HasInside, ended, blank}
 use Rattle.template_compiler_tokens.specs.Token.{Token}
 use Rattle.std.specs.Str.{IsUtf8, IsCharBoundary}
 use Rattle.std.proofs.lemmas.Str.{IsCharBoundary-after_ascii}

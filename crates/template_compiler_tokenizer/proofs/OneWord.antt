@@ -1,5 +1,5 @@
 -- Which block has one word alone.
-use Rattle.std.proofs.Common.{◌≡◌, ℕ, suc, ◌+◌, ◌≤◌, ◌⊎◌, inl, inr, Bool, true, false, List, [], ◌∷◌, length, drop, slice_index, Option, None, Some, Result, Ok, Err, refl, sym, ◌∙◌, ap, subst, arith}
+use Rattle.std.proofs.Common.{◌≡◌, ℕ, ◌+◌, inl, inr, false, List, [], ◌∷◌, drop, slice_index, Option, None, Some, Err, refl, sym, ◌∙◌, ap, subst}
 use Rattle.std.proofs.lemmas.Bool.{false≢true}
 use Rattle.std.specs.Char.{is_ascii_whitespace}
 use Rattle.template_values_errors.specs.declared.ErrorKind.{ErrorKind}
@@ -15,11 +15,11 @@ use Rattle.template_compiler_tokens.specs.declared.token.Token.{Token}
 use Rattle.template_compiler_tokens.proofs.OneToken.{one_token, some_token, same_begin}
 use Rattle.template_compiler_scanner.specs.Scans.{Scans}
 use Rattle.template_compiler_segments.specs.declared.edges.Sign.{Sign}
-use Rattle.template_compiler_segments.specs.Segments.{IsOver, Ending, HasInside, ended, blank, token, no_token, only, open_brackets}
+use Rattle.template_compiler_segments.specs.Segments.{Ending, HasInside, ended, blank, token, only, open_brackets}
 use Rattle.template_compiler_segments.proofs.One.{one_inside}
 use Rattle.template_compiler_segments.proofs.Pieces.{some_inside}
 use Rattle.template_compiler_segments.proofs.Bytes.{takes_bytes}
-use Rattle.template_compiler_tokenizer.specs.Finds.{IsTokenPlace, word_in, ScansWord, FindsEndBehind, FindsWord}
+use Rattle.template_compiler_tokenizer.specs.Finds.{IsTokenPlace, word_in, FindsEndBehind, FindsWord}
 use Rattle.template_compiler_tokenizer.proofs.Delimiters.{Lifts}
 
 -- what a word's text is read as

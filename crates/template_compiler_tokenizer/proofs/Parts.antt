@@ -1,19 +1,16 @@
 -- What a step over data leaves.
-use Rattle.std.proofs.Common.{◌≡◌, ℕ, ◌+◌, ◌-◌, ◌<◌, ◌≤◌, ◌⊎◌, inl, inr, Bool, true, false, List, [], ◌∷◌, length, take, drop, slice_index, Option, None, Some, Result, Ok, Err, refl, sym, ◌∙◌, ap, subst, arith}
+use Rattle.std.proofs.Common.{◌≡◌, ℕ, ◌-◌, ◌≤◌, inl, inr, true, false, List, [], length, take, drop, Result, Ok, Err, refl, sym, ◌∙◌, ap, subst, arith}
 use Rattle.std.proofs.lemmas.Bool.{cases_lt}
-use Rattle.std.specs.Str.{IsUtf8, IsCharBoundary}
 use Rattle.template_values_errors.specs.declared.ErrorKind.{ErrorKind}
-use Rattle.template_compiler_syntax.specs.declared.StartMarker.{StartMarker}
-use Rattle.template_compiler_syntax.specs.declared.StartMarker.TheVariants.{Variable, Block, Comment, LineStatement, LineComment}
-use Rattle.template_compiler_syntax.specs.Syntax.{Syntax, IsSet, IsUsable}
+use Rattle.template_compiler_syntax.specs.declared.StartMarker.TheVariants.{Comment}
+use Rattle.template_compiler_syntax.specs.Syntax.{Syntax, IsUsable}
 use Rattle.template_compiler_tokens.specs.Token as spec
 use Rattle.template_compiler_segments.specs.declared.edges.Edge.{Edge}
-use Rattle.template_compiler_segments.specs.declared.edges.Edge.TheVariants.{Nothing, Beside}
-use Rattle.template_compiler_segments.specs.declared.edges.Sign.{Sign}
-use Rattle.template_compiler_segments.specs.Places.{stretch, StandsAt, IsFirst, IsNowhere, IsLineEnd, is_first_on_line}
+use Rattle.template_compiler_segments.specs.declared.edges.Edge.TheVariants.{Nothing}
+use Rattle.template_compiler_segments.specs.Places.{StandsAt, IsFirst, IsNowhere, IsLineEnd, is_first_on_line}
 use Rattle.std.specs.Prelude.{if◌then◌else◌}
-use Rattle.template_compiler_segments.specs.Segments.{HasNoStart, IsCommentEnd, inside_from, comment_sign}
-use Rattle.template_compiler_segments.proofs.Some.{stands_below, set_long}
+use Rattle.template_compiler_segments.specs.Segments.{HasNoStart, IsCommentEnd, inside_from}
+use Rattle.template_compiler_segments.proofs.Some.{stands_below}
 use Rattle.template_compiler_tokenizer.specs.Left.{data_tokens}
 use Rattle.template_compiler_tokenizer.specs.Steps.{Steps}
 use Rattle.template_compiler_tokenizer.specs.declared.data.Step.{Step}

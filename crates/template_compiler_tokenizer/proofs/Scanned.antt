@@ -1,19 +1,18 @@
 -- What a scanned token inside a segment leaves.
-use Rattle.std.proofs.Common.{◌≡◌, ℕ, suc, ◌+◌, ◌-◌, ◌<◌, ◌≤◌, ◌⊎◌, inl, inr, Bool, true, false, List, [], ◌∷◌, length, drop, slice_index, Option, None, Some, Result, Ok, Err, refl, sym, ◌∙◌, ap, subst, arith}
+use Rattle.std.proofs.Common.{◌≡◌, ℕ, ◌+◌, ◌≤◌, inl, inr, false, List, ◌∷◌, length, drop, Ok, Err, refl, sym, ◌∙◌, ap, subst, arith}
 use Rattle.std.proofs.lemmas.Str.{IsCharBoundary-from_rest}
-use Rattle.std.specs.Char.{is_ascii_whitespace}
 use Rattle.std.specs.Str.{IsCharBoundary}
 use Rattle.template_values_errors.specs.declared.ErrorKind.{ErrorKind}
 use Rattle.template_compiler_syntax.specs.declared.StartMarker.{StartMarker}
 use Rattle.template_compiler_syntax.specs.Syntax.{Syntax}
 use Rattle.template_compiler_tokens.specs.Token as spec
 use Rattle.template_compiler_tokens.specs.Token.{bad, symbol, bracket_open, bracket_close, paren_open, paren_close, brace_open, brace_close}
-use Rattle.template_compiler_tokens.specs.Lexical.{Begins, IsToken, token_at}
+use Rattle.template_compiler_tokens.specs.Lexical.{Begins, token_at}
 use Rattle.template_compiler_tokens.specs.View.{token_of}
 use Rattle.template_compiler_tokens.specs.declared.token.Token.{Token}
 use Rattle.template_compiler_tokens.specs.declared.token.Token.TheVariants.{Plus}
 use Rattle.template_compiler_scanner.specs.Scans.{Scans}
-use Rattle.template_compiler_segments.specs.Segments.{IsOver, Ending, HasInside, is_bad, open_brackets}
+use Rattle.template_compiler_segments.specs.Segments.{is_bad, open_brackets}
 use Rattle.template_compiler_segments.proofs.Pieces.{some_inside}
 use Rattle.template_compiler_tokens.proofs.OneToken.{one_token, some_token}
 use Rattle.template_compiler_segments.proofs.Bytes.{takes_bytes}

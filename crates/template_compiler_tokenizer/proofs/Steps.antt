@@ -1,13 +1,13 @@
 -- How the tokens that are left go on.
-use Rattle.std.proofs.Common.{◌≡◌, ℕ, zero, suc, ◌+◌, ◌-◌, ◌<◌, ◌≤◌, ◌⊎◌, inl, inr, Bool, true, false, List, [], ◌∷◌, ◌++◌, length, take, drop, slice_index, Option, None, Some, refl, sym, ◌∙◌, ap, subst, arith, length-take, length-drop}
+use Rattle.std.proofs.Common.{◌≡◌, ℕ, suc, ◌+◌, ◌-◌, ◌<◌, ◌≤◌, ◌⊎◌, inl, inr, Bool, true, false, List, [], ◌∷◌, length, take, drop, slice_index, None, Some, refl, sym, ◌∙◌, ap, subst, arith, length-take, length-drop}
 use Rattle.std.proofs.lemmas.Bool.{cases_lt, lt-ltb, le-ltb}
-use Rattle.std.specs.Prelude.{nat_lt, if◌then◌else◌, codes}
+use Rattle.std.specs.Prelude.{if◌then◌else◌, codes}
 use Rattle.std.specs.Str.{trim_end, chars}
 use Rattle.std.specs.Char.{is_ascii_whitespace}
 use Rattle.template_compiler_syntax.specs.declared.StartMarker.{StartMarker}
 use Rattle.template_compiler_syntax.specs.declared.StartMarker.TheVariants.{Variable, Block, Comment, LineStatement, LineComment}
 use Rattle.template_compiler_syntax.specs.Syntax.{Syntax, IsUsable}
-use Rattle.template_compiler_tokens.specs.Token.{Token, TokenFault, bad, bad_syntax, template_data, variable_start, variable_end, block_start, block_end}
+use Rattle.template_compiler_tokens.specs.Token.{Token, TokenFault, bad, bad_syntax, template_data, variable_start, block_start}
 use Rattle.template_compiler_tokens.specs.Lexical.{IsToken}
 use Rattle.template_compiler_tokens.proofs.OneToken.{one_token, some_token}
 use Rattle.template_compiler_segments.specs.declared.edges.Edge.{Edge}
@@ -15,7 +15,7 @@ use Rattle.template_compiler_segments.specs.declared.edges.Edge.TheVariants.{Not
 use Rattle.template_compiler_segments.specs.declared.edges.Sign.{Sign}
 use Rattle.template_compiler_segments.specs.declared.edges.Sign.TheVariants.{Plain, Minus, Plus}
 use Rattle.template_compiler_segments.specs.Places.{stretch, IsFirst, IsNowhere, IsLineEnd, newline_len, is_first_on_line}
-use Rattle.template_compiler_segments.specs.Segments.{HasNoStart, IsNextStart, start_sign, inside_from, EndsAt, IsOver, open_brackets, is_bad, Ending, HasInside, ended, blank, token, no_token, HoldsInside, only, IsRawEnd, comment_sign, IsCommentEnd, Piece, data_piece, segment, raw_piece, endless_piece, IsSegment, print_segment, block_segment, raw_segment, comment_segment, line_statement_segment, line_comment_segment, IsEndless, endless_print, endless_block, endless_line_statement, endless_raw, endless_comment, HasPieces, no_start, next_start, endless_start}
+use Rattle.template_compiler_segments.specs.Segments.{HasNoStart, IsNextStart, start_sign, inside_from, EndsAt, IsOver, open_brackets, is_bad, Ending, HasInside, ended, blank, token, no_token, HoldsInside, only, IsRawEnd, comment_sign, IsCommentEnd, Piece, data_piece, endless_piece, IsSegment, print_segment, block_segment, raw_segment, comment_segment, line_statement_segment, line_comment_segment, IsEndless, endless_print, endless_block, endless_line_statement, endless_raw, endless_comment, HasPieces, no_start, next_start, endless_start}
 use Rattle.template_compiler_segments.specs.Stripping.{stripped, stripped_from, stripped_to, with_data, with_stripped, next_edge, less_blanks}
 use Rattle.template_compiler_segments.specs.Flat.{tokens_of}
 use Rattle.template_compiler_segments.proofs.Bytes.{takes_bytes}

@@ -1,5 +1,5 @@
 -- What a tokenizer finds inside a segment.
-use Rattle.std.specs.Prelude.{codes, ◌≡◌, ℕ, ◌≤◌, false, List, [], length, slice_index, Option, None, Some}
+use Rattle.std.specs.Prelude.{codes, ◌≡◌, ℕ, ◌≤◌, false, List, [], slice_index, Option, None, Some}
 use Rattle.std.specs.Str.{IsCharBoundary}
 use Rattle.std.specs.Char.{is_ascii_whitespace}
 use Rattle.template_compiler_syntax.specs.declared.StartMarker.{StartMarker}

@@ -1,17 +1,17 @@
 -- The tokens that are left of a source.
-use Rattle.std.specs.Prelude.{ℕ, List, [], ◌∷◌, ◌++◌, Option, None, Some}
+use Rattle.std.specs.Prelude.{ℕ, List, ◌∷◌, ◌++◌, None, Some}
 use Rattle.template_compiler_syntax.specs.declared.StartMarker.{StartMarker}
-use Rattle.template_compiler_syntax.specs.declared.StartMarker.TheVariants.{Variable, Block, Comment, LineStatement, LineComment}
+use Rattle.template_compiler_syntax.specs.declared.StartMarker.TheVariants.{Variable}
 use Rattle.template_compiler_syntax.specs.Syntax.{Syntax}
 use Rattle.template_compiler_tokens.specs.Token.{Token, variable_end, block_end}
 use Rattle.template_compiler_tokens.proofs.OneToken.{one_token, some_token}
 use Rattle.template_compiler_segments.specs.declared.edges.Edge.{Edge}
-use Rattle.template_compiler_segments.specs.declared.edges.Edge.TheVariants.{Nothing, Beside}
+use Rattle.template_compiler_segments.specs.declared.edges.Edge.TheVariants.{Beside}
 use Rattle.template_compiler_segments.specs.Segments.{Ending, Piece}
 use Rattle.template_compiler_segments.specs.Stripping.{stripped}
 use Rattle.template_compiler_segments.specs.Flat.{tokens_of}
 use Rattle.template_compiler_segments.proofs.Bytes.{takes_bytes}
-use Rattle.template_compiler_segments.proofs.Pieces.{Inside, some_inside, some_list}
+use Rattle.template_compiler_segments.proofs.Pieces.{some_inside, some_list}
 use Rattle.template_compiler_tokenizer.specs.declared.stage.Stage.{Stage}
 use Rattle.template_compiler_tokenizer.specs.declared.stage.Stage.TheVariants as stage
 

@@ -1,4 +1,4 @@
-use Rattle.std.proofs.Common.{◌+◌, ◌-◌, ◌≡◌, inl, inr, arith, length, sym, ◌∙◌, ap, slice_index}
+use Rattle.std.proofs.Common.{inl, inr, arith}
 use Rattle.template_compiler_segments.proofs.Searches.{line_end_return, line_end_feed, line_end_none}
 use Rattle.template_compiler_segments.proofs.places.find_line_end.Goals as goal
 use Rattle.template_compiler_segments.proofs.places.find_line_end.Goals.{else-skipped-gt0-via-then-skipped-gt0+else-bytes-newline-eq13, else-skipped-gt0-via-else-skipped-gt0}

@@ -1,4 +1,4 @@
-use Rattle.std.proofs.Common.{◌+◌, ◌≡◌, ◌<◌, length, sym, ◌∙◌, arith}
+use Rattle.std.proofs.Common.{◌+◌, sym, ◌∙◌, arith}
 use Rattle.std.proofs.lemmas.Bool.{false≢true}
 use Rattle.template_compiler_segments.proofs.Searches.{byte_found}
 use Rattle.template_compiler_segments.proofs.NextStart.{braces_found, braces_past, braces_nowhere}

@@ -1,4 +1,4 @@
-use Rattle.std.proofs.Common.{Some, ◌≡◌, sym, ◌∙◌}
+use Rattle.std.proofs.Common.{Some, sym, ◌∙◌}
 use Rattle.std.proofs.lemmas.Bool.{false≢true}
 use Rattle.template_compiler_segments.proofs.NextStart.{nearer_at, nearer_first, nearer_other}
 use Rattle.template_compiler_segments.proofs.starts.nearer.Goals as goal

@@ -1,4 +1,4 @@
-use Rattle.std.proofs.Common.{Some, subst, ◌∷◌, ◌≤◌, sym, ◌∙◌, ap, arith}
+use Rattle.std.proofs.Common.{Some, subst, ◌∷◌, sym, ◌∙◌, ap, arith}
 use Rattle.template_compiler_syntax.specs.declared.StartMarker.TheVariants.{Block}
 use Rattle.std.specs.Prelude.{codes}
 use Rattle.template_compiler_segments.specs.Segments.{HasInside, only}

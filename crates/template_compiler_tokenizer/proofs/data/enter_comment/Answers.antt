@@ -1,9 +1,9 @@
-use Rattle.std.proofs.Common.{◌≡◌, ◌+◌, ◌≤◌, ◌<◌, [], inl, inr, refl, sym, ◌∙◌, ap, subst, arith, length}
+use Rattle.std.proofs.Common.{◌+◌, inr, refl, sym, ◌∙◌, ap, subst, arith, length}
 use Rattle.std.specs.Str.{IsUtf8, IsCharBoundary}
 use Rattle.template_compiler_syntax.specs.declared.StartMarker.TheVariants.{Comment}
 use Rattle.template_compiler_tokens.specs.Token.{bad_syntax}
 use Rattle.template_compiler_segments.specs.declared.edges.Edge.TheVariants.{Beside}
-use Rattle.template_compiler_segments.specs.Segments.{inside_from, comment_sign}
+use Rattle.template_compiler_segments.specs.Segments.{comment_sign}
 use Rattle.template_compiler_segments.proofs.Some.{set_long}
 use Rattle.template_compiler_tokenizer.specs.Left.{data_tokens}
 use Rattle.template_compiler_tokenizer.proofs.Cuts.{stands_cut}

@@ -1,4 +1,4 @@
-use Rattle.std.proofs.Common.{◌≡◌, ◌+◌, ◌≤◌, ◌<◌, sym, ◌∙◌, ap, subst, arith, length, true, false}
+use Rattle.std.proofs.Common.{◌+◌, sym, ◌∙◌, ap, subst, arith}
 use Rattle.std.specs.Str.{IsCharBoundary}
 use Rattle.template_compiler_syntax.specs.declared.StartMarker.TheVariants.{LineComment}
 use Rattle.template_compiler_segments.specs.declared.edges.Edge.TheVariants.{Beside}

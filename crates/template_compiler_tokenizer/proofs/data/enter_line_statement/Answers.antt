@@ -1,4 +1,4 @@
-use Rattle.std.proofs.Common.{◌∷◌, ◌≤◌, sym, ◌∙◌, ap, arith}
+use Rattle.std.proofs.Common.{◌∷◌, sym, ◌∙◌, ap, arith}
 use Rattle.template_compiler_syntax.specs.declared.StartMarker.TheVariants.{LineStatement}
 use Rattle.template_compiler_tokens.specs.Token.{block_start}
 use Rattle.template_compiler_tokenizer.specs.Left.{inside_tokens}

@@ -1,4 +1,4 @@
-use Rattle.std.proofs.Common.{◌<◌, ◌+◌, ◌≡◌, inl, inr, ap, arith, length}
+use Rattle.std.proofs.Common.{◌<◌, ◌+◌, ◌≡◌, inl, inr, ap, arith}
 use Rattle.template_compiler_segments.specs.Segments.{line_end}
 use Rattle.template_compiler_segments.specs.Places.{newline_len}
 use Rattle.template_compiler_tokenizer.proofs.ends.line_end_at.Goals as goal

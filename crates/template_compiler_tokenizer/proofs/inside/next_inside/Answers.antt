@@ -1,4 +1,4 @@
-use Rattle.std.proofs.Common.{[], Some, ◌≡◌, ◌+◌, ◌≤◌, sym, ◌∙◌, ap, arith, ◌∷◌}
+use Rattle.std.proofs.Common.{[], Some, sym, ◌∙◌, ap, arith, ◌∷◌}
 use Rattle.template_compiler_segments.specs.declared.edges.Edge.TheVariants.{Beside}
 use Rattle.template_compiler_tokens.specs.View.{token_of}
 use Rattle.template_compiler_tokenizer.specs.Left.{data_tokens}

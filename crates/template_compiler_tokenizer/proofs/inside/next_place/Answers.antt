@@ -1,4 +1,4 @@
-use Rattle.std.proofs.Common.{◌≡◌, ◌+◌, ◌<◌, ◌≤◌, true, sym, ◌∙◌, ap, subst, arith, length}
+use Rattle.std.proofs.Common.{sym, ◌∙◌, subst, arith}
 use Rattle.std.specs.Str.{IsCharBoundary}
 use Rattle.template_compiler_tokenizer.proofs.Delimiters.{place_ended, place_passed, white_cut}
 use Rattle.template_compiler_tokenizer.proofs.inside.next_place.Goals as goal

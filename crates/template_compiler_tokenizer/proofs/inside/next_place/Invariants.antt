@@ -1,4 +1,4 @@
-use Rattle.std.proofs.Common.{ℕ, ◌-◌, ◌≤◌, length, List}
+use Rattle.std.proofs.Common.{◌-◌, ◌≤◌, length, List}
 use Rattle.std.specs.Str.{IsCharBoundary}
 use Rattle.template_compiler_tokens.specs.Token.{Token}
 use Rattle.template_compiler_segments.specs.Segments.{Ending, HasInside}

@@ -1,4 +1,4 @@
-use Rattle.template_compiler_tokenizer.proofs.OneWord.{other_no_word, refused_no_word, word_is}
+use Rattle.template_compiler_tokenizer.proofs.OneWord.{other_no_word}
 use Rattle.template_compiler_tokenizer.proofs.words.scan_word.Goals as goal
 
 pub returns-in-None-clause-word : goal.returns-in-None-clause-word

@@ -1,5 +1,5 @@
 use Rattle.std.proofs.Common.{[], ◌∷◌}
-use Rattle.template_compiler_syntax.specs.declared.StartMarker.TheVariants.{Variable, Block, Comment, LineStatement, LineComment}
+use Rattle.template_compiler_syntax.specs.declared.StartMarker.TheVariants.{Variable, Block, Comment, LineStatement}
 use Rattle.template_compiler_segments.proofs.NextStart.{nearest_next}
 use Rattle.template_compiler_segments.proofs.starts.StartFinder.find_nearest.Goals as goal
 
