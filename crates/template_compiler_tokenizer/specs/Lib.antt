@@ -4,3 +4,4 @@ pub mod Reads
 pub mod Steps
 pub mod Read
 pub mod Tokenizer
+pub mod Stream
