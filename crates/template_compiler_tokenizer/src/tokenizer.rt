@@ -107,9 +107,22 @@ impl<'source> Tokenizer<'source> {
             State::Ended => return Ok(None),
             State::Refused(kind, _) => return Err(Error::new(kind)),
         };
-        match next_piece(self.alloc, self.text, &self.syntax, &mut self.finder, stage, self.from) {
+        match next_piece(
+            self.alloc,
+            self.text,
+            &self.syntax,
+            &mut self.finder,
+            stage,
+            self.from,
+        ) {
             Ok(Some(piece)) => {
-                let Piece { token, stage, begin, next } = piece;
+                let Piece {
+                    token,
+                    stage,
+                    begin,
+                    next,
+                } = piece;
+                let begin = marker_start(self.text, &token, begin, next);
                 let start = self.place.after(between(self.text, self.from, begin));
                 let end = start.after(between(self.text, begin, next));
                 self.state = State::Reading(stage);
@@ -132,4 +145,15 @@ impl<'source> Tokenizer<'source> {
 // The text between two places, where they part it.
 fn between(text: &str, from: usize, to: usize) -> &str {
     text.get(from..to).unwrap_or("")
+}
+
+// Where an end marker begins, behind the white space before it; other tokens begin at their place.
+fn marker_start(text: &str, token: &Token, begin: usize, next: usize) -> usize {
+    match token {
+        Token::VariableEnd | Token::BlockEnd => {
+            let stretch = between(text, begin, next);
+            begin.saturating_add(stretch.len() - stretch.trim_ascii_start().len())
+        }
+        _ => begin,
+    }
 }
