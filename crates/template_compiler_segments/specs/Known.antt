@@ -57,7 +57,8 @@ StaysNearest x i m j k = (i < j) ⊎ ((i ≡ j) × (length (start_text x k) ≤ 
 -- the nearest of some kinds, and what is known of another, give the nearest of them all
 abbrev pub IsNearer : Syntax → Option (ℕ × StartMarker) → Known → StartMarker → Option (ℕ × StartMarker) → Type 0
 IsNearer x nearest known k result =
-    (s : List ℕ) (from : ℕ) (ks : List StartMarker) → IsNearest x s from ks nearest → IsSought x s from k known → IsNearest x s from (k ∷ ks) result
+    (s : List ℕ) (from : ℕ) (ks : List StartMarker) → IsNearest x s from ks nearest → IsSought x s from k known →
+    IsNearest x s from (k ∷ ks) result
 
 -- a start marker of the default syntax stands at the place: `{{`, `{%` or `{#`
 abbrev pub IsBraces : List ℕ → ℕ → Type 0

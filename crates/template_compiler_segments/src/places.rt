@@ -26,7 +26,8 @@ pub fn stands_at(bytes: &[u8], at: usize, text: &[u8]) -> bool
 pub fn find_text(bytes: &[u8], from: usize, text: &[u8]) -> Option<usize>
     requires within { from ≤ length bytes.now }
     requires some { 0 < length text.now }
-    ensures { MatchOption result (IsNowhere (λ i. StandsAt bytes.now i text.now) from) (λ i. IsFirst (λ j. StandsAt bytes.now j text.now) from i) }
+    ensures { MatchOption result (IsNowhere (λ i. StandsAt bytes.now i text.now) from)
+        (λ i. IsFirst (λ j. StandsAt bytes.now j text.now) from i) }
 {
     match find_in(rest_from(bytes, from), text) {
         Some(skipped) => Some(from + skipped),

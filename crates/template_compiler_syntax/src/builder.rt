@@ -150,7 +150,8 @@ impl SyntaxConfigBuilder {
         ensures built { IfOk result (λ syntax. syntax ≡ self.now) }
         ensures usable { OnOk result (IsUsable self.now) }
         ensures refused { IfErr result (λ error.
-            ((error ≡ ErrorKind.InvalidDelimiter ∷ []) × (IsUsable self.now → ⊥)) ⊎ ((error ≡ ErrorKind.OutOfMemory ∷ []) × IsUsable self.now)) }
+            ((error ≡ ErrorKind.InvalidDelimiter ∷ []) × (IsUsable self.now → ⊥)) ⊎
+            ((error ≡ ErrorKind.OutOfMemory ∷ []) × IsUsable self.now)) }
     {
         if !self.settings.are_usable() {
             return Err(Error::new(ErrorKind::InvalidDelimiter));

@@ -120,7 +120,8 @@ impl SyntaxConfig {
 
     /// What begins a line that is a statement.
     pub fn line_statement_prefix(&self) -> Option<&str>
-        ensures { MatchOption result (self.now.line_statement_prefix ≡ []) (λ prefix. (prefix.now ≡ self.now.line_statement_prefix) × IsSet prefix.now) }
+        ensures { MatchOption result (self.now.line_statement_prefix ≡ [])
+            (λ prefix. (prefix.now ≡ self.now.line_statement_prefix) × IsSet prefix.now) }
     {
         match &self.settings {
             Some(shared) => set_text(shared.line_statement_prefix.as_str()),
@@ -130,7 +131,8 @@ impl SyntaxConfig {
 
     /// What begins a comment that ends with its line.
     pub fn line_comment_prefix(&self) -> Option<&str>
-        ensures { MatchOption result (self.now.line_comment_prefix ≡ []) (λ prefix. (prefix.now ≡ self.now.line_comment_prefix) × IsSet prefix.now) }
+        ensures { MatchOption result (self.now.line_comment_prefix ≡ [])
+            (λ prefix. (prefix.now ≡ self.now.line_comment_prefix) × IsSet prefix.now) }
     {
         match &self.settings {
             Some(shared) => set_text(shared.line_comment_prefix.as_str()),

@@ -113,7 +113,8 @@ fn raw_end_at(
 ) -> Option<(Sign, usize)>
     requires stands { StandsAt source.now place syntax.now.block_start }
     requires set { IsSet syntax.now.block_start }
-    ensures found { FindsWord syntax.now source.now (the_inside_from syntax.now source.now StartMarker.Block place) (codes "endraw") result }
+    ensures found { FindsWord syntax.now source.now (the_inside_from syntax.now source.now StartMarker.Block place)
+        (codes "endraw") result }
     ensures cut { IfSome result (λ p. IsCharBoundary source.now place × IsCharBoundary source.now p.1) }
 {
     let inside = inside_from(source, syntax, StartMarker::Block, place);
