@@ -1,9 +1,9 @@
 -- What is known of start markers stays known further on.
-use Rattle.std.proofs.Common.{◌≡◌, ℕ, ◌+◌, ◌<◌, ◌≤◌, List, [], Some, refl, arith}
+use Rattle.std.proofs.Common.{◌≡◌, ℕ, ◌≤◌, List, [], Some, refl, arith}
 use Rattle.template_compiler_tokens.proofs.OneToken.{one_token, some_token}
 use Rattle.template_compiler_segments.specs.declared.edges.Sign.{Sign}
 use Rattle.template_compiler_segments.specs.declared.edges.Edge.TheVariants.{Nothing}
-use Rattle.template_compiler_segments.specs.Segments.{IsEnd, bare_end, signed_end, EndsAt, print_end, block_end, line_end, HasInside, ended, blank}
+use Rattle.template_compiler_segments.specs.Segments.{bare_end, signed_end, EndsAt, print_end, block_end, line_end, HasInside, ended, blank}
 use Rattle.template_compiler_segments.specs.Flat.{template_text, IsTokens, source_tokens}
 use Rattle.template_compiler_segments.proofs.Bytes.{takes_bytes}
 use Rattle.template_compiler_segments.proofs.Pieces.{some_list}

@@ -251,9 +251,9 @@ token_ends s i n t (token_at width h e) = elim (begins_ends (drop i s) h) [
 name_as : (k : Class) (s name : List ℕ) (n : ℕ) → BeginsAs k s (identifier name) n → name ≡ take_while is_name_part s
 name_as name_class s name n (e, f) = cc
 name_as number_class s name n (e, f) = elim (number_or_none s) [
-    | inl none ↦ let same = e ∙ none.1 in cc
-    | inr some ↦ let same = e ∙ some.1 in cc
-  ]
+  | inl none ↦ let same = e ∙ none.1 in cc
+  | inr some ↦ let same = e ∙ some.1 in cc
+]
 name_as text_class s name n h = elim h [ ]
 name_as sign_class s name n h = elim h [ ]
 

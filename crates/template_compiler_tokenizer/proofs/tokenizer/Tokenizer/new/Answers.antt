@@ -1,4 +1,3 @@
-use Rattle.std.proofs.Common.{arith, IsCharBoundary}
 use Rattle.std.proofs.lemmas.Str.{IsCharBoundary-start}
 use Rattle.template_compiler_tokenizer.proofs.Later.{all_tokens}
 use Rattle.template_compiler_tokenizer.proofs.tokenizer.Tokenizer.new.Goals as goal
