@@ -2,3 +2,6 @@ pub mod Left
 pub mod Finds
 pub mod Reads
 pub mod Steps
+pub mod Read
+pub mod Tokenizer
+pub mod Stream

@@ -1,9 +1,21 @@
 //! The tokenizer: the tokens of a template's source, one after another.
 #![tactic(auto)]
 
+mod ahead;
 mod data;
 mod ends;
 mod inside;
+mod read;
 mod stage;
 mod starts;
+mod stream;
+mod text;
+mod tokenizer;
 mod words;
+
+pub use stream::TokenStream;
+pub use template_compiler_syntax::StartMarker;
+pub use tokenizer::Tokenizer;
+
+#[cfg(test)]
+mod tests;

@@ -1,0 +1,49 @@
+-- What is known of start markers stays known further on.
+use Rattle.std.proofs.Common.{◌≡◌, ℕ, ◌≤◌, List, [], Some, refl, arith}
+use Rattle.template_compiler_tokens.proofs.OneToken.{one_token, some_token}
+use Rattle.template_compiler_segments.specs.declared.edges.Sign.{Sign}
+use Rattle.template_compiler_segments.specs.declared.edges.Edge.TheVariants.{Nothing}
+use Rattle.template_compiler_segments.specs.Segments.{bare_end, signed_end, EndsAt, print_end, block_end, line_end, HasInside, ended, blank}
+use Rattle.template_compiler_segments.specs.Flat.{template_text, IsTokens, source_tokens}
+use Rattle.template_compiler_segments.proofs.Bytes.{takes_bytes}
+use Rattle.template_compiler_segments.proofs.Pieces.{some_list}
+use Rattle.template_compiler_tokenizer.specs.Left.{pieces_at, data_tokens}
+use Rattle.template_compiler_syntax.specs.declared.StartMarker.{StartMarker}
+use Rattle.template_compiler_syntax.specs.Syntax.{Syntax}
+use Rattle.template_compiler_segments.specs.Known.{IsKnown, Knows}
+use Rattle.template_compiler_segments.specs.declared.starts.Known.{Known}
+use Rattle.template_compiler_segments.specs.declared.starts.Known.TheVariants.{Unsearched, At, Nowhere}
+use Rattle.template_compiler_segments.specs.declared.starts.StartFinder.{StartFinder}
+
+known_later : (x : Syntax) (s : List ℕ) (from next : ℕ) (k : StartMarker) (known : Known) → from ≤ next → IsKnown x s from k known → IsKnown x s next k known
+known_later x s from next k Unsearched h is = tt
+known_later x s from next k (At i) h is = (is.0, λ j low high. is.1 j (omega arith) high)
+known_later x s from next k Nowhere h is = λ j low. is j (omega arith)
+
+pub knows_later : (x : Syntax) (s : List ℕ) (from next : ℕ) (finder : StartFinder) → from ≤ next → Knows x s from finder → Knows x s next finder
+knows_later x s from next finder h knows = record {
+  default_starts = knows.default_starts;
+  variable = known_later x s from next _ _ h (knows.variable);
+  block = known_later x s from next _ _ h (knows.block);
+  comment = known_later x s from next _ _ h (knows.comment);
+  line_statement = known_later x s from next _ _ h (knows.line_statement);
+  line_comment = known_later x s from next _ _ h (knows.line_comment);
+}
+
+ends_ahead : {x : Syntax} {s : List ℕ} {k : StartMarker} {i next : ℕ} {last : Sign} → EndsAt x s k i last next → i ≤ next
+ends_ahead (print_end black (bare_end stands n)) = omega arith
+ends_ahead (print_end black (signed_end none stands l sign n)) = omega arith
+ends_ahead (block_end black (bare_end stands n)) = omega arith
+ends_ahead (block_end black (signed_end none stands l sign n)) = omega arith
+ends_ahead (line_end over n) = omega arith
+
+-- what follows a segment's end stands no further back
+pub inside_ahead : {x : Syntax} {s : List ℕ} {k : StartMarker} {d i : ℕ} {p : Sign × ℕ} → HasInside x s k d i [] (Some p) → i ≤ p.1
+inside_ahead (ended over) = ends_ahead over
+inside_ahead (blank none white rest) = let more = inside_ahead rest in omega arith
+
+-- the tokens of a text from its start on are its tokens
+pub all_tokens : (x : Syntax) (source text : List ℕ) → text ≡ template_text x source → IsTokens x source (data_tokens x text Nothing 0)
+unfolding pieces_at
+all_tokens x source text e =
+    rw e (source_tokens ((some_list one_token some_token takes_bytes x (template_text x source) 0).1) refl)

@@ -1,0 +1,159 @@
+//! The tokenizer.
+use crate::inside::Piece;
+use crate::read::next_piece;
+use crate::stage::Stage;
+use crate::text::template_text;
+use std::alloc::Global;
+use std::marker::Model;
+use template_compiler_places::Place;
+use template_compiler_segments::{Edge, StartFinder};
+use template_compiler_syntax::SyntaxConfig;
+use template_compiler_tokens::Token;
+use template_tree::Span;
+use template_values_errors::{Error, ErrorKind};
+
+/// Whether a tokenizer reads on.
+#[derive(Clone, Copy)]
+pub(crate) enum State {
+    /// It does, from its place on.
+    Reading(Stage),
+    /// Its source has ended.
+    Ended,
+    /// It was refused, and answers this from then on.
+    Refused(ErrorKind, Stage),
+}
+
+/// The tokens of a template's source, one after another. From a refusal on it answers that kind.
+#[derive(Drop)]
+pub struct Tokenizer<'source> {
+    alloc: Global,
+    filename: &'source str,
+    source: &'source str,
+    syntax: SyntaxConfig,
+    text: &'source str,
+    finder: StartFinder,
+    state: State,
+    from: usize,
+    place: Place,
+}
+
+impl<'source> Model for Tokenizer<'source> {
+    ghost use Rattle.template_compiler_tokenizer.specs.Tokenizer.{TokenizerView, view_of, IsStanding};
+
+    ghost Value = { TokenizerView };
+
+    ghost view = { λ t. view_of t.filename.now t.source.now t.syntax t.text.now t.state t.from };
+
+    ghost invariant = { λ t. IsStanding t.syntax t.text.now t.finder t.state t.from };
+}
+
+impl<'source> Tokenizer<'source> {
+    ghost use Rattle.std.specs.Prelude.{◌≡◌, ◌∷◌, [], MatchOption, IsOk};
+    ghost use Rattle.template_compiler_tokens.specs.Left.{Takes};
+    ghost use Rattle.template_compiler_segments.specs.Flat.{IsTokens};
+
+    /// A tokenizer at the start of a template's source under a syntax.
+    pub fn new(
+        alloc: Global,
+        source: &'source str,
+        filename: &'source str,
+        syntax: SyntaxConfig,
+    ) -> Tokenizer<'source>
+        ensures tokens { IsTokens syntax source.now result.left }
+        ensures source { result.source ≡ source.now }
+        ensures filename { result.filename ≡ filename.now }
+        ensures reads { result.refused ≡ None }
+    {
+        let text = template_text(source, &syntax);
+        let finder = StartFinder::new(&syntax);
+        Tokenizer {
+            alloc,
+            filename,
+            source,
+            syntax,
+            text,
+            finder,
+            state: State::Reading(Stage::Data(Edge::Nothing)),
+            from: 0,
+            place: Place::start(),
+        }
+    }
+
+    /// The name of the template's file.
+    pub fn filename(&self) -> &'source str
+        ensures { result.now ≡ self.now.filename }
+    {
+        self.filename
+    }
+
+    /// The template's source.
+    pub fn source(&self) -> &'source str
+        ensures { result.now ≡ self.now.source }
+    {
+        self.source
+    }
+
+    /// The next token and where it stands; none at the end. Linear in what it passes.
+    ///
+    /// # Errors
+    ///
+    /// Where no token stands, the kind that says why; `OutOfMemory`. Each is answered again from then on.
+    pub fn next_token(&mut self) -> Result<Option<(Token<'source>, Span)>, Error>
+        ensures taken { Takes self.old.left self.new.left result }
+        ensures refused { MatchOption self.old.refused (IsOk result → self.new.refused ≡ None) (λ kind. (result ≡ Err (kind ∷ [])) × (self.new ≡ self.old)) }
+    {
+        let stage = match self.state {
+            State::Reading(stage) => stage,
+            State::Ended => return Ok(None),
+            State::Refused(kind, _) => return Err(Error::new(kind)),
+        };
+        match next_piece(
+            self.alloc,
+            self.text,
+            &self.syntax,
+            &mut self.finder,
+            stage,
+            self.from,
+        ) {
+            Ok(Some(piece)) => {
+                let Piece {
+                    token,
+                    stage,
+                    begin,
+                    next,
+                } = piece;
+                let begin = marker_start(self.text, &token, begin, next);
+                let start = self.place.after(between(self.text, self.from, begin));
+                let end = start.after(between(self.text, begin, next));
+                self.state = State::Reading(stage);
+                self.from = next;
+                self.place = end;
+                Ok(Some((token, start.to(end))))
+            }
+            Ok(None) => {
+                self.state = State::Ended;
+                Ok(None)
+            }
+            Err(kind) => {
+                self.state = State::Refused(kind, stage);
+                Err(Error::new(kind))
+            }
+        }
+    }
+}
+
+// The text between two places, where they part it.
+fn between(text: &str, from: usize, to: usize) -> &str {
+    text.get(from..to).unwrap_or("")
+}
+
+// Where an end marker begins, behind the white space before it; other tokens begin at their place.
+fn marker_start(text: &str, token: &Token, begin: usize, next: usize) -> usize {
+    match token {
+        Token::VariableEnd | Token::BlockEnd => {
+            let stretch = between(text, begin, next);
+            begin.saturating_add(stretch.len() - stretch.trim_ascii_start().len())
+        }
+        _ => begin,
+    }
+}
