@@ -1,1 +1,2 @@
 pub mod Shrinks
+mod Rows

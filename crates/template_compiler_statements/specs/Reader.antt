@@ -278,7 +278,8 @@ unfoldable pub macro_by : Here → List Token → Read Statement
 macro_by r (identifier n ∷ symbol paren_open ∷ ts) =
     if is_reserved n
     then Err bad_syntax
-    else and_then (r.parameters ts) (λ q us. and_then (tag_end q us) (λ q vs. body_by r macro_around (codes "endmacro") (macro n q.0 q.1) vs))
+    else and_then (r.parameters ts) (λ q us. and_then (tag_end q us) (λ q vs.
+      body_by r macro_around (codes "endmacro") (macro n q.0 q.1) vs))
 macro_by r (identifier n ∷ ts) = Err (fault ts)
 macro_by r ts = Err (fault ts)
 
@@ -287,7 +288,8 @@ abbrev pub call_parts : Expression → Option (Expression × Arguments)
 call_parts (call c args) = Some (c, args)
 call_parts _ = None
 
-unfoldable pub only_call : {A : Type 0} → (Expression → Arguments → List Token → Read A) → Option (Expression × Arguments) → List Token → Read A
+unfoldable pub only_call : {A : Type 0} → (Expression → Arguments → List Token → Read A) → Option (Expression × Arguments) →
+    List Token → Read A
 only_call go (Some parts) ts = go parts.0 parts.1 ts
 only_call go None ts = Err bad_syntax
 

@@ -53,7 +53,8 @@ mutual
     template : Statements → Statement  -- a whole template; it stands in no other
     raw : List ℕ → Statement  -- a text written as it stands
     print : Expression → Statement
-    for_loop : Expression → Expression → Optional → Bool → Statements → Statements → Statement  -- target, iterable, filter, recursive, body, else part
+    -- target, iterable, filter, recursive, body, else part
+    for_loop : Expression → Expression → Optional → Bool → Statements → Statements → Statement
     if_condition : Expression → Statements → Statements → Statement  -- an `elif` is the one statement of the second part
     with_block : Assignments → Statements → Statement
     set : Expression → Expression → Statement  -- target, value
@@ -66,7 +67,8 @@ mutual
     extends : Expression → Statement
     include : Expression → Bool → Statement  -- the template, whether a missing one is ignored
     macro : List ℕ → Expressions → Expressions → Statements → Statement  -- name, arguments, defaults of the last ones, body
-    call_block : Expression → Arguments → Expressions → Expressions → Statements → Statement  -- callee, its arguments; the body's arguments, defaults, body
+    -- callee, its arguments; the body's arguments, defaults, body
+    call_block : Expression → Arguments → Expressions → Expressions → Statements → Statement
     continue_loop : Statement
     break_loop : Statement
     do_call : Expression → Arguments → Statement  -- callee, arguments

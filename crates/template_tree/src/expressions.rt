@@ -8,7 +8,7 @@ use std::borrow::CowStr;
 use template_values_core::Value;
 
 /// An expression. Its left parts may nest as deep as the source is long, all others at most 150 deep:
-/// what goes over a tree goes along `spine` in a loop, and calls itself for the other parts alone.
+/// what goes over a tree goes along its left parts in a loop, and calls itself for the other parts alone.
 #[cycle(expr)]
 pub enum Expr<'source> {
     /// A name: `user`.

@@ -6,7 +6,7 @@ use crate::expressions::Expr;
 use crate::span::{Span, Spanned};
 
 /// A statement. A chain of `elif` may be as long as the source, other bodies nest at most 150 deep: what
-/// goes over a tree goes along `elif_chain` in a loop, and calls itself for bodies alone.
+/// goes over a tree goes along such a chain in a loop, and calls itself for bodies alone.
 #[cycle(stmt)]
 pub enum Stmt<'source> {
     /// A whole template.
