@@ -1,6 +1,6 @@
 -- How a stream's list changes.
-use Rattle.std.proofs.Common.{◌≡◌, ℕ, List, [], ◌∷◌, ◌++◌, map, reverse, length, Option, None, Some, refl, sym, ◌∙◌, ap, arith}
-use Rattle.std.proofs.lemmas.List.{reverse-append}
+use Rattle.std.proofs.Common.{◌≡◌, List, [], ◌∷◌, ◌++◌, map, reverse, length, Option, None, Some, refl, ◌∙◌, ap, arith}
+use Rattle.std.proofs.lemmas.List.{reverse-append, reverse-reverse}
 use Rattle.template_tree.specs.declared.span.Span.{Span}
 use Rattle.template_compiler_tokens.specs.Token.{bad}
 use Rattle.template_compiler_expression_parser.specs.Refusals.{fault_of}
@@ -24,3 +24,7 @@ next_end xs f g e h = next_none xs f e ∙ ap ended h
 
 pub next_nothing : (xs : List (Token × Span)) (f : Option Fault) → length xs ≡ 0 → f ≡ None → left_in xs f ≡ []
 next_nothing xs f e h = next_none xs f e ∙ ap ended h
+
+pub new_left : (xs ys : List (Token × Span)) (f : Option Fault) → ys ≡ reverse xs → left_in ys f ≡ map (λ t. token_of t.0) xs ++ ended f
+unfolding left_in
+new_left xs ys f e = rw e (rw (reverse-reverse xs) refl)

@@ -2,4 +2,3 @@ pub mod Signs
 pub mod Refusals
 pub mod Left
 pub mod Skips
-pub mod Parsed

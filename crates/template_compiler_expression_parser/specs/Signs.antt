@@ -2,6 +2,11 @@
 use Rattle.std.specs.Prelude.{ℕ, Bool, false, ◌==◌, List, [], ◌∷◌, Option, None, Some}
 use Rattle.template_compiler_tokens.specs.Token as token
 use Rattle.template_compiler_tokens.specs.Token.{Symbol, symbol, identifier}
+use Rattle.template_tree.specs.declared.operators.BinOpKind.{BinOpKind}
+use Rattle.template_tree.specs.declared.operators.CompareOpKind.{CompareOpKind}
+use Rattle.template_compiler_expressions.specs.Words as words
+use Rattle.template_compiler_expression_parser.specs.declared.sign.Level.{Level}
+use Rattle.template_compiler_expression_parser.specs.declared.sign.Level.TheVariants.{Factors, Texts, Terms, Conjunction, Disjunction}
 use Rattle.template_compiler_expression_parser.specs.declared.sign.Sign.{Sign}
 use Rattle.template_compiler_expression_parser.specs.declared.sign.Sign.TheVariants.{Plus, Minus, Mul, Div, FloorDiv, Pow, Mod, Dot, Comma, Colon, Tilde, Assign, Pipe, Eq, Ne, Gt, Gte, Lt, Lte, BracketOpen, BracketClose, ParenOpen, ParenClose, BraceOpen, BraceClose}
 
@@ -87,3 +92,19 @@ word_in _ = None
 abbrev pub next_word : List token.Token → Option (List ℕ)
 next_word [] = None
 next_word (t ∷ ts) = word_in t
+
+abbrev pub level_of : Level → words.Level
+level_of Factors = words.factors
+level_of Texts = words.texts
+level_of Terms = words.terms
+level_of Conjunction = words.conjunction
+level_of Disjunction = words.disjunction
+
+-- the operator of a level that stands next
+abbrev pub next_operator : words.Level → List token.Token → Option BinOpKind
+next_operator k [] = None
+next_operator k (t ∷ ts) = words.operator k t
+
+abbrev pub next_comparison : List token.Token → Option CompareOpKind
+next_comparison [] = None
+next_comparison (t ∷ ts) = words.comparison_operator t

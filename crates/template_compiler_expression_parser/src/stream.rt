@@ -1,15 +1,23 @@
 //! The tokens that are left.
-ghost use Rattle.std.specs.Prelude.{◌≡◌, option_map};
-ghost use Rattle.template_compiler_expression_parser.specs.Left.{ahead, passed};
-ghost use Rattle.template_compiler_expression_parser.specs.Signs.{next_symbol, next_word, symbol_of, word_in};
+ghost use Rattle.std.specs.Prelude.{◌≡◌, [], ◌∷◌, ◌++◌, map, option_map, is_some, if◌then◌else◌};
+ghost use Rattle.template_compiler_reading.specs.Steps.{fault};
+ghost use Rattle.template_compiler_tokens.specs.Token.{bad_syntax};
+ghost use Rattle.template_compiler_expressions.specs.Words.{begins_bare};
+ghost use Rattle.template_compiler_expressions.specs.Reader.{begins_closing, begins_bound_end};
+ghost use Rattle.template_compiler_expression_parser.specs.Refusals.{fault_of};
+ghost use Rattle.template_compiler_expression_parser.specs.Left.{ahead, ended, passed};
+ghost use Rattle.template_compiler_expression_parser.specs.Signs.{level_of, next_operator, next_comparison, next_symbol, next_word, symbol_of, word_in};
 ghost use Rattle.template_compiler_tokens.specs.View.{token_of};
 ghost use Rattle.template_compiler_expression_parser.specs.Skips.{SkipsSign, SkipsWord};
 
 use crate::refusal::Fault;
-use crate::sign::{Sign, sign_of};
+use crate::sign::{
+    Level, Sign, begins_argument, closes, comparison_of, ends_bound, operator_of, sign_of,
+};
 use std::marker::Model;
+use std::mem;
 use template_compiler_tokens::Token;
-use template_tree::Span;
+use template_tree::{BinOpKind, CompareOpKind, Span};
 
 /// The next token, as it was taken.
 #[derive(Drop)]
@@ -57,6 +65,7 @@ impl<'source> Rest<'source> {
 #[derive(Drop)]
 pub struct TokenStream<'source> {
     first: First<'source>,
+    second: First<'source>,
     rest: Rest<'source>,
     last: Span,
 }
@@ -68,10 +77,31 @@ impl<'source> Model for TokenStream<'source> {
 
     ghost Value = { List token.Token };
 
-    ghost view = { λ s. ahead s.first s.rest };
+    ghost view = { λ s. ahead s.first (ahead s.second s.rest) };
 }
 
 impl<'source> TokenStream<'source> {
+    /// A stream of tokens in their order, and of what stands behind them where that is no token. Takes no memory;
+    /// linear.
+    pub fn new(tokens: Vec<(Token<'source>, Span)>, fault: Option<Fault>) -> TokenStream<'source>
+        ensures { result ≡ map (λ t. token_of t.0) tokens.entry.items ++ ended fault }
+    {
+        let mut held = tokens;
+        held.reverse();
+        let mut rest = Rest {
+            tokens: held,
+            fault,
+        };
+        let first = rest.next();
+        let second = rest.next();
+        TokenStream {
+            first,
+            second,
+            rest,
+            last: Span::default(),
+        }
+    }
+
     /// The sign that stands next.
     pub fn sign(&self) -> Option<Sign>
         ensures { option_map symbol_of result ≡ next_symbol self.now }
@@ -110,11 +140,98 @@ impl<'source> TokenStream<'source> {
         match &self.first {
             First::Token(_, span) => {
                 self.last = *span;
-                self.first = self.rest.next();
+                let next = self.rest.next();
+                self.first = mem::replace(&mut self.second, next);
             }
             First::End => {}
             First::Bad(_) => {}
         }
+    }
+
+    /// Whether a closing bracket stands next.
+    pub fn closes(&self) -> bool
+        ensures { result ≡ begins_closing self.now }
+    {
+        match &self.first {
+            First::Token(token, _) => closes(token),
+            First::End => false,
+            First::Bad(_) => false,
+        }
+    }
+
+    /// Whether a bound of a slice is left out here.
+    pub fn ends_bound(&self) -> bool
+        ensures { result ≡ begins_bound_end self.now }
+    {
+        match &self.first {
+            First::Token(token, _) => ends_bound(token),
+            First::End => false,
+            First::Bad(_) => false,
+        }
+    }
+
+    /// Whether the bare argument of a test stands next.
+    pub fn begins_argument(&self) -> bool
+        ensures { result ≡ begins_bare self.now }
+    {
+        match &self.first {
+            First::Token(token, _) => begins_argument(token),
+            First::End => false,
+            First::Bad(_) => false,
+        }
+    }
+
+    /// Passes the operator of the level, where one stands next.
+    pub fn skip_operator(&mut self, level: Level) -> Option<BinOpKind>
+        ensures operator { result ≡ next_operator (level_of level) self.old }
+        ensures passed { self.new ≡ (if is_some result then passed self.old else self.old) }
+    {
+        let found = match &self.first {
+            First::Token(token, _) => operator_of(level, token),
+            First::End => None,
+            First::Bad(_) => None,
+        };
+        if found.is_some() {
+            self.advance();
+        }
+        found
+    }
+
+    /// Passes a comparison of one token, where one stands next.
+    pub fn skip_comparison(&mut self) -> Option<CompareOpKind>
+        ensures operator { result ≡ next_comparison self.old }
+        ensures passed { self.new ≡ (if is_some result then passed self.old else self.old) }
+    {
+        let found = match &self.first {
+            First::Token(token, _) => comparison_of(token),
+            First::End => None,
+            First::Bad(_) => None,
+        };
+        if found.is_some() {
+            self.advance();
+        }
+        found
+    }
+
+    /// Why the next token does not fit.
+    pub fn fault(&self) -> Fault
+        ensures { fault_of result ≡ fault self.now }
+    {
+        match &self.first {
+            First::Token(token, _) => fault_at(token),
+            First::End => Fault::Syntax,
+            First::Bad(fault) => *fault,
+        }
+    }
+
+    /// Takes the next token.
+    pub fn take(&mut self) -> First<'source>
+        ensures { self.old ≡ ahead result self.new }
+    {
+        self.last = self.span();
+        let next = self.rest.next();
+        let second = mem::replace(&mut self.second, next);
+        mem::replace(&mut self.first, second)
     }
 
     /// Passes the sign, where it stands next.
@@ -159,5 +276,16 @@ fn word_of<'source>(token: &Token<'source>) -> Option<&'source str>
     match token {
         Token::Ident(name) => Some(name),
         _ => None,
+    }
+}
+
+// No token is a fault.
+fn fault_at(token: &Token) -> Fault
+    ensures syntax { result ≡ Fault.Syntax }
+    ensures none { bad_syntax ≡ fault (token_of token.now ∷ []) }
+{
+    match token {
+        Token::Plus => Fault::Syntax,
+        _ => Fault::Syntax,
     }
 }
