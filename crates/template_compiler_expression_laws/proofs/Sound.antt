@@ -15,6 +15,7 @@ use Rattle.template_compiler_reading.specs.Steps.{Read, Step, goes, fails, fault
 use Rattle.template_compiler_expressions.specs.Grammar.{IsNameTail, name_end, name_more, IsName, name, IsTexts, texts_end, texts_more, IsExpression, unconditional, if_alone, if_else, IsBinary, operands, IsOperands, operands_end, operands_more, IsOperand, factor, text_operand, term, conjunct, disjunct, IsNegation, negation, no_negation, IsComparison, comparison, IsLinks, links_end, links_operator, links_not_in, IsPower, no_power, power, IsFiltered, filtered_value, IsFilters, filters_end, filters_more, IsFilterParts, filter_parts, is_test, is_not_test, IsFilter, filter, IsTest, test, bare_test, IsOptionalArguments, no_list, a_list, IsUnary, minus_sign, primary, IsParts, parts_end, parts_more, IsPart, attribute_part, number_part, subscript_part, call_part, IsSubscript, item_subscript, slice_subscript, IsBound, no_bound, a_bound, IsStep, no_step, a_step, IsPrimary, name_primary, word_primary, number_primary, text_primary, paren_primary, list_primary, map_primary, IsParen, empty_tuple, in_parens, tuple, IsItems, items_end, items_last, items_more, IsPairs, pairs_end, pairs_last, pairs_more, IsArgumentList, argument_list, IsArguments, arguments_end, arguments_last, arguments_next, IsArgument, positional_argument, keyword_argument, spread_argument, keyword_spread_argument, IsFilterChain, chain_end, chain_more}
 use Rattle.template_compiler_expressions.specs.Reader.{deeper, expression_by, dotted_step, name_of, text_step, paren_end, bracket_end, brace_end, colon_end, separated, unless_closing, word_tree, primary_by, dot_part, part_step, parts_by, unary_by, optional_arguments_by, filter_by, test_arguments_by, test_by, is_by, filter_step, filtered_by, power_behind, power_by, operand_behind, operand_step, binary_of, terms_by, not_in_link, link_behind, link_step, comparison_by, negation_by, operand_by, binary_by, else_behind, if_behind, items_step, items_by, pairs_step, pairs_by, paren_behind, paren_by, list_by, map_by, bound_by, step_by, slice_by, subscript_behind, subscript_by, named_argument, argument_by, few_arguments, arguments_step, arguments_by, begins_closing, begins_bound_end, chain_step, filter_chain_by, expression_at, condition_at, filter_at, filter_chain_at, optional_arguments_at}
 use Rattle.template_compiler_expressions.proofs.Ranks.{same_name}
+use Rattle.template_compiler_expressions.proofs.Shrinks as shrinks
 use Rattle.template_compiler_expressions.proofs.Opens.{expression_opens}
 use Rattle.template_compiler_expression_laws.proofs.Stops.{opener_closing}
 use Rattle.template_compiler_expression_laws.proofs.Complete.{argument_closing}
@@ -61,10 +62,10 @@ word_same w (identifier n) e = ap (λ n. identifier n) (sym (same_name w n e))
 word_same w _ e = cc
 
 same : (ts : List Token) → Kept ts ts
-same ts f k = k
+same ts = ((λ f k. k), omega arith)
 
 one : (t : Token) (ts : List Token) → Kept ts (t ∷ ts)
-one t ts f k = inr k
+one t ts = ((λ f k. inr k), omega arith)
 
 -- names and texts
 name_tail_reads : (n : ℕ) (m : List ℕ) (ts : List Token) → length ts < n → Reads (IsNameTail m ts) ts (many n dotted_step m ts)
@@ -508,6 +509,36 @@ deeper_reads (suc d) = let r = deeper_reads d in record {
   subscript = subscript_reads d r;
   arguments = argument_list_reads d r;
 }
+
+-- each round of a repetition takes a token at least
+pub part_shrinks : (d : ℕ) (a b : Expression) (ts us : List Token) → part_step (deeper d) a ts ≡ goes b us → length us < length ts
+part_shrinks d a b ts us e = shrinks.part_shrinks ((part_reads d (deeper_reads d) a ts).tree b us e).0
+
+pub filter_shrinks : (d : ℕ) (a b : Expression) (ts us : List Token) → filter_step (deeper d) a ts ≡ goes b us → length us < length ts
+filter_shrinks d a b ts us e = shrinks.filter_parts_shrinks ((filter_step_reads d (deeper_reads d) a ts).tree b us e).0
+
+operand_reads : (d : ℕ) (k : Level) (ts : List Token) → Reads (IsOperand d k ts) ts (operand_by (deeper d) k ts)
+unfolding operand_by
+operand_reads d factors ts = reads_as (λ e us x. factor x) (power_reads d (deeper_reads d) ts)
+operand_reads d texts ts = reads_as (λ e us x. text_operand x) (factors_reads d (deeper_reads d) ts)
+operand_reads d terms ts = reads_as (λ e us x. term x) (texts_level_reads d (deeper_reads d) ts)
+operand_reads d conjunction ts = reads_as (λ e us x. conjunct x) (negation_reads d (deeper_reads d) ts)
+operand_reads d disjunction ts = reads_as (λ e us x. disjunct x) (conjunction_reads d (deeper_reads d) ts)
+
+pub operand_shrinks : (d : ℕ) (k : Level) (a b : Expression) (ts us : List Token) →
+    operand_step k (operand_by (deeper d) k) a ts ≡ goes b us → length us < length ts
+unfolding operand_step
+operand_shrinks d k a b [] us e = cc
+operand_shrinks d k a b (t ∷ ts) us e =
+    let kept = ((operand_behind_reads d (deeper_reads d) k (operand_by (deeper d) k) (operand_reads d k) t a ts (operator k t) refl).tree b us e).1.1 in
+    omega arith
+
+pub link_shrinks : (d : ℕ) (ls ms : Links) (ts us : List Token) → link_step (terms_by (deeper d)) ls ts ≡ goes ms us → length us < length ts
+unfolding link_step
+link_shrinks d ls ms [] us e = cc
+link_shrinks d ls ms (t ∷ ts) us e =
+    let kept = ((link_behind_reads d (deeper_reads d) ls t ts (comparison_operator t) (is_word (codes "not") t) refl refl).tree ms us e).1.1 in
+    omega arith
 
 -- what is read is a tree
 pub expression_sound : (d : ℕ) (ts : List Token) → Reads (IsExpression d ts) ts (expression_at d ts)

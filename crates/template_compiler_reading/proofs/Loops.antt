@@ -1,7 +1,7 @@
 -- Readings behind one another, and repetitions round by round.
-use Rattle.std.proofs.Common.{◌≡◌, ℕ, zero, suc, ◌<◌, List, length, Ok, Err, ◌∙◌, ap, subst, arith}
+use Rattle.std.proofs.Common.{refl, ◌≡◌, ℕ, zero, suc, ◌<◌, List, length, Ok, Err, ◌∙◌, ap, subst, arith}
 use Rattle.template_compiler_tokens.specs.Token.{Token, TokenFault}
-use Rattle.template_compiler_reading.specs.Steps.{Read, and_then, Step, goes, stops, under, goes_on, many, all}
+use Rattle.template_compiler_reading.specs.Steps.{Read, and_then, Step, goes, stops, fails, under, goes_on, many, all}
 
 pub then_goes : {A B : Type 0} {m : Read A} {a : A} {ts : List Token} {r : Read B} (go : A → List Token → Read B) →
     m ≡ Ok (a, ts) → go a ts ≡ r → and_then m go ≡ r
@@ -47,3 +47,37 @@ pub all_of : {A : Type 0} {step : A → List Token → Step A} {a : A} {ts : Lis
     Loops step a ts r → all step a ts ≡ r
 unfolding all
 all_of {ts = ts} loops = loops.within (suc (length ts)) (omega arith)
+
+-- where each round takes a token at least, the first one can be taken off
+abbrev pub Shrinks : {A : Type 0} → (A → List Token → Step A) → Type 0
+Shrinks {A = A} step = (a b : A) (ts us : List Token) → step a ts ≡ goes b us → length us < length ts
+
+module _ {A : Type 0} (step : A → List Token → Step A) (falls : Shrinks step) where
+  enough_by : (m n : ℕ) (a : A) (ts : List Token) (s : Step A) → step a ts ≡ s → length ts < suc m → length ts < suc n →
+      ((b : A) (us : List Token) → length us < m → length us < n → many m step b us ≡ many n step b us) →
+      goes_on s (Ok (a, ts)) (many m step) ≡ goes_on s (Ok (a, ts)) (many n step)
+  unfolding goes_on
+  enough_by m n a ts (goes b us) e h k rest = let l = falls a b ts us e in rest b us (omega arith) (omega arith)
+  enough_by m n a ts stops e h k rest = refl
+  enough_by m n a ts (fails f) e h k rest = refl
+
+  many_enough : (m n : ℕ) (a : A) (ts : List Token) → length ts < m → length ts < n → many m step a ts ≡ many n step a ts
+  unfolding many
+  many_enough zero n a ts h k = absurd (omega arith)
+  many_enough (suc m) zero a ts h k = absurd (omega arith)
+  many_enough (suc m) (suc n) a ts h k =
+      enough_by m n a ts (step a ts) refl h k (λ b us i j. many_enough m n b us i j)
+
+  pub all_goes : (a b : A) (ts us : List Token) → step a ts ≡ goes b us → all step a ts ≡ all step b us
+  unfolding all many goes_on
+  all_goes a b ts us e =
+      let l = falls a b ts us e in
+      ap (λ s. goes_on s (Ok (a, ts)) (many (length ts) step)) e ∙ many_enough (length ts) (suc (length us)) b us l (omega arith)
+
+pub all_stops : {A : Type 0} (step : A → List Token → Step A) (a : A) (ts : List Token) → step a ts ≡ stops → all step a ts ≡ Ok (a, ts)
+unfolding all many goes_on
+all_stops step a ts e = ap (λ s. goes_on s (Ok (a, ts)) (many (length ts) step)) e
+
+pub all_fails : {A : Type 0} (step : A → List Token → Step A) (a : A) (ts : List Token) (f : TokenFault) → step a ts ≡ fails f → all step a ts ≡ Err f
+unfolding all many goes_on
+all_fails step a ts f e = ap (λ s. goes_on s (Ok (a, ts)) (many (length ts) step)) e

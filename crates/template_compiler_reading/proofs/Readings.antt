@@ -1,6 +1,6 @@
 -- What a reading answers: a tree by a relation, tokens behind it in which nothing stands that did not stand before,
 -- or a fault that is to blame.
-use Rattle.std.proofs.Common.{◌≡◌, ℕ, zero, suc, inl, inr, Bool, true, false, if◌then◌else◌, List, ◌∷◌, length, Ok, Err, refl, ap, subst}
+use Rattle.std.proofs.Common.{arith, ◌≡◌, ℕ, zero, suc, inl, inr, Bool, true, false, if◌then◌else◌, List, ◌∷◌, length, Ok, Err, refl, ap, subst, ◌≤◌}
 use Rattle.template_compiler_tokens.specs.Token.{Token, TokenFault, bad, bad_syntax}
 use Rattle.template_compiler_reading.specs.Blame.{Stands, Blamed}
 use Rattle.template_compiler_reading.specs.Steps.{Read, fault, and_then, Step, goes, stops, fails, under, goes_on, many, all}
@@ -18,9 +18,9 @@ pub ok_rest : {A : Type 0} {a b : A} {ts us : List Token} → ◌≡◌ {A = Rea
 unfolding ok_pair
 ok_rest {a = a} {ts = ts} e = ap (λ r. (ok_pair a ts r).1) e
 
--- what stands behind stood before
+-- what stands behind stood before, and is no longer
 abbrev pub Kept : List Token → List Token → Type 0
-Kept us ts = (f : TokenFault) → Stands f us → Stands f ts
+Kept us ts = ((f : TokenFault) → Stands f us → Stands f ts) × (length us ≤ length ts)
 
 pub record Reads {A : Type 0} (P : A → List Token → Type 0) (ts : List Token) (m : Read A) : Type 0 where
   pub tree : (a : A) (us : List Token) → m ≡ Ok (a, us) → P a us × Kept us ts
@@ -32,7 +32,7 @@ pub record StepReads {A : Type 0} (P : A → List Token → Type 0) (ts : List T
 
 kept_blame : (us ts : List Token) → Kept us ts → (f : TokenFault) → Blamed f us → Blamed f ts
 kept_blame us ts k f (inl e) = inl e
-kept_blame us ts k f (inr s) = inr (k f s)
+kept_blame us ts k f (inr s) = inr (k.0 f s)
 
 pub fault_blamed : (ts : List Token) → Blamed (fault ts) ts
 fault_blamed (bad f ∷ ts) = inr (inl refl)
@@ -49,7 +49,7 @@ reads_ok {P = P} {a = a} {ts = ts} {us = us} p k = record {
 }
 
 pub reads_end : {A : Type 0} {P : A → List Token → Type 0} {a : A} {us : List Token} → P a us → Reads P us (Ok (a, us))
-reads_end p = reads_ok p (λ f k. k)
+reads_end p = reads_ok p ((λ f k. k), omega arith)
 
 pub reads_fault : {A : Type 0} {P : A → List Token → Type 0} {ts : List Token} (f : TokenFault) → Blamed f ts → Reads P ts (Err f)
 reads_fault {ts = ts} f b = record {
@@ -65,12 +65,12 @@ reads_syntax = reads_fault bad_syntax (inl refl)
 
 pub reads_within : {A : Type 0} {P : A → List Token → Type 0} {ts us : List Token} {m : Read A} → Kept us ts → Reads P us m → Reads P ts m
 reads_within {ts = ts} {us = us} k r = record {
-  tree = λ a vs e. let x = r.tree a vs e in (x.0, λ f s. k f (x.1 f s));
+  tree = λ a vs e. let x = r.tree a vs e in let w = x.1.1 in let v = k.1 in (x.0, ((λ f s. k.0 f (x.1.0 f s)), omega arith));
   blames = λ f e. kept_blame us ts k f (r.blames f e);
 }
 
 pub reads_behind : {A : Type 0} {P : A → List Token → Type 0} {t : Token} {ts : List Token} {m : Read A} → Reads P ts m → Reads P (t ∷ ts) m
-reads_behind r = reads_within (λ f s. inr s) r
+reads_behind r = reads_within ((λ f s. inr s), omega arith) r
 
 pub reads_as : {A : Type 0} {P Q : A → List Token → Type 0} {ts : List Token} {m : Read A} →
     ((a : A) (us : List Token) → Q a us → P a us) → Reads Q ts m → Reads P ts m
@@ -115,12 +115,12 @@ step_fails {ts = ts} f b = record {
 
 pub step_within : {A : Type 0} {P : A → List Token → Type 0} {ts us : List Token} {m : Step A} → Kept us ts → StepReads P us m → StepReads P ts m
 step_within {ts = ts} {us = us} k r = record {
-  tree = λ a vs e. let x = r.tree a vs e in (x.0, λ f s. k f (x.1 f s));
+  tree = λ a vs e. let x = r.tree a vs e in let w = x.1.1 in let v = k.1 in (x.0, ((λ f s. k.0 f (x.1.0 f s)), omega arith));
   blames = λ f e. kept_blame us ts k f (r.blames f e);
 }
 
 pub step_behind : {A : Type 0} {P : A → List Token → Type 0} {t : Token} {ts : List Token} {m : Step A} → StepReads P ts m → StepReads P (t ∷ ts) m
-step_behind r = step_within (λ f s. inr s) r
+step_behind r = step_within ((λ f s. inr s), omega arith) r
 
 under_by : {A B : Type 0} {P : B → List Token → Type 0} {Q : A → List Token → Type 0} {ts : List Token} (m : Read A)
     (go : A → List Token → Step B) → Reads Q ts m → ((a : A) (us : List Token) → Q a us → StepReads P us (go a us)) → StepReads P ts (under m go)

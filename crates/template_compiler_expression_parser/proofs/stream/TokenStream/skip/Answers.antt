@@ -1,0 +1,7 @@
+use Rattle.std.proofs.Common.{refl, sym, ◌∙◌}
+use Rattle.template_compiler_expression_parser.proofs.Signs.{other_sign}
+use Rattle.template_compiler_expression_parser.proofs.stream.TokenStream.skip.Goals as goal
+
+pub returns-else-is : goal.returns-else-is
+returns-else-is c =
+    (refl, other_sign c.args.sign c.in-Some.next _ c.in-Some.ensures (sym c.is.ensures ∙ c.if-is.false))

@@ -1,0 +1,30 @@
+-- The tokens that are left in a stream, which holds them with the last one first.
+use Rattle.std.specs.Prelude.{List, [], ◌∷◌, ◌++◌, map, reverse, Option, None, Some}
+use Rattle.template_tree.specs.declared.span.Span.{Span}
+use Rattle.template_compiler_tokens.specs.Token as token
+use Rattle.template_compiler_tokens.specs.Token.{bad}
+use Rattle.template_compiler_tokens.specs.View.{token_of}
+use Rattle.template_compiler_tokens.specs.declared.token.Token as scanned
+use Rattle.template_compiler_expression_parser.specs.Refusals.{fault_of}
+use Rattle.template_compiler_expression_parser.specs.declared.refusal.Fault.{Fault}
+use Rattle.template_compiler_expression_parser.specs.declared.stream.First.{First}
+use Rattle.template_compiler_expression_parser.specs.declared.stream.First.TheVariants.{Token, End, Bad}
+
+abbrev pub ended : Option Fault → List token.Token
+ended None = []
+ended (Some f) = bad (fault_of f) ∷ []
+
+unfoldable pub left_in : List (scanned.Token × Span) → Option Fault → List token.Token
+left_in held fault = map (λ t. token_of t.0) (reverse held) ++ ended fault
+
+-- the tokens where the first was taken
+abbrev pub ahead : First → List token.Token → List token.Token
+ahead (Token t span) ts = token_of t ∷ ts
+ahead End ts = []
+ahead (Bad f) ts = bad (fault_of f) ∷ []
+
+-- the tokens behind the next one; what is none is not passed
+abbrev pub passed : List token.Token → List token.Token
+passed [] = []
+passed (bad f ∷ ts) = bad f ∷ ts
+passed (t ∷ ts) = ts

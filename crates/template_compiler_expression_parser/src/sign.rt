@@ -1,0 +1,237 @@
+//! Signs and brackets.
+ghost use Rattle.std.specs.Prelude.{◌≡◌, ◌==◌, option_map};
+ghost use Rattle.template_compiler_expression_parser.specs.Signs.{number_of, symbol_of, symbol_in};
+ghost use Rattle.template_compiler_expression_parser.specs.Signs.{level_of, word_in};
+ghost use Rattle.template_compiler_expressions.specs.Words.{factors, operator, comparison_operator, is_bare, is_no_argument};
+ghost use Rattle.template_compiler_expressions.specs.Reader.{is_closing, is_bound_end};
+ghost use Rattle.template_compiler_tokens.specs.View.{token_of};
+
+use template_compiler_tokens::Token;
+use template_tree::{BinOpKind, CompareOpKind};
+
+/// A sign or a bracket.
+#[derive(Clone, Copy)]
+pub enum Sign {
+    Plus,
+    Minus,
+    Mul,
+    Div,
+    FloorDiv,
+    Pow,
+    Mod,
+    Dot,
+    Comma,
+    Colon,
+    Tilde,
+    Assign,
+    Pipe,
+    Eq,
+    Ne,
+    Gt,
+    Gte,
+    Lt,
+    Lte,
+    BracketOpen,
+    BracketClose,
+    ParenOpen,
+    ParenClose,
+    BraceOpen,
+    BraceClose,
+}
+
+impl Sign {
+    /// Whether the two are the same.
+    pub fn is(self, other: Sign) -> bool
+        ensures { result ≡ (number_of (symbol_of self) == number_of (symbol_of other)) }
+    {
+        self as u8 == other as u8
+    }
+}
+
+/// The sign or the bracket that a token is.
+pub fn sign_of(token: &Token) -> Option<Sign>
+    ensures { option_map symbol_of result ≡ symbol_in (token_of token.now) }
+{
+    match token {
+        Token::TemplateData(_) => None,
+        Token::VariableStart => None,
+        Token::VariableEnd => None,
+        Token::BlockStart => None,
+        Token::BlockEnd => None,
+        Token::Ident(_) => None,
+        Token::Str(_) => None,
+        Token::String(_) => None,
+        Token::Int(_) => None,
+        Token::Int128(_) => None,
+        Token::Plus => Some(Sign::Plus),
+        Token::Minus => Some(Sign::Minus),
+        Token::Mul => Some(Sign::Mul),
+        Token::Div => Some(Sign::Div),
+        Token::FloorDiv => Some(Sign::FloorDiv),
+        Token::Pow => Some(Sign::Pow),
+        Token::Mod => Some(Sign::Mod),
+        Token::Dot => Some(Sign::Dot),
+        Token::Comma => Some(Sign::Comma),
+        Token::Colon => Some(Sign::Colon),
+        Token::Tilde => Some(Sign::Tilde),
+        Token::Assign => Some(Sign::Assign),
+        Token::Pipe => Some(Sign::Pipe),
+        Token::Eq => Some(Sign::Eq),
+        Token::Ne => Some(Sign::Ne),
+        Token::Gt => Some(Sign::Gt),
+        Token::Gte => Some(Sign::Gte),
+        Token::Lt => Some(Sign::Lt),
+        Token::Lte => Some(Sign::Lte),
+        Token::BracketOpen => Some(Sign::BracketOpen),
+        Token::BracketClose => Some(Sign::BracketClose),
+        Token::ParenOpen => Some(Sign::ParenOpen),
+        Token::ParenClose => Some(Sign::ParenClose),
+        Token::BraceOpen => Some(Sign::BraceOpen),
+        Token::BraceClose => Some(Sign::BraceClose),
+    }
+}
+
+/// The levels of the left associative operators, from the tightest on.
+#[derive(Clone, Copy)]
+pub enum Level {
+    /// `*`, `/`, `//` and `%`.
+    Factors,
+    /// `~`.
+    Texts,
+    /// `+` and `-`.
+    Terms,
+    /// `and`.
+    Conjunction,
+    /// `or`.
+    Disjunction,
+}
+
+/// The operator of the level that a token is.
+pub fn operator_of(level: Level, token: &Token) -> Option<BinOpKind>
+    ensures { result ≡ operator (level_of level) (token_of token.now) }
+{
+    match level {
+        Level::Factors => factor_of(token),
+        Level::Texts => match token {
+            Token::Tilde => Some(BinOpKind::Concat),
+            _ => None,
+        },
+        Level::Terms => match token {
+            Token::Plus => Some(BinOpKind::Add),
+            Token::Minus => Some(BinOpKind::Sub),
+            _ => None,
+        },
+        Level::Conjunction => match token {
+            Token::Ident(name) => {
+                if *name == "and" {
+                    Some(BinOpKind::ScAnd)
+                } else {
+                    None
+                }
+            }
+            _ => None,
+        },
+        Level::Disjunction => match token {
+            Token::Ident(name) => {
+                if *name == "or" {
+                    Some(BinOpKind::ScOr)
+                } else {
+                    None
+                }
+            }
+            _ => None,
+        },
+    }
+}
+
+fn factor_of(token: &Token) -> Option<BinOpKind>
+    ensures { result ≡ operator factors (token_of token.now) }
+{
+    match token {
+        Token::Mul => Some(BinOpKind::Mul),
+        Token::Div => Some(BinOpKind::Div),
+        Token::FloorDiv => Some(BinOpKind::FloorDiv),
+        Token::Mod => Some(BinOpKind::Rem),
+        _ => None,
+    }
+}
+
+/// The comparison that a token is.
+pub fn comparison_of(token: &Token) -> Option<CompareOpKind>
+    ensures { result ≡ comparison_operator (token_of token.now) }
+{
+    match token {
+        Token::Eq => Some(CompareOpKind::Eq),
+        Token::Ne => Some(CompareOpKind::Ne),
+        Token::Lt => Some(CompareOpKind::Lt),
+        Token::Lte => Some(CompareOpKind::Lte),
+        Token::Gt => Some(CompareOpKind::Gt),
+        Token::Gte => Some(CompareOpKind::Gte),
+        Token::Ident(name) => {
+            if *name == "in" {
+                Some(CompareOpKind::In)
+            } else {
+                None
+            }
+        }
+        _ => None,
+    }
+}
+
+/// Whether the token closes a bracket.
+pub fn closes(token: &Token) -> bool
+    ensures { result ≡ is_closing (token_of token.now) }
+{
+    match token {
+        Token::ParenClose => true,
+        Token::BracketClose => true,
+        Token::BraceClose => true,
+        _ => false,
+    }
+}
+
+/// Whether a bound of a slice is left out before the token.
+pub fn ends_bound(token: &Token) -> bool
+    ensures { result ≡ is_bound_end (token_of token.now) }
+{
+    match token {
+        Token::ParenClose => true,
+        Token::BracketClose => true,
+        Token::BraceClose => true,
+        Token::Colon => true,
+        _ => false,
+    }
+}
+
+// The words that begin no bare argument.
+fn is_no_word(name: &str) -> bool
+    ensures { result ≡ is_no_argument name.now }
+{
+    match name {
+        "and" => true,
+        "or" => true,
+        "not" => true,
+        "in" => true,
+        "is" => true,
+        "else" => true,
+        "if" => true,
+        _ => false,
+    }
+}
+
+/// Whether the token begins the bare argument of a test.
+pub fn begins_argument(token: &Token) -> bool
+    ensures { result ≡ is_bare (token_of token.now) }
+{
+    match token {
+        Token::Ident(name) => !is_no_word(name),
+        Token::Str(_) => true,
+        Token::String(_) => true,
+        Token::Int(_) => true,
+        Token::Int128(_) => true,
+        Token::Minus => true,
+        Token::BracketOpen => true,
+        Token::BraceOpen => true,
+        _ => false,
+    }
+}

@@ -1,0 +1,291 @@
+//! The tokens that are left.
+ghost use Rattle.std.specs.Prelude.{◌≡◌, [], ◌∷◌, ◌++◌, map, option_map, is_some, if◌then◌else◌};
+ghost use Rattle.template_compiler_reading.specs.Steps.{fault};
+ghost use Rattle.template_compiler_tokens.specs.Token.{bad_syntax};
+ghost use Rattle.template_compiler_expressions.specs.Words.{begins_bare};
+ghost use Rattle.template_compiler_expressions.specs.Reader.{begins_closing, begins_bound_end};
+ghost use Rattle.template_compiler_expression_parser.specs.Refusals.{fault_of};
+ghost use Rattle.template_compiler_expression_parser.specs.Left.{ahead, ended, passed};
+ghost use Rattle.template_compiler_expression_parser.specs.Signs.{level_of, next_operator, next_comparison, next_symbol, next_word, symbol_of, word_in};
+ghost use Rattle.template_compiler_tokens.specs.View.{token_of};
+ghost use Rattle.template_compiler_expression_parser.specs.Skips.{SkipsSign, SkipsWord};
+
+use crate::refusal::Fault;
+use crate::sign::{
+    Level, Sign, begins_argument, closes, comparison_of, ends_bound, operator_of, sign_of,
+};
+use std::marker::Model;
+use std::mem;
+use template_compiler_tokens::Token;
+use template_tree::{BinOpKind, CompareOpKind, Span};
+
+/// The next token, as it was taken.
+#[derive(Drop)]
+pub enum First<'source> {
+    /// A token, and where it stands.
+    Token(Token<'source>, Span),
+    /// There is none.
+    End,
+    /// What stands here is no token.
+    Bad(Fault),
+}
+
+/// Tokens, the last one first, and what stands behind them where that is no token.
+#[derive(Drop)]
+pub struct Rest<'source> {
+    tokens: Vec<(Token<'source>, Span)>,
+    fault: Option<Fault>,
+}
+
+impl<'source> Model for Rest<'source> {
+    ghost use Rattle.std.specs.Prelude.{List};
+    ghost use Rattle.template_compiler_tokens.specs.Token as token;
+    ghost use Rattle.template_compiler_expression_parser.specs.Left.{left_in};
+
+    ghost Value = { List token.Token };
+
+    ghost view = { λ s. left_in s.tokens.items s.fault };
+}
+
+impl<'source> Rest<'source> {
+    fn next(&mut self) -> First<'source>
+        ensures { self.old ≡ ahead result self.new }
+    {
+        match self.tokens.pop() {
+            Some((token, span)) => First::Token(token, span),
+            None => match self.fault {
+                Some(fault) => First::Bad(fault),
+                None => First::End,
+            },
+        }
+    }
+}
+
+/// The tokens that are left. A contract sees them as a list.
+#[derive(Drop)]
+pub struct TokenStream<'source> {
+    first: First<'source>,
+    second: First<'source>,
+    rest: Rest<'source>,
+    last: Span,
+}
+
+impl<'source> Model for TokenStream<'source> {
+    ghost use Rattle.std.specs.Prelude.{List};
+    ghost use Rattle.template_compiler_tokens.specs.Token as token;
+    ghost use Rattle.template_compiler_expression_parser.specs.Left.{ahead};
+
+    ghost Value = { List token.Token };
+
+    ghost view = { λ s. ahead s.first (ahead s.second s.rest) };
+}
+
+impl<'source> TokenStream<'source> {
+    /// A stream of tokens in their order, and of what stands behind them where that is no token. Takes no memory;
+    /// linear.
+    pub fn new(tokens: Vec<(Token<'source>, Span)>, fault: Option<Fault>) -> TokenStream<'source>
+        ensures { result ≡ map (λ t. token_of t.0) tokens.entry.items ++ ended fault }
+    {
+        let mut held = tokens;
+        held.reverse();
+        let mut rest = Rest {
+            tokens: held,
+            fault,
+        };
+        let first = rest.next();
+        let second = rest.next();
+        TokenStream {
+            first,
+            second,
+            rest,
+            last: Span::default(),
+        }
+    }
+
+    /// The sign that stands next.
+    pub fn sign(&self) -> Option<Sign>
+        ensures { option_map symbol_of result ≡ next_symbol self.now }
+    {
+        match &self.first {
+            First::Token(token, _) => sign_of(token),
+            First::End => None,
+            First::Bad(_) => None,
+        }
+    }
+
+    /// The word that stands next.
+    pub fn word(&self) -> Option<&'source str>
+        ensures { option_map (λ w. w.now) result ≡ next_word self.now }
+    {
+        match &self.first {
+            First::Token(token, _) => word_of(token),
+            First::End => None,
+            First::Bad(_) => None,
+        }
+    }
+
+    /// Where the next token stands, or where the last one stood.
+    pub fn span(&self) -> Span {
+        match &self.first {
+            First::Token(_, span) => *span,
+            First::End => self.last,
+            First::Bad(_) => self.last,
+        }
+    }
+
+    /// Passes the next token.
+    pub fn advance(&mut self)
+        ensures { self.new ≡ passed self.old }
+    {
+        match &self.first {
+            First::Token(_, span) => {
+                self.last = *span;
+                let next = self.rest.next();
+                self.first = mem::replace(&mut self.second, next);
+            }
+            First::End => {}
+            First::Bad(_) => {}
+        }
+    }
+
+    /// Whether a closing bracket stands next.
+    pub fn closes(&self) -> bool
+        ensures { result ≡ begins_closing self.now }
+    {
+        match &self.first {
+            First::Token(token, _) => closes(token),
+            First::End => false,
+            First::Bad(_) => false,
+        }
+    }
+
+    /// Whether a bound of a slice is left out here.
+    pub fn ends_bound(&self) -> bool
+        ensures { result ≡ begins_bound_end self.now }
+    {
+        match &self.first {
+            First::Token(token, _) => ends_bound(token),
+            First::End => false,
+            First::Bad(_) => false,
+        }
+    }
+
+    /// Whether the bare argument of a test stands next.
+    pub fn begins_argument(&self) -> bool
+        ensures { result ≡ begins_bare self.now }
+    {
+        match &self.first {
+            First::Token(token, _) => begins_argument(token),
+            First::End => false,
+            First::Bad(_) => false,
+        }
+    }
+
+    /// Passes the operator of the level, where one stands next.
+    pub fn skip_operator(&mut self, level: Level) -> Option<BinOpKind>
+        ensures operator { result ≡ next_operator (level_of level) self.old }
+        ensures passed { self.new ≡ (if is_some result then passed self.old else self.old) }
+    {
+        let found = match &self.first {
+            First::Token(token, _) => operator_of(level, token),
+            First::End => None,
+            First::Bad(_) => None,
+        };
+        if found.is_some() {
+            self.advance();
+        }
+        found
+    }
+
+    /// Passes a comparison of one token, where one stands next.
+    pub fn skip_comparison(&mut self) -> Option<CompareOpKind>
+        ensures operator { result ≡ next_comparison self.old }
+        ensures passed { self.new ≡ (if is_some result then passed self.old else self.old) }
+    {
+        let found = match &self.first {
+            First::Token(token, _) => comparison_of(token),
+            First::End => None,
+            First::Bad(_) => None,
+        };
+        if found.is_some() {
+            self.advance();
+        }
+        found
+    }
+
+    /// Why the next token does not fit.
+    pub fn fault(&self) -> Fault
+        ensures { fault_of result ≡ fault self.now }
+    {
+        match &self.first {
+            First::Token(token, _) => fault_at(token),
+            First::End => Fault::Syntax,
+            First::Bad(fault) => *fault,
+        }
+    }
+
+    /// Takes the next token.
+    pub fn take(&mut self) -> First<'source>
+        ensures { self.old ≡ ahead result self.new }
+    {
+        self.last = self.span();
+        let next = self.rest.next();
+        let second = mem::replace(&mut self.second, next);
+        mem::replace(&mut self.first, second)
+    }
+
+    /// Passes the sign, where it stands next.
+    pub fn skip(&mut self, sign: Sign) -> bool
+        ensures { SkipsSign (symbol_of sign) self.old self.new result }
+    {
+        match self.sign() {
+            Some(next) => {
+                if next.is(sign) {
+                    self.advance();
+                    true
+                } else {
+                    false
+                }
+            }
+            None => false,
+        }
+    }
+
+    /// Passes the word, where it stands next.
+    pub fn skip_word(&mut self, word: &str) -> bool
+        ensures { SkipsWord word.now self.old self.new result }
+    {
+        match self.word() {
+            Some(next) => {
+                if next == word {
+                    self.advance();
+                    true
+                } else {
+                    false
+                }
+            }
+            None => false,
+        }
+    }
+}
+
+// The word that a token is.
+fn word_of<'source>(token: &Token<'source>) -> Option<&'source str>
+    ensures { option_map (λ w. w.now) result ≡ word_in (token_of token.now) }
+{
+    match token {
+        Token::Ident(name) => Some(name),
+        _ => None,
+    }
+}
+
+// No token is a fault.
+fn fault_at(token: &Token) -> Fault
+    ensures syntax { result ≡ Fault.Syntax }
+    ensures none { bad_syntax ≡ fault (token_of token.now ∷ []) }
+{
+    match token {
+        Token::Plus => Fault::Syntax,
+        _ => Fault::Syntax,
+    }
+}
