@@ -100,7 +100,8 @@ impl<'source> Tokenizer<'source> {
     /// Where no token stands, the kind that says why; `OutOfMemory`. Each is answered again from then on.
     pub fn next_token(&mut self) -> Result<Option<(Token<'source>, Span)>, Error>
         ensures taken { Takes self.old.left self.new.left result }
-        ensures refused { MatchOption self.old.refused (IsOk result → self.new.refused ≡ None) (λ kind. (result ≡ Err (kind ∷ [])) × (self.new ≡ self.old)) }
+        ensures refused { MatchOption self.old.refused (IsOk result → self.new.refused ≡ None)
+            (λ kind. (result ≡ Err (kind ∷ [])) × (self.new ≡ self.old)) }
     {
         let stage = match self.state {
             State::Reading(stage) => stage,
