@@ -1,5 +1,5 @@
 //! Templates that were accepted.
-ghost use Rattle.std.specs.Prelude.{◌≡◌, ℕ, List, ◌∷◌, [], ◌⊎◌, ◌↔◌, IsTrue, IfOk, IfErr, OnOk, OnErr, Option};
+ghost use Rattle.std.specs.Prelude.{◌≡◌, ℕ, List, ◌⊎◌, ◌↔◌, IsTrue, IfOk, IfErr, OnOk, OnErr, Option};
 ghost use Rattle.std.specs.Option.{option_map};
 ghost use Rattle.template_values_errors.specs.Memory.{NoMemory};
 ghost use Rattle.template_compiler_tree.specs.Tree.{Statement};

@@ -52,9 +52,17 @@ fn push_entry(entries: &mut Vec<Entry>, key: Value, value: Value) -> Result<(), 
 
 impl Records for Scene {
     ghost known = { λ s. record {
-      namespaces = λ id number. (if id == 1 then (if number == 0 then Some (pairs_in s.entries.items) else if number == 1 then Some [] else if number == 2 then Some (pairs_in s.own.items) else None) else None);
-      loops = λ id number. (if id == 1 then (if number == 4 then Some (record { items = s.items.items; place = None; depth = 1 }) else if number == 5 then Some (record { items = []; place = Some 0; depth = 1 }) else Some (record { items = s.items.items; place = Some number; depth = 1 })) else None);
-      macros = λ id number. (if id == 1 then Some (record { name = codes "m"; arguments = s.arguments.items; caller = true }) else None);
+      namespaces = λ id number. (if id == 1 then (
+          if number == 0 then Some (pairs_in s.entries.items)
+          else if number == 1 then Some []
+          else if number == 2 then Some (pairs_in s.own.items)
+          else None) else None);
+      loops = λ id number. (if id == 1 then (
+          if number == 4 then Some (record { items = s.items.items; place = None; depth = 1 })
+          else if number == 5 then Some (record { items = []; place = Some 0; depth = 1 })
+          else Some (record { items = s.items.items; place = Some number; depth = 1 })) else None);
+      macros = λ id number. (if id == 1 then
+          Some (record { name = codes "m"; arguments = s.arguments.items; caller = true }) else None);
     } };
 
     fn namespace(&self, id: u64, number: usize) -> Option<&[Entry]> {
