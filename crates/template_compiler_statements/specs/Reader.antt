@@ -279,7 +279,7 @@ macro_by r (identifier n ∷ symbol paren_open ∷ ts) =
     if is_reserved n
     then Err bad_syntax
     else and_then (r.parameters ts) (λ q us. and_then (tag_end q us) (λ q vs.
-      body_by r macro_around (codes "endmacro") (macro n q.0 q.1) vs))
+    body_by r macro_around (codes "endmacro") (macro n q.0 q.1) vs))
 macro_by r (identifier n ∷ ts) = Err (fault ts)
 macro_by r ts = Err (fault ts)
 
