@@ -17,10 +17,10 @@ use Rattle.template_compiler_statements.specs.Grammar.{Around, nothing_around, l
 use Rattle.template_compiler_statements.specs.Reader.{expect_word, expect_assign, print_end, tag_end, expect_tag, more_step, path_step, stored_by, path_by, target_by, one_target_by, more_targets_by, targets_by, inner_targets, for_tag, if_tag, with_tag, set_tag, autoescape_tag, filter_tag, block_tag, import_tag, from_tag, extends_tag, include_tag, macro_tag, call_tag, do_tag, break_tag, continue_tag, value_by, values_by, assignment_by, assignments_by, word_by, context_by, missing_behind, missing_by, loop_filter_by, alias_by, import_by, is_nothing, default_by, parameter_by, parameters_by, optional_parameters_by, body_by, begins_tag, else_by, for_body, for_in, for_by, branch_by, branch_step, if_by, with_by, begins_values, set_values, set_body, set_behind, set_by, autoescape_by, filtered_body, filter_block_by, end_name_by, block_end_by, block_body, block_by, import_statement_by, from_by, extends_by, include_by, macro_by, call_parts, only_call, call_body, call_by, do_by, in_loop, Opening, opening, opened_by, opened_step, statement_step, statements_by, deeper_parameters, here_by, deeper_body, here, statements_at, template_behind, whole, template_of}
 
 same : (ts : List Token) → Kept ts ts
-same ts f k = k
+same ts = ((λ f k. k), omega arith)
 
 one : (t : Token) (ts : List Token) → Kept ts (t ∷ ts)
-one t ts f k = inr k
+one t ts = ((λ f k. inr k), omega arith)
 
 -- a word is that word
 word_same : (name : List ℕ) (t : Token) → is_word name t ≡ true → t ≡ identifier name
@@ -100,7 +100,7 @@ stored_reads ts = reads_none ts
 path_step_reads : (e : Expression) (ts : List Token) →
     StepReads (λ f us. (g : Expression) (vs : List Token) → IsPath f us g vs → IsPath e ts g vs) ts (path_step e ts)
 unfolding path_step
-path_step_reads e (symbol dot ∷ identifier n ∷ ts) = step_goes (λ g vs p. path_more p) (λ f k. inr (inr k))
+path_step_reads e (symbol dot ∷ identifier n ∷ ts) = step_goes (λ g vs p. path_more p) ((λ f k. inr (inr k)), omega arith)
 path_step_reads e ts = step_stops
 
 path_reads : (dots : Bool) (e : Expression) (ts us : List Token) (d : ℕ) → IsStored ts e us → Reads (IsTarget dots d ts) us (path_by dots e us)
@@ -709,7 +709,7 @@ whole_tree ts ss (t ∷ ts') x us b e h = cc
 
 kept_blame : (us ts : List Token) (f : TokenFault) → Kept us ts → Blamed f us → Blamed f ts
 kept_blame us ts f k (inl e) = inl e
-kept_blame us ts f k (inr s) = inr (k f s)
+kept_blame us ts f k (inr s) = inr (k.0 f s)
 
 whole_blame : (ts : List Token) (ss : Statements) (ts' : List Token) → Kept ts' ts → (f : TokenFault) →
     (b : Bool) → are_distinct (blocks_among ss) ≡ b → template_behind ss ts' ≡ Err f → Blamed f ts

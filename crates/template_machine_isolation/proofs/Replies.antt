@@ -19,7 +19,7 @@ use Rattle.template_walk.specs.Containers.{tuple_made, map_made}
 use Rattle.template_walk.specs.Operators.{operated, compared, inverted, negated}
 use Rattle.template_machine_meaning.specs.World.{Loop, Frame, World, has_room}
 use Rattle.template_machine_meaning.specs.Undefined.{forbids_printing, forbids_iterating, forbids_truth, forbids_slicing, forbids_operator, forbids_link}
-use Rattle.template_machine_meaning.specs.Replies.{told, changed, refused, guarded, replied_with, changed_with}
+use Rattle.template_machine_meaning.specs.Replies.{told, changed, refused, kinded, guarded, replied_with, changed_with}
 use Rattle.template_machine_meaning.specs.Includes.{Runner, choices_in, standing_or, named_or, first_standing, told_of, include_levels, within, wrapped, included_run, not_found, included_by, included_from}
 use Rattle.template_machine_meaning.specs.Surroundings.{Programs, printed_reply, attribute_given, item_given, unpacked, unpacked_into, empty_frame, loop_frame, opened_loop, asked_once, next_reply, escape_named, escape_put_back, respond}
 use Rattle.template_machine_isolation.proofs.Known.{Known, inner, stored, closed, cleared, learnt, May, Within}
@@ -189,24 +189,24 @@ module _ (names : List ℕ → Type 0) (d : Val) where
     responds_so s runners so (look_up name) may = looked_up name may s runners
     responds_so s runners so (store name v) may =
         framed_so (stored name k) _ _ w.frames fits (λ f gs h. record { same = refl; fits = λ t. fits_stored names d name v k f gs h })
-    responds_so s runners so (negate v) may = replied_so value (negated v)
-    responds_so s runners so (invert v) may = replied_so value (guarded (forbids_truth s.undefined v) (inverted nothing_known v))
-    responds_so s runners so (operate op left right) may = replied_so value (guarded (forbids_operator s.undefined op left right) (operated nothing_known op left right))
-    responds_so s runners so (compare op left right) may = replied_so value (guarded (forbids_link s.undefined op left right) (compared nothing_known op left right))
+    responds_so s runners so (negate v) may = replied_so value (kinded (negated v))
+    responds_so s runners so (invert v) may = replied_so value (guarded (forbids_truth s.undefined v) (kinded (inverted nothing_known v)))
+    responds_so s runners so (operate op left right) may = replied_so value (guarded (forbids_operator s.undefined op left right) (kinded (operated nothing_known op left right)))
+    responds_so s runners so (compare op left right) may = replied_so value (guarded (forbids_link s.undefined op left right) (kinded (compared nothing_known op left right)))
     responds_so s runners so (get_attribute v name) may = replied_so value (attribute_given s.undefined nothing_known v name)
     responds_so s runners so (get_item v key) may = replied_so value (item_given s.undefined nothing_known v key)
-    responds_so s runners so (get_slice v start stop by) may = replied_so value (guarded (forbids_slicing s.undefined v) (slice_of v start stop by))
-    responds_so s runners so (build_list vs) may = replied_so value (list_made vs)
-    responds_so s runners so (build_tuple vs) may = replied_so value (tuple_made vs)
-    responds_so s runners so (build_map entries) may = replied_so value (map_made entries)
-    responds_so s runners so (truth_of v) may = replied_so truth (guarded (forbids_truth s.undefined v) (truths.truth_of nothing_known v))
+    responds_so s runners so (get_slice v start stop by) may = replied_so value (guarded (forbids_slicing s.undefined v) (kinded (slice_of v start stop by)))
+    responds_so s runners so (build_list vs) may = replied_so value (kinded (list_made vs))
+    responds_so s runners so (build_tuple vs) may = replied_so value (kinded (tuple_made vs))
+    responds_so s runners so (build_map entries) may = replied_so value (kinded (map_made entries))
+    responds_so s runners so (truth_of v) may = replied_so truth (guarded (forbids_truth s.undefined v) (kinded (truths.truth_of nothing_known v)))
     responds_so s runners so (unpack n v) may = replied_so items (unpacked_into n (unpacked v))
     responds_so s runners so (write_raw text) may = record { same = refl; fits = λ t. fits }
-    responds_so s runners so (write_value v) may = printed_so (guarded (forbids_printing s.undefined v) (escaped w.escape nothing_known v))
+    responds_so s runners so (write_value v) may = printed_so (guarded (forbids_printing s.undefined v) (kinded (escaped w.escape nothing_known v)))
     responds_so s runners so open_frame may = opens_so s.limit empty_frame refl
     responds_so s runners so close_frame may =
         framed_so (closed k) _ _ w.frames fits (λ f gs h. record { same = refl; fits = λ t. fits_closed names d k f gs may h })
-    responds_so s runners so (open_loop v) may = loop_so s.limit (guarded (forbids_iterating s.undefined v) (iterated nothing_known v))
+    responds_so s runners so (open_loop v) may = loop_so s.limit (guarded (forbids_iterating s.undefined v) (kinded (iterated nothing_known v)))
     responds_so s runners so next_item may =
         framed_so (cleared k) _ _ w.frames fits (λ f gs h. looped_so (cleared k) _ _ f.loop (λ x. next_so f gs h x (slice_get x.items x.asked)))
     responds_so s runners so did_not_iterate may =
