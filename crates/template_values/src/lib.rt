@@ -1,5 +1,5 @@
 //! The values of the template language: their kinds and their one order, the operators, the text
-//! that they print and how it is escaped, and the keyword arguments of calls.
+//! that they print and how it is escaped, the keyword arguments of calls, and contexts from JSON.
 #![tactic(auto)]
 
 #[cfg(test)]
@@ -7,10 +7,11 @@ mod tests;
 
 pub use template_values_core::{Content, Entry, Value, order_laws};
 pub use template_values_errors::{Error, ErrorKind};
+pub use template_values_items::{contains, get_attr, get_item, items_of};
+pub use template_values_json::{context_from_json, entries_from_json};
 pub use template_values_kwargs::Kwargs;
 pub use template_values_modes::{AutoEscape, UndefinedBehavior};
-pub use template_values_operators::{
-    add, contains, div, get_attr, get_item, int_div, items_of, mul, neg, pow, rem, slice, sub,
-};
+pub use template_values_operators::{add, div, int_div, mul, neg, pow, rem, sub};
 pub use template_values_records::{LoopView, MacroView, NoRecords, Records};
+pub use template_values_slices::slice;
 pub use template_values_text::{escape_to, is_true, print_to, string_concat};

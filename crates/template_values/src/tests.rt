@@ -175,3 +175,60 @@ fn the_order_has_its_laws(rt: HostRuntime) {
     order_laws();
     assert!(rt; Value::none() < Value::from_int(0));
 }
+
+#[test]
+fn an_error_tells_its_chain(rt: HostRuntime) {
+    let inner = Error::new(ErrorKind::OutOfFuel);
+    assert_eq!(rt; inner.kind(), ErrorKind::OutOfFuel);
+    assert!(rt; inner.cause().is_none());
+    let outer = Error::with_cause(rt.alloc(), ErrorKind::BadInclude, inner);
+    assert_eq!(rt; outer.kind(), ErrorKind::BadInclude);
+    match outer.cause() {
+        Some(cause) => assert_eq!(rt; cause.kind(), ErrorKind::OutOfFuel),
+        None => panic!(rt; "the cause is gone"),
+    }
+    assert_eq!(rt; outer.kind().name(), "BadInclude");
+}
+
+#[test]
+fn an_error_prints_its_kinds(rt: HostRuntime) -> Result<(), Fail> {
+    let inner = Error::new(ErrorKind::WriteFailure);
+    let middle = Error::with_cause(rt.alloc(), ErrorKind::BadInclude, inner);
+    assert_eq!(rt; middle.kind(), ErrorKind::BadInclude);
+    let outer = Error::with_cause(rt.alloc(), ErrorKind::EvalBlock, middle);
+    assert_eq!(rt; outer.kind(), ErrorKind::EvalBlock);
+    let text = format!(in rt.alloc(); "{outer}")?;
+    assert_eq!(rt; text.as_str(), "EvalBlock: BadInclude: WriteFailure");
+    Ok(())
+}
+
+#[test]
+fn errors_of_the_same_kinds_are_equal(rt: HostRuntime) {
+    let alone = Error::new(ErrorKind::BadInclude);
+    let inner = Error::new(ErrorKind::OutOfFuel);
+    let outer = Error::with_cause(rt.alloc(), ErrorKind::BadInclude, inner);
+    assert_eq!(rt; outer.kind(), ErrorKind::BadInclude);
+    assert_eq!(rt; alone, Error::new(ErrorKind::BadInclude));
+    assert!(rt; outer != alone);
+}
+
+#[test]
+fn an_object_is_a_context(rt: HostRuntime) -> Result<(), Fail> {
+    let json = b"{\"name\": \"World\", \"items\": [1, {\"a\": null}]}";
+    let context = again!(context_from_json(rt.alloc(), json))?;
+    match context.value_at("name").map(Value::content) {
+        Some(Content::Text(text)) => assert!(rt; text == "World"),
+        _ => panic!(rt; "it has no name"),
+    }
+    let items = context.value_at("items").and_then(Value::items);
+    assert_eq!(rt; items.map(|items| items.len()), Some(2));
+    Ok(())
+}
+
+#[test]
+fn an_object_has_entries(rt: HostRuntime) -> Result<(), Fail> {
+    let json = b"{\"b\": 1, \"a\": 2, \"b\": 3}";
+    let entries = again!(entries_from_json(rt.alloc(), json))?;
+    assert_eq!(rt; entries.len(), 2);
+    Ok(())
+}

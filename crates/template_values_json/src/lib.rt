@@ -3,8 +3,6 @@
 
 mod floats;
 mod members;
-#[cfg(test)]
-mod tests;
 mod values;
 
 pub use members::{context_from_json, entries_from_json};

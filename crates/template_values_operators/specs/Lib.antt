@@ -1,5 +1,4 @@
 pub mod Kinds
-pub mod Numbers
 pub mod Arithmetic
 pub mod Sums
 pub mod Products
@@ -9,4 +8,3 @@ pub mod Items
 pub mod Contains
 pub mod Iterated
 pub mod Slices
-pub mod Places

@@ -4,9 +4,9 @@ ghost use Rattle.std.specs.Prelude.{◌≡◌, [], ◌∷◌, Err};
 ghost use Rattle.template_values_model.specs.Gives.{alone};
 ghost use Rattle.template_values_operators.specs.Arithmetic.{difference_of, quotient_of, remainder_of, power_of, negation_of, number_or_refusal};
 
-use crate::numbers;
 use template_values_core::Value;
 use template_values_errors::{Error, ErrorKind};
+use template_values_numbers::{difference, negation, power, quotient, remainder};
 
 /// `left - right`.
 ///
@@ -17,7 +17,7 @@ pub fn sub(left: &Value, right: &Value) -> Result<Value, Error>
     ensures { result ≡ alone (difference_of left.now right.now) }
 {
     match (left.as_number(), right.as_number()) {
-        (Some(left), Some(right)) => number_or_refusal(numbers::difference(left, right)),
+        (Some(left), Some(right)) => number_or_refusal(difference(left, right)),
         _ => refusal(),
     }
 }
@@ -43,7 +43,7 @@ pub fn int_div(left: &Value, right: &Value) -> Result<Value, Error>
     ensures { result ≡ alone (quotient_of left.now right.now) }
 {
     match (left.as_number(), right.as_number()) {
-        (Some(left), Some(right)) => number_or_refusal(numbers::quotient(left, right)),
+        (Some(left), Some(right)) => number_or_refusal(quotient(left, right)),
         _ => refusal(),
     }
 }
@@ -57,7 +57,7 @@ pub fn rem(left: &Value, right: &Value) -> Result<Value, Error>
     ensures { result ≡ alone (remainder_of left.now right.now) }
 {
     match (left.as_number(), right.as_number()) {
-        (Some(left), Some(right)) => number_or_refusal(numbers::remainder(left, right)),
+        (Some(left), Some(right)) => number_or_refusal(remainder(left, right)),
         _ => refusal(),
     }
 }
@@ -72,7 +72,7 @@ pub fn pow(base: &Value, exponent: &Value) -> Result<Value, Error>
     ensures { result ≡ alone (power_of base.now exponent.now) }
 {
     match (base.as_number(), exponent.as_number()) {
-        (Some(base), Some(exponent)) => number_or_refusal(numbers::power(base, exponent)),
+        (Some(base), Some(exponent)) => number_or_refusal(power(base, exponent)),
         _ => refusal(),
     }
 }
@@ -87,7 +87,7 @@ pub fn neg(value: &Value) -> Result<Value, Error>
     ensures { result ≡ alone (negation_of value.now) }
 {
     match value.as_int() {
-        Some(number) => number_or_refusal(numbers::negation(number)),
+        Some(number) => number_or_refusal(negation(number)),
         None => refusal(),
     }
 }
@@ -103,7 +103,11 @@ pub(crate) fn number_or_refusal(number: Option<i128>) -> Result<Value, Error>
 }
 
 /// The refusal of operands that an operator does not take.
-pub(crate) fn refusal<T>() -> Result<T, Error>
+///
+/// # Errors
+///
+/// [`ErrorKind::InvalidOperation`] always.
+pub fn refusal<T>() -> Result<T, Error>
     ensures { result ≡ Err (ErrorKind.InvalidOperation ∷ []) }
 {
     Err(Error::new(ErrorKind::InvalidOperation))

@@ -20,7 +20,11 @@ pub(crate) fn push_copies(items: &mut Vec<Value>, more: &[Value]) -> Result<(), 
 }
 
 /// Copies of the items.
-pub(crate) fn copies(alloc: Global, items: &[Value]) -> Result<Vec<Value>, Error>
+///
+/// # Errors
+///
+/// [`ErrorKind::OutOfMemory`](template_values_errors::ErrorKind::OutOfMemory)
+pub fn copies(alloc: Global, items: &[Value]) -> Result<Vec<Value>, Error>
     ensures ok { IfOk result (λ v. v.items ≡ items.now) }
     ensures refused { IfErr result NoMemory }
 {
@@ -30,7 +34,11 @@ pub(crate) fn copies(alloc: Global, items: &[Value]) -> Result<Vec<Value>, Error
 }
 
 /// A copy of the value, or undefined where there is none.
-pub(crate) fn copy_or_undefined(value: Option<&Value>) -> Result<Value, Error>
+///
+/// # Errors
+///
+/// [`ErrorKind::OutOfMemory`](template_values_errors::ErrorKind::OutOfMemory)
+pub fn copy_or_undefined(value: Option<&Value>) -> Result<Value, Error>
     ensures { Gives result (Ok (unwrap_or (option_copied value.entry) undefined)) }
 {
     match value {

@@ -11,7 +11,7 @@ use template_values_errors::Error;
 use template_values_model::DEPTH_LIMIT;
 
 /// The bytes of a value of bytes.
-pub(crate) fn bytes_of(value: &Value) -> Option<&[u8]>
+pub fn bytes_of(value: &Value) -> Option<&[u8]>
     ensures { option_copied result ≡ bytes_of value.now }
 {
     match value.content() {
@@ -34,7 +34,7 @@ pub(crate) fn list_of(value: &Value) -> Option<&[Value]>
 }
 
 /// Whether the value is undefined, in either form, or none.
-pub(crate) fn is_nothing(value: &Value) -> bool
+pub fn is_nothing(value: &Value) -> bool
     ensures { result ≡ is_nothing value.now }
 {
     match value.content() {
@@ -44,7 +44,7 @@ pub(crate) fn is_nothing(value: &Value) -> bool
 }
 
 /// Whether the value is undefined, in either form.
-pub(crate) fn is_undefined(value: &Value) -> bool
+pub fn is_undefined(value: &Value) -> bool
     ensures { result ≡ is_undefined value.now }
 {
     match value.content() {
@@ -54,7 +54,7 @@ pub(crate) fn is_undefined(value: &Value) -> bool
 }
 
 /// Whether the value is none.
-pub(crate) fn is_none(value: &Value) -> bool
+pub fn is_none(value: &Value) -> bool
     ensures { result ≡ is_none value.now }
 {
     match value.content() {
@@ -64,7 +64,15 @@ pub(crate) fn is_none(value: &Value) -> bool
 }
 
 /// The list of these items.
-pub(crate) fn list_made(alloc: Global, items: Vec<Value>) -> Result<Value, Error>
+///
+/// # Errors
+///
+/// - [`ErrorKind::InvalidOperation`], if the list would nest deeper than [`DEPTH_LIMIT`] levels.
+/// - [`ErrorKind::OutOfMemory`]
+///
+/// [`ErrorKind::InvalidOperation`]: template_values_errors::ErrorKind::InvalidOperation
+/// [`ErrorKind::OutOfMemory`]: template_values_errors::ErrorKind::OutOfMemory
+pub fn list_made(alloc: Global, items: Vec<Value>) -> Result<Value, Error>
     ensures { Gives result (list_made items.items) }
 {
     Value::from_list(alloc, items)

@@ -1,20 +1,13 @@
-//! The operators of the template language on values.
+//! The operators of the template language that take numbers, and the sums and products of all values; what the other
+//! operators on values share; and the definitions of all of them.
 #![tactic(auto)]
 
 mod arithmetic;
-mod growth;
-mod items;
-mod kinds;
-mod membership;
-mod numbers;
+pub mod growth;
+pub mod kinds;
 mod products;
-mod records;
-mod slices;
 mod sums;
 
-pub use arithmetic::{div, int_div, neg, pow, rem, sub};
-pub use items::{get_attr, get_item, items_of};
-pub use membership::contains;
+pub use arithmetic::{div, int_div, neg, pow, refusal, rem, sub};
 pub use products::mul;
-pub use slices::slice;
 pub use sums::add;

@@ -9,11 +9,11 @@ ghost use Rattle.template_values_operators.specs.Sums.{sum_of};
 use crate::arithmetic::{number_or_refusal, refusal};
 use crate::growth::push_copies;
 use crate::kinds::list_made;
-use crate::numbers;
 use std::alloc::Global;
 use template_values_core::Value;
 use template_values_errors::Error;
 use template_values_model::DEPTH_LIMIT;
+use template_values_numbers::sum;
 
 /// `left + right`: the sum of two numbers, the plain text of two texts, the list of the items of
 /// two lists or tuples. Linear in the size of the result. What is refused is refused before memory
@@ -31,7 +31,7 @@ pub fn add(alloc: Global, left: &Value, right: &Value) -> Result<Value, Error>
     ensures refused { TellsFault result (sum_of left.now right.now) }
 {
     if let (Some(left), Some(right)) = (left.as_number(), right.as_number()) {
-        return number_or_refusal(numbers::sum(left, right));
+        return number_or_refusal(sum(left, right));
     }
     if let (Some(left), Some(right)) = (left.as_str(), right.as_str()) {
         return joined_texts(alloc, left, right);

@@ -3,15 +3,14 @@ ghost use Rattle.std.specs.Prelude.{string_bytes};
 ghost use Rattle.template_values_forms.specs.Answers.{AppendsOrRefuses, mapped};
 ghost use Rattle.template_values_forms.specs.Escaped.{escaped, html_text, json_text};
 ghost use Rattle.template_values_forms.specs.Escapes.{html};
-ghost use Rattle.template_values_text.specs.Pieces.{Writes};
+ghost use Rattle.template_values_pieces.specs.Pieces.{Writes};
 ghost use Rattle.template_values_forms.specs.Printed.{printed};
 
-use crate::pieces::{Markup, push};
-use crate::print::print_outer;
-use crate::serial::json_outer;
 use template_values_core::{Content, Value};
 use template_values_errors::{Error, ErrorKind};
 use template_values_modes::AutoEscape;
+use template_values_pieces::{Markup, push};
+use template_values_print::{json_outer, print_outer};
 use template_values_records::Records;
 
 /// Appends the text of the value under the escape `rule` to `out`, which a refusal leaves as it was:

@@ -3,10 +3,7 @@
 
 mod concat;
 mod escape;
-mod html;
-mod pieces;
 mod print;
-mod serial;
 mod truth;
 
 pub use concat::string_concat;

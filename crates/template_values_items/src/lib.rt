@@ -1,0 +1,9 @@
+//! What values hold: items, attributes, what a loop goes over, and whether a value is in another.
+#![tactic(auto)]
+
+mod items;
+mod membership;
+mod records;
+
+pub use items::{get_attr, get_item, items_of};
+pub use membership::contains;

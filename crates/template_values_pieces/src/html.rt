@@ -1,0 +1,132 @@
+//! Texts with references for what HTML reads as markup.
+ghost use Rattle.std.specs.Prelude.{◌≡◌, ◌+◌, ◌<◌, ◌≤◌, ◌∷◌, [], ◌++◌, Ok, IfSome, IsUtf8, MatchOption, OnSome, length, string_bytes, take};
+ghost use Rattle.std.specs.Str.{IsCharBoundary};
+ghost use Rattle.template_values_errors.specs.Memory.{NoMemory};
+ghost use Rattle.template_values_forms.specs.Escapes.{html, html_byte};
+ghost use Rattle.template_values_pieces.specs.Pieces.{Begins, Writes};
+ghost use Rattle.template_values_pieces.specs.declared.pieces.Markup.TheVariants.{Html, Plain};
+
+use crate::pieces::push_plain;
+use std::str;
+use template_values_errors::Error;
+
+// References wait in a block, so that many of them are written at once.
+const BLOCK: usize = 256;
+
+// How many bytes a reference takes with what pads it.
+const REFERENCE: usize = 8;
+
+/// Writes a text with references for HTML's markup.
+pub(crate) fn push_html(out: &mut String, piece: &str) -> Result<(), Error>
+    ensures { Writes Html (string_bytes out.old) (Ok piece.now) result (string_bytes out.new) }
+{
+    let plain = plain_length(piece);
+    push_unmarked(out, &piece[..plain])?;
+    push_marked(out, &piece[plain..])
+}
+
+// How many bytes stand before the first that HTML reads as markup.
+fn plain_length(piece: &str) -> usize
+    ensures plain { html (take result piece.now) ≡ take result piece.now }
+    ensures boundary { IsCharBoundary piece.now result }
+{
+    for (i, byte) in piece.as_bytes().iter().enumerate() {
+        if reference_of(*byte).is_some() {
+            return i;
+        }
+    }
+    piece.len()
+}
+
+fn push_unmarked(out: &mut String, piece: &str) -> Result<(), Error>
+    requires { html piece.now ≡ piece.now }
+    ensures { Writes Html (string_bytes out.old) (Ok piece.now) result (string_bytes out.new) }
+{
+    push_plain(out, piece)
+}
+
+fn push_marked(out: &mut String, piece: &str) -> Result<(), Error>
+    ensures { Writes Html (string_bytes out.old) (Ok piece.now) result (string_bytes out.new) }
+{
+    if piece.is_empty() {
+        return Ok(());
+    }
+    out.reserve(piece.len())?;
+    push_references(out, piece)
+}
+
+fn push_references(out: &mut String, piece: &str) -> Result<(), Error>
+    ensures { Writes Html (string_bytes out.old) (Ok piece.now) result (string_bytes out.new) }
+{
+    let mut block = [0; BLOCK];
+    let mut used = 0;
+    let mut start = 0;
+    for (i, byte) in piece.as_bytes().iter().enumerate() {
+        let Some(reference) = reference_of(*byte) else {
+            continue;
+        };
+        if start < i {
+            push_block(out, &block[..used], &piece[start..i])?;
+            used = 0;
+        }
+        used = put(&mut block, used, reference);
+        start = i + 1;
+        if used > BLOCK - REFERENCE {
+            push_block(out, &block[..used], "")?;
+            used = 0;
+        }
+    }
+    push_block(out, &block[..used], &piece[start..])
+}
+
+// A reference, and bytes behind it that mean nothing: each is put by one move, since all have one size.
+#[derive(Clone, Copy)]
+struct Reference {
+    padded: &'static [u8; REFERENCE],
+    length: usize,
+}
+
+fn reference_of(byte: u8) -> Option<Reference>
+    ensures is { MatchOption result (html_byte byte ≡ byte ∷ []) (λ r. take r.length r.padded.now ≡ html_byte byte) }
+    ensures fits { IfSome result (λ r. r.length ≤ REFERENCE) }
+    ensures ascii { OnSome result (byte < 128) }
+{
+    let (padded, length) = match byte {
+        b'<' => (b"&lt;....", 4),
+        b'>' => (b"&gt;....", 4),
+        b'&' => (b"&amp;...", 5),
+        b'"' => (b"&quot;..", 6),
+        b'\'' => (b"&#x27;..", 6),
+        b'/' => (b"&#x2f;..", 6),
+        _ => return None,
+    };
+    Some(Reference { padded, length })
+}
+
+// Writes the block, and the piece behind it.
+fn push_block(out: &mut String, block: &[u8], piece: &str) -> Result<(), Error>
+    requires { IsUtf8 block.now }
+    ensures { Writes Plain (string_bytes out.old) (Ok (block.now ++ piece.now)) result (string_bytes out.new) }
+{
+    push_plain(out, unsafe { str::from_utf8_unchecked(block) })?;
+    push_plain(out, piece)
+}
+
+// Puts the reference behind the bytes that wait, and tells how many then do.
+fn put(block: &mut [u8; BLOCK], used: usize, reference: Reference) -> usize
+    requires room { used + REFERENCE ≤ BLOCK }
+    requires fits { reference.length ≤ REFERENCE }
+    ensures length { result ≡ used + reference.length }
+    ensures put { take result block.new ≡ take used block.old ++ take reference.length reference.padded.now }
+{
+    put_padded(block, used, reference.padded);
+    used + reference.length
+}
+
+fn put_padded(block: &mut [u8; BLOCK], used: usize, padded: &[u8; REFERENCE])
+    requires { used + REFERENCE ≤ BLOCK }
+    ensures length { length block.new ≡ BLOCK }
+    ensures put { take (used + REFERENCE) block.new ≡ take used block.old ++ padded.now }
+{
+    block[used..used + REFERENCE].copy_from_slice(padded);
+}

@@ -1,0 +1,7 @@
+//! The pieces of a printed text: as they are, with references for HTML's markup, or between quotes.
+#![tactic(auto)]
+
+mod html;
+mod pieces;
+
+pub use pieces::{Markup, Quoting, push, push_bytes, push_quoted};

@@ -1,0 +1,14 @@
+use Rattle.std.proofs.Common.{List, drop, Result, Ok, string_bytes, ℕ, false}
+use Rattle.serde_json.specs.Written.{items_text}
+use Rattle.template_values_errors.specs.declared.ErrorKind.{ErrorKind}
+use Rattle.template_values_forms.specs.Json.{byte_items}
+use Rattle.template_values_pieces.specs.Pieces.{Writes}
+use Rattle.template_values_pieces.specs.declared.pieces.Markup.TheVariants.{Plain}
+use Rattle.template_values_print.proofs.serial.json_byte_items.Given as goal
+
+-- what writes the bytes that are left from here writes all of them
+abbrev pub invariant-loop-byte : goal.invariant-loop-byte
+invariant-loop-byte l =
+    (result : Result (Unit {0}) (List ErrorKind)) (after : List ℕ)
+    → Writes Plain (string_bytes l.out) (Ok (items_text l.later (byte_items (drop l.byte-index l.bytes)))) result after
+    → Writes Plain (string_bytes l.initial.out) (Ok (items_text false (byte_items l.bytes))) result after

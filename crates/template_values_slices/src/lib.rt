@@ -1,0 +1,6 @@
+//! Slices of values of the template language.
+#![tactic(auto)]
+
+mod slices;
+
+pub use slices::slice;

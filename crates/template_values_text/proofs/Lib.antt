@@ -1,3 +1,0 @@
-pub mod PieceLemmas
-pub mod PrintLemmas
-pub mod JsonLemmas
