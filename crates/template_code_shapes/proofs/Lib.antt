@@ -2,3 +2,5 @@ pub mod Certificates
 pub mod Leading
 pub mod Within
 pub mod Ending
+pub mod Passes
+pub mod OutlineLemmas

@@ -2,3 +2,5 @@ pub mod Shapes
 pub mod Effects
 pub mod Streams
 pub mod Laws
+pub mod Outlines
+pub mod Ways

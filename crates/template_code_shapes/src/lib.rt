@@ -4,6 +4,9 @@
 
 ghost use Rattle.template_code_shapes.specs.Laws.{CertifiedIsGood, GoodEndsWell};
 
+mod outline;
+mod ways;
+
 /// Which of the two kinds a stream is.
 #[derive(Clone, Copy, Debug, PartialEq, Eq)]
 pub enum StreamKind {
