@@ -4,3 +4,6 @@ pub mod Within
 pub mod Ending
 pub mod Passes
 pub mod OutlineLemmas
+pub mod Standing
+pub mod NotedLemmas
+pub mod Visiting

@@ -8,27 +8,16 @@ use Rattle.template_code_shapes.specs.declared.StreamKind.{StreamKind}
 use Rattle.template_code_shapes.specs.Shapes.{Opened, Shape, start}
 use Rattle.template_code_shapes.specs.Effects.{Effect, effect_of}
 use Rattle.template_code_shapes.specs.Streams.{Reached, begins, falls_to, jumps_to, end_of, IsGood, Leads, IsCertificate}
-use Rattle.template_code_shapes.proofs.Leading.{EachLoop, each_more, LeadsWell, leads}
+use Rattle.template_code_shapes.specs.Passes.{EachLoop, HasHome, IsPartial}
+use Rattle.template_code_shapes.proofs.Leading.{each_more, LeadsWell, leads}
 use Rattle.template_code_shapes.proofs.Within.{of_some}
 use Rattle.template_code_shapes.proofs.Certificates.{good_by}
 
--- the `Iterate` behind a loop's `PushLoop` has a shape
-abbrev pub HasHome : (ℕ → Option Shape) → ℕ → Type 0
-HasHome table push = IsSome (table (suc push))
-
 -- a shape was put into a table, where none or the same stood
-pub record Notes (table later : ℕ → Option Shape) (at : ℕ) (t : Shape) : Type 0 where
+pub record Puts (table later : ℕ → Option Shape) (at : ℕ) (t : Shape) : Type 0 where
   pub has : later at ≡ Some t
   pub keeps : (q : ℕ) (s : Shape) → table q ≡ Some s → later q ≡ Some s
   pub only : (q : ℕ) (s : Shape) → later q ≡ Some s → (table q ≡ Some s) ⊎ ((q ≡ at) × (s ≡ t))
-
--- Up to a place each instruction with a shape is admissible and leads to shapes in the table; what stands in it is reached,
--- and so are the loops that are open there.
-pub record IsPartial (code : List Code) (table : ℕ → Option Shape) (upto : ℕ) : Type 0 where
-  pub begins : table 0 ≡ Some start
-  pub reached : (q : ℕ) (s : Shape) → table q ≡ Some s → Reached code q s
-  pub homes : (q : ℕ) (s : Shape) → table q ≡ Some s → EachLoop (HasHome table) s.frames
-  pub fine : (q : ℕ) (s : Shape) (c : Code) → q < upto → table q ≡ Some s → slice_get code q ≡ Some c → IsSomeAnd (effect_of code q c s) (Leads table q)
 
 some_is : {A : Type 0} (x y : A) → Some x ≡ Some y → x ≡ y
 some_is x y e = cc
@@ -68,7 +57,7 @@ begun code table first only = record {
 }
 
 -- a shape is noted that is reached, at a place that is yet to be visited or had one
-pub noted : (code : List Code) (table later : ℕ → Option Shape) (upto at : ℕ) (t : Shape) → IsPartial code table upto → Notes table later at t → Reached code at t
+pub noted : (code : List Code) (table later : ℕ → Option Shape) (upto at : ℕ) (t : Shape) → IsPartial code table upto → Puts table later at t → Reached code at t
     → EachLoop (HasHome later) t.frames → (upto ≤ at) ⊎ IsSome (table at) → IsPartial code later upto
 noted code table later upto at t k n r homes fresh = record {
   begins = n.keeps 0 start k.begins;
@@ -163,7 +152,7 @@ refused_end kind code table upto s k h other good = other (good.over s (k.reache
 
 -- the shape that an effect falls to may be noted
 pub falls_noted : (code : List Code) (table later : ℕ → Option Shape) (place : ℕ) (s t : Shape) (c : Code) (e : Effect) → IsPartial code table place → table place ≡ Some s → slice_get code place ≡ Some c
-    → effect_of code place c s ≡ Some e → e.falls ≡ Some t → Notes table later (suc place) t → IsPartial code later place
+    → effect_of code place c s ≡ Some e → e.falls ≡ Some t → Puts table later (suc place) t → IsPartial code later place
 falls_noted code table later place s t c e k h there is goes n =
     noted code table later place (suc place) t k n (falls_to (k.reached place s h) there is goes)
     (each_more (λ p. HasHome table p ⊎ (p ≡ place)) (HasHome later) (λ p home. elim home [
@@ -175,7 +164,7 @@ falls_noted code table later place s t c e k h there is goes n =
 
 -- and so may the shape that it jumps to
 pub jumps_noted : (code : List Code) (table later : ℕ → Option Shape) (place to : ℕ) (s t : Shape) (c : Code) (e : Effect) → IsPartial code table place → table place ≡ Some s → slice_get code place ≡ Some c
-    → effect_of code place c s ≡ Some e → ◌≡◌ {A = Option (ℕ × Shape)} e.jumps (Some (to, t)) → Notes table later to t → IsPartial code later place
+    → effect_of code place c s ≡ Some e → ◌≡◌ {A = Option (ℕ × Shape)} e.jumps (Some (to, t)) → Puts table later to t → IsPartial code later place
 jumps_noted code table later place to s t c e k h there is goes n =
     let well : LeadsWell (HasHome table) code place e = of_some (LeadsWell (HasHome table) code place) (effect_of code place c s) e (leads (HasHome table) code place c s (k.homes place s h)) is in
     noted code table later place to t k n (jumps_to (k.reached place s h) there is goes)

@@ -4,3 +4,5 @@ pub mod Streams
 pub mod Laws
 pub mod Outlines
 pub mod Ways
+pub mod Passes
+pub mod Noted

@@ -1,9 +1,12 @@
 //! The shapes that the check of a stream works on.
 
-ghost use Rattle.std.specs.Prelude.{◌≡◌, ◌↔◌, IsTrue, if◌then◌else◌, Some, None, IfOk, vec_len};
+ghost use Rattle.std.specs.Prelude.{◌≡◌, ◌↔◌, IsTrue, if◌then◌else◌, Some, None, IfOk, IfSome, IsNone, vec_len};
 ghost use Rattle.template_code_shapes.specs.Shapes.{taken, given, opened, with_frame, escape_closed, frame_closed, innermost_loop, loop_closed, loop_opened, with_escape, floor_of, start};
 ghost use Rattle.template_code_shapes.specs.Outlines.{shape_of};
+ghost use Rattle.template_code_shapes.specs.Streams.{end_of};
+ghost use Rattle.template_code_shapes.specs.declared.StreamKind.{StreamKind};
 
+use crate::StreamKind;
 use std::alloc::{AllocError, Global};
 use template_code::LOOP_FLAG_RECURSIVE;
 
@@ -80,6 +83,21 @@ impl Outline {
             && self.operands == other.operands
             && self.escapes == other.escapes
             && self.captures == other.captures
+    }
+
+    /// The kind of a stream that ends with this shape.
+    pub fn end_kind(&self) -> Option<StreamKind>
+        ensures kind { IfSome result (λ kind. shape_of self.now ≡ end_of kind) }
+        ensures none { IsNone result → (kind : StreamKind) → shape_of self.now ≡ end_of kind → ⊥ }
+    {
+        if !self.frames.is_empty() || self.escapes != 0 || self.captures != 0 {
+            return None;
+        }
+        match self.operands {
+            0 => Some(StreamKind::Template),
+            1 => Some(StreamKind::Expression),
+            _ => None,
+        }
     }
 
     /// The floor of the innermost recursive loop.
