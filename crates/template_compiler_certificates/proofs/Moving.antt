@@ -40,7 +40,7 @@ stands_within code place piece h =
 pub goes_single : (code : List Code) (place : ℕ) (c : Code) (s t : Shape) (N : (ℕ → Option Shape) → Type 0) → StandsAt code place (one c place) → effect_of code place c s ≡ Some (falling t)
     → Goes code place (place + length (one c place)) s (Some t) N
 goes_single code place c s t N h is =
-    goes_to code place (suc place) (place + length (one c place)) s (Some t) N (sym (behind_single place c))
+    goes_to code place (suc place) (place + length (one c place)) s (Some t) N (behind_single place c)
     (goes_with code place (suc place) s (Some t) (Some t) (Lands (falling t)) N (goes_on code place c s (falling t) (instruction_at code place c [] h) is) (λ table flows. flows) (λ table stands flows needs to u e. absurd cc))
 
 pub moves_one : (c : Code) (m k : ℕ) → ((code : List Code) (place : ℕ) (s : Shape) → IsPlain s → effect_of code place c (given m s) ≡ Some (falling (given k s))) → Moves (one c) m k

@@ -4,7 +4,8 @@ use Rattle.std.specs.Prelude.{nat_lt, nat_le, option_map, option_and_then, ◌==
 use Rattle.std.proofs.lemmas.Bool.{lt-ltb, le-ltb, le-leb, eq-eqb, and_from}
 use Rattle.std.proofs.lemmas.List.{replicate-append-replicate}
 use Rattle.template_code.specs.Code.{Code, iterate}
-use Rattle.template_code_shapes.specs.Shapes.{Form, single_form, Floor, Shape, floor_of, below_values, lowered, taken, given, with_escape, escape_closed, innermost_loop}
+use Rattle.template_code_shapes.specs.declared.outline.Floor.{Floor}
+use Rattle.template_code_shapes.specs.Shapes.{Form, single_form, Shape, floor_of, below_values, lowered, taken, given, with_escape, escape_closed, innermost_loop}
 use Rattle.template_code_shapes.specs.Effects.{Effect, falling, traded, is_behind, is_iterate_past, may_jump, jumping, may_iterate}
 
 abbrev pub ground : Floor
@@ -35,8 +36,8 @@ given_more n m s =
 
 pub escape_plain : (s : Shape) → IsPlain s → escape_closed (with_escape s) ≡ Some s
 escape_plain s plain =
-    let open : nat_lt (floor_of s.frames).escapes (suc s.escapes) ≡ true = ap (λ (f : Floor). nat_lt f.escapes (suc s.escapes)) plain ∙ lt-ltb 0 (suc s.escapes) (omega arith) in
-    ap (λ b. cond b (Some s) None) open
+    let is_open : nat_lt (floor_of s.frames).escapes (suc s.escapes) ≡ true = ap (λ (f : Floor). nat_lt f.escapes (suc s.escapes)) plain ∙ lt-ltb 0 (suc s.escapes) (omega arith) in
+    ap (λ b. cond b (Some s) None) is_open
 
 -- a jump on
 pub jumps_forward : (code : List Code) (place : ℕ) (falls : Option Shape) (to : ℕ) (s : Shape) → place < to → to ≤ length code → jumping code place falls to s ≡ Some (record { falls = falls; jumps = Some (to, s) })

@@ -5,7 +5,8 @@ use Rattle.template_tree.specs.Tree.{Expression, Statement, Statements, Assignme
 use Rattle.template_tree.specs.Tree as tree
 use Rattle.template_walk.specs.Runnable.{IsRunnable, IsTarget, AreAssignments, IsRunnableStatement, AreRunnableStatements}
 use Rattle.template_code.specs.Code.{Code, emit_raw, emit, jump, jump_if_false, push_with, pop_frame, push_loop, iterate, push_did_not_iterate, pop_loop_frame, push_auto_escape, pop_auto_escape, include}
-use Rattle.template_code_shapes.specs.Shapes.{with_frame, loop_frame, Shape, taken, given, opened, with_escape, innermost_loop}
+use Rattle.template_code_shapes.specs.declared.outline.Opened.TheVariants.{With as with_frame, Loop as loop_frame}
+use Rattle.template_code_shapes.specs.Shapes.{Shape, taken, given, opened, with_escape, innermost_loop}
 use Rattle.template_code_shapes.specs.Effects.{Effect, falling, jumping, is_iterate, effect_of}
 use Rattle.template_compiler_codegen.specs.Expressions.{Coded, then_code, one, nothing, skipped, either_code, expression_code}
 use Rattle.template_compiler_codegen.specs.Statements.{Ways, own_ways, closing_with, target_code, assignments_code, loop_flags, rounds_code, loop_end_code, branches_code, left_by, statement_code, statements_code}
@@ -310,7 +311,7 @@ runs_loop looping ways target body otherwise targeted x y code place s base plai
     let later = then_code rounds end in
     let s1 = opened (loop_frame place) s in
     let mid = place + length (one (push_loop loop_flags) place) in
-    let next : mid ≡ suc place = behind_single place (push_loop loop_flags) in
+    let next : mid ≡ suc place = sym (behind_single place (push_loop loop_flags)) in
     let end_at = mid + length (rounds mid) in
     let behind = end_at + length (end end_at) in
     let later_at = mid + length (later mid) in
