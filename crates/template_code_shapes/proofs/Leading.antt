@@ -6,13 +6,7 @@ use Rattle.std.proofs.lemmas.Bool.{eqb-true, ltb-true, ltb-false, leb-true}
 use Rattle.template_code.specs.Code.{Code, emit_raw, emit, store_local, lookup, load_const, get_attr, get_item, slice, build_map, build_list, build_tuple, unpack_list, operate, negate, invert, compare_and_preserve, swap, dup_top, discard_top, jump, jump_if_false, jump_if_false_or_pop, jump_if_true_or_pop, push_with, pop_frame, push_loop, iterate, push_did_not_iterate, pop_loop_frame, push_auto_escape, pop_auto_escape, include, unsupported, unsupported_free}
 use Rattle.template_code_shapes.specs.Shapes.{Form, Opened, with_frame, loop_frame, recursive_frame, Shape, taken, lowered, below_values, given, opened, loop_opened, frame_closed, loop_closed, floor_of, innermost_loop}
 use Rattle.template_code_shapes.specs.Effects.{Effect, falling, is_iterate, is_iterate_past, is_behind, may_jump, jumping, may_iterate, effect_of}
-
--- P of the place of each open loop's `PushLoop`
-abbrev pub EachLoop : (ℕ → Type 0) → List Opened → Type 0
-EachLoop P [] = Unit {0}
-EachLoop P (with_frame ∷ frames) = EachLoop P frames
-EachLoop P (loop_frame place ∷ frames) = P place × EachLoop P frames
-EachLoop P (recursive_frame place floor ∷ frames) = P place × EachLoop P frames
+use Rattle.template_code_shapes.specs.Passes.{EachLoop}
 
 pub each_more : (P Q : ℕ → Type 0) → ((n : ℕ) → P n → Q n) → (frames : List Opened) → EachLoop P frames → EachLoop Q frames
 each_more P Q f [] h = tt
@@ -32,7 +26,7 @@ pub record LeadsWell (P : ℕ → Type 0) (code : List Code) (place : ℕ) (e : 
   pub falls : (t : Shape) → e.falls ≡ Some t → EachLoop (λ p. P p ⊎ (p ≡ place)) t.frames
   pub open_loops : (to : ℕ) (t : Shape) → ◌≡◌ {A = Option (ℕ × Shape)} e.jumps (Some (to, t)) → EachLoop P t.frames
   pub jumps : (to : ℕ) (t : Shape) → ◌≡◌ {A = Option (ℕ × Shape)} e.jumps (Some (to, t))
-      → ((place < to) × (to ≤ length code)) ⊎ ((to ≤ place) × ((push : ℕ) × (to ≡ suc push) × P push))
+      → ((place < to) × (to ≤ length code)) ⊎ ((to ≤ place) × ((push : ℕ) × (to ≡ suc push) × P push) × (is_iterate (slice_get code to) ≡ true))
 
 if_test : (P : Effect → Type 0) (b : Bool) (o : Option Effect) → (b ≡ true → IfSome o P) → IfSome (cond b o None) P
 if_test P true o h = h refl
@@ -80,25 +74,30 @@ module _ (P : ℕ → Type 0) (code : List Code) (place : ℕ) where
   behind_well to None h e = absurd cc
   behind_well to (Some push) h e = (push, eqb-true to (suc push) e, h push refl)
 
+  iterate_of : (from : ℕ) (o : Option Code) → is_iterate_past from o ≡ true → is_iterate o ≡ true
+  iterate_of from (Some (iterate to)) e = refl
+  iterate_of from _ e = absurd cc
+
   chosen : (b x y : Bool) → cond b x y ≡ true → ((b ≡ true) × (x ≡ true)) ⊎ ((b ≡ false) × (y ≡ true))
   chosen true x y e = inl (refl, e)
   chosen false x y e = inr (refl, e)
 
   jump_well : (to : ℕ) (s : Shape) → EachLoop P s.frames → may_jump code place s to ≡ true
-      → ((place < to) × (to ≤ length code)) ⊎ ((to ≤ place) × ((push : ℕ) × (to ≡ suc push) × P push))
+      → ((place < to) × (to ≤ length code)) ⊎ ((to ≤ place) × ((push : ℕ) × (to ≡ suc push) × P push) × (is_iterate (slice_get code to) ≡ true))
   jump_well to s h e = elim (chosen (nat_lt place to) (nat_le to (length code)) (is_behind to (innermost_loop s.frames) && is_iterate_past place (slice_get code to)) e) [
     | inl w ↦ inl (ltb-true place to w.0, leb-true to (length code) w.1)
-    | inr w ↦ inr (ltb-false place to w.0, behind_well to (innermost_loop s.frames) (each_innermost P s.frames h) (and_parts _ _ w.1).0)
+    | inr w ↦ (let parts = and_parts (is_behind to (innermost_loop s.frames)) (is_iterate_past place (slice_get code to)) w.1 in
+        inr (ltb-false place to w.0, behind_well to (innermost_loop s.frames) (each_innermost P s.frames h) parts.0, iterate_of place (slice_get code to) parts.1))
   ]
 
   jumps_well : (falls : Option Shape) (to : ℕ) (s : Shape) → EachLoop P s.frames → ((t : Shape) → falls ≡ Some t → s.frames ≡ t.frames)
-      → ((place < to) × (to ≤ length code)) ⊎ ((to ≤ place) × ((push : ℕ) × (to ≡ suc push) × P push)) → LeadsWell P code place (record { falls = falls; jumps = Some (to, s) })
+      → ((place < to) × (to ≤ length code)) ⊎ ((to ≤ place) × ((push : ℕ) × (to ≡ suc push) × P push) × (is_iterate (slice_get code to) ≡ true)) → LeadsWell P code place (record { falls = falls; jumps = Some (to, s) })
   jumps_well falls to s h same where_to = record {
     falls = λ t e. kept t.frames (subst (EachLoop P) (same t e) h);
     open_loops = λ at t e. let is : s ≡ t = ap (λ (w : ℕ × Shape). w.1) (some_is {A = ℕ × Shape} (to, s) (at, t) e) in subst (λ (w : Shape). EachLoop P w.frames) is h;
     jumps = λ at t e.
         let is : to ≡ at = ap (λ (w : ℕ × Shape). w.0) (some_is {A = ℕ × Shape} (to, s) (at, t) e) in
-        subst (λ (n : ℕ). ((place < n) × (n ≤ length code)) ⊎ ((n ≤ place) × ((push : ℕ) × (n ≡ suc push) × P push))) is where_to;
+        subst (λ (n : ℕ). ((place < n) × (n ≤ length code)) ⊎ ((n ≤ place) × ((push : ℕ) × (n ≡ suc push) × P push) × (is_iterate (slice_get code n) ≡ true))) is where_to;
   }
 
   jumping_well : (falls : Option Shape) (to : ℕ) (s : Shape) → EachLoop P s.frames → ((t : Shape) → falls ≡ Some t → s.frames ≡ t.frames)

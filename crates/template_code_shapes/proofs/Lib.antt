@@ -2,3 +2,8 @@ pub mod Certificates
 pub mod Leading
 pub mod Within
 pub mod Ending
+pub mod Passes
+pub mod OutlineLemmas
+pub mod Standing
+pub mod NotedLemmas
+pub mod Visiting

@@ -6,7 +6,8 @@ use Rattle.template_code.specs.Code.{Code}
 use Rattle.template_code_shapes.specs.Shapes.{Opened, with_frame, loop_frame, recursive_frame, Shape}
 use Rattle.template_code_shapes.specs.Effects.{effect_of}
 use Rattle.template_code_shapes.specs.Streams.{Reached, begins, falls_to, jumps_to}
-use Rattle.template_code_shapes.proofs.Leading.{EachLoop, LeadsWell, leads}
+use Rattle.template_code_shapes.specs.Passes.{EachLoop}
+use Rattle.template_code_shapes.proofs.Leading.{LeadsWell, leads}
 
 -- nothing is asked of the open loops
 none_asked : (frames : List Opened) → EachLoop (λ p. Unit {0}) frames

@@ -1,7 +1,7 @@
 -- What an instruction makes of the shape of a run, and where it leads.
 use Rattle.std.specs.Prelude.{ℕ, ◌*◌, ◌==◌, ◌&&◌, Bool, true, false, suc, nat_lt, nat_le, if◌then◌else◌, List, length, Option, None, Some, is_some, option_map, option_and_then, slice_get}
 use Rattle.template_code.specs.Code.{Code, emit_raw, emit, store_local, lookup, load_const, get_attr, get_item, slice, build_map, build_list, build_tuple, unpack_list, operate, negate, invert, compare_and_preserve, swap, dup_top, discard_top, jump, jump_if_false, jump_if_false_or_pop, jump_if_true_or_pop, push_with, pop_frame, push_loop, iterate, push_did_not_iterate, pop_loop_frame, push_auto_escape, pop_auto_escape, include, unsupported, unsupported_free}
-use Rattle.template_code_shapes.specs.Shapes.{with_frame, Shape, taken, given, opened, loop_opened, frame_closed, loop_closed, escape_closed, innermost_loop}
+use Rattle.template_code_shapes.specs.Shapes.{with_frame, Shape, taken, given, opened, loop_opened, frame_closed, loop_closed, with_escape, escape_closed, innermost_loop}
 
 -- with which shape the run goes on behind an instruction, and where and with which it goes on by a jump
 pub record Effect : Type 0 where
@@ -78,7 +78,7 @@ effect_of code place (iterate to) s = if may_iterate code place s to
     else None
 effect_of code place push_did_not_iterate s = if is_some (innermost_loop s.frames) then Some (falling (given 1 s)) else None
 effect_of code place pop_loop_frame s = option_map falling (loop_closed s s.frames)
-effect_of code place push_auto_escape s = option_map (λ below. falling (record below { escapes = suc below.escapes })) (taken 1 s)
+effect_of code place push_auto_escape s = option_map (λ below. falling (with_escape below)) (taken 1 s)
 effect_of code place pop_auto_escape s = option_map falling (escape_closed s)
 effect_of code place (include ignore_missing) s = traded 1 0 s
 effect_of code place unsupported s = None

@@ -2,3 +2,7 @@ pub mod Shapes
 pub mod Effects
 pub mod Streams
 pub mod Laws
+pub mod Outlines
+pub mod Ways
+pub mod Passes
+pub mod Noted

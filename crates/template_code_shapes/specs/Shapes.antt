@@ -1,6 +1,9 @@
 -- The shape of a run at a place: which operands lie there by their form, and what stands open.
 use Rattle.std.specs.Prelude.{ℕ, ◌==◌, ◌&&◌, zero, suc, pred, nat_lt, nat_le, if◌then◌else◌, List, [], ◌∷◌, ◌++◌, length, replicate, Option, None, Some, option_and_then, bit_and}
 use Rattle.template_code.specs.Code.{Operand, single, counted, closure}
+pub use Rattle.template_code_shapes.specs.declared.outline.Floor.{Floor}
+pub use Rattle.template_code_shapes.specs.declared.outline.Opened.{Opened}
+pub use Rattle.template_code_shapes.specs.declared.outline.Opened.TheVariants.{With as with_frame, Loop as loop_frame, Recursive as recursive_frame}
 
 pub data Form : Type 0 where
   single_form : Form
@@ -11,18 +14,6 @@ abbrev pub form_of : Operand → Form
 form_of (single v) = single_form
 form_of (counted vs) = counted_form
 form_of (closure number) = closure_form
-
--- how much stood open where a loop began
-pub record Floor : Type 0 where
-  pub operands : ℕ
-  pub escapes : ℕ
-  pub captures : ℕ
-
--- an open frame; a loop's has the place of its `PushLoop`, and that of a recursive loop a floor
-pub data Opened : Type 0 where
-  with_frame : Opened
-  loop_frame : ℕ → Opened
-  recursive_frame : ℕ → Floor → Opened
 
 pub record Shape : Type 0 where
   pub operands : List Form  -- the top one first
@@ -79,6 +70,10 @@ loop_closed s (loop_frame place ∷ frames) = Some (record s { frames = frames }
 loop_closed s (recursive_frame place floor ∷ frames) = if (s.escapes == floor.escapes) && (s.captures == floor.captures)
     then Some (record s { frames = frames }) else None
 loop_closed s _ = None
+
+-- one escape more
+abbrev pub with_escape : Shape → Shape
+with_escape s = record s { escapes = suc s.escapes }
 
 -- an escape is closed that was not open where the innermost recursive loop began
 abbrev pub escape_closed : Shape → Option Shape

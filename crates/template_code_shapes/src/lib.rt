@@ -4,6 +4,13 @@
 
 ghost use Rattle.template_code_shapes.specs.Laws.{CertifiedIsGood, GoodEndsWell};
 
+mod notes;
+mod outline;
+mod verified;
+mod ways;
+
+pub use verified::{Checked, verify};
+
 /// Which of the two kinds a stream is.
 #[derive(Clone, Copy, Debug, PartialEq, Eq)]
 pub enum StreamKind {

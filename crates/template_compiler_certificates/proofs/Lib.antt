@@ -1,0 +1,5 @@
+pub mod Segments
+pub mod Plain
+pub mod Moving
+pub mod Running
+pub mod Whole
