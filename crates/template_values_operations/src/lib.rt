@@ -1,0 +1,9 @@
+//! The operators of expressions on values, by their kinds, and the containers that are built of values.
+#![tactic(auto)]
+
+mod containers;
+mod operators;
+
+pub use containers::{make_list, make_map, make_tuple};
+pub use operators::{compare, invert, negate, operate, truth_of};
+pub use template_values_records::{NoRecords, Records};
