@@ -1,0 +1,5 @@
+pub mod Items
+pub mod Held
+pub mod Frames
+pub mod Codes
+pub mod Locals

@@ -1,0 +1,14 @@
+//! Where a running template looks names up: frames with their locals, loops and contexts.
+#![tactic(auto)]
+
+mod context;
+mod frame;
+mod items;
+mod locals;
+mod loops;
+
+pub use context::Context;
+pub use frame::Frame;
+pub use items::LoopItems;
+pub use locals::Locals;
+pub use loops::LoopState;

@@ -1,0 +1,112 @@
+//! The locals of a frame.
+ghost use Rattle.std.specs.Prelude.{◌≡◌, [], IfErr, OnOk, OnErr, option_copied};
+ghost use Rattle.std.specs.List.{find, position};
+ghost use Rattle.template_values_errors.specs.Memory.{NoMemory};
+ghost use Rattle.template_machine_meaning.specs.World.{local_at, put_local};
+ghost use Rattle.template_machine_frames.specs.Locals.{is_named};
+
+use std::alloc::Global;
+use std::marker::Model;
+use template_values_core::Value;
+use template_values_errors::Error;
+
+#[derive(Drop)]
+struct Local<'env> {
+    name: &'env str,
+    value: Value,
+}
+
+/// Names with their values.
+#[derive(Drop)]
+pub struct Locals<'env> {
+    locals: Vec<Local<'env>>,
+}
+
+impl<'env> Model for Locals<'env> {
+    ghost use Rattle.std.specs.Prelude.{ℕ, List};
+    ghost use Rattle.template_values_model.specs.Val.{Val};
+    ghost use Rattle.template_machine_frames.specs.Codes.{locals_code};
+
+    ghost Value = { List (List ℕ × Val) };
+
+    ghost coded = { locals_code };
+
+    ghost use Rattle.template_machine_frames.specs.Locals.{locals_of};
+
+    ghost view = { λ l. locals_of l.locals.items };
+}
+
+impl<'env> Local<'env> {
+    fn set(&mut self, value: Value)
+        ensures name { self.new.name ≡ self.old.name }
+        ensures value { self.new.value ≡ value }
+    {
+        self.value = value;
+    }
+}
+
+// The local of a name.
+fn find<'a, 'env>(locals: &'a [Local<'env>], name: &str) -> Option<&'a Local<'env>>
+    ensures { option_copied result ≡ find (is_named name.now) locals.now }
+{
+    locals.iter().find(|local| local.name == name)
+}
+
+// Where the local of a name stands.
+fn position(locals: &[Local<'_>], name: &str) -> Option<usize>
+    ensures { result ≡ position (is_named name.now) locals.now }
+{
+    locals.iter().position(|local| local.name == name)
+}
+
+impl<'env> Locals<'env> {
+    /// No names.
+    pub fn new(alloc: Global) -> Locals<'env>
+        ensures { result ≡ [] }
+    {
+        Locals {
+            locals: Vec::new(alloc),
+        }
+    }
+
+    /// The value of a name. Linear in the number of names.
+    pub fn get(&self, name: &str) -> Option<&Value>
+        ensures { option_copied result ≡ local_at name.now self.now }
+    {
+        match find(self.locals.as_slice(), name) {
+            Some(local) => Some(&local.value),
+            None => None,
+        }
+    }
+
+    /// From now on the name has the value. Linear in the number of names.
+    ///
+    /// # Errors
+    ///
+    /// [`ErrorKind::OutOfMemory`]; the names then have the values that they had.
+    ///
+    /// [`ErrorKind::OutOfMemory`]: template_values_errors::ErrorKind::OutOfMemory
+    pub fn insert(&mut self, name: &'env str, value: Value) -> Result<(), Error>
+        ensures stored { OnOk result (self.new ≡ put_local name.now value self.old) }
+        ensures refused { IfErr result NoMemory }
+        ensures unchanged { OnErr result (self.new ≡ self.old) }
+    {
+        match position(self.locals.as_slice(), name) {
+            Some(place) => {
+                self.locals[place].set(value);
+                Ok(())
+            }
+            None => {
+                self.locals.push(Local { name, value })?;
+                Ok(())
+            }
+        }
+    }
+
+    /// No names any more.
+    pub fn clear(&mut self)
+        ensures { self.new ≡ [] }
+    {
+        self.locals.clear();
+    }
+}

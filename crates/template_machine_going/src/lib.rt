@@ -1,0 +1,31 @@
+//! Definitions and their laws: how far the machine has come in its code, how it stops, and what one instruction
+//! does.
+#![tactic(auto)]
+
+ghost use Rattle.template_machine_going.specs.Laws.{ActsGo, FaultsOn, FaultsThere, GoesNowhere, GoesOn, RunsOutOn, RunsOutThere, SpentThere, WantsOn, WantsThere};
+
+/// A machine that goes nowhere has gone, and goings follow one another.
+pub fn goings_follow<S>()
+    ensures nowhere { GoesNowhere S }
+    ensures on { GoesOn S }
+{}
+
+/// An instruction that is paid and acts is a going.
+pub fn acts_go<S>()
+    ensures { ActsGo S }
+{}
+
+/// Where the machine stops behind a going, it stops from its first spot on.
+pub fn stops_on<S>()
+    ensures faults { FaultsOn S }
+    ensures runs_out { RunsOutOn S }
+    ensures wants { WantsOn S }
+{}
+
+/// Where an instruction is paid and stops, or is not paid, the machine stops.
+pub fn stops_there<S>()
+    ensures faults { FaultsThere S }
+    ensures runs_out { RunsOutThere S }
+    ensures wants { WantsThere S }
+    ensures spent { SpentThere S }
+{}

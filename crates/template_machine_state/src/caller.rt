@@ -1,0 +1,25 @@
+//! What an include puts back.
+
+use std::marker::Model;
+use template_values_modes::AutoEscape;
+
+/// What a state had before a template was included, and has again behind it.
+#[derive(Drop)]
+pub struct Caller {
+    pub(crate) outer: usize,
+    pub(crate) escape: AutoEscape,
+    pub(crate) saved: Vec<AutoEscape>,
+    pub(crate) first: AutoEscape,
+}
+
+impl Model for Caller {
+    ghost use Rattle.std.specs.Prelude.{reverse};
+    ghost use Rattle.template_machine_state.specs.Callers.{Kept};
+    ghost use Rattle.template_machine_state.specs.Codes.{kept_code};
+
+    ghost Value = { Kept };
+
+    ghost coded = { kept_code };
+
+    ghost view = { λ c. record { outer = c.outer; escape = c.escape; saved = reverse c.saved.items; first = c.first } };
+}
