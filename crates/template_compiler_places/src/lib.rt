@@ -4,6 +4,3 @@
 mod place;
 
 pub use place::Place;
-
-#[cfg(test)]
-mod tests;

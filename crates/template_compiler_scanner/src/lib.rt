@@ -9,6 +9,3 @@ mod signs;
 mod texts;
 
 pub use scan::{leading_name, scan_token};
-
-#[cfg(test)]
-mod tests;

@@ -22,6 +22,3 @@ pub enum StartMarker {
     /// A comment that its line's prefix begins.
     LineComment,
 }
-
-#[cfg(test)]
-mod tests;

@@ -19,6 +19,3 @@ pub use statements::{
     AutoEscape, Block, Break, CallBlock, Continue, Do, EmitExpr, EmitRaw, Extends, FilterBlock,
     ForLoop, FromImport, IfCond, Import, Include, Macro, Set, SetBlock, Stmt, Template, WithBlock,
 };
-
-#[cfg(test)]
-mod tests;

@@ -43,7 +43,8 @@ impl<'source> Expr<'source> {
         span: Span,
     ) -> Result<Expr<'source>, AllocError>
         ensures tree { IfOk result
-            (λ e. expression_of e ≡ slice (expression_of expr.entry) (optional_in start.entry) (optional_in stop.entry) (optional_in step.entry)) }
+            (λ e. expression_of e ≡ slice (expression_of expr.entry)
+            (optional_in start.entry) (optional_in stop.entry) (optional_in step.entry)) }
         ensures span { IfOk result (λ e. expression_span e ≡ span) }
     {
         let node = Box::new(
@@ -110,7 +111,8 @@ impl<'source> Expr<'source> {
         span: Span,
     ) -> Result<Expr<'source>, AllocError>
         ensures tree { IfOk result
-            (λ e. expression_of e ≡ conditional (expression_of test_expr.entry) (expression_of true_expr.entry) (optional_in false_expr.entry)) }
+            (λ e. expression_of e ≡ conditional (expression_of test_expr.entry)
+            (expression_of true_expr.entry) (optional_in false_expr.entry)) }
         ensures span { IfOk result (λ e. expression_span e ≡ span) }
     {
         let node = Box::new(

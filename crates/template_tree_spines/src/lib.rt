@@ -4,6 +4,3 @@
 mod spines;
 
 pub use spines::{left, spine};
-
-#[cfg(test)]
-mod tests;
