@@ -1,12 +1,7 @@
-//! The tokens that the parsers read, with two of them to look at.
+//! The parser of expressions.
 #![tactic(auto)]
 
+mod expressions;
 mod refusal;
 mod sign;
 mod stream;
-#[cfg(test)]
-mod tests;
-
-pub use refusal::{Fault, Refusal};
-pub use sign::{Level, Sign};
-pub use stream::{First, TokenStream};

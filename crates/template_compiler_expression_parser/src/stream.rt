@@ -234,6 +234,7 @@ impl<'source> TokenStream<'source> {
         mem::replace(&mut self.first, second)
     }
 
+
     /// Passes the sign, where it stands next.
     pub fn skip(&mut self, sign: Sign) -> bool
         ensures { SkipsSign (symbol_of sign) self.old self.new result }

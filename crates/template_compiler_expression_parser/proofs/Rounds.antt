@@ -1,0 +1,96 @@
+-- Rounds of repetitions, by what stands next.
+use Rattle.std.proofs.Common.{◌≡◌, ◌<◌, length, arith, ℕ, Ok, Err, List, [], ◌∷◌, None, Some, refl, sym, ap, subst, ◌∙◌}
+use Rattle.template_tree.specs.Tree.{Expression, binary, chain}
+use Rattle.template_tree.specs.View.{links_in}
+use Rattle.template_tree.specs.declared.expressions.CompareOp.{CompareOp}
+use Rattle.template_compiler_expressions.specs.Trees.{compared}
+use Rattle.template_tree.specs.declared.operators.BinOpKind.{BinOpKind}
+use Rattle.template_compiler_tokens.specs.Token.{Token, TokenFault, bad}
+use Rattle.template_compiler_expressions.specs.Words.{Level, factors, texts, terms, conjunction, disjunction, operator}
+use Rattle.template_compiler_reading.specs.Steps.{Read, Step, goes, stops, fails, under, all}
+use Rattle.template_compiler_expressions.specs.Reader.{deeper, operand_by, operand_behind, operand_step}
+use Rattle.template_compiler_reading.proofs.Loops.{Shrinks, all_goes, all_stops, all_fails}
+use Rattle.template_compiler_expression_parser.specs.declared.refusal.Refusal.{Refusal}
+use Rattle.template_compiler_expression_parser.specs.declared.refusal.Refusal.TheVariants as refusals
+use Rattle.template_compiler_expression_parser.specs.Refusals.{Refused, fault_of}
+use Rattle.template_compiler_expression_parser.specs.Parsed.{RefusedStep}
+use Rattle.template_compiler_expression_parser.specs.Left.{passed}
+use Rattle.template_compiler_expression_parser.specs.Signs.{next_operator}
+
+bad_operator : (k : Level) (f : TokenFault) → operator k (bad f) ≡ None
+bad_operator factors f = refl
+bad_operator texts f = refl
+bad_operator terms f = refl
+bad_operator conjunction f = refl
+bad_operator disjunction f = refl
+
+operator_passed : (k : Level) (t : Token) (ts : List Token) (op : BinOpKind) → operator k t ≡ Some op → passed (t ∷ ts) ≡ ts
+operator_passed k (bad f) ts op e = let none = bad_operator k f in cc
+operator_passed k _ ts op e = refl
+
+pub operand_found : (k : Level) (read : List Token → Read Expression) (a : Expression) (ts : List Token) (op : BinOpKind) →
+    next_operator k ts ≡ Some op → operand_step k read a ts ≡ under (read (passed ts)) (λ b us. goes (binary op a b) us)
+unfolding operand_step operand_behind
+operand_found k read a [] op e = cc
+operand_found k read a (t ∷ ts) op e =
+    ap (λ o. operand_behind o read a ts) e ∙
+    ap (λ us. under (read us) (λ b us. goes (binary op a b) us)) (sym (operator_passed k t ts op e))
+
+pub operand_none : (k : Level) (read : List Token → Read Expression) (a : Expression) (ts : List Token) →
+    next_operator k ts ≡ None → operand_step k read a ts ≡ stops
+unfolding operand_step operand_behind
+operand_none k read a [] e = refl
+operand_none k read a (t ∷ ts) e = ap (λ o. operand_behind o read a ts) e
+
+pub operand_goes : (k : Level) (read : List Token → Read Expression) (a b : Expression) (ts us : List Token) (op : BinOpKind) →
+    next_operator k ts ≡ Some op → read (passed ts) ≡ Ok (b, us) → operand_step k read a ts ≡ goes (binary op a b) us
+unfolding under
+operand_goes k read a b ts us op e f = operand_found k read a ts op e ∙ ap (λ m. under m (λ b us. goes (binary op a b) us)) f
+
+pub operand_fails : (k : Level) (read : List Token → Read Expression) (a : Expression) (ts : List Token) (op : BinOpKind) (f : TokenFault) →
+    next_operator k ts ≡ Some op → read (passed ts) ≡ Err f → operand_step k read a ts ≡ fails f
+unfolding under
+operand_fails k read a ts op f e g = operand_found k read a ts op e ∙ ap (λ m. under m (λ b us. goes (binary op a b) us)) g
+
+-- a refusal, from one reading to the one around it
+pub refused_under : {A B : Type 0} (m : Read A) (s : Step B) (e : Refusal) →
+    ((f : TokenFault) → m ≡ Err f → s ≡ fails f) → Refused m e → RefusedStep s e
+refused_under m s (refusals.Token f) go h = go (fault_of f) h
+refused_under m s refusals.OutOfMemory go h = tt
+
+pub operand_refused : (k : Level) (read : List Token → Read Expression) (a : Expression) (ts : List Token) (op : BinOpKind) (e : Refusal) →
+    next_operator k ts ≡ Some op → Refused (read (passed ts)) e → RefusedStep (operand_step k read a ts) e
+operand_refused k read a ts op e h = refused_under (read (passed ts)) (operand_step k read a ts) e (λ f g. operand_fails k read a ts op f h g)
+
+-- rounds, as a loop takes them off
+module _ {A : Type 0} (step : A → List Token → Step A) where
+  pub rounds_end : (a b e : A) (ts us new : List Token) → all step a ts ≡ all step b us →
+      (step a ts ≡ stops) × (new ≡ ts) × (e ≡ a) → all step b us ≡ Ok (e, new)
+  rounds_end a b e ts us new same h =
+      sym same ∙ all_stops step a ts h.0 ∙ ap (λ x. Ok (x, ts)) (sym h.2) ∙ ap (λ vs. Ok (e, vs)) (sym h.1)
+
+  pub rounds_go : Shrinks step → (a b c : A) (ts us vs : List Token) → all step a ts ≡ all step c vs →
+      step a ts ≡ goes b us → all step b us ≡ all step c vs
+  rounds_go falls a b c ts us vs same e = sym (all_goes step falls a b ts us e) ∙ same
+
+  pub rounds_refused : (a c : A) (ts vs : List Token) (e : Refusal) → all step a ts ≡ all step c vs →
+      RefusedStep (step a ts) e → Refused (all step c vs) e
+  rounds_refused a c ts vs (refusals.Token f) same h = sym same ∙ all_fails step a ts (fault_of f) h
+  rounds_refused a c ts vs refusals.OutOfMemory same h = tt
+
+-- the same, as the parser's function has them
+pub next_operand_goes : (k : Level) (read : List Token → Read Expression) (a b e : Expression) (ts mid us : List Token) (op : BinOpKind) →
+    Some op ≡ next_operator k ts → mid ≡ passed ts → read mid ≡ Ok (b, us) → e ≡ binary op a b → operand_step k read a ts ≡ goes e us
+next_operand_goes k read a b e ts mid us op f g h i =
+    operand_goes k read a b ts us op (sym f) (ap read (sym g) ∙ h) ∙ ap (λ e. goes e us) (sym i)
+
+pub next_operand_refused : (k : Level) (read : List Token → Read Expression) (a : Expression) (ts mid : List Token) (op : BinOpKind) (e : Refusal) →
+    Some op ≡ next_operator k ts → mid ≡ passed ts → Refused (read mid) e → RefusedStep (operand_step k read a ts) e
+next_operand_refused k read a ts mid op e f g h =
+    operand_refused k read a ts op e (sym f) (subst (λ us. Refused (read us) e) g h)
+
+-- two comparisons or more
+pub compared_chain : (a : Expression) (xs : List CompareOp) → 1 < length xs → compared a (links_in xs) ≡ chain a (links_in xs)
+compared_chain a [] h = absurd (omega arith)
+compared_chain a (x ∷ []) h = absurd (omega arith)
+compared_chain a (x ∷ y ∷ xs) h = refl
