@@ -2,7 +2,7 @@
 use Rattle.std.specs.Prelude.{◌≡◌, ℕ, zero, suc, Bool, true, false, List, Option, None, Some, Result, Ok, Err}
 use Rattle.std.specs.Global.{Vec}
 use Rattle.template_tree.specs.Tree.{Expression, Optional, Arguments, Argument, Links}
-use Rattle.template_tree.specs.View.{expression_of, links_in}
+use Rattle.template_tree.specs.View.{expression_of, links_in, optional_in}
 use Rattle.template_tree.specs.declared.expressions.Expr.{Expr}
 use Rattle.template_tree.specs.declared.expressions.CompareOp.{CompareOp}
 use Rattle.template_compiler_tokens.specs.Token.{Token}
@@ -32,6 +32,11 @@ abbrev pub Stepped : Step Expression → Expression → List Token → List Toke
 Stepped s a old new (Ok (Goes e)) = s ≡ goes (expression_of e) new
 Stepped s a old new (Ok (Stops e)) = (s ≡ stops) × (new ≡ old) × (expression_of e ≡ a)
 Stepped s a old new (Err e) = RefusedStep s e
+
+-- an expression that may be left out
+abbrev pub ParsedOptional : Read Optional → List Token → Result (Option Expr) Refusal → Type 0
+ParsedOptional r new (Ok o) = r ≡ Ok (optional_in o, new)
+ParsedOptional r new (Err e) = Refused r e
 
 -- comparisons
 abbrev pub ParsedLinks : Read Links → List Token → Result (Vec CompareOp) Refusal → Type 0

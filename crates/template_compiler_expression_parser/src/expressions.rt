@@ -1,13 +1,13 @@
 //! Expressions.
 ghost use Rattle.std.specs.Prelude.{◌≡◌, Result, Ok, Err, suc, IfOk};
-ghost use Rattle.template_compiler_expression_parser.specs.Parsed.{IsDeeper, Parsed, ParsedLinks, Stepped, SteppedLinks};
+ghost use Rattle.template_compiler_expression_parser.specs.Parsed.{IsDeeper, Parsed, ParsedOptional, ParsedLinks, Stepped, SteppedLinks};
 ghost use Rattle.template_compiler_expressions.specs.Trees.{compared, compared_once};
 ghost use Rattle.template_tree.specs.Tree.{no_links};
 ghost use Rattle.template_compiler_expression_parser.specs.Signs.{level_of};
-ghost use Rattle.template_compiler_expressions.specs.Reader.{comparison_by, deeper, terms_by, link_step, not_in_link, filter_step, part_step, subscript_by, primary_by, expression_by, else_behind, binary_by, operand_by, operand_step, negation_by, power_by, filtered_by, unary_by};
+ghost use Rattle.template_compiler_expressions.specs.Reader.{comparison_by, filter_by, filter_chain_by, deeper, terms_by, link_step, not_in_link, filter_step, part_step, subscript_by, primary_by, expression_by, else_behind, binary_by, operand_by, operand_step, negation_by, power_by, filtered_by, unary_by};
 ghost use Rattle.template_compiler_expressions.specs.Words.{disjunction};
 ghost use Rattle.template_compiler_reading.specs.Steps.{and_then, all};
-ghost use Rattle.template_tree.specs.View.{expression_of, links_in};
+ghost use Rattle.template_tree.specs.View.{expression_of, links_in, optional_in};
 
 use crate::refusal::{Fault, Refusal};
 use crate::sign::{Level, Sign};
@@ -37,7 +37,7 @@ fn deeper(left: u32) -> Result<u32, Refusal>
 // An expression, with so many nesting levels left.
 #[cycle(parser)]
 #[tactic(auto, unfolding(template_compiler_reading::specs::Steps::and_then, template_compiler_expressions::specs::Reader::expression_by, template_compiler_expressions::specs::Reader::if_behind, template_compiler_expressions::specs::Reader::deeper))]
-fn expression<'source>(
+pub(crate) fn expression<'source>(
     alloc: Global,
     tokens: &mut TokenStream<'source>,
     left: u32,
@@ -77,7 +77,7 @@ fn branches<'source>(
 // Operands with the operators of a level between them.
 #[cycle(parser)]
 #[tactic(auto, unfolding(template_compiler_reading::specs::Steps::and_then, template_compiler_expressions::specs::Reader::binary_by, template_compiler_expressions::specs::Reader::binary_of))]
-fn binary<'source>(
+pub(crate) fn binary<'source>(
     alloc: Global,
     tokens: &mut TokenStream<'source>,
     left: u32,
@@ -461,4 +461,29 @@ fn compared_once<'source>(
         }
     };
     Expr::binary(alloc, kind, value, expr, span)
+}
+
+// A filter's name and its arguments.
+pub(crate) fn filter<'source>(
+    alloc: Global,
+    tokens: &mut TokenStream<'source>,
+    left: u32,
+    value: Option<Expr<'source>>,
+    span: Span,
+) -> Result<Expr<'source>, Refusal>
+    ensures { Parsed (filter_by (deeper left) (optional_in value.entry) tokens.old) tokens.new result }
+{
+    Err(Refusal::OutOfMemory)
+}
+
+// The filters behind a value, or behind none.
+pub(crate) fn filter_chain<'source>(
+    alloc: Global,
+    tokens: &mut TokenStream<'source>,
+    left: u32,
+    value: Option<Expr<'source>>,
+) -> Result<Option<Expr<'source>>, Refusal>
+    ensures { ParsedOptional (filter_chain_by (deeper left) (optional_in value.entry) tokens.old) tokens.new result }
+{
+    Err(Refusal::OutOfMemory)
 }
