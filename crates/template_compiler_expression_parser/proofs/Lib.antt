@@ -1,3 +1,4 @@
-pub mod Signs
-pub mod Left
+pub mod Ends
 pub mod Rounds
+pub mod Takes
+pub mod Trees

@@ -1,21 +1,18 @@
 -- Rounds of repetitions, by what stands next.
-use Rattle.std.proofs.Common.{◌≡◌, ◌<◌, length, arith, ℕ, Ok, Err, List, [], ◌∷◌, None, Some, refl, sym, ap, subst, ◌∙◌}
-use Rattle.template_tree.specs.Tree.{Expression, binary, chain}
-use Rattle.template_tree.specs.View.{links_in}
-use Rattle.template_tree.specs.declared.expressions.CompareOp.{CompareOp}
-use Rattle.template_compiler_expressions.specs.Trees.{compared}
+use Rattle.std.proofs.Common.{◌≡◌, codes, Bool, false, if◌then◌else◌, ℕ, Ok, Err, List, [], ◌∷◌, None, Some, refl, sym, ap, subst, ◌∙◌}
+use Rattle.template_tree.specs.Tree.{Expression, binary}
 use Rattle.template_tree.specs.declared.operators.BinOpKind.{BinOpKind}
-use Rattle.template_compiler_tokens.specs.Token.{Token, TokenFault, bad}
-use Rattle.template_compiler_expressions.specs.Words.{Level, factors, texts, terms, conjunction, disjunction, operator}
-use Rattle.template_compiler_reading.specs.Steps.{Read, Step, goes, stops, fails, under, all}
-use Rattle.template_compiler_expressions.specs.Reader.{deeper, operand_by, operand_behind, operand_step}
+use Rattle.template_compiler_tokens.specs.Token.{Token, TokenFault, bad, symbol, identifier, dot, pipe, bracket_open, paren_open}
+use Rattle.template_compiler_expressions.specs.Words.{begins_word, word_not, Level, factors, texts, terms, conjunction, disjunction, operator}
+use Rattle.template_compiler_reading.specs.Steps.{Read, and_then, Step, goes, stops, fails, under, all}
+use Rattle.template_compiler_expressions.specs.Reader.{Deeper, deeper, operand_by, operand_behind, operand_step, part_step, name_of, is_by, test_by, filter_step}
 use Rattle.template_compiler_reading.proofs.Loops.{Shrinks, all_goes, all_stops, all_fails}
-use Rattle.template_compiler_expression_parser.specs.declared.refusal.Refusal.{Refusal}
-use Rattle.template_compiler_expression_parser.specs.declared.refusal.Refusal.TheVariants as refusals
-use Rattle.template_compiler_expression_parser.specs.Refusals.{Refused, fault_of}
+use Rattle.template_compiler_stream.specs.declared.refusal.Refusal.{Refusal}
+use Rattle.template_compiler_stream.specs.declared.refusal.Refusal.TheVariants as refusals
+use Rattle.template_compiler_stream.specs.Refusals.{Refused, fault_of}
 use Rattle.template_compiler_expression_parser.specs.Parsed.{RefusedStep}
-use Rattle.template_compiler_expression_parser.specs.Left.{passed}
-use Rattle.template_compiler_expression_parser.specs.Signs.{next_operator}
+use Rattle.template_compiler_stream.specs.Left.{passed}
+use Rattle.template_compiler_stream.specs.Signs.{next_operator, begins_symbol}
 
 bad_operator : (k : Level) (f : TokenFault) → operator k (bad f) ≡ None
 bad_operator factors f = refl
@@ -89,8 +86,30 @@ pub next_operand_refused : (k : Level) (read : List Token → Read Expression) (
 next_operand_refused k read a ts mid op e f g h =
     operand_refused k read a ts op e (sym f) (subst (λ us. Refused (read us) e) g h)
 
--- two comparisons or more
-pub compared_chain : (a : Expression) (xs : List CompareOp) → 1 < length xs → compared a (links_in xs) ≡ chain a (links_in xs)
-compared_chain a [] h = absurd (omega arith)
-compared_chain a (x ∷ []) h = absurd (omega arith)
-compared_chain a (x ∷ y ∷ xs) h = refl
+-- what stands next goes on with no filter, and with no part
+pub filter_none : (r : Deeper) (a : Expression) (ts : List Token) → begins_symbol pipe ts ≡ false → begins_word (codes "is") ts ≡ false →
+    filter_step r a ts ≡ stops
+unfolding filter_step
+filter_none r a [] e f = refl
+filter_none r a (symbol pipe ∷ ts) e f = cc
+filter_none r a (identifier n ∷ ts) e f = ap (λ b. if b then under (is_by r a ts) goes else stops) f
+filter_none r a (t ∷ ts) e f = refl
+
+pub part_none : (r : Deeper) (a : Expression) (ts : List Token) → begins_symbol dot ts ≡ false → begins_symbol bracket_open ts ≡ false →
+    begins_symbol paren_open ts ≡ false → part_step r a ts ≡ stops
+unfolding part_step
+part_none r a [] e f g = refl
+part_none r a (symbol dot ∷ ts) e f g = cc
+part_none r a (symbol bracket_open ∷ ts) e f g = cc
+part_none r a (symbol paren_open ∷ ts) e f g = cc
+part_none r a (t ∷ ts) e f g = refl
+
+-- behind `is`
+pub is_plain : (r : Deeper) (a : Expression) (ts : List Token) → begins_word (codes "not") ts ≡ false → is_by r a ts ≡ test_by r false a ts
+unfolding is_by test_by name_of and_then
+is_plain r a [] e = refl
+is_plain r a (t ∷ ts) e = ap (λ b. if b then test_by r true a ts else test_by r false a (t ∷ ts)) e
+
+pub is_not : (r : Deeper) (a : Expression) (ts : List Token) → is_by r a (word_not ∷ ts) ≡ test_by r true a ts
+unfolding is_by
+is_not r a ts = refl

@@ -1,5 +1,1 @@
-pub mod Signs
-pub mod Refusals
-pub mod Left
-pub mod Skips
 pub mod Parsed

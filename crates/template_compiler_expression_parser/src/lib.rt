@@ -1,13 +1,11 @@
 //! The parser of expressions.
 #![tactic(auto)]
 
+mod behind;
+mod ends;
 mod expressions;
+mod literals;
 mod read;
-mod refusal;
-mod sign;
-mod stream;
+mod trees;
 
 pub use read::{read_condition, read_expression, read_filter, read_filter_chain};
-pub use refusal::{Fault, Refusal};
-pub use sign::{Level, Sign};
-pub use stream::{First, TokenStream};

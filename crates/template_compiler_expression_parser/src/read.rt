@@ -5,10 +5,8 @@ ghost use Rattle.template_compiler_expressions.specs.Reader.{expression_at, cond
 ghost use Rattle.template_tree.specs.View.{optional_in};
 
 use crate::expressions::{binary, expression, filter, filter_chain};
-use crate::refusal::Refusal;
-use crate::sign::Level;
-use crate::stream::TokenStream;
 use std::alloc::Global;
+use template_compiler_stream::{Level, Refusal, TokenStream};
 use template_tree::Expr;
 
 /// Reads an expression.

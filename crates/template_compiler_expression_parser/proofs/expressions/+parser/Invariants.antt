@@ -5,7 +5,7 @@ use Rattle.template_compiler_expressions.specs.Reader.{deeper, operand_by, opera
 use Rattle.template_compiler_expressions.specs.Words.{Level, factors, texts, terms, conjunction, disjunction}
 use Rattle.template_compiler_reading.specs.Steps.{all}
 use Rattle.std.proofs.Common.{ℕ}
-use Rattle.template_compiler_expression_parser.specs.Signs.{level_of}
+use Rattle.template_compiler_stream.specs.Signs.{level_of}
 use Rattle.template_compiler_expression_parser.proofs.expressions.+parser.Given as goal
 
 -- how many calls deep a level's operands are at most

@@ -2,10 +2,10 @@
 use Rattle.std.specs.Prelude.{◌≡◌, List, Result, Ok, Err}
 use Rattle.template_compiler_tokens.specs.Token.{Token, TokenFault, bad_syntax, bad_escape, float_literal}
 use Rattle.template_compiler_reading.specs.Steps.{Read}
-use Rattle.template_compiler_expression_parser.specs.declared.refusal.Fault.{Fault}
-use Rattle.template_compiler_expression_parser.specs.declared.refusal.Fault.TheVariants as faults
-use Rattle.template_compiler_expression_parser.specs.declared.refusal.Refusal.{Refusal}
-use Rattle.template_compiler_expression_parser.specs.declared.refusal.Refusal.TheVariants as refusals
+use Rattle.template_compiler_stream.specs.declared.refusal.Fault.{Fault}
+use Rattle.template_compiler_stream.specs.declared.refusal.Fault.TheVariants as faults
+use Rattle.template_compiler_stream.specs.declared.refusal.Refusal.{Refusal}
+use Rattle.template_compiler_stream.specs.declared.refusal.Refusal.TheVariants as refusals
 
 abbrev pub fault_of : Fault → TokenFault
 fault_of faults.Syntax = bad_syntax

@@ -1,0 +1,4 @@
+pub mod Signs
+pub mod Refusals
+pub mod Left
+pub mod Skips
