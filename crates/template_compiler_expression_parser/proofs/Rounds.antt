@@ -1,11 +1,11 @@
 -- Rounds of repetitions, by what stands next.
 use Rattle.std.proofs.Common.{◌≡◌, codes, Bool, false, if◌then◌else◌, ℕ, Ok, Err, List, [], ◌∷◌, None, Some, refl, sym, ap, subst, ◌∙◌}
-use Rattle.template_tree.specs.Tree.{Expression, binary}
+use Rattle.template_tree.specs.Tree.{Expression, binary, Optional, given}
 use Rattle.template_tree.specs.declared.operators.BinOpKind.{BinOpKind}
 use Rattle.template_compiler_tokens.specs.Token.{Token, TokenFault, bad, symbol, identifier, dot, pipe, bracket_open, paren_open}
 use Rattle.template_compiler_expressions.specs.Words.{begins_word, word_not, Level, factors, texts, terms, conjunction, disjunction, operator}
 use Rattle.template_compiler_reading.specs.Steps.{Read, and_then, Step, goes, stops, fails, under, all}
-use Rattle.template_compiler_expressions.specs.Reader.{Deeper, deeper, operand_by, operand_behind, operand_step, part_step, name_of, is_by, test_by, filter_step}
+use Rattle.template_compiler_expressions.specs.Reader.{Deeper, deeper, operand_by, operand_behind, operand_step, part_step, name_of, is_by, test_by, filter_by, filter_step, chain_step}
 use Rattle.template_compiler_reading.proofs.Loops.{Shrinks, all_goes, all_stops, all_fails}
 use Rattle.template_compiler_stream.specs.declared.refusal.Refusal.{Refusal}
 use Rattle.template_compiler_stream.specs.declared.refusal.Refusal.TheVariants as refusals
@@ -113,3 +113,24 @@ is_plain r a (t ∷ ts) e = ap (λ b. if b then test_by r true a ts else test_by
 pub is_not : (r : Deeper) (a : Expression) (ts : List Token) → is_by r a (word_not ∷ ts) ≡ test_by r true a ts
 unfolding is_by
 is_not r a ts = refl
+
+-- filters behind one another
+pub chain_goes : (r : Deeper) (value : Optional) (e : Expression) (old ts us : List Token) → old ≡ symbol pipe ∷ ts →
+    filter_by r value ts ≡ Ok (e, us) → chain_step r value old ≡ goes (given e) us
+unfolding chain_step under
+chain_goes r value e old ts us h i = ap (λ ts. chain_step r value ts) h ∙ ap (λ m. under m (λ e us. goes (given e) us)) i
+
+pub chain_fails : (r : Deeper) (value : Optional) (f : TokenFault) (old ts : List Token) → old ≡ symbol pipe ∷ ts →
+    filter_by r value ts ≡ Err f → chain_step r value old ≡ fails f
+unfolding chain_step under
+chain_fails r value f old ts h i = ap (λ ts. chain_step r value ts) h ∙ ap (λ m. under m (λ e us. goes (given e) us)) i
+
+pub chain_refused : (r : Deeper) (value : Optional) (e : Refusal) (old ts : List Token) → old ≡ symbol pipe ∷ ts →
+    Refused (filter_by r value ts) e → RefusedStep (chain_step r value old) e
+chain_refused r value e old ts h i = refused_under (filter_by r value ts) (chain_step r value old) e (λ f g. chain_fails r value f old ts h g) i
+
+pub chain_none : (r : Deeper) (value : Optional) (ts : List Token) → begins_symbol pipe ts ≡ false → chain_step r value ts ≡ stops
+unfolding chain_step
+chain_none r value [] e = refl
+chain_none r value (symbol pipe ∷ ts) e = cc
+chain_none r value (t ∷ ts) e = refl

@@ -3,8 +3,8 @@ ghost use Rattle.std.specs.Prelude.{◌≡◌, true, false, Some, Ok, suc};
 ghost use Rattle.std.specs.Cow.{cow_str_bytes};
 ghost use Rattle.template_compiler_expression_parser.specs.Parsed.{IsDeeper, Parsed, ParsedAs, ParsedOptional, Stepped, SteppedTo, paired_in, written_in};
 ghost use Rattle.template_compiler_stream.specs.Signs.{level_of};
-ghost use Rattle.template_compiler_expressions.specs.Reader.{link_behind, argument_by, arguments_by, arguments_step, binary_by, bound_by, colon_end, comparison_by, deeper, else_behind, expression_by, filter_by, filter_step, filtered_by, is_by, items_by, items_step, link_step, list_by, map_by, negation_by, not_in_link, operand_by, operand_step, optional_arguments_by, paren_by, paren_end, part_step, parts_by, pairs_by, pairs_step, power_by, primary_by, slice_by, step_by, subscript_by, terms_by, test_arguments_by, test_by, unary_by};
-ghost use Rattle.template_compiler_expressions.specs.Trees.{nothing_written};
+ghost use Rattle.template_compiler_expressions.specs.Reader.{link_behind, argument_by, arguments_by, arguments_step, binary_by, bound_by, colon_end, comparison_by, deeper, else_behind, expression_by, filter_by, filter_step, filtered_by, is_by, items_step, link_step, list_by, map_by, negation_by, not_in_link, operand_by, operand_step, optional_arguments_by, paren_by, paren_end, part_step, parts_by, pairs_step, power_by, primary_by, slice_by, step_by, subscript_by, terms_by, test_arguments_by, test_by, unary_by};
+ghost use Rattle.template_compiler_expressions.specs.Trees.{nothing_paired, nothing_written};
 ghost use Rattle.template_compiler_expressions.specs.Words.{disjunction};
 ghost use Rattle.template_compiler_reading.specs.Steps.{and_then, all};
 ghost use Rattle.template_tree.specs.Tree.{call, expressions_more, given, no_expressions, no_links, tuple_literal};
@@ -635,7 +635,7 @@ fn primary<'source>(
 
 // Behind `(`.
 #[cycle(parser)]
-#[tactic(auto, using(crate::proofs::Ends::not_empty, crate::proofs::Ends::no_tuple), unfolding(template_compiler_reading::specs::Steps::and_then, template_compiler_expressions::specs::Reader::paren_by, template_compiler_expressions::specs::Reader::paren_behind))]
+#[tactic(auto, using(crate::proofs::Ends::not_empty, crate::proofs::Ends::no_tuple), unfolding(template_compiler_reading::specs::Steps::and_then, template_compiler_expressions::specs::Reader::paren_by, template_compiler_expressions::specs::Reader::paren_behind, template_compiler_expressions::specs::Reader::items_by))]
 fn paren<'source>(
     alloc: Global,
     tokens: &mut TokenStream<'source>,
@@ -665,7 +665,7 @@ fn tuple<'source>(
     first: Expr<'source>,
     span: Span,
 ) -> Result<Expr<'source>, Refusal>
-    ensures { Parsed (and_then (items_by (expression_by (deeper left)) (expressions_more (expression_of first.entry) no_expressions) tokens.old) (λ es us. paren_end (tuple_literal es) us)) tokens.new result }
+    ensures { Parsed (and_then (all (items_step (expression_by (deeper left))) (expressions_more (expression_of first.entry) no_expressions) tokens.old) (λ es us. paren_end (tuple_literal es) us)) tokens.new result }
 {
     let mut held = Vec::new(alloc);
     held.push(first)?;
@@ -675,7 +675,7 @@ fn tuple<'source>(
 
 // Behind the `[` of a list.
 #[cycle(parser)]
-#[tactic(auto, unfolding(template_compiler_reading::specs::Steps::and_then, template_compiler_expressions::specs::Reader::list_by))]
+#[tactic(auto, unfolding(template_compiler_reading::specs::Steps::and_then, template_compiler_expressions::specs::Reader::list_by, template_compiler_expressions::specs::Reader::items_by))]
 fn list<'source>(
     alloc: Global,
     tokens: &mut TokenStream<'source>,
@@ -696,7 +696,7 @@ fn items<'source>(
     left: u32,
     held: Vec<Expr<'source>>,
 ) -> Result<Vec<Expr<'source>>, Refusal>
-    ensures { ParsedAs (λ v. expressions_in v.items) (items_by (expression_by (deeper left)) (expressions_in held.entry.items) tokens.old) tokens.new result }
+    ensures { ParsedAs (λ v. expressions_in v.items) (all (items_step (expression_by (deeper left))) (expressions_in held.entry.items) tokens.old) tokens.new result }
 {
     let mut held = held;
     loop {
@@ -732,7 +732,7 @@ fn next_item<'source>(
 
 // Behind the `{` of a map.
 #[cycle(parser)]
-#[tactic(auto, unfolding(template_compiler_reading::specs::Steps::and_then, template_compiler_expressions::specs::Reader::map_by))]
+#[tactic(auto, unfolding(template_compiler_reading::specs::Steps::and_then, template_compiler_expressions::specs::Reader::map_by, template_compiler_expressions::specs::Reader::pairs_by))]
 fn map<'source>(
     alloc: Global,
     tokens: &mut TokenStream<'source>,
@@ -752,7 +752,7 @@ fn pairs<'source>(
     tokens: &mut TokenStream<'source>,
     left: u32,
 ) -> Result<Pairs<'source>, Refusal>
-    ensures { ParsedAs paired_in (pairs_by (expression_by (deeper left)) tokens.old) tokens.new result }
+    ensures { ParsedAs paired_in (all (pairs_step (expression_by (deeper left))) nothing_paired tokens.old) tokens.new result }
 {
     let mut held = Pairs {
         keys: Vec::new(alloc),

@@ -4,9 +4,9 @@ ghost use Rattle.template_compiler_expression_parser.specs.Parsed.{Parsed, Parse
 ghost use Rattle.template_compiler_expressions.specs.Reader.{expression_at, condition_at, filter_at, filter_chain_at};
 ghost use Rattle.template_tree.specs.View.{optional_in};
 
-use crate::expressions::{binary, expression, filter, filter_chain};
+use crate::expressions::{binary, expression, filter};
 use std::alloc::Global;
-use template_compiler_stream::{Level, Refusal, TokenStream};
+use template_compiler_stream::{Level, Refusal, Sign, TokenStream};
 use template_tree::Expr;
 
 /// Reads an expression.
@@ -55,7 +55,8 @@ pub fn read_filter<'source>(
 ) -> Result<Expr<'source>, Refusal>
     ensures { Parsed (filter_at left (optional_in value.entry) tokens.old) tokens.new result }
 {
-    filter(alloc, tokens, left, value, tokens.span())
+    let span = tokens.span();
+    filter(alloc, tokens, left, value, span)
 }
 
 /// Reads the filters behind the value, or behind none, each after a `|`: the value itself where no `|` stands next.
@@ -63,7 +64,7 @@ pub fn read_filter<'source>(
 /// # Errors
 ///
 /// The fault of the token that does not fit, or want of memory.
-#[tactic(auto, unfolding(template_compiler_expressions::specs::Reader::filter_chain_at))]
+#[tactic(auto, unfolding(template_compiler_expressions::specs::Reader::filter_chain_at, template_compiler_expressions::specs::Reader::filter_chain_by))]
 pub fn read_filter_chain<'source>(
     alloc: Global,
     tokens: &mut TokenStream<'source>,
@@ -72,5 +73,11 @@ pub fn read_filter_chain<'source>(
 ) -> Result<Option<Expr<'source>>, Refusal>
     ensures { ParsedOptional (filter_chain_at left (optional_in value.entry) tokens.old) tokens.new result }
 {
-    filter_chain(alloc, tokens, left, value)
+    let mut value = value;
+    while tokens.skip(Sign::Pipe) {
+        let span = tokens.span();
+        let filtered = filter(alloc, tokens, left, value, span)?;
+        value = Some(filtered);
+    }
+    Ok(value)
 }

@@ -124,3 +124,8 @@ this_sign s u (symbol t ∷ ts) e h =
     let signs : u ≡ s = same_sign u s h in
     ap (λ t. symbol t ∷ ts) (sym same ∙ ap symbol_of signs)
 this_sign s u _ e h = cc
+
+pub begins_as : (s u : Symbol) (ts : List token.Token) → Some u ≡ next_symbol ts → (number_of s == number_of u) ≡ begins_symbol s ts
+begins_as s u [] e = cc
+begins_as s u (symbol t ∷ ts) e = let same : u ≡ t = cc in ap (λ u. number_of s == number_of u) same
+begins_as s u (t ∷ ts) e = cc

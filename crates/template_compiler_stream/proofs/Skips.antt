@@ -51,12 +51,12 @@ no_keyword_word (identifier n ∷ ts) e = cc
 no_keyword_word (t ∷ ts) e = refl
 
 -- texts
-pub text_put : {E : Type 0} (k : Token) (s t : List ℕ) (ts : List Token) → PutsText {E = E} k s t (Ok true) → text_step s (k ∷ ts) ≡ goes t (passed (k ∷ ts))
+pub text_put : (E : Type 0) (k : Token) (s t : List ℕ) (ts : List Token) → PutsText {E = E} k s t (Ok true) → text_step s (k ∷ ts) ≡ goes t (passed (k ∷ ts))
 unfolding text_step
-text_put (string part) s t ts h = ap (λ t. goes t ts) (sym h)
-text_put k s t ts h = absurd h
+text_put E (string part) s t ts h = ap (λ t. goes t ts) (sym h)
+text_put E k s t ts h = absurd h
 
-pub no_text : {E : Type 0} (k : Token) (s t : List ℕ) (ts : List Token) → PutsText {E = E} k s t (Ok false) → (text_step s (k ∷ ts) ≡ stops) × (t ≡ s)
+pub no_text : (E : Type 0) (k : Token) (s t : List ℕ) (ts : List Token) → PutsText {E = E} k s t (Ok false) → (text_step s (k ∷ ts) ≡ stops) × (t ≡ s)
 unfolding text_step
-no_text (string part) s t ts h = absurd h
-no_text k s t ts h = (refl, h)
+no_text E (string part) s t ts h = absurd h
+no_text E k s t ts h = (refl, h)

@@ -276,7 +276,7 @@ impl<'source> TokenStream<'source> {
         ensures { result ≡ begins_symbol (symbol_of sign) self.now }
     {
         match self.sign() {
-            Some(next) => next.is(sign),
+            Some(next) => sign.is(next),
             None => false,
         }
     }
@@ -354,7 +354,7 @@ impl<'source> TokenStream<'source> {
     /// # Errors
     ///
     /// Want of memory: nothing is passed.
-    #[tactic(auto, using(crate::proofs::Skips::text_put, crate::proofs::Skips::no_text))]
+    #[tactic(auto, using(crate::proofs::Skips::text_put, crate::proofs::Skips::no_text), unfolding(template_compiler_expressions::specs::Reader::text_step))]
     pub fn skip_text(&mut self, text: &mut String) -> Result<bool, AllocError>
         ensures { SkipsText (string_bytes text.old) self.old (string_bytes text.new) self.new result }
     {
