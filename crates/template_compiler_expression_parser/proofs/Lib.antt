@@ -1,4 +1,4 @@
-pub mod Ends
+pub mod Nothing
+pub mod Pushes
 pub mod Rounds
 pub mod Takes
-pub mod Trees

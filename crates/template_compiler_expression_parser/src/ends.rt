@@ -14,7 +14,7 @@ use template_tree::{CallArg, Expr};
 const ARGUMENT_LIMIT: usize = 2000;
 
 /// The value, behind which a `)` stands.
-#[tactic(auto, using(crate::proofs::Ends::no_paren), unfolding(template_compiler_expressions::specs::Reader::paren_end))]
+#[tactic(auto, using(crate::proofs::Nothing::no_paren), unfolding(template_compiler_expressions::specs::Reader::paren_end))]
 pub fn in_parens<'source>(
     tokens: &mut TokenStream<'source>,
     value: Expr<'source>,
@@ -29,7 +29,7 @@ pub fn in_parens<'source>(
 }
 
 /// The value, behind which a `]` stands.
-#[tactic(auto, using(crate::proofs::Ends::no_bracket), unfolding(template_compiler_expressions::specs::Reader::bracket_end))]
+#[tactic(auto, using(crate::proofs::Nothing::no_bracket), unfolding(template_compiler_expressions::specs::Reader::bracket_end))]
 pub fn in_brackets<'source>(
     tokens: &mut TokenStream<'source>,
     value: Expr<'source>,
@@ -44,7 +44,7 @@ pub fn in_brackets<'source>(
 }
 
 /// The value, behind which a `}` stands.
-#[tactic(auto, using(crate::proofs::Ends::no_brace), unfolding(template_compiler_expressions::specs::Reader::brace_end))]
+#[tactic(auto, using(crate::proofs::Nothing::no_brace), unfolding(template_compiler_expressions::specs::Reader::brace_end))]
 pub fn in_braces<'source>(
     tokens: &mut TokenStream<'source>,
     value: Expr<'source>,
@@ -59,7 +59,7 @@ pub fn in_braces<'source>(
 }
 
 /// The key, behind which a `:` stands.
-#[tactic(auto, using(crate::proofs::Ends::no_colon), unfolding(template_compiler_expressions::specs::Reader::colon_end))]
+#[tactic(auto, using(crate::proofs::Nothing::no_colon), unfolding(template_compiler_expressions::specs::Reader::colon_end))]
 pub fn before_colon<'source>(
     tokens: &mut TokenStream<'source>,
     key: Expr<'source>,
@@ -74,7 +74,7 @@ pub fn before_colon<'source>(
 }
 
 /// Passes the comma behind an item; a closing bracket may stand there too, and stays.
-#[tactic(auto, using(crate::proofs::Ends::no_comma), unfolding(template_compiler_expressions::specs::Reader::separated))]
+#[tactic(auto, using(crate::proofs::Nothing::no_comma), unfolding(template_compiler_expressions::specs::Reader::separated))]
 pub fn separated(tokens: &mut TokenStream) -> Result<(), Refusal>
     ensures { Separated (separated true tokens.old) tokens.new result }
 {
@@ -86,7 +86,7 @@ pub fn separated(tokens: &mut TokenStream) -> Result<(), Refusal>
 }
 
 /// The arguments, behind which a `)` stands: those by place first, and not more than [`ARGUMENT_LIMIT`].
-#[tactic(auto, using(crate::proofs::Ends::no_paren), unfolding(template_compiler_expressions::specs::Reader::paren_end, template_compiler_reading::specs::Steps::and_then))]
+#[tactic(auto, using(crate::proofs::Nothing::no_paren), unfolding(template_compiler_expressions::specs::Reader::paren_end, template_compiler_reading::specs::Steps::and_then))]
 pub fn in_order<'source>(
     tokens: &mut TokenStream<'source>,
     written: Written<'source>,

@@ -224,7 +224,7 @@ fn next_link<'source>(
 
 // Behind a comparison: its right side.
 #[cycle(parser)]
-#[tactic(auto, using(crate::proofs::Trees::links_push), unfolding(template_compiler_reading::specs::Steps::under, template_compiler_expressions::specs::Reader::link_behind, template_compiler_expressions::specs::Reader::terms_by, template_compiler_expressions::specs::Reader::binary_by, template_compiler_expressions::specs::Reader::operand_by))]
+#[tactic(auto, using(crate::proofs::Pushes::links_push), unfolding(template_compiler_reading::specs::Steps::under, template_compiler_expressions::specs::Reader::link_behind, template_compiler_expressions::specs::Reader::terms_by, template_compiler_expressions::specs::Reader::binary_by, template_compiler_expressions::specs::Reader::operand_by))]
 fn put_link<'source>(
     alloc: Global,
     tokens: &mut TokenStream<'source>,
@@ -369,7 +369,7 @@ pub(crate) fn filter<'source>(
 
 // Arguments in parentheses, where a `(` stands next.
 #[cycle(parser)]
-#[tactic(auto, using(crate::proofs::Ends::no_arguments_list), unfolding(template_compiler_expressions::specs::Reader::optional_arguments_by, template_compiler_expressions::specs::Reader::deeper))]
+#[tactic(auto, using(crate::proofs::Nothing::no_arguments_list), unfolding(template_compiler_expressions::specs::Reader::optional_arguments_by, template_compiler_expressions::specs::Reader::deeper))]
 fn optional_arguments<'source>(
     alloc: Global,
     tokens: &mut TokenStream<'source>,
@@ -540,7 +540,7 @@ fn call<'source>(
 
 // Behind the `[` of an item or a slice.
 #[cycle(parser)]
-#[tactic(auto, using(crate::proofs::Ends::a_key, crate::proofs::Ends::no_key), unfolding(template_compiler_reading::specs::Steps::and_then, template_compiler_expressions::specs::Reader::subscript_by, template_compiler_expressions::specs::Reader::subscript_behind))]
+#[tactic(auto, using(crate::proofs::Nothing::a_key, crate::proofs::Nothing::no_key), unfolding(template_compiler_reading::specs::Steps::and_then, template_compiler_expressions::specs::Reader::subscript_by, template_compiler_expressions::specs::Reader::subscript_behind))]
 fn subscript<'source>(
     alloc: Global,
     tokens: &mut TokenStream<'source>,
@@ -597,7 +597,7 @@ fn bound<'source>(
 
 // The step of a slice, where a second colon stands next.
 #[cycle(parser)]
-#[tactic(auto, using(crate::proofs::Ends::no_step), unfolding(template_compiler_expressions::specs::Reader::step_by))]
+#[tactic(auto, using(crate::proofs::Nothing::no_step), unfolding(template_compiler_expressions::specs::Reader::step_by))]
 fn step<'source>(
     alloc: Global,
     tokens: &mut TokenStream<'source>,
@@ -613,7 +613,7 @@ fn step<'source>(
 }
 
 #[cycle(parser)]
-#[tactic(auto, using(crate::proofs::Ends::no_bracket_opens), unfolding(template_compiler_expressions::specs::Reader::primary_by, template_compiler_expressions::specs::Reader::deeper))]
+#[tactic(auto, using(crate::proofs::Nothing::no_bracket_opens), unfolding(template_compiler_expressions::specs::Reader::primary_by, template_compiler_expressions::specs::Reader::deeper))]
 fn primary<'source>(
     alloc: Global,
     tokens: &mut TokenStream<'source>,
@@ -635,7 +635,7 @@ fn primary<'source>(
 
 // Behind `(`.
 #[cycle(parser)]
-#[tactic(auto, using(crate::proofs::Ends::not_empty, crate::proofs::Ends::no_tuple), unfolding(template_compiler_reading::specs::Steps::and_then, template_compiler_expressions::specs::Reader::paren_by, template_compiler_expressions::specs::Reader::paren_behind, template_compiler_expressions::specs::Reader::items_by))]
+#[tactic(auto, using(crate::proofs::Nothing::not_empty, crate::proofs::Nothing::no_tuple), unfolding(template_compiler_reading::specs::Steps::and_then, template_compiler_expressions::specs::Reader::paren_by, template_compiler_expressions::specs::Reader::paren_behind, template_compiler_expressions::specs::Reader::items_by))]
 fn paren<'source>(
     alloc: Global,
     tokens: &mut TokenStream<'source>,
@@ -709,7 +709,7 @@ fn items<'source>(
 }
 
 #[cycle(parser)]
-#[tactic(auto, using(crate::proofs::Trees::expressions_push, crate::proofs::Ends::separated_goes, crate::proofs::Ends::separated_fails), unfolding(template_compiler_reading::specs::Steps::under, template_compiler_expressions::specs::Reader::unless_closing))]
+#[tactic(auto, using(crate::proofs::Pushes::expressions_push, crate::proofs::Nothing::separated_goes, crate::proofs::Nothing::separated_fails), unfolding(template_compiler_reading::specs::Steps::under, template_compiler_expressions::specs::Reader::unless_closing))]
 fn next_item<'source>(
     alloc: Global,
     tokens: &mut TokenStream<'source>,
@@ -768,7 +768,7 @@ fn pairs<'source>(
 }
 
 #[cycle(parser)]
-#[tactic(auto, using(crate::proofs::Ends::separated_goes, crate::proofs::Ends::separated_fails), unfolding(template_compiler_reading::specs::Steps::under, template_compiler_expressions::specs::Reader::unless_closing))]
+#[tactic(auto, using(crate::proofs::Nothing::separated_goes, crate::proofs::Nothing::separated_fails), unfolding(template_compiler_reading::specs::Steps::under, template_compiler_expressions::specs::Reader::unless_closing))]
 fn next_pair<'source>(
     alloc: Global,
     tokens: &mut TokenStream<'source>,
@@ -844,7 +844,7 @@ fn written<'source>(
 }
 
 #[cycle(parser)]
-#[tactic(auto, using(crate::proofs::Ends::separated_goes, crate::proofs::Ends::separated_fails), unfolding(template_compiler_reading::specs::Steps::under, template_compiler_expressions::specs::Reader::unless_closing))]
+#[tactic(auto, using(crate::proofs::Nothing::separated_goes, crate::proofs::Nothing::separated_fails), unfolding(template_compiler_reading::specs::Steps::under, template_compiler_expressions::specs::Reader::unless_closing))]
 fn next_argument<'source>(
     alloc: Global,
     tokens: &mut TokenStream<'source>,
@@ -866,7 +866,7 @@ fn next_argument<'source>(
 }
 
 #[cycle(parser)]
-#[tactic(auto, using(crate::proofs::Ends::not_named), unfolding(template_compiler_reading::specs::Steps::and_then, template_compiler_expressions::specs::Reader::argument_by, template_compiler_expressions::specs::Reader::named_argument))]
+#[tactic(auto, using(crate::proofs::Nothing::not_named), unfolding(template_compiler_reading::specs::Steps::and_then, template_compiler_expressions::specs::Reader::argument_by, template_compiler_expressions::specs::Reader::named_argument))]
 fn argument<'source>(
     alloc: Global,
     tokens: &mut TokenStream<'source>,
@@ -881,7 +881,7 @@ fn argument<'source>(
 }
 
 #[cycle(parser)]
-#[tactic(auto, using(crate::proofs::Ends::no_spread), unfolding(template_compiler_reading::specs::Steps::and_then))]
+#[tactic(auto, using(crate::proofs::Nothing::no_spread), unfolding(template_compiler_reading::specs::Steps::and_then))]
 fn unnamed<'source>(
     alloc: Global,
     tokens: &mut TokenStream<'source>,
