@@ -1,7 +1,7 @@
 //! Expressions.
 ghost use Rattle.std.specs.Prelude.{◌≡◌, true, false, Some, Ok, suc};
 ghost use Rattle.std.specs.Cow.{cow_str_bytes};
-ghost use Rattle.template_compiler_expression_parser.specs.Parsed.{IsDeeper, Parsed, ParsedAs, ParsedOptional, Stepped, SteppedTo, paired_in, written_in};
+ghost use Rattle.template_compiler_expression_parser.specs.Parsed.{IsDeeper, Parsed, ParsedAs, ParsedOptional, Stepped, SteppedTo, paired_in, unnamed_by, written_in};
 ghost use Rattle.template_compiler_stream.specs.Signs.{level_of};
 ghost use Rattle.template_compiler_expressions.specs.Reader.{link_behind, argument_by, arguments_by, arguments_step, binary_by, bound_by, colon_end, comparison_by, deeper, else_behind, expression_by, filter_by, filter_step, filtered_by, is_by, items_step, link_step, list_by, map_by, negation_by, not_in_link, operand_by, operand_step, optional_arguments_by, paren_by, paren_end, part_step, parts_by, pairs_step, power_by, primary_by, slice_by, step_by, subscript_by, terms_by, test_arguments_by, test_by, unary_by};
 ghost use Rattle.template_compiler_expressions.specs.Trees.{nothing_paired, nothing_written};

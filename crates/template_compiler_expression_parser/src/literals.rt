@@ -7,7 +7,7 @@ ghost use Rattle.template_compiler_expressions.specs.Reader.{dot_part, dotted_st
 ghost use Rattle.template_compiler_expressions.specs.Trees.{dotted};
 ghost use Rattle.template_compiler_expressions.specs.Words.{literal_word};
 ghost use Rattle.template_compiler_reading.specs.Steps.{all, and_then};
-ghost use Rattle.template_compiler_tokens.specs.Token as token;
+ghost use Rattle.template_compiler_tokens.specs.Token as lexed;
 ghost use Rattle.template_compiler_tokens.specs.View.{token_of};
 ghost use Rattle.template_tree.specs.Tree.{constant, item};
 ghost use Rattle.template_tree.specs.View.{expression_of};
@@ -60,7 +60,7 @@ fn put_part(name: &mut String, part: &str) -> Result<(), AllocError>
 
 // The name with the parts behind it.
 fn parts(tokens: &mut TokenStream, name: String) -> Result<String, AllocError>
-    ensures { IfOk result (λ s. all dotted_step (string_bytes name.entry) tokens.old ≡ Ok (string_bytes s, tokens.new)) }
+    ensures { IfOk result (λ s. all dotted_step (string_bytes name) tokens.old ≡ Ok (string_bytes s, tokens.new)) }
 {
     let mut name = name;
     loop {
@@ -155,7 +155,7 @@ fn texts<'source>(
     first: String,
     span: Span,
 ) -> Result<Expr<'source>, Refusal>
-    ensures { Parsed (and_then (all text_step (string_bytes first.entry) tokens.old) (λ t us. Ok (constant (text t), us))) tokens.new result }
+    ensures { Parsed (and_then (all text_step (string_bytes first) tokens.old) (λ t us. Ok (constant (text t), us))) tokens.new result }
 {
     match Value::from_text(adjacent(tokens, first)?) {
         Ok(value) => Ok(Expr::constant(alloc, value, span)?),
@@ -164,7 +164,7 @@ fn texts<'source>(
 }
 
 fn adjacent(tokens: &mut TokenStream, first: String) -> Result<String, AllocError>
-    ensures { IfOk result (λ s. all text_step (string_bytes first.entry) tokens.old ≡ Ok (string_bytes s, tokens.new)) }
+    ensures { IfOk result (λ s. all text_step (string_bytes first) tokens.old ≡ Ok (string_bytes s, tokens.new)) }
 {
     let mut text = first;
     loop {
@@ -204,7 +204,7 @@ fn attribute_from<'source>(
     value: Expr<'source>,
     span: Span,
 ) -> Result<Expr<'source>, Refusal>
-    ensures { (ts : List token.Token) → WentOn (dot_part (expression_of value.entry) (token_of token.entry ∷ ts)) ts result }
+    ensures { (ts : List lexed.Token) → WentOn (dot_part (expression_of value.entry) (token_of token.entry ∷ ts)) ts result }
 {
     match token {
         Token::Ident(name) => Ok(Expr::attribute(alloc, value, name, span)?),
