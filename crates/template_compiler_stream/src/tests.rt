@@ -1,5 +1,7 @@
+use crate::refusal::Fault;
+use crate::sign::{Level, Sign};
+use crate::stream::{First, TokenStream};
 use std::test::Fail;
-use template_compiler_stream::{Fault, First, Level, Sign, TokenStream};
 use template_compiler_tokens::Token;
 use template_tree::{BinOpKind, Span};
 

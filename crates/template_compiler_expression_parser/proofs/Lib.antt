@@ -1,4 +1,0 @@
-pub mod Nothing
-pub mod Pushes
-pub mod Rounds
-pub mod Takes
