@@ -1,13 +1,13 @@
 -- Signs and their symbols are told apart by their numbers.
-use Rattle.std.proofs.Common.{◌≡◌, ℕ, true, false, ◌==◌, if◌then◌else◌, List, [], ◌∷◌, None, Some, option_map, refl, sym, ◌∙◌, ap, arith}
+use Rattle.std.proofs.Common.{◌≡◌, ℕ, Bool, true, false, ◌==◌, if◌then◌else◌, List, [], ◌∷◌, Option, None, Some, option_map, refl, sym, ◌∙◌, ap, arith}
 use Rattle.std.proofs.lemmas.Bool.{eqb-true}
 use Rattle.std.proofs.lemmas.Bool.Decides.{nat_tests}
-use Rattle.template_compiler_expression_parser.specs.Left.{passed}
+use Rattle.template_compiler_stream.specs.Left.{passed}
 use Rattle.template_compiler_tokens.specs.Token as token
 use Rattle.template_compiler_tokens.specs.Token.{Symbol, symbol}
-use Rattle.template_compiler_expression_parser.specs.declared.sign.Sign.{Sign}
-use Rattle.template_compiler_expression_parser.specs.declared.sign.Sign.TheVariants.{Plus, Minus, Mul, Div, FloorDiv, Pow, Mod, Dot, Comma, Colon, Tilde, Assign, Pipe, Eq, Ne, Gt, Gte, Lt, Lte, BracketOpen, BracketClose, ParenOpen, ParenClose, BraceOpen, BraceClose}
-use Rattle.template_compiler_expression_parser.specs.Signs.{symbol_of, next_symbol, number_of, begins_symbol}
+use Rattle.template_compiler_stream.specs.declared.sign.Sign.{Sign}
+use Rattle.template_compiler_stream.specs.declared.sign.Sign.TheVariants.{Plus, Minus, Mul, Div, FloorDiv, Pow, Mod, Dot, Comma, Colon, Tilde, Assign, Pipe, Eq, Ne, Gt, Gte, Lt, Lte, BracketOpen, BracketClose, ParenOpen, ParenClose, BraceOpen, BraceClose}
+use Rattle.template_compiler_stream.specs.Signs.{symbol_of, next_symbol, number_of, is_symbol, begins_symbol}
 
 sign_from : Symbol → Sign
 sign_from token.plus = Plus
@@ -124,3 +124,8 @@ this_sign s u (symbol t ∷ ts) e h =
     let signs : u ≡ s = same_sign u s h in
     ap (λ t. symbol t ∷ ts) (sym same ∙ ap symbol_of signs)
 this_sign s u _ e h = cc
+
+pub begins_as : (s u : Symbol) (ts : List token.Token) → Some u ≡ next_symbol ts → (number_of s == number_of u) ≡ begins_symbol s ts
+begins_as s u [] e = cc
+begins_as s u (symbol t ∷ ts) e = let same : u ≡ t = cc in ap (λ u. number_of s == number_of u) same
+begins_as s u (t ∷ ts) e = cc

@@ -1,14 +1,14 @@
 -- The tokens that are left in a stream, which holds them with the last one first.
-use Rattle.std.specs.Prelude.{List, [], ◌∷◌, ◌++◌, map, reverse, Option, None, Some}
+use Rattle.std.specs.Prelude.{◌≡◌, List, [], ◌∷◌, ◌++◌, map, reverse, Option, None, Some}
 use Rattle.template_tree.specs.declared.span.Span.{Span}
 use Rattle.template_compiler_tokens.specs.Token as token
 use Rattle.template_compiler_tokens.specs.Token.{bad}
 use Rattle.template_compiler_tokens.specs.View.{token_of}
 use Rattle.template_compiler_tokens.specs.declared.token.Token as scanned
-use Rattle.template_compiler_expression_parser.specs.Refusals.{fault_of}
-use Rattle.template_compiler_expression_parser.specs.declared.refusal.Fault.{Fault}
-use Rattle.template_compiler_expression_parser.specs.declared.stream.First.{First}
-use Rattle.template_compiler_expression_parser.specs.declared.stream.First.TheVariants.{Token, End, Bad}
+use Rattle.template_compiler_stream.specs.Refusals.{fault_of}
+use Rattle.template_compiler_stream.specs.declared.refusal.Fault.{Fault}
+use Rattle.template_compiler_stream.specs.declared.stream.First.{First}
+use Rattle.template_compiler_stream.specs.declared.stream.First.TheVariants.{Token, End, Bad}
 
 abbrev pub ended : Option Fault → List token.Token
 ended None = []

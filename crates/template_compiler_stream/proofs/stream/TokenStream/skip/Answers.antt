@@ -1,6 +1,6 @@
 use Rattle.std.proofs.Common.{refl, sym, ◌∙◌}
-use Rattle.template_compiler_expression_parser.proofs.Signs.{other_sign}
-use Rattle.template_compiler_expression_parser.proofs.stream.TokenStream.skip.Goals as goal
+use Rattle.template_compiler_stream.proofs.Signs.{other_sign}
+use Rattle.template_compiler_stream.proofs.stream.TokenStream.skip.Goals as goal
 
 pub returns-else-is : goal.returns-else-is
 returns-else-is c =

@@ -5,10 +5,10 @@ use Rattle.template_compiler_tokens.specs.Token.{Symbol, symbol, identifier}
 use Rattle.template_tree.specs.declared.operators.BinOpKind.{BinOpKind}
 use Rattle.template_tree.specs.declared.operators.CompareOpKind.{CompareOpKind}
 use Rattle.template_compiler_expressions.specs.Words as words
-use Rattle.template_compiler_expression_parser.specs.declared.sign.Level.{Level}
-use Rattle.template_compiler_expression_parser.specs.declared.sign.Level.TheVariants.{Factors, Texts, Terms, Conjunction, Disjunction}
-use Rattle.template_compiler_expression_parser.specs.declared.sign.Sign.{Sign}
-use Rattle.template_compiler_expression_parser.specs.declared.sign.Sign.TheVariants.{Plus, Minus, Mul, Div, FloorDiv, Pow, Mod, Dot, Comma, Colon, Tilde, Assign, Pipe, Eq, Ne, Gt, Gte, Lt, Lte, BracketOpen, BracketClose, ParenOpen, ParenClose, BraceOpen, BraceClose}
+use Rattle.template_compiler_stream.specs.declared.sign.Level.{Level}
+use Rattle.template_compiler_stream.specs.declared.sign.Level.TheVariants.{Factors, Texts, Terms, Conjunction, Disjunction}
+use Rattle.template_compiler_stream.specs.declared.sign.Sign.{Sign}
+use Rattle.template_compiler_stream.specs.declared.sign.Sign.TheVariants.{Plus, Minus, Mul, Div, FloorDiv, Pow, Mod, Dot, Comma, Colon, Tilde, Assign, Pipe, Eq, Ne, Gt, Gte, Lt, Lte, BracketOpen, BracketClose, ParenOpen, ParenClose, BraceOpen, BraceClose}
 
 abbrev pub symbol_of : Sign → Symbol
 symbol_of Plus = token.plus
@@ -92,6 +92,16 @@ word_in _ = None
 abbrev pub next_word : List token.Token → Option (List ℕ)
 next_word [] = None
 next_word (t ∷ ts) = word_in t
+
+-- the word behind the next token
+abbrev pub second_word : List token.Token → Option (List ℕ)
+second_word [] = None
+second_word (t ∷ ts) = next_word ts
+
+-- a `=` stands behind the next token
+abbrev pub assigned_behind : List token.Token → Bool
+assigned_behind [] = false
+assigned_behind (t ∷ ts) = begins_symbol token.assign ts
 
 abbrev pub level_of : Level → words.Level
 level_of Factors = words.factors

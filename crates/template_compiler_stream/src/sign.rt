@@ -1,7 +1,7 @@
 //! Signs and brackets.
 ghost use Rattle.std.specs.Prelude.{◌≡◌, ◌==◌, option_map};
-ghost use Rattle.template_compiler_expression_parser.specs.Signs.{number_of, symbol_of, symbol_in};
-ghost use Rattle.template_compiler_expression_parser.specs.Signs.{level_of, word_in};
+ghost use Rattle.template_compiler_stream.specs.Signs.{number_of, symbol_of, symbol_in};
+ghost use Rattle.template_compiler_stream.specs.Signs.{level_of, word_in};
 ghost use Rattle.template_compiler_expressions.specs.Words.{factors, operator, comparison_operator, is_bare, is_no_argument};
 ghost use Rattle.template_compiler_expressions.specs.Reader.{is_closing, is_bound_end};
 ghost use Rattle.template_compiler_tokens.specs.View.{token_of};

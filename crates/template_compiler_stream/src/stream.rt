@@ -1,19 +1,20 @@
 //! The tokens that are left.
-ghost use Rattle.std.specs.Prelude.{◌≡◌, [], ◌∷◌, ◌++◌, map, option_map, is_some, if◌then◌else◌};
+ghost use Rattle.std.specs.Prelude.{◌≡◌, [], ◌∷◌, ◌++◌, map, option_map, is_some, if◌then◌else◌, string_bytes};
 ghost use Rattle.template_compiler_reading.specs.Steps.{fault};
-ghost use Rattle.template_compiler_tokens.specs.Token.{bad_syntax};
+ghost use Rattle.template_compiler_tokens.specs.Token.{assign, bad_syntax};
 ghost use Rattle.template_compiler_expressions.specs.Words.{begins_bare};
 ghost use Rattle.template_compiler_expressions.specs.Reader.{begins_closing, begins_bound_end};
-ghost use Rattle.template_compiler_expression_parser.specs.Refusals.{fault_of};
-ghost use Rattle.template_compiler_expression_parser.specs.Left.{ahead, ended, passed};
-ghost use Rattle.template_compiler_expression_parser.specs.Signs.{level_of, next_operator, next_comparison, next_symbol, next_word, symbol_of, word_in};
+ghost use Rattle.template_compiler_stream.specs.Refusals.{fault_of};
+ghost use Rattle.template_compiler_stream.specs.Left.{ahead, ended, passed};
+ghost use Rattle.template_compiler_stream.specs.Signs.{assigned_behind, begins_symbol, is_symbol, level_of, second_word, next_operator, next_comparison, next_symbol, next_word, symbol_of, word_in};
 ghost use Rattle.template_compiler_tokens.specs.View.{token_of};
-ghost use Rattle.template_compiler_expression_parser.specs.Skips.{SkipsSign, SkipsWord};
+ghost use Rattle.template_compiler_stream.specs.Skips.{PutsText, SkipsDotted, SkipsKeyword, SkipsSign, SkipsText, SkipsWord};
 
 use crate::refusal::Fault;
 use crate::sign::{
     Level, Sign, begins_argument, closes, comparison_of, ends_bound, operator_of, sign_of,
 };
+use std::alloc::AllocError;
 use std::marker::Model;
 use std::mem;
 use template_compiler_tokens::Token;
@@ -40,7 +41,7 @@ pub struct Rest<'source> {
 impl<'source> Model for Rest<'source> {
     ghost use Rattle.std.specs.Prelude.{List};
     ghost use Rattle.template_compiler_tokens.specs.Token as token;
-    ghost use Rattle.template_compiler_expression_parser.specs.Left.{left_in};
+    ghost use Rattle.template_compiler_stream.specs.Left.{left_in};
 
     ghost Value = { List token.Token };
 
@@ -73,7 +74,7 @@ pub struct TokenStream<'source> {
 impl<'source> Model for TokenStream<'source> {
     ghost use Rattle.std.specs.Prelude.{List};
     ghost use Rattle.template_compiler_tokens.specs.Token as token;
-    ghost use Rattle.template_compiler_expression_parser.specs.Left.{ahead};
+    ghost use Rattle.template_compiler_stream.specs.Left.{ahead};
 
     ghost Value = { List token.Token };
 
@@ -266,6 +267,135 @@ impl<'source> TokenStream<'source> {
             }
             None => false,
         }
+    }
+}
+
+impl<'source> TokenStream<'source> {
+    // Whether the sign stands next.
+    fn begins(&self, sign: Sign) -> bool
+        ensures { result ≡ begins_symbol (symbol_of sign) self.now }
+    {
+        match self.sign() {
+            Some(next) => sign.is(next),
+            None => false,
+        }
+    }
+
+    // The word behind the next token.
+    fn second_word(&self) -> Option<&'source str>
+        ensures { option_map (λ w. w.now) result ≡ second_word self.now }
+    {
+        match &self.first {
+            First::Token(_, _) => match &self.second {
+                First::Token(token, _) => word_of(token),
+                First::End => None,
+                First::Bad(_) => None,
+            },
+            First::End => None,
+            First::Bad(_) => None,
+        }
+    }
+
+    // Whether a `=` stands behind the next token.
+    fn assigns(&self) -> bool
+        ensures { result ≡ assigned_behind self.now }
+    {
+        match &self.first {
+            First::Token(_, _) => match &self.second {
+                First::Token(token, _) => assigns(token),
+                First::End => false,
+                First::Bad(_) => false,
+            },
+            First::End => false,
+            First::Bad(_) => false,
+        }
+    }
+
+    /// Passes a dot and the name behind it, where these two stand next: the name.
+    #[tactic(auto, using(crate::proofs::Skips::dotted_here, crate::proofs::Skips::no_dot, crate::proofs::Skips::no_dotted_word))]
+    pub fn skip_dotted(&mut self) -> Option<&'source str>
+        ensures { SkipsDotted self.old self.new result }
+    {
+        match self.second_word() {
+            Some(part) => {
+                if self.begins(Sign::Dot) {
+                    self.advance();
+                    self.advance();
+                    Some(part)
+                } else {
+                    None
+                }
+            }
+            None => None,
+        }
+    }
+
+    /// Passes a name and the `=` behind it, where these two stand next: the name.
+    #[tactic(auto, using(crate::proofs::Skips::keyword_here, crate::proofs::Skips::not_assigned, crate::proofs::Skips::no_keyword_word))]
+    pub fn skip_keyword(&mut self) -> Option<&'source str>
+        ensures { SkipsKeyword self.old self.new result }
+    {
+        match self.word() {
+            Some(name) => {
+                if self.assigns() {
+                    self.advance();
+                    self.advance();
+                    Some(name)
+                } else {
+                    None
+                }
+            }
+            None => None,
+        }
+    }
+
+    /// Puts the text literal that stands next behind the text, and passes it: whether one stood there.
+    ///
+    /// # Errors
+    ///
+    /// Want of memory: nothing is passed.
+    #[tactic(auto, using(crate::proofs::Skips::text_put, crate::proofs::Skips::no_text), unfolding(template_compiler_expressions::specs::Reader::text_step))]
+    pub fn skip_text(&mut self, text: &mut String) -> Result<bool, AllocError>
+        ensures { SkipsText (string_bytes text.old) self.old (string_bytes text.new) self.new result }
+    {
+        match &self.first {
+            First::Token(token, _) => {
+                if !put_text(token, text)? {
+                    return Ok(false);
+                }
+            }
+            First::End => return Ok(false),
+            First::Bad(_) => return Ok(false),
+        }
+        self.advance();
+        Ok(true)
+    }
+}
+
+// Puts the text that a token is behind the text: whether it is one.
+fn put_text(token: &Token, text: &mut String) -> Result<bool, AllocError>
+    ensures { PutsText (token_of token.now) (string_bytes text.old) (string_bytes text.new) result }
+{
+    match token {
+        Token::Str(part) => {
+            text.push_str(part)?;
+            Ok(true)
+        }
+        Token::String(part) => {
+            text.push_str(part.as_str())?;
+            Ok(true)
+        }
+        _ => Ok(false),
+    }
+}
+
+// Whether the token is a `=`.
+fn assigns(token: &Token) -> bool
+    ensures { result ≡ is_symbol assign (token_of token.now) }
+{
+    match token {
+        Token::Assign => true,
+        _ => false,
     }
 }
 

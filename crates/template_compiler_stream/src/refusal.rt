@@ -1,6 +1,6 @@
 //! Why tokens are no expression.
 ghost use Rattle.std.specs.Prelude.{◌≡◌};
-ghost use Rattle.template_compiler_expression_parser.specs.declared.refusal.Refusal.TheVariants as refusals;
+ghost use Rattle.template_compiler_stream.specs.declared.refusal.Refusal.TheVariants as refusals;
 
 use std::alloc::{AllocError, AllocFailed};
 

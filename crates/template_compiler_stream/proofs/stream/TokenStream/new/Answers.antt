@@ -1,7 +1,7 @@
 use Rattle.std.proofs.Common.{sym, ◌∙◌, ap}
-use Rattle.template_compiler_expression_parser.specs.Left.{ahead}
-use Rattle.template_compiler_expression_parser.proofs.Left.{new_left}
-use Rattle.template_compiler_expression_parser.proofs.stream.TokenStream.new.Goals as goal
+use Rattle.template_compiler_stream.specs.Left.{ahead}
+use Rattle.template_compiler_stream.proofs.Left.{new_left}
+use Rattle.template_compiler_stream.proofs.stream.TokenStream.new.Goals as goal
 
 pub returns : goal.returns
 returns c =

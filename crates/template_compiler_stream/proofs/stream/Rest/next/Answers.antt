@@ -1,7 +1,7 @@
-use Rattle.std.proofs.Common.{sym, ◌∙◌, arith}
-use Rattle.template_compiler_expression_parser.proofs.Left.{next_some, next_end, next_nothing}
-use Rattle.template_compiler_expression_parser.proofs.stream.Rest.next.Goals as goal
-use Rattle.template_compiler_expression_parser.proofs.stream.Rest.next.Goals.{in-Some, in-None+in-Some-fault, in-None+in-None-fault}
+use Rattle.std.proofs.Common.{refl, sym, ◌∙◌, ap, arith}
+use Rattle.template_compiler_stream.proofs.Left.{next_some, next_end, next_nothing}
+use Rattle.template_compiler_stream.proofs.stream.Rest.next.Goals as goal
+use Rattle.template_compiler_stream.proofs.stream.Rest.next.Goals.{in-Some, in-None+in-Some-fault, in-None+in-None-fault}
 
 pub returns : goal.returns
 returns c =

@@ -1,13 +1,13 @@
 -- How a stream's list changes.
-use Rattle.std.proofs.Common.{◌≡◌, List, [], ◌∷◌, ◌++◌, map, reverse, length, Option, None, Some, refl, ◌∙◌, ap, arith}
+use Rattle.std.proofs.Common.{◌≡◌, ℕ, List, [], ◌∷◌, ◌++◌, map, reverse, length, Option, None, Some, refl, sym, ◌∙◌, ap, arith}
 use Rattle.std.proofs.lemmas.List.{reverse-append, reverse-reverse}
 use Rattle.template_tree.specs.declared.span.Span.{Span}
 use Rattle.template_compiler_tokens.specs.Token.{bad}
-use Rattle.template_compiler_expression_parser.specs.Refusals.{fault_of}
+use Rattle.template_compiler_stream.specs.Refusals.{fault_of}
 use Rattle.template_compiler_tokens.specs.View.{token_of}
 use Rattle.template_compiler_tokens.specs.declared.token.Token.{Token}
-use Rattle.template_compiler_expression_parser.specs.declared.refusal.Fault.{Fault}
-use Rattle.template_compiler_expression_parser.specs.Left.{left_in, ended}
+use Rattle.template_compiler_stream.specs.declared.refusal.Fault.{Fault}
+use Rattle.template_compiler_stream.specs.Left.{left_in, ended}
 
 pub next_some : (xs ys : List (Token × Span)) (t : Token × Span) (f : Option Fault) → xs ≡ ys ++ t ∷ [] →
     left_in xs f ≡ token_of t.0 ∷ left_in ys f

@@ -32,3 +32,25 @@ fn passes_what_stands_next(rt: HostRuntime) -> Result<(), Fail> {
     assert_eq!(rt; stream.fault(), Fault::Escape);
     Ok(())
 }
+
+#[test]
+fn passes_two_tokens_together(rt: HostRuntime) -> Result<(), Fail> {
+    let mut tokens = Vec::new(rt.alloc());
+    tokens.push((Token::Ident("name"), Span::default()))?;
+    tokens.push((Token::Assign, Span::default()))?;
+    tokens.push((Token::Dot, Span::default()))?;
+    tokens.push((Token::Ident("part"), Span::default()))?;
+    tokens.push((Token::Str("a"), Span::default()))?;
+    tokens.push((Token::Str("b"), Span::default()))?;
+    let mut stream = TokenStream::new(tokens, None);
+    assert!(rt; stream.skip_dotted().is_none());
+    assert_eq!(rt; stream.skip_keyword(), Some("name"));
+    assert!(rt; stream.skip_keyword().is_none());
+    assert_eq!(rt; stream.skip_dotted(), Some("part"));
+    let mut text = String::new(rt.alloc());
+    assert!(rt; stream.skip_text(&mut text)?);
+    assert!(rt; stream.skip_text(&mut text)?);
+    assert!(rt; !stream.skip_text(&mut text)?);
+    assert_eq!(rt; text.as_str(), "ab");
+    Ok(())
+}
