@@ -1,6 +1,7 @@
 //! The instructions of a template.
 
-ghost use Rattle.std.specs.Prelude.{◌≡◌, ◌^◌, ◌<◌, ◌++◌, ◌∷◌, [], ◌↔◌, IsTrue, IfOk, IfErr, OnOk, OnErr, IsErrAnd, length, slice_get, option_map};
+ghost use Rattle.std.specs.Prelude.{◌≡◌, ◌^◌, ◌<◌, ◌++◌, ◌∷◌, [], ◌↔◌, IsTrue, IfOk, IfErr, OnOk, OnErr, IsErrAnd, length, slice_get, option_map, take};
+ghost use Rattle.std.proofs.Math.ListN.{set};
 
 use crate::instruction::Instruction;
 use std::alloc::Global;
@@ -91,5 +92,25 @@ impl<'source> Instructions<'source> {
             Ok(()) => Ok(place as u32),
             Err(_refused) => Err(Error::new(ErrorKind::OutOfMemory)),
         }
+    }
+
+    /// Puts an instruction in the place of the one that stands there. Where none stands, nothing changes.
+    pub fn replace(&mut self, index: u32, instruction: Instruction<'source>)
+        ensures replaced { code_in self.new ≡ set (code_in self.old) index (code_of instruction.entry) }
+        ensures same { IsSameTemplate self.old self.new }
+    {
+        let index = index as usize;
+        if index >= self.code.len() {
+            return;
+        }
+        self.code[index] = instruction;
+    }
+
+    /// Drops the instructions from a place on. Takes time linear in their number.
+    pub fn truncate(&mut self, len: usize)
+        ensures kept { code_in self.new ≡ take len (code_in self.old) }
+        ensures same { IsSameTemplate self.old self.new }
+    {
+        self.code.truncate(len);
     }
 }
