@@ -17,7 +17,7 @@ use std::marker::Model;
 use template_values_core::{Content, Entry, Value};
 use template_values_errors::{Error, ErrorKind};
 use template_values_modes::UndefinedBehavior;
-use template_values_operators::items_of;
+use template_values_items::items_of;
 use template_values_records::Records;
 
 /// Values in order, as a contract sees them. The items of lists and tuples and the keys of maps are
