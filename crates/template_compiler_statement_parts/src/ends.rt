@@ -127,10 +127,7 @@ pub fn expect_block_end<'source>(
 }
 
 #[tactic(auto, using(crate::proofs::Standing::end_name_here, crate::proofs::Standing::end_name_none), unfolding(template_compiler_statements::specs::Reader::end_name_by))]
-fn expect_end_name<'source>(
-    tokens: &mut TokenStream<'source>,
-    name: &str,
-) -> Result<(), Refusal>
+fn expect_end_name<'source>(tokens: &mut TokenStream<'source>, name: &str) -> Result<(), Refusal>
     ensures { ParsedAs passing (end_name_by name.now tt tokens.old) tokens.new result }
 {
     match tokens.word() {

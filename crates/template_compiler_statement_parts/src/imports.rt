@@ -20,7 +20,8 @@ pub fn read_imports<'source>(
     alloc: Global,
     tokens: &mut TokenStream<'source>,
 ) -> Result<Vec<(Expr<'source>, Option<Expr<'source>>)>, Refusal>
-    ensures { ParsedAs (λ v. imports_in v.items) (and_then (import_by no_imports tokens.old) (all (more_step import_by))) tokens.new result }
+    ensures { ParsedAs (λ v. imports_in v.items) (and_then (import_by no_imports tokens.old) (all (more_step import_by)))
+        tokens.new result }
 {
     let mut names = Vec::new(alloc);
     read_imported(tokens, &mut names)?;

@@ -10,7 +10,8 @@ mod targets;
 mod words;
 
 pub use ends::{
-    expect_assign, expect_block_end, expect_paren_end, expect_print_end, expect_tag, expect_tag_end, expect_word,
+    expect_assign, expect_block_end, expect_paren_end, expect_print_end, expect_tag,
+    expect_tag_end, expect_word,
 };
 pub use imports::read_imports;
 pub use names::{is_reserved, read_stored};

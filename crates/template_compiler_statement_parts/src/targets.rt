@@ -189,7 +189,6 @@ fn next_part<'source>(tokens: &mut TokenStream<'source>) -> Option<&'source str>
     }
 }
 
-
 // One target is itself, several are unpacked.
 #[tactic(auto, using(crate::proofs::Lists::several_unpacked))]
 fn unpacked<'source>(

@@ -20,7 +20,7 @@ pub all_targets-loop-refusal-preserved : goal.all_targets-loop-refusal-preserved
 all_targets-loop-refusal-preserved t c =
     let more = rw c.in-Ok-true.field-0-test at c.in-Ok-true.ensures in
     rounds_go (more_step (one_target_by c.args.dots (inner_targets c.args.dots c.args.left))) (next_target_takes c.args.dots c.args.left)
-        _ _ _ _ _ _ c.loop-refusal.invariant more
+    _ _ _ _ _ _ c.loop-refusal.invariant more
 
 pub all_targets-loop-refusal-smaller : goal.all_targets-loop-refusal-smaller
 all_targets-loop-refusal-smaller t c =
@@ -30,4 +30,4 @@ all_targets-loop-refusal-smaller t c =
 pub read_inner_targets-returns-else-left-eq0 : goal.read_inner_targets-returns-else-left-eq0
 read_inner_targets-returns-else-left-eq0 t c =
     subst (λ m. Parsed m c.read_targets.new.tokens c.read_targets.result)
-        (sym (inner_less c.args.dots c.args.left (c.args.left - 1) c.args.tokens.now (omega arith))) c.read_targets.ensures
+    (sym (inner_less c.args.dots c.args.left (c.args.left - 1) c.args.tokens.now (omega arith))) c.read_targets.ensures
