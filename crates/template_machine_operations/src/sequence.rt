@@ -16,8 +16,8 @@ use std::alloc::Global;
 use std::marker::Model;
 use template_values_core::{Content, Entry, Value};
 use template_values_errors::{Error, ErrorKind};
-use template_values_modes::UndefinedBehavior;
 use template_values_items::items_of;
+use template_values_modes::UndefinedBehavior;
 use template_values_records::Records;
 
 /// Values in order, as a contract sees them. The items of lists and tuples and the keys of maps are
