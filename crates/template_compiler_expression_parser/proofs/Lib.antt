@@ -1,4 +1,1 @@
-pub mod Nothing
-pub mod Pushes
-pub mod Rounds
 pub mod Takes

@@ -1,10 +1,10 @@
 -- Each round of a repetition takes a token at least.
 use Rattle.std.proofs.Common.{◌≡◌, ◌<◌, ◌≤◌, ℕ, Bool, true, false, if◌then◌else◌, List, [], ◌∷◌, ◌++◌, length, Ok, Err, refl, ap, arith}
 use Rattle.template_tree.specs.Tree.{Expression, Optional, Expressions, Argument}
-use Rattle.template_compiler_tokens.specs.Token.{Token, TokenFault, symbol, identifier, string, dot, comma, colon, pipe}
+use Rattle.template_compiler_tokens.specs.Token.{Token, TokenFault, symbol, comma, colon, pipe}
 use Rattle.template_compiler_reading.specs.Steps.{Read, fault, and_then, Step, goes, stops, fails, under}
-use Rattle.template_compiler_expressions.specs.Trees.{dotted, and_expression, Paired, and_pair, Written, and_written}
-use Rattle.template_compiler_expressions.specs.Reader.{deeper, dotted_step, text_step, colon_end, begins_closing, separated, unless_closing, expression_by, expression_at, items_step, pairs_step, argument_by, arguments_step, filter_by, filter_at, chain_step}
+use Rattle.template_compiler_expressions.specs.Trees.{and_expression, Paired, and_pair, Written, and_written}
+use Rattle.template_compiler_expressions.specs.Reader.{deeper, colon_end, begins_closing, separated, unless_closing, expression_by, expression_at, items_step, pairs_step, argument_by, arguments_step, filter_by, filter_at, chain_step}
 use Rattle.template_compiler_expressions.proofs.Shrinks as shrinks
 use Rattle.template_compiler_expression_laws.proofs.Sound.{expression_sound, filter_sound, argument_sound}
 
@@ -80,17 +80,7 @@ next_argument_takes d w x ts us e =
     under_takes (argument_by (expression_by (deeper d)) ts) _ x ts us (λ a vs h. argument_takes d a ts vs h)
         (λ a vs h. separated_within (and_written w a) x vs us h) (unless_goes _ ts x us e)
 
--- names, texts and chains of filters
-pub dotted_takes : (n m : List ℕ) (ts us : List Token) → dotted_step n ts ≡ goes m us → length us < length ts
-unfolding dotted_step
-dotted_takes n m (symbol dot ∷ identifier part ∷ ts) us e = let same : ts ≡ us = cc in let l = ap length same in omega arith
-dotted_takes n m _ us e = cc
-
-pub text_takes : (s t : List ℕ) (ts us : List Token) → text_step s ts ≡ goes t us → length us < length ts
-unfolding text_step
-text_takes s t (string part ∷ ts) us e = let same : ts ≡ us = cc in let l = ap length same in omega arith
-text_takes s t _ us e = cc
-
+-- chains of filters
 chain_within : (b : Optional) (o : Optional) (ts us : List Token) → goes b ts ≡ goes o us → length us ≤ length ts
 chain_within b o ts us e = let same : ts ≡ us = cc in let l = ap length same in omega arith
 

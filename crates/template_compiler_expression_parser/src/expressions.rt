@@ -1,7 +1,7 @@
 //! Expressions.
 ghost use Rattle.std.specs.Prelude.{◌≡◌, true, false, Some, Ok, suc};
 ghost use Rattle.std.specs.Cow.{cow_str_bytes};
-ghost use Rattle.template_compiler_expression_parser.specs.Parsed.{IsDeeper, Parsed, ParsedAs, ParsedOptional, Stepped, SteppedTo, paired_in, unnamed_by, written_in};
+ghost use Rattle.template_compiler_expression_parts.specs.Parsed.{Parsed, ParsedAs, ParsedOptional, Stepped, SteppedTo, paired_in, unnamed_by, written_in};
 ghost use Rattle.template_compiler_stream.specs.Signs.{level_of};
 ghost use Rattle.template_compiler_expressions.specs.Reader.{link_behind, argument_by, arguments_by, arguments_step, binary_by, bound_by, colon_end, comparison_by, deeper, else_behind, expression_by, filter_by, filter_step, filtered_by, is_by, items_step, link_step, list_by, map_by, negation_by, not_in_link, operand_by, operand_step, optional_arguments_by, paren_by, paren_end, part_step, parts_by, pairs_step, power_by, primary_by, slice_by, step_by, subscript_by, terms_by, test_arguments_by, test_by, unary_by};
 ghost use Rattle.template_compiler_expressions.specs.Trees.{nothing_paired, nothing_written};
@@ -10,24 +10,14 @@ ghost use Rattle.template_compiler_reading.specs.Steps.{and_then, all};
 ghost use Rattle.template_tree.specs.Tree.{call, expressions_more, given, no_expressions, no_links, tuple_literal};
 ghost use Rattle.template_tree.specs.View.{argument_of, arguments_in, expression_of, expressions_in, links_in, optional_in};
 
-use crate::behind::{Behind, Pairs, Written};
-use crate::ends::{before_colon, in_braces, in_brackets, in_order, in_parens, separated};
-use crate::literals::{attribute, literal, name};
-use crate::trees::{compared, tested};
 use std::alloc::Global;
 use std::borrow::CowStr;
-use template_compiler_stream::{Fault, Level, Refusal, Sign, TokenStream};
+use template_compiler_expression_parts::{
+    Behind, Pairs, Written, attribute, before_colon, compared, deeper, in_braces, in_brackets,
+    in_order, in_parens, literal, name, separated, tested,
+};
+use template_compiler_stream::{Level, Refusal, Sign, TokenStream};
 use template_tree::{BinOpKind, CallArg, CompareOp, CompareOpKind, Expr, Span, UnaryOpKind};
-
-fn deeper(left: u32) -> Result<u32, Refusal>
-    ensures { IsDeeper left result }
-{
-    if left == 0 {
-        Err(Refusal::Token(Fault::Syntax))
-    } else {
-        Ok(left - 1)
-    }
-}
 
 // An expression, with so many nesting levels left.
 #[cycle(parser)]
@@ -107,7 +97,7 @@ fn operands<'source>(
 }
 
 #[cycle(parser)]
-#[tactic(auto, using(crate::proofs::Rounds::operand_found, crate::proofs::Rounds::operand_none), unfolding(template_compiler_reading::specs::Steps::under))]
+#[tactic(auto, using(template_compiler_expression_parts::proofs::Rounds::operand_found, template_compiler_expression_parts::proofs::Rounds::operand_none), unfolding(template_compiler_reading::specs::Steps::under))]
 fn next_operand<'source>(
     alloc: Global,
     tokens: &mut TokenStream<'source>,
@@ -224,7 +214,7 @@ fn next_link<'source>(
 
 // Behind a comparison: its right side.
 #[cycle(parser)]
-#[tactic(auto, using(crate::proofs::Pushes::links_push), unfolding(template_compiler_reading::specs::Steps::under, template_compiler_expressions::specs::Reader::link_behind, template_compiler_expressions::specs::Reader::terms_by, template_compiler_expressions::specs::Reader::binary_by, template_compiler_expressions::specs::Reader::operand_by))]
+#[tactic(auto, using(template_compiler_expression_parts::proofs::Pushes::links_push), unfolding(template_compiler_reading::specs::Steps::under, template_compiler_expressions::specs::Reader::link_behind, template_compiler_expressions::specs::Reader::terms_by, template_compiler_expressions::specs::Reader::binary_by, template_compiler_expressions::specs::Reader::operand_by))]
 fn put_link<'source>(
     alloc: Global,
     tokens: &mut TokenStream<'source>,
@@ -315,7 +305,7 @@ fn filters<'source>(
 }
 
 #[cycle(parser)]
-#[tactic(auto, using(crate::proofs::Rounds::filter_none), unfolding(template_compiler_reading::specs::Steps::under, template_compiler_expressions::specs::Reader::filter_step))]
+#[tactic(auto, using(template_compiler_expression_parts::proofs::Rounds::filter_none), unfolding(template_compiler_reading::specs::Steps::under, template_compiler_expressions::specs::Reader::filter_step))]
 fn next_filter<'source>(
     alloc: Global,
     tokens: &mut TokenStream<'source>,
@@ -369,7 +359,7 @@ pub(crate) fn filter<'source>(
 
 // Arguments in parentheses, where a `(` stands next.
 #[cycle(parser)]
-#[tactic(auto, using(crate::proofs::Nothing::no_arguments_list), unfolding(template_compiler_expressions::specs::Reader::optional_arguments_by, template_compiler_expressions::specs::Reader::deeper))]
+#[tactic(auto, using(template_compiler_expression_parts::proofs::Nothing::no_arguments_list), unfolding(template_compiler_expressions::specs::Reader::optional_arguments_by, template_compiler_expressions::specs::Reader::deeper))]
 fn optional_arguments<'source>(
     alloc: Global,
     tokens: &mut TokenStream<'source>,
@@ -386,7 +376,7 @@ fn optional_arguments<'source>(
 
 // Behind `is`.
 #[cycle(parser)]
-#[tactic(auto, using(crate::proofs::Rounds::is_not, crate::proofs::Rounds::is_plain))]
+#[tactic(auto, using(template_compiler_expression_parts::proofs::Rounds::is_not, template_compiler_expression_parts::proofs::Rounds::is_plain))]
 fn asked<'source>(
     alloc: Global,
     tokens: &mut TokenStream<'source>,
@@ -501,7 +491,7 @@ fn parts<'source>(
 }
 
 #[cycle(parser)]
-#[tactic(auto, using(crate::proofs::Rounds::part_none), unfolding(template_compiler_reading::specs::Steps::under, template_compiler_expressions::specs::Reader::part_step, template_compiler_expressions::specs::Reader::deeper))]
+#[tactic(auto, using(template_compiler_expression_parts::proofs::Rounds::part_none), unfolding(template_compiler_reading::specs::Steps::under, template_compiler_expressions::specs::Reader::part_step, template_compiler_expressions::specs::Reader::deeper))]
 fn next_part<'source>(
     alloc: Global,
     tokens: &mut TokenStream<'source>,
@@ -540,7 +530,7 @@ fn call<'source>(
 
 // Behind the `[` of an item or a slice.
 #[cycle(parser)]
-#[tactic(auto, using(crate::proofs::Nothing::a_key, crate::proofs::Nothing::no_key), unfolding(template_compiler_reading::specs::Steps::and_then, template_compiler_expressions::specs::Reader::subscript_by, template_compiler_expressions::specs::Reader::subscript_behind))]
+#[tactic(auto, using(template_compiler_expression_parts::proofs::Nothing::a_key, template_compiler_expression_parts::proofs::Nothing::no_key), unfolding(template_compiler_reading::specs::Steps::and_then, template_compiler_expressions::specs::Reader::subscript_by, template_compiler_expressions::specs::Reader::subscript_behind))]
 fn subscript<'source>(
     alloc: Global,
     tokens: &mut TokenStream<'source>,
@@ -597,7 +587,7 @@ fn bound<'source>(
 
 // The step of a slice, where a second colon stands next.
 #[cycle(parser)]
-#[tactic(auto, using(crate::proofs::Nothing::no_step), unfolding(template_compiler_expressions::specs::Reader::step_by))]
+#[tactic(auto, using(template_compiler_expression_parts::proofs::Nothing::no_step), unfolding(template_compiler_expressions::specs::Reader::step_by))]
 fn step<'source>(
     alloc: Global,
     tokens: &mut TokenStream<'source>,
@@ -613,7 +603,7 @@ fn step<'source>(
 }
 
 #[cycle(parser)]
-#[tactic(auto, using(crate::proofs::Nothing::no_bracket_opens), unfolding(template_compiler_expressions::specs::Reader::primary_by, template_compiler_expressions::specs::Reader::deeper))]
+#[tactic(auto, using(template_compiler_expression_parts::proofs::Nothing::no_bracket_opens), unfolding(template_compiler_expressions::specs::Reader::primary_by, template_compiler_expressions::specs::Reader::deeper))]
 fn primary<'source>(
     alloc: Global,
     tokens: &mut TokenStream<'source>,
@@ -635,7 +625,7 @@ fn primary<'source>(
 
 // Behind `(`.
 #[cycle(parser)]
-#[tactic(auto, using(crate::proofs::Nothing::not_empty, crate::proofs::Nothing::no_tuple), unfolding(template_compiler_reading::specs::Steps::and_then, template_compiler_expressions::specs::Reader::paren_by, template_compiler_expressions::specs::Reader::paren_behind, template_compiler_expressions::specs::Reader::items_by))]
+#[tactic(auto, using(template_compiler_expression_parts::proofs::Nothing::not_empty, template_compiler_expression_parts::proofs::Nothing::no_tuple), unfolding(template_compiler_reading::specs::Steps::and_then, template_compiler_expressions::specs::Reader::paren_by, template_compiler_expressions::specs::Reader::paren_behind, template_compiler_expressions::specs::Reader::items_by))]
 fn paren<'source>(
     alloc: Global,
     tokens: &mut TokenStream<'source>,
@@ -709,7 +699,7 @@ fn items<'source>(
 }
 
 #[cycle(parser)]
-#[tactic(auto, using(crate::proofs::Pushes::expressions_push, crate::proofs::Nothing::separated_goes, crate::proofs::Nothing::separated_fails), unfolding(template_compiler_reading::specs::Steps::under, template_compiler_expressions::specs::Reader::unless_closing))]
+#[tactic(auto, using(template_compiler_expression_parts::proofs::Pushes::expressions_push, template_compiler_expression_parts::proofs::Nothing::separated_goes, template_compiler_expression_parts::proofs::Nothing::separated_fails), unfolding(template_compiler_reading::specs::Steps::under, template_compiler_expressions::specs::Reader::unless_closing))]
 fn next_item<'source>(
     alloc: Global,
     tokens: &mut TokenStream<'source>,
@@ -768,7 +758,7 @@ fn pairs<'source>(
 }
 
 #[cycle(parser)]
-#[tactic(auto, using(crate::proofs::Nothing::separated_goes, crate::proofs::Nothing::separated_fails), unfolding(template_compiler_reading::specs::Steps::under, template_compiler_expressions::specs::Reader::unless_closing))]
+#[tactic(auto, using(template_compiler_expression_parts::proofs::Nothing::separated_goes, template_compiler_expression_parts::proofs::Nothing::separated_fails), unfolding(template_compiler_reading::specs::Steps::under, template_compiler_expressions::specs::Reader::unless_closing))]
 fn next_pair<'source>(
     alloc: Global,
     tokens: &mut TokenStream<'source>,
@@ -844,7 +834,7 @@ fn written<'source>(
 }
 
 #[cycle(parser)]
-#[tactic(auto, using(crate::proofs::Nothing::separated_goes, crate::proofs::Nothing::separated_fails), unfolding(template_compiler_reading::specs::Steps::under, template_compiler_expressions::specs::Reader::unless_closing))]
+#[tactic(auto, using(template_compiler_expression_parts::proofs::Nothing::separated_goes, template_compiler_expression_parts::proofs::Nothing::separated_fails), unfolding(template_compiler_reading::specs::Steps::under, template_compiler_expressions::specs::Reader::unless_closing))]
 fn next_argument<'source>(
     alloc: Global,
     tokens: &mut TokenStream<'source>,
@@ -866,7 +856,7 @@ fn next_argument<'source>(
 }
 
 #[cycle(parser)]
-#[tactic(auto, using(crate::proofs::Nothing::not_named), unfolding(template_compiler_reading::specs::Steps::and_then, template_compiler_expressions::specs::Reader::argument_by, template_compiler_expressions::specs::Reader::named_argument))]
+#[tactic(auto, using(template_compiler_expression_parts::proofs::Nothing::not_named), unfolding(template_compiler_reading::specs::Steps::and_then, template_compiler_expressions::specs::Reader::argument_by, template_compiler_expressions::specs::Reader::named_argument))]
 fn argument<'source>(
     alloc: Global,
     tokens: &mut TokenStream<'source>,
@@ -881,7 +871,7 @@ fn argument<'source>(
 }
 
 #[cycle(parser)]
-#[tactic(auto, using(crate::proofs::Nothing::no_spread), unfolding(template_compiler_reading::specs::Steps::and_then))]
+#[tactic(auto, using(template_compiler_expression_parts::proofs::Nothing::no_spread), unfolding(template_compiler_reading::specs::Steps::and_then))]
 fn unnamed<'source>(
     alloc: Global,
     tokens: &mut TokenStream<'source>,

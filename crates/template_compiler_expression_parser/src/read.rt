@@ -1,6 +1,6 @@
 //! What the parser of statements reads of expressions. Each function takes the nesting levels that are left, and takes the
 //! tokens of what it reads off the stream. Where it refuses, nothing is said of the tokens that are left.
-ghost use Rattle.template_compiler_expression_parser.specs.Parsed.{Parsed, ParsedOptional};
+ghost use Rattle.template_compiler_expression_parts.specs.Parsed.{Parsed, ParsedOptional};
 ghost use Rattle.template_compiler_expressions.specs.Reader.{expression_at, condition_at, filter_at, filter_chain_at};
 ghost use Rattle.template_tree.specs.View.{optional_in};
 

@@ -3,7 +3,7 @@ use Rattle.template_tree.specs.View.{expression_of}
 use Rattle.template_compiler_expressions.specs.Reader.{deeper, operand_by, operand_step, part_step, filter_step, link_step, terms_by}
 use Rattle.template_compiler_expression_laws.proofs.Sound.{operand_shrinks, part_shrinks, filter_shrinks, link_shrinks}
 use Rattle.template_compiler_stream.specs.Signs.{level_of}
-use Rattle.template_compiler_expression_parser.proofs.Rounds.{next_operand_goes, next_operand_refused, rounds_end, rounds_go, rounds_refused}
+use Rattle.template_compiler_expression_parts.proofs.Rounds.{next_operand_goes, next_operand_refused, rounds_end, rounds_go, rounds_refused}
 use Rattle.template_compiler_expression_parser.proofs.expressions.+parser.Goals as goal
 
 pub next_operand-returns-in_ok-binary-in-Some : goal.next_operand-returns-in_ok-binary-in-Some

@@ -6,7 +6,7 @@ use Rattle.template_compiler_expressions.specs.Trees.{nothing_paired, nothing_wr
 use Rattle.template_compiler_expressions.specs.Words.{Level, factors, texts, terms, conjunction, disjunction}
 use Rattle.template_compiler_reading.specs.Steps.{all}
 use Rattle.template_compiler_stream.specs.Signs.{level_of}
-use Rattle.template_compiler_expression_parser.specs.Parsed.{paired_in, written_in}
+use Rattle.template_compiler_expression_parts.specs.Parsed.{paired_in, written_in}
 use Rattle.template_compiler_expression_parser.proofs.expressions.+parser.Given as goal
 
 -- how many calls deep a level's operands are at most

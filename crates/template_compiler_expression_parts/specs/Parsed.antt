@@ -7,10 +7,10 @@ use Rattle.template_compiler_tokens.specs.Token.{Token, symbol, mul, pow}
 use Rattle.template_compiler_reading.specs.Steps.{Read, and_then, Step, goes, stops, fails}
 use Rattle.template_compiler_expressions.specs.Trees as trees
 use Rattle.template_compiler_stream.specs.Refusals.{Refused, fault_of}
-use Rattle.template_compiler_expression_parser.specs.declared.behind.Behind.{Behind}
-use Rattle.template_compiler_expression_parser.specs.declared.behind.Behind.TheVariants.{Goes, Stops}
-use Rattle.template_compiler_expression_parser.specs.declared.behind.Pairs.{Pairs}
-use Rattle.template_compiler_expression_parser.specs.declared.behind.Written.{Written}
+use Rattle.template_compiler_expression_parts.specs.declared.behind.Behind.{Behind}
+use Rattle.template_compiler_expression_parts.specs.declared.behind.Behind.TheVariants.{Goes, Stops}
+use Rattle.template_compiler_expression_parts.specs.declared.behind.Pairs.{Pairs}
+use Rattle.template_compiler_expression_parts.specs.declared.behind.Written.{Written}
 use Rattle.template_compiler_stream.specs.declared.refusal.Fault.TheVariants.{Syntax}
 use Rattle.template_compiler_stream.specs.declared.refusal.Refusal.{Refusal}
 use Rattle.template_compiler_stream.specs.declared.refusal.Refusal.TheVariants as refusals

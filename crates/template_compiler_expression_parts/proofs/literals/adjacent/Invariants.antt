@@ -1,7 +1,7 @@
 use Rattle.std.proofs.Common.{◌≡◌, length, string_bytes}
 use Rattle.template_compiler_expressions.specs.Reader.{text_step}
 use Rattle.template_compiler_reading.specs.Steps.{all}
-use Rattle.template_compiler_expression_parser.proofs.literals.adjacent.Given as goal
+use Rattle.template_compiler_expression_parts.proofs.literals.adjacent.Given as goal
 
 abbrev pub invariant-loop-text : goal.invariant-loop-text
 invariant-loop-text l = all text_step (string_bytes l.text) l.tokens ≡ all text_step (string_bytes l.initial.text) l.initial.tokens

@@ -1,6 +1,6 @@
 //! What must stand behind something.
 ghost use Rattle.std.specs.Prelude.{◌≡◌, true, List};
-ghost use Rattle.template_compiler_expression_parser.specs.Parsed.{Parsed, ParsedAs, Separated, written_in};
+ghost use Rattle.template_compiler_expression_parts.specs.Parsed.{IsDeeper, Parsed, ParsedAs, Separated, written_in};
 ghost use Rattle.template_compiler_expressions.specs.Reader.{brace_end, bracket_end, colon_end, few_arguments, paren_end, separated};
 ghost use Rattle.template_compiler_reading.specs.Steps.{and_then};
 ghost use Rattle.template_compiler_tokens.specs.Token.{Token};
@@ -12,6 +12,21 @@ use template_tree::{CallArg, Expr};
 
 /// The most arguments of a call, a filter or a test.
 const ARGUMENT_LIMIT: usize = 2000;
+
+/// One nesting level less.
+///
+/// # Errors
+///
+/// No level is left.
+pub fn deeper(left: u32) -> Result<u32, Refusal>
+    ensures { IsDeeper left result }
+{
+    if left == 0 {
+        Err(Refusal::Token(Fault::Syntax))
+    } else {
+        Ok(left - 1)
+    }
+}
 
 /// The value, behind which a `)` stands.
 #[tactic(auto, using(crate::proofs::Nothing::no_paren), unfolding(template_compiler_expressions::specs::Reader::paren_end))]
@@ -101,6 +116,7 @@ pub fn in_order<'source>(
 }
 
 // Those by place, and behind them those by keyword.
+#[tactic(auto, using(crate::proofs::Pushes::few_in, crate::proofs::Pushes::few_over))]
 fn few<'source>(written: Written<'source>) -> Result<Vec<CallArg<'source>>, Refusal>
     ensures { (ts : List Token) → ParsedAs (λ v. arguments_in v.items) (few_arguments (written_in written.entry) ts) ts result }
 {

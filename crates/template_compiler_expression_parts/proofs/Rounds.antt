@@ -3,14 +3,15 @@ use Rattle.std.proofs.Common.{◌≡◌, codes, Bool, false, if◌then◌else◌
 use Rattle.template_tree.specs.Tree.{Expression, binary, Optional, given}
 use Rattle.template_tree.specs.declared.operators.BinOpKind.{BinOpKind}
 use Rattle.template_compiler_tokens.specs.Token.{Token, TokenFault, bad, symbol, identifier, dot, pipe, bracket_open, paren_open}
-use Rattle.template_compiler_expressions.specs.Words.{begins_word, word_not, Level, factors, texts, terms, conjunction, disjunction, operator}
+use Rattle.template_compiler_expressions.specs.Words.{begins_dotted, begins_word, word_not, Level, factors, texts, terms, conjunction, disjunction, operator}
+use Rattle.template_compiler_expressions.specs.Trees.{dotted}
 use Rattle.template_compiler_reading.specs.Steps.{Read, and_then, Step, goes, stops, fails, under, all}
-use Rattle.template_compiler_expressions.specs.Reader.{Deeper, deeper, operand_by, operand_behind, operand_step, part_step, name_of, is_by, test_by, filter_by, filter_step, chain_step}
+use Rattle.template_compiler_expressions.specs.Reader.{Deeper, deeper, dotted_step, operand_by, operand_behind, operand_step, part_step, name_of, is_by, test_by, filter_by, filter_step, chain_step}
 use Rattle.template_compiler_reading.proofs.Loops.{Shrinks, all_goes, all_stops, all_fails}
 use Rattle.template_compiler_stream.specs.declared.refusal.Refusal.{Refusal}
 use Rattle.template_compiler_stream.specs.declared.refusal.Refusal.TheVariants as refusals
 use Rattle.template_compiler_stream.specs.Refusals.{Refused, fault_of}
-use Rattle.template_compiler_expression_parser.specs.Parsed.{RefusedStep}
+use Rattle.template_compiler_expression_parts.specs.Parsed.{RefusedStep}
 use Rattle.template_compiler_stream.specs.Left.{passed}
 use Rattle.template_compiler_stream.specs.Signs.{next_operator, begins_symbol}
 
@@ -134,3 +135,16 @@ unfolding chain_step
 chain_none r value [] e = refl
 chain_none r value (symbol pipe ∷ ts) e = cc
 chain_none r value (t ∷ ts) e = refl
+
+-- parts of a name
+pub dotted_goes : (n m part : List ℕ) (ts us : List Token) → ts ≡ symbol dot ∷ identifier part ∷ us → m ≡ dotted n part → dotted_step n ts ≡ goes m us
+unfolding dotted_step
+dotted_goes n m part ts us e f = ap (λ ts. dotted_step n ts) e ∙ ap (λ m. goes m us) (sym f)
+
+pub dotted_none : (n : List ℕ) (ts : List Token) → begins_dotted ts ≡ false → dotted_step n ts ≡ stops
+unfolding dotted_step
+dotted_none n [] e = refl
+dotted_none n (symbol dot ∷ []) e = refl
+dotted_none n (symbol dot ∷ identifier part ∷ ts) e = cc
+dotted_none n (symbol dot ∷ t ∷ ts) e = refl
+dotted_none n (t ∷ ts) e = refl

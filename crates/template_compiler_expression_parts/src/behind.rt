@@ -1,7 +1,7 @@
 //! What repetitions put together.
 ghost use Rattle.std.specs.Prelude.{◌≡◌, IfOk};
 ghost use Rattle.template_compiler_expressions.specs.Trees.{and_pair, and_written};
-ghost use Rattle.template_compiler_expression_parser.specs.Parsed.{paired_in, written_in};
+ghost use Rattle.template_compiler_expression_parts.specs.Parsed.{paired_in, written_in};
 ghost use Rattle.template_tree.specs.View.{argument_of, expression_of};
 
 use std::alloc::AllocError;
@@ -25,6 +25,7 @@ pub struct Pairs<'source> {
 
 impl<'source> Pairs<'source> {
     /// Puts a key and its value behind the others.
+    #[tactic(auto, using(crate::proofs::Pushes::expressions_push))]
     pub fn push(&mut self, key: Expr<'source>, value: Expr<'source>) -> Result<(), AllocError>
         ensures { IfOk result (λ _. paired_in self.new ≡ and_pair (paired_in self.old) (expression_of key.entry) (expression_of value.entry)) }
     {
@@ -43,6 +44,7 @@ pub struct Written<'source> {
 
 impl<'source> Written<'source> {
     /// Puts an argument behind the others of its kind.
+    #[tactic(auto, using(crate::proofs::Pushes::arguments_push))]
     pub fn push(&mut self, argument: CallArg<'source>) -> Result<(), AllocError>
         ensures { IfOk result (λ _. written_in self.new ≡ and_written (written_in self.old) (argument_of argument.entry)) }
     {

@@ -1,7 +1,7 @@
 //! Names, numbers, texts, and the words that are literals.
 ghost use Rattle.std.specs.Prelude.{◌≡◌, ◌∷◌, pos, IfOk, IfErr, List, Ok, string_bytes};
 ghost use Rattle.std.specs.Cow.{cow_str_bytes};
-ghost use Rattle.template_compiler_expression_parser.specs.Parsed.{Parsed, ParsedAs, SteppedTo, WentOn};
+ghost use Rattle.template_compiler_expression_parts.specs.Parsed.{Parsed, ParsedAs, SteppedTo, WentOn};
 ghost use Rattle.template_compiler_stream.specs.declared.refusal.Refusal.TheVariants as refusals;
 ghost use Rattle.template_compiler_expressions.specs.Reader.{dot_part, dotted_step, name_of, nothing_deeper, primary_by, text_step, word_tree};
 ghost use Rattle.template_compiler_expressions.specs.Trees.{dotted};
@@ -76,6 +76,7 @@ fn parts(tokens: &mut TokenStream, name: String) -> Result<String, AllocError>
 /// # Errors
 ///
 /// The fault of the token that is none of these, or want of memory.
+#[tactic(auto, unfolding(template_compiler_expressions::specs::Reader::primary_by))]
 pub fn literal<'source>(
     alloc: Global,
     tokens: &mut TokenStream<'source>,
@@ -181,6 +182,7 @@ fn adjacent(tokens: &mut TokenStream, first: String) -> Result<String, AllocErro
 /// # Errors
 ///
 /// The fault of the token that is neither a name nor a number, or want of memory.
+#[tactic(auto, unfolding(template_compiler_expressions::specs::Reader::dot_part))]
 pub fn attribute<'source>(
     alloc: Global,
     tokens: &mut TokenStream<'source>,

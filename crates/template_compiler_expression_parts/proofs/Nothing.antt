@@ -6,7 +6,7 @@ use Rattle.template_compiler_reading.specs.Steps.{Read, fault, and_then, Step, g
 use Rattle.template_compiler_expressions.specs.Reader.{Deeper, nothing_deeper, paren_end, bracket_end, brace_end, colon_end, begins_closing, separated, primary_by, optional_arguments_by, paren_behind, paren_by, step_by, subscript_behind, named_argument, argument_by}
 use Rattle.template_compiler_stream.specs.Signs.{begins_symbol}
 use Rattle.template_compiler_stream.specs.Skips.{begins_keyword}
-use Rattle.template_compiler_expression_parser.specs.Parsed.{unnamed_by}
+use Rattle.template_compiler_expression_parts.specs.Parsed.{unnamed_by}
 
 -- ends
 pub no_paren : {A : Type 0} (a : A) (ts : List Token) → begins_symbol paren_close ts ≡ false → paren_end a ts ≡ Err (fault ts)
