@@ -1,12 +1,12 @@
 //! Expressions.
 ghost use Rattle.std.specs.Prelude.{◌≡◌, true, false, Some, Ok, suc};
 ghost use Rattle.std.specs.Cow.{cow_str_bytes};
-ghost use Rattle.template_compiler_expression_parts.specs.Parsed.{Parsed, ParsedAs, ParsedOptional, Stepped, SteppedTo, paired_in, unnamed_by, written_in};
+ghost use Rattle.template_compiler_expression_parts.specs.Parsed.{Parsed, ParsedAs, ParsedOptional, Stepped, SteppedTo, WentOn, paired_in, unnamed_by, written_in};
 ghost use Rattle.template_compiler_stream.specs.Signs.{level_of};
 ghost use Rattle.template_compiler_expressions.specs.Reader.{link_behind, argument_by, arguments_by, arguments_step, binary_by, bound_by, colon_end, comparison_by, deeper, else_behind, expression_by, filter_by, filter_step, filtered_by, is_by, items_step, link_step, list_by, map_by, negation_by, not_in_link, operand_by, operand_step, optional_arguments_by, paren_by, paren_end, part_step, parts_by, pairs_step, power_by, primary_by, slice_by, step_by, subscript_by, terms_by, test_arguments_by, test_by, unary_by};
 ghost use Rattle.template_compiler_expressions.specs.Trees.{nothing_paired, nothing_written};
 ghost use Rattle.template_compiler_expressions.specs.Words.{disjunction};
-ghost use Rattle.template_compiler_reading.specs.Steps.{and_then, all};
+ghost use Rattle.template_compiler_reading.specs.Steps.{and_then, all, goes, under};
 ghost use Rattle.template_tree.specs.Tree.{call, expressions_more, given, no_expressions, no_links, tuple_literal};
 ghost use Rattle.template_tree.specs.View.{argument_of, arguments_in, expression_of, expressions_in, links_in, optional_in};
 
@@ -48,7 +48,8 @@ fn branches<'source>(
     value: Expr<'source>,
     span: Span,
 ) -> Result<Expr<'source>, Refusal>
-    ensures { Parsed (and_then (binary_by (deeper left) disjunction tokens.old) (else_behind (deeper (suc left)) (expression_of value.entry))) tokens.new result }
+    ensures { Parsed (and_then (binary_by (deeper left) disjunction tokens.old)
+        (else_behind (deeper (suc left)) (expression_of value.entry))) tokens.new result }
 {
     let test = binary(alloc, tokens, left, Level::Disjunction)?;
     let other = if tokens.skip_word("else") {
@@ -84,7 +85,8 @@ fn operands<'source>(
     value: Expr<'source>,
     span: Span,
 ) -> Result<Expr<'source>, Refusal>
-    ensures { Parsed (all (operand_step (level_of level) (operand_by (deeper left) (level_of level))) (expression_of value.entry) tokens.old) tokens.new result }
+    ensures { Parsed (all (operand_step (level_of level) (operand_by (deeper left) (level_of level))) (expression_of value.entry)
+        tokens.old) tokens.new result }
 {
     let mut value = value;
     loop {
@@ -106,7 +108,8 @@ fn next_operand<'source>(
     value: Expr<'source>,
     span: Span,
 ) -> Result<Behind<'source>, Refusal>
-    ensures { Stepped (operand_step (level_of level) (operand_by (deeper left) (level_of level)) (expression_of value.entry) tokens.old) (expression_of value.entry) tokens.old tokens.new result }
+    ensures { Stepped (operand_step (level_of level) (operand_by (deeper left) (level_of level)) (expression_of value.entry) tokens.old)
+        (expression_of value.entry) tokens.old tokens.new result }
 {
     match tokens.skip_operator(level) {
         Some(op) => {
@@ -192,13 +195,15 @@ fn links<'source>(
 }
 
 #[cycle(parser)]
+#[tactic(auto, using(crate::proofs::Links::link_found, crate::proofs::Links::link_not, crate::proofs::Links::link_none))]
 fn next_link<'source>(
     alloc: Global,
     tokens: &mut TokenStream<'source>,
     left: u32,
     links: &mut Vec<CompareOp<'source>>,
 ) -> Result<bool, Refusal>
-    ensures { SteppedTo (link_step (terms_by (deeper left)) (links_in links.old.items) tokens.old) (links_in links.old.items) tokens.old (links_in links.new.items) tokens.new result }
+    ensures { SteppedTo (link_step (terms_by (deeper left)) (links_in links.old.items) tokens.old) (links_in links.old.items) tokens.old
+        (links_in links.new.items) tokens.new result }
 {
     match tokens.skip_comparison() {
         Some(op) => put_link(alloc, tokens, left, op, links),
@@ -222,7 +227,8 @@ fn put_link<'source>(
     op: CompareOpKind,
     links: &mut Vec<CompareOp<'source>>,
 ) -> Result<bool, Refusal>
-    ensures { SteppedTo (link_behind (Some op) false (terms_by (deeper left)) (links_in links.old.items) tokens.old) (links_in links.old.items) tokens.old (links_in links.new.items) tokens.new result }
+    ensures { SteppedTo (link_behind (Some op) false (terms_by (deeper left)) (links_in links.old.items) tokens.old)
+        (links_in links.old.items) tokens.old (links_in links.new.items) tokens.new result }
 {
     let right = match binary(alloc, tokens, left, Level::Terms) {
         Ok(right) => right,
@@ -241,7 +247,8 @@ fn next_not_in<'source>(
     left: u32,
     links: &mut Vec<CompareOp<'source>>,
 ) -> Result<bool, Refusal>
-    ensures { SteppedTo (not_in_link (terms_by (deeper left)) (links_in links.old.items) tokens.old) (links_in links.old.items) tokens.old (links_in links.new.items) tokens.new result }
+    ensures { SteppedTo (not_in_link (terms_by (deeper left)) (links_in links.old.items) tokens.old) (links_in links.old.items)
+        tokens.old (links_in links.new.items) tokens.new result }
 {
     if tokens.skip_word("in") {
         put_link(alloc, tokens, left, CompareOpKind::NotIn, links)
@@ -313,7 +320,8 @@ fn next_filter<'source>(
     value: Expr<'source>,
     span: Span,
 ) -> Result<Behind<'source>, Refusal>
-    ensures { Stepped (filter_step (deeper left) (expression_of value.entry) tokens.old) (expression_of value.entry) tokens.old tokens.new result }
+    ensures { Stepped (filter_step (deeper left) (expression_of value.entry) tokens.old) (expression_of value.entry) tokens.old
+        tokens.new result }
 {
     if tokens.skip(Sign::Pipe) {
         Ok(Behind::Goes(piped(alloc, tokens, left, value, span)?))
@@ -334,7 +342,8 @@ fn piped<'source>(
     value: Expr<'source>,
     span: Span,
 ) -> Result<Expr<'source>, Refusal>
-    ensures { Parsed (and_then (filter_by (deeper left) (given (expression_of value.entry)) tokens.old) (parts_by (deeper left))) tokens.new result }
+    ensures { Parsed (and_then (filter_by (deeper left) (given (expression_of value.entry)) tokens.old) (parts_by (deeper left)))
+        tokens.new result }
 {
     let filtered = filter(alloc, tokens, left, Some(value), span)?;
     parts(alloc, tokens, left, filtered, span)
@@ -423,7 +432,8 @@ fn bare_test<'source>(
     value: Expr<'source>,
     span: Span,
 ) -> Result<Expr<'source>, Refusal>
-    ensures { Parsed (test_arguments_by (deeper left) true negated (expression_of value.entry) (cow_str_bytes name.entry) tokens.old) tokens.new result }
+    ensures { Parsed (test_arguments_by (deeper left) true negated (expression_of value.entry) (cow_str_bytes name.entry) tokens.old)
+        tokens.new result }
 {
     let argument = unary(alloc, tokens, left)?;
     let mut arguments = Vec::new(alloc);
@@ -443,7 +453,8 @@ fn plain_test<'source>(
     value: Expr<'source>,
     span: Span,
 ) -> Result<Expr<'source>, Refusal>
-    ensures { Parsed (test_arguments_by (deeper left) false negated (expression_of value.entry) (cow_str_bytes name.entry) tokens.old) tokens.new result }
+    ensures { Parsed (test_arguments_by (deeper left) false negated (expression_of value.entry) (cow_str_bytes name.entry) tokens.old)
+        tokens.new result }
 {
     let arguments = optional_arguments(alloc, tokens, left)?;
     let test = tested(alloc, negated, name, value, arguments, span)?;
@@ -499,7 +510,8 @@ fn next_part<'source>(
     value: Expr<'source>,
     span: Span,
 ) -> Result<Behind<'source>, Refusal>
-    ensures { Stepped (part_step (deeper left) (expression_of value.entry) tokens.old) (expression_of value.entry) tokens.old tokens.new result }
+    ensures { Stepped (part_step (deeper left) (expression_of value.entry) tokens.old) (expression_of value.entry) tokens.old tokens.new
+        result }
 {
     if tokens.skip(Sign::Dot) {
         Ok(Behind::Goes(attribute(alloc, tokens, value, span)?))
@@ -514,7 +526,7 @@ fn next_part<'source>(
 
 // Behind the `(` of a call.
 #[cycle(parser)]
-#[tactic(auto, unfolding(template_compiler_reading::specs::Steps::and_then))]
+#[tactic(auto, unfolding(template_compiler_reading::specs::Steps::under))]
 fn call<'source>(
     alloc: Global,
     tokens: &mut TokenStream<'source>,
@@ -522,7 +534,8 @@ fn call<'source>(
     value: Expr<'source>,
     span: Span,
 ) -> Result<Expr<'source>, Refusal>
-    ensures { Parsed (and_then (arguments_by (expression_by (deeper left)) tokens.old) (λ args us. Ok (call (expression_of value.entry) args, us))) tokens.new result }
+    ensures { WentOn (under (arguments_by (expression_by (deeper left)) tokens.old)
+        (λ args us. goes (call (expression_of value.entry) args) us)) tokens.new result }
 {
     let arguments = arguments(alloc, tokens, left)?;
     Ok(Expr::call(alloc, value, arguments, span)?)
@@ -561,7 +574,8 @@ fn slice<'source>(
     start: Option<Expr<'source>>,
     span: Span,
 ) -> Result<Expr<'source>, Refusal>
-    ensures { Parsed (slice_by (expression_by (deeper left)) (expression_of value.entry) (optional_in start.entry) tokens.old) tokens.new result }
+    ensures { Parsed (slice_by (expression_by (deeper left)) (expression_of value.entry) (optional_in start.entry) tokens.old)
+        tokens.new result }
 {
     let stop = bound(alloc, tokens, left)?;
     let step = step(alloc, tokens, left)?;
@@ -655,7 +669,9 @@ fn tuple<'source>(
     first: Expr<'source>,
     span: Span,
 ) -> Result<Expr<'source>, Refusal>
-    ensures { Parsed (and_then (all (items_step (expression_by (deeper left))) (expressions_more (expression_of first.entry) no_expressions) tokens.old) (λ es us. paren_end (tuple_literal es) us)) tokens.new result }
+    ensures { Parsed (and_then (all (items_step (expression_by (deeper left)))
+        (expressions_more (expression_of first.entry) no_expressions) tokens.old) (λ es us. paren_end (tuple_literal es) us)) tokens.new
+        result }
 {
     let mut held = Vec::new(alloc);
     held.push(first)?;
@@ -686,7 +702,8 @@ fn items<'source>(
     left: u32,
     held: Vec<Expr<'source>>,
 ) -> Result<Vec<Expr<'source>>, Refusal>
-    ensures { ParsedAs (λ v. expressions_in v.items) (all (items_step (expression_by (deeper left))) (expressions_in held.entry.items) tokens.old) tokens.new result }
+    ensures { ParsedAs (λ v. expressions_in v.items) (all (items_step (expression_by (deeper left))) (expressions_in held.entry.items)
+        tokens.old) tokens.new result }
 {
     let mut held = held;
     loop {
@@ -699,14 +716,15 @@ fn items<'source>(
 }
 
 #[cycle(parser)]
-#[tactic(auto, using(template_compiler_expression_parts::proofs::Pushes::expressions_push, template_compiler_expression_parts::proofs::Nothing::separated_goes, template_compiler_expression_parts::proofs::Nothing::separated_fails), unfolding(template_compiler_reading::specs::Steps::under, template_compiler_expressions::specs::Reader::unless_closing))]
+#[tactic(auto, using(template_compiler_expression_parts::proofs::Pushes::expressions_push, crate::proofs::Items::closing_stops, crate::proofs::Items::item_goes, crate::proofs::Items::item_refused, crate::proofs::Items::item_unseparated))]
 fn next_item<'source>(
     alloc: Global,
     tokens: &mut TokenStream<'source>,
     left: u32,
     held: &mut Vec<Expr<'source>>,
 ) -> Result<bool, Refusal>
-    ensures { SteppedTo (items_step (expression_by (deeper left)) (expressions_in held.old.items) tokens.old) (expressions_in held.old.items) tokens.old (expressions_in held.new.items) tokens.new result }
+    ensures { SteppedTo (items_step (expression_by (deeper left)) (expressions_in held.old.items) tokens.old)
+        (expressions_in held.old.items) tokens.old (expressions_in held.new.items) tokens.new result }
 {
     if tokens.closes() {
         return Ok(false);
@@ -758,14 +776,15 @@ fn pairs<'source>(
 }
 
 #[cycle(parser)]
-#[tactic(auto, using(template_compiler_expression_parts::proofs::Nothing::separated_goes, template_compiler_expression_parts::proofs::Nothing::separated_fails), unfolding(template_compiler_reading::specs::Steps::under, template_compiler_expressions::specs::Reader::unless_closing))]
+#[tactic(auto, using(crate::proofs::Items::closing_stops, crate::proofs::Items::pair_goes, crate::proofs::Items::key_refused, crate::proofs::Items::value_refused, crate::proofs::Items::pair_unseparated))]
 fn next_pair<'source>(
     alloc: Global,
     tokens: &mut TokenStream<'source>,
     left: u32,
     held: &mut Pairs<'source>,
 ) -> Result<bool, Refusal>
-    ensures { SteppedTo (pairs_step (expression_by (deeper left)) (paired_in held.old) tokens.old) (paired_in held.old) tokens.old (paired_in held.new) tokens.new result }
+    ensures { SteppedTo (pairs_step (expression_by (deeper left)) (paired_in held.old) tokens.old) (paired_in held.old) tokens.old
+        (paired_in held.new) tokens.new result }
 {
     if tokens.closes() {
         return Ok(false);
@@ -834,14 +853,15 @@ fn written<'source>(
 }
 
 #[cycle(parser)]
-#[tactic(auto, using(template_compiler_expression_parts::proofs::Nothing::separated_goes, template_compiler_expression_parts::proofs::Nothing::separated_fails), unfolding(template_compiler_reading::specs::Steps::under, template_compiler_expressions::specs::Reader::unless_closing))]
+#[tactic(auto, using(crate::proofs::Items::closing_stops, crate::proofs::Items::argument_goes, crate::proofs::Items::argument_refused, crate::proofs::Items::argument_unseparated))]
 fn next_argument<'source>(
     alloc: Global,
     tokens: &mut TokenStream<'source>,
     left: u32,
     held: &mut Written<'source>,
 ) -> Result<bool, Refusal>
-    ensures { SteppedTo (arguments_step (expression_by (deeper left)) (written_in held.old) tokens.old) (written_in held.old) tokens.old (written_in held.new) tokens.new result }
+    ensures { SteppedTo (arguments_step (expression_by (deeper left)) (written_in held.old) tokens.old) (written_in held.old) tokens.old
+        (written_in held.new) tokens.new result }
 {
     if tokens.closes() {
         return Ok(false);

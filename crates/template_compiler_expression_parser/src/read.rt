@@ -64,7 +64,7 @@ pub fn read_filter<'source>(
 /// # Errors
 ///
 /// The fault of the token that does not fit, or want of memory.
-#[tactic(auto, unfolding(template_compiler_expressions::specs::Reader::filter_chain_at, template_compiler_expressions::specs::Reader::filter_chain_by))]
+#[tactic(auto, using(crate::proofs::Chains::chain_more, crate::proofs::Chains::chain_falls, crate::proofs::Chains::chain_ends, crate::proofs::Chains::chain_fails_at), unfolding(template_compiler_expressions::specs::Reader::filter_chain_at, template_compiler_expressions::specs::Reader::filter_chain_by))]
 pub fn read_filter_chain<'source>(
     alloc: Global,
     tokens: &mut TokenStream<'source>,

@@ -1,17 +1,18 @@
 -- Rounds of repetitions, by what stands next.
-use Rattle.std.proofs.Common.{◌≡◌, codes, Bool, false, if◌then◌else◌, ℕ, Ok, Err, List, [], ◌∷◌, None, Some, refl, sym, ap, subst, ◌∙◌}
+use Rattle.std.proofs.Common.{◌≡◌, codes, Bool, false, if◌then◌else◌, ℕ, Result, Ok, Err, List, [], ◌∷◌, None, Some, refl, sym, ap, subst, ◌∙◌}
 use Rattle.template_tree.specs.Tree.{Expression, binary, Optional, given}
 use Rattle.template_tree.specs.declared.operators.BinOpKind.{BinOpKind}
+use Rattle.template_tree.specs.declared.expressions.Expr.{Expr}
 use Rattle.template_compiler_tokens.specs.Token.{Token, TokenFault, bad, symbol, identifier, dot, pipe, bracket_open, paren_open}
 use Rattle.template_compiler_expressions.specs.Words.{begins_dotted, begins_word, word_not, Level, factors, texts, terms, conjunction, disjunction, operator}
 use Rattle.template_compiler_expressions.specs.Trees.{dotted}
 use Rattle.template_compiler_reading.specs.Steps.{Read, and_then, Step, goes, stops, fails, under, all}
-use Rattle.template_compiler_expressions.specs.Reader.{Deeper, deeper, dotted_step, operand_by, operand_behind, operand_step, part_step, name_of, is_by, test_by, filter_by, filter_step, chain_step}
+use Rattle.template_compiler_expressions.specs.Reader.{Deeper, deeper, dot_part, dotted_step, operand_by, operand_behind, operand_step, part_step, name_of, is_by, test_by, filter_by, filter_step, chain_step}
 use Rattle.template_compiler_reading.proofs.Loops.{Shrinks, all_goes, all_stops, all_fails}
 use Rattle.template_compiler_stream.specs.declared.refusal.Refusal.{Refusal}
 use Rattle.template_compiler_stream.specs.declared.refusal.Refusal.TheVariants as refusals
 use Rattle.template_compiler_stream.specs.Refusals.{Refused, fault_of}
-use Rattle.template_compiler_expression_parts.specs.Parsed.{RefusedStep}
+use Rattle.template_compiler_expression_parts.specs.Parsed.{RefusedStep, WentOn}
 use Rattle.template_compiler_stream.specs.Left.{passed}
 use Rattle.template_compiler_stream.specs.Signs.{next_operator, begins_symbol}
 
@@ -86,6 +87,11 @@ pub next_operand_refused : (k : Level) (read : List Token → Read Expression) (
     Some op ≡ next_operator k ts → mid ≡ passed ts → Refused (read mid) e → RefusedStep (operand_step k read a ts) e
 next_operand_refused k read a ts mid op e f g h =
     operand_refused k read a ts op e (sym f) (subst (λ us. Refused (read us) e) g h)
+
+-- what stands behind a dot
+pub dot_at : (a : Expression) (t : Token) (old new : List Token) (r : Result Expr Refusal) → old ≡ t ∷ new →
+    WentOn (dot_part a (t ∷ new)) new r → WentOn (dot_part a old) new r
+dot_at a t old new r e h = subst (λ ts. WentOn (dot_part a ts) new r) (sym e) h
 
 -- what stands next goes on with no filter, and with no part
 pub filter_none : (r : Deeper) (a : Expression) (ts : List Token) → begins_symbol pipe ts ≡ false → begins_word (codes "is") ts ≡ false →

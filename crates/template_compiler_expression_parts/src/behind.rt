@@ -27,7 +27,8 @@ impl<'source> Pairs<'source> {
     /// Puts a key and its value behind the others.
     #[tactic(auto, using(crate::proofs::Pushes::expressions_push))]
     pub fn push(&mut self, key: Expr<'source>, value: Expr<'source>) -> Result<(), AllocError>
-        ensures { IfOk result (λ _. paired_in self.new ≡ and_pair (paired_in self.old) (expression_of key.entry) (expression_of value.entry)) }
+        ensures { IfOk result (λ _. paired_in self.new ≡ and_pair (paired_in self.old) (expression_of key.entry)
+            (expression_of value.entry)) }
     {
         self.keys.push(key)?;
         self.values.push(value)?;

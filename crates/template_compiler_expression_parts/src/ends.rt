@@ -106,7 +106,8 @@ pub fn in_order<'source>(
     tokens: &mut TokenStream<'source>,
     written: Written<'source>,
 ) -> Result<Vec<CallArg<'source>>, Refusal>
-    ensures { ParsedAs (λ v. arguments_in v.items) (and_then (paren_end (written_in written.entry) tokens.old) few_arguments) tokens.new result }
+    ensures { ParsedAs (λ v. arguments_in v.items) (and_then (paren_end (written_in written.entry) tokens.old) few_arguments) tokens.new
+        result }
 {
     if tokens.skip(Sign::ParenClose) {
         few(written)

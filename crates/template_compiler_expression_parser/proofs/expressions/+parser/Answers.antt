@@ -1,9 +1,10 @@
 use Rattle.std.proofs.Common.{◌≡◌, refl, sym, ◌∙◌, ap, arith}
 use Rattle.template_tree.specs.View.{expression_of}
-use Rattle.template_compiler_expressions.specs.Reader.{deeper, operand_by, operand_step, part_step, filter_step, link_step, terms_by}
+use Rattle.template_compiler_expressions.specs.Reader.{deeper, expression_by, operand_by, operand_step, part_step, filter_step, link_step, terms_by, items_step, pairs_step, arguments_step}
 use Rattle.template_compiler_expression_laws.proofs.Sound.{operand_shrinks, part_shrinks, filter_shrinks, link_shrinks}
 use Rattle.template_compiler_stream.specs.Signs.{level_of}
 use Rattle.template_compiler_expression_parts.proofs.Rounds.{next_operand_goes, next_operand_refused, rounds_end, rounds_go, rounds_refused}
+use Rattle.template_compiler_expression_parser.proofs.Takes.{item_takes, pair_takes, next_argument_takes}
 use Rattle.template_compiler_expression_parser.proofs.expressions.+parser.Goals as goal
 
 pub next_operand-returns-in_ok-binary-in-Some : goal.next_operand-returns-in_ok-binary-in-Some
@@ -75,3 +76,79 @@ pub filters-loop-next-smaller : goal.filters-loop-next-smaller
 filters-loop-next-smaller t c =
     let more = rw c.in-Ok-Goes.field-0-is at c.in-Ok-Goes.ensures in
     filter_shrinks c.args.left (expression_of c.loop-next.value) (expression_of c.in-Ok-Goes.next) c.loop-next.tokens c.next_filter.new.tokens more
+
+pub links-returns-in-Ok-false : goal.links-returns-in-Ok-false
+links-returns-in-Ok-false t c =
+    let ended = rw c.in-Ok-false.field-0-is at c.in-Ok-false.ensures in
+    rounds_end (link_step (terms_by (deeper c.args.left))) _ _ _ _ _ _ c.loop-links.invariant ended
+
+pub links-returns-in-Err : goal.links-returns-in-Err
+links-returns-in-Err t c =
+    rounds_refused (link_step (terms_by (deeper c.args.left))) _ _ _ _ c.in-Err.refusal c.loop-links.invariant c.in-Err.ensures
+
+pub links-loop-links-preserved : goal.links-loop-links-preserved
+links-loop-links-preserved t c =
+    let more = rw c.in-Ok-true.field-0-is at c.in-Ok-true.ensures in
+    rounds_go (link_step (terms_by (deeper c.args.left))) (link_shrinks c.args.left) _ _ _ _ _ _ c.loop-links.invariant more
+
+pub links-loop-links-smaller : goal.links-loop-links-smaller
+links-loop-links-smaller t c =
+    let more = rw c.in-Ok-true.field-0-is at c.in-Ok-true.ensures in
+    link_shrinks c.args.left _ _ _ _ more
+
+pub items-returns-in-Ok-false : goal.items-returns-in-Ok-false
+items-returns-in-Ok-false t c =
+    let ended = rw c.in-Ok-false.field-0-is at c.in-Ok-false.ensures in
+    rounds_end (items_step (expression_by (deeper c.args.left))) _ _ _ _ _ _ c.loop-held.invariant ended
+
+pub items-returns-in-Err : goal.items-returns-in-Err
+items-returns-in-Err t c =
+    rounds_refused (items_step (expression_by (deeper c.args.left))) _ _ _ _ c.in-Err.refusal c.loop-held.invariant c.in-Err.ensures
+
+pub items-loop-held-preserved : goal.items-loop-held-preserved
+items-loop-held-preserved t c =
+    let more = rw c.in-Ok-true.field-0-is at c.in-Ok-true.ensures in
+    rounds_go (items_step (expression_by (deeper c.args.left))) (item_takes c.args.left) _ _ _ _ _ _ c.loop-held.invariant more
+
+pub items-loop-held-smaller : goal.items-loop-held-smaller
+items-loop-held-smaller t c =
+    let more = rw c.in-Ok-true.field-0-is at c.in-Ok-true.ensures in
+    item_takes c.args.left _ _ _ _ more
+
+pub pairs-returns-in-Ok-false : goal.pairs-returns-in-Ok-false
+pairs-returns-in-Ok-false t c =
+    let ended = rw c.in-Ok-false.field-0-is at c.in-Ok-false.ensures in
+    rounds_end (pairs_step (expression_by (deeper c.args.left))) _ _ _ _ _ _ c.loop-held.invariant ended
+
+pub pairs-returns-in-Err : goal.pairs-returns-in-Err
+pairs-returns-in-Err t c =
+    rounds_refused (pairs_step (expression_by (deeper c.args.left))) _ _ _ _ c.in-Err.refusal c.loop-held.invariant c.in-Err.ensures
+
+pub pairs-loop-held-preserved : goal.pairs-loop-held-preserved
+pairs-loop-held-preserved t c =
+    let more = rw c.in-Ok-true.field-0-is at c.in-Ok-true.ensures in
+    rounds_go (pairs_step (expression_by (deeper c.args.left))) (pair_takes c.args.left) _ _ _ _ _ _ c.loop-held.invariant more
+
+pub pairs-loop-held-smaller : goal.pairs-loop-held-smaller
+pairs-loop-held-smaller t c =
+    let more = rw c.in-Ok-true.field-0-is at c.in-Ok-true.ensures in
+    pair_takes c.args.left _ _ _ _ more
+
+pub written-returns-in-Ok-false : goal.written-returns-in-Ok-false
+written-returns-in-Ok-false t c =
+    let ended = rw c.in-Ok-false.field-0-is at c.in-Ok-false.ensures in
+    rounds_end (arguments_step (expression_by (deeper c.args.left))) _ _ _ _ _ _ c.loop-held.invariant ended
+
+pub written-returns-in-Err : goal.written-returns-in-Err
+written-returns-in-Err t c =
+    rounds_refused (arguments_step (expression_by (deeper c.args.left))) _ _ _ _ c.in-Err.refusal c.loop-held.invariant c.in-Err.ensures
+
+pub written-loop-held-preserved : goal.written-loop-held-preserved
+written-loop-held-preserved t c =
+    let more = rw c.in-Ok-true.field-0-is at c.in-Ok-true.ensures in
+    rounds_go (arguments_step (expression_by (deeper c.args.left))) (next_argument_takes c.args.left) _ _ _ _ _ _ c.loop-held.invariant more
+
+pub written-loop-held-smaller : goal.written-loop-held-smaller
+written-loop-held-smaller t c =
+    let more = rw c.in-Ok-true.field-0-is at c.in-Ok-true.ensures in
+    next_argument_takes c.args.left _ _ _ _ more

@@ -6,7 +6,7 @@ use Rattle.template_compiler_expression_parts.proofs.literals.parts.Goals as goa
 
 pub loop-part-preserved : goal.loop-part-preserved
 loop-part-preserved c =
-    rounds_go dotted_step dotted_takes _ _ _ _ _ _ c.loop-part.invariant (dotted_goes _ _ _ _ _ c.in-Some.ensures c.in_ok-put_part.ensures)
+    rounds_go dotted_step dotted_takes _ _ _ _ _ _ c.loop-part.invariant (dotted_goes _ _ _ _ _ c.in-Some.ensures c.in_ok-put_part-in-Some.ensures)
 
 pub returns-in-None : goal.returns-in-None
 returns-in-None c =
