@@ -1,12 +1,14 @@
 -- What stands next, where a sign does not.
-use Rattle.std.proofs.Common.{◌≡◌, Bool, true, false, if◌then◌else◌, List, [], ◌∷◌, Ok, Err, refl, ap, ◌∙◌}
-use Rattle.template_tree.specs.Tree.{Expression, item, Optional, absent, given, no_arguments, positional}
+use Rattle.std.proofs.Common.{◌≡◌, Bool, true, false, if◌then◌else◌, List, [], ◌∷◌, Result, Ok, Err, refl, sym, subst, ap, ◌∙◌}
+use Rattle.template_tree.specs.Tree.{Arguments, Expression, item, Optional, absent, given, no_arguments, positional}
 use Rattle.template_compiler_tokens.specs.Token.{Token, TokenFault, symbol, identifier, mul, pow, comma, colon, assign, bracket_open, bracket_close, paren_open, paren_close, brace_open, brace_close}
 use Rattle.template_compiler_reading.specs.Steps.{Read, fault, and_then, Step, goes, fails}
-use Rattle.template_compiler_expressions.specs.Reader.{Deeper, nothing_deeper, paren_end, bracket_end, brace_end, colon_end, begins_closing, separated, primary_by, optional_arguments_by, paren_behind, paren_by, step_by, subscript_behind, named_argument, argument_by}
+use Rattle.template_compiler_expressions.specs.Reader.{Deeper, nothing_deeper, few_arguments, paren_end, bracket_end, brace_end, colon_end, begins_closing, separated, primary_by, optional_arguments_by, paren_behind, paren_by, step_by, subscript_behind, named_argument, argument_by}
+use Rattle.template_compiler_expressions.specs.Trees.{Written}
+use Rattle.template_compiler_stream.specs.declared.refusal.Refusal.{Refusal}
 use Rattle.template_compiler_stream.specs.Signs.{begins_symbol}
 use Rattle.template_compiler_stream.specs.Skips.{begins_keyword}
-use Rattle.template_compiler_expression_parts.specs.Parsed.{unnamed_by}
+use Rattle.template_compiler_expression_parts.specs.Parsed.{ParsedAs, unnamed_by}
 
 -- ends
 pub no_paren : {A : Type 0} (a : A) (ts : List Token) → begins_symbol paren_close ts ≡ false → paren_end a ts ≡ Err (fault ts)
@@ -130,3 +132,9 @@ unfolding paren_behind
 no_tuple read e [] f = refl
 no_tuple read e (symbol comma ∷ ts) f = cc
 no_tuple read e (t ∷ ts) f = refl
+
+-- behind the arguments
+pub order_at : {B : Type 0} (view : B → Arguments) (w : Written) (old new : List Token) (r : Result B Refusal) → old ≡ symbol paren_close ∷ new →
+    ParsedAs view (few_arguments w new) new r → ParsedAs view (and_then (paren_end w old) few_arguments) new r
+unfolding and_then paren_end
+order_at view w old new r e h = subst (λ ts. ParsedAs view (and_then (paren_end w ts) few_arguments) new r) (sym e) h

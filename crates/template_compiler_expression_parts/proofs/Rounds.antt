@@ -1,5 +1,5 @@
 -- Rounds of repetitions, by what stands next.
-use Rattle.std.proofs.Common.{◌≡◌, codes, Bool, false, if◌then◌else◌, ℕ, Result, Ok, Err, List, [], ◌∷◌, None, Some, refl, sym, ap, subst, ◌∙◌}
+use Rattle.std.proofs.Common.{◌≡◌, codes, Bool, true, false, if◌then◌else◌, ℕ, Result, Ok, Err, List, [], ◌∷◌, None, Some, refl, sym, ap, subst, ◌∙◌}
 use Rattle.template_tree.specs.Tree.{Expression, binary, Optional, given}
 use Rattle.template_tree.specs.declared.operators.BinOpKind.{BinOpKind}
 use Rattle.template_tree.specs.declared.expressions.Expr.{Expr}
@@ -14,7 +14,8 @@ use Rattle.template_compiler_stream.specs.declared.refusal.Refusal.TheVariants a
 use Rattle.template_compiler_stream.specs.Refusals.{Refused, fault_of}
 use Rattle.template_compiler_expression_parts.specs.Parsed.{RefusedStep, WentOn}
 use Rattle.template_compiler_stream.specs.Left.{passed}
-use Rattle.template_compiler_stream.specs.Signs.{next_operator, begins_symbol}
+use Rattle.template_compiler_stream.specs.Signs.{next_operator, next_word, begins_symbol}
+use Rattle.template_compiler_expression_parts.proofs.Takes.{dotted_takes}
 
 bad_operator : (k : Level) (f : TokenFault) → operator k (bad f) ≡ None
 bad_operator factors f = refl
@@ -154,3 +155,20 @@ dotted_none n (symbol dot ∷ []) e = refl
 dotted_none n (symbol dot ∷ identifier part ∷ ts) e = cc
 dotted_none n (symbol dot ∷ t ∷ ts) e = refl
 dotted_none n (t ∷ ts) e = refl
+
+-- names
+name_at : (n : List ℕ) (old : List Token) → Some n ≡ next_word old → name_of old ≡ all dotted_step n (passed old)
+unfolding name_of
+name_at n [] e = cc
+name_at n (identifier m ∷ ts) e = let same : n ≡ m = cc in ap (λ n. all dotted_step n ts) (sym same)
+name_at n (t ∷ ts) e = cc
+
+pub name_more : (n part m s : List ℕ) (old mid us new : List Token) → Some n ≡ next_word old → mid ≡ passed old →
+    mid ≡ symbol dot ∷ identifier part ∷ us → m ≡ dotted n part → all dotted_step m us ≡ Ok (s, new) → name_of old ≡ Ok (s, new)
+name_more n part m s old mid us new e f g h i =
+    name_at n old e ∙ ap (λ ts. all dotted_step n ts) (sym f) ∙ all_goes dotted_step dotted_takes n m mid us (dotted_goes n m part mid us g h) ∙ i
+
+pub name_alone : (n : List ℕ) (old mid new : List Token) → Some n ≡ next_word old → mid ≡ passed old → new ≡ mid → begins_dotted mid ≡ false →
+    name_of old ≡ Ok (n, new)
+name_alone n old mid new e f g h =
+    name_at n old e ∙ ap (λ ts. all dotted_step n ts) (sym f) ∙ all_stops dotted_step n mid (dotted_none n mid h) ∙ ap (λ ts. Ok (n, ts)) (sym g)

@@ -25,7 +25,7 @@ use template_values_core::Value;
 /// # Errors
 ///
 /// The fault of the token where no identifier stands, or want of memory.
-#[tactic(auto, unfolding(template_compiler_expressions::specs::Reader::name_of))]
+#[tactic(auto, using(crate::proofs::Rounds::name_more, crate::proofs::Rounds::name_alone), unfolding(template_compiler_expressions::specs::Reader::name_of))]
 pub fn name<'source>(
     alloc: Global,
     tokens: &mut TokenStream<'source>,
@@ -150,6 +150,7 @@ fn whole(number: u128) -> Result<Value, Refusal>
 }
 
 // The text with those behind it.
+#[tactic(auto, unfolding(template_compiler_reading::specs::Steps::and_then))]
 fn texts<'source>(
     alloc: Global,
     tokens: &mut TokenStream<'source>,

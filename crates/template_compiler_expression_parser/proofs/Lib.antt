@@ -1,4 +1,0 @@
-pub mod Chains
-pub mod Items
-pub mod Links
-pub mod Takes
