@@ -111,11 +111,7 @@ fn literal_from<'source>(
 }
 
 // A name, or a word that is a literal.
-fn word<'source>(
-    alloc: Global,
-    name: &'source str,
-    span: Span,
-) -> Result<Expr<'source>, AllocError>
+fn word<'source>(alloc: Global, name: &'source str, span: Span) -> Result<Expr<'source>, AllocError>
     ensures { IfOk result (λ e. expression_of e ≡ word_tree (literal_word name.now) name.now) }
 {
     match literal_word(name) {
