@@ -1,0 +1,4 @@
+pub mod Nothing
+pub mod Pushes
+pub mod Rounds
+pub mod Takes

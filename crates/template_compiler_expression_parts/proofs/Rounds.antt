@@ -1,0 +1,174 @@
+-- Rounds of repetitions, by what stands next.
+use Rattle.std.proofs.Common.{◌≡◌, codes, Bool, true, false, if◌then◌else◌, ℕ, Result, Ok, Err, List, [], ◌∷◌, None, Some, refl, sym, ap, subst, ◌∙◌}
+use Rattle.template_tree.specs.Tree.{Expression, binary, Optional, given}
+use Rattle.template_tree.specs.declared.operators.BinOpKind.{BinOpKind}
+use Rattle.template_tree.specs.declared.expressions.Expr.{Expr}
+use Rattle.template_compiler_tokens.specs.Token.{Token, TokenFault, bad, symbol, identifier, dot, pipe, bracket_open, paren_open}
+use Rattle.template_compiler_expressions.specs.Words.{begins_dotted, begins_word, word_not, Level, factors, texts, terms, conjunction, disjunction, operator}
+use Rattle.template_compiler_expressions.specs.Trees.{dotted}
+use Rattle.template_compiler_reading.specs.Steps.{Read, and_then, Step, goes, stops, fails, under, all}
+use Rattle.template_compiler_expressions.specs.Reader.{Deeper, deeper, dot_part, dotted_step, operand_by, operand_behind, operand_step, part_step, name_of, is_by, test_by, filter_by, filter_step, chain_step}
+use Rattle.template_compiler_reading.proofs.Loops.{Shrinks, all_goes, all_stops, all_fails}
+use Rattle.template_compiler_stream.specs.declared.refusal.Refusal.{Refusal}
+use Rattle.template_compiler_stream.specs.declared.refusal.Refusal.TheVariants as refusals
+use Rattle.template_compiler_stream.specs.Refusals.{Refused, fault_of}
+use Rattle.template_compiler_expression_parts.specs.Parsed.{RefusedStep, WentOn}
+use Rattle.template_compiler_stream.specs.Left.{passed}
+use Rattle.template_compiler_stream.specs.Signs.{next_operator, next_word, begins_symbol}
+use Rattle.template_compiler_expression_parts.proofs.Takes.{dotted_takes}
+
+bad_operator : (k : Level) (f : TokenFault) → operator k (bad f) ≡ None
+bad_operator factors f = refl
+bad_operator texts f = refl
+bad_operator terms f = refl
+bad_operator conjunction f = refl
+bad_operator disjunction f = refl
+
+operator_passed : (k : Level) (t : Token) (ts : List Token) (op : BinOpKind) → operator k t ≡ Some op → passed (t ∷ ts) ≡ ts
+operator_passed k (bad f) ts op e = let none = bad_operator k f in cc
+operator_passed k _ ts op e = refl
+
+pub operand_found : (k : Level) (read : List Token → Read Expression) (a : Expression) (ts : List Token) (op : BinOpKind) →
+    next_operator k ts ≡ Some op → operand_step k read a ts ≡ under (read (passed ts)) (λ b us. goes (binary op a b) us)
+unfolding operand_step operand_behind
+operand_found k read a [] op e = cc
+operand_found k read a (t ∷ ts) op e =
+    ap (λ o. operand_behind o read a ts) e ∙
+    ap (λ us. under (read us) (λ b us. goes (binary op a b) us)) (sym (operator_passed k t ts op e))
+
+pub operand_none : (k : Level) (read : List Token → Read Expression) (a : Expression) (ts : List Token) →
+    next_operator k ts ≡ None → operand_step k read a ts ≡ stops
+unfolding operand_step operand_behind
+operand_none k read a [] e = refl
+operand_none k read a (t ∷ ts) e = ap (λ o. operand_behind o read a ts) e
+
+pub operand_goes : (k : Level) (read : List Token → Read Expression) (a b : Expression) (ts us : List Token) (op : BinOpKind) →
+    next_operator k ts ≡ Some op → read (passed ts) ≡ Ok (b, us) → operand_step k read a ts ≡ goes (binary op a b) us
+unfolding under
+operand_goes k read a b ts us op e f = operand_found k read a ts op e ∙ ap (λ m. under m (λ b us. goes (binary op a b) us)) f
+
+pub operand_fails : (k : Level) (read : List Token → Read Expression) (a : Expression) (ts : List Token) (op : BinOpKind) (f : TokenFault) →
+    next_operator k ts ≡ Some op → read (passed ts) ≡ Err f → operand_step k read a ts ≡ fails f
+unfolding under
+operand_fails k read a ts op f e g = operand_found k read a ts op e ∙ ap (λ m. under m (λ b us. goes (binary op a b) us)) g
+
+-- a refusal, from one reading to the one around it
+pub refused_under : {A B : Type 0} (m : Read A) (s : Step B) (e : Refusal) →
+    ((f : TokenFault) → m ≡ Err f → s ≡ fails f) → Refused m e → RefusedStep s e
+refused_under m s (refusals.Token f) go h = go (fault_of f) h
+refused_under m s refusals.OutOfMemory go h = tt
+
+pub operand_refused : (k : Level) (read : List Token → Read Expression) (a : Expression) (ts : List Token) (op : BinOpKind) (e : Refusal) →
+    next_operator k ts ≡ Some op → Refused (read (passed ts)) e → RefusedStep (operand_step k read a ts) e
+operand_refused k read a ts op e h = refused_under (read (passed ts)) (operand_step k read a ts) e (λ f g. operand_fails k read a ts op f h g)
+
+-- rounds, as a loop takes them off
+module _ {A : Type 0} (step : A → List Token → Step A) where
+  pub rounds_end : (a b e : A) (ts us new : List Token) → all step a ts ≡ all step b us →
+      (step a ts ≡ stops) × (new ≡ ts) × (e ≡ a) → all step b us ≡ Ok (e, new)
+  rounds_end a b e ts us new same h =
+      sym same ∙ all_stops step a ts h.0 ∙ ap (λ x. Ok (x, ts)) (sym h.2) ∙ ap (λ vs. Ok (e, vs)) (sym h.1)
+
+  pub rounds_go : Shrinks step → (a b c : A) (ts us vs : List Token) → all step a ts ≡ all step c vs →
+      step a ts ≡ goes b us → all step b us ≡ all step c vs
+  rounds_go falls a b c ts us vs same e = sym (all_goes step falls a b ts us e) ∙ same
+
+  pub rounds_refused : (a c : A) (ts vs : List Token) (e : Refusal) → all step a ts ≡ all step c vs →
+      RefusedStep (step a ts) e → Refused (all step c vs) e
+  rounds_refused a c ts vs (refusals.Token f) same h = sym same ∙ all_fails step a ts (fault_of f) h
+  rounds_refused a c ts vs refusals.OutOfMemory same h = tt
+
+-- the same, as the parser's function has them
+pub next_operand_goes : (k : Level) (read : List Token → Read Expression) (a b e : Expression) (ts mid us : List Token) (op : BinOpKind) →
+    Some op ≡ next_operator k ts → mid ≡ passed ts → read mid ≡ Ok (b, us) → e ≡ binary op a b → operand_step k read a ts ≡ goes e us
+next_operand_goes k read a b e ts mid us op f g h i =
+    operand_goes k read a b ts us op (sym f) (ap read (sym g) ∙ h) ∙ ap (λ e. goes e us) (sym i)
+
+pub next_operand_refused : (k : Level) (read : List Token → Read Expression) (a : Expression) (ts mid : List Token) (op : BinOpKind) (e : Refusal) →
+    Some op ≡ next_operator k ts → mid ≡ passed ts → Refused (read mid) e → RefusedStep (operand_step k read a ts) e
+next_operand_refused k read a ts mid op e f g h =
+    operand_refused k read a ts op e (sym f) (subst (λ us. Refused (read us) e) g h)
+
+-- what stands behind a dot
+pub dot_at : (a : Expression) (t : Token) (old new : List Token) (r : Result Expr Refusal) → old ≡ t ∷ new →
+    WentOn (dot_part a (t ∷ new)) new r → WentOn (dot_part a old) new r
+dot_at a t old new r e h = subst (λ ts. WentOn (dot_part a ts) new r) (sym e) h
+
+-- what stands next goes on with no filter, and with no part
+pub filter_none : (r : Deeper) (a : Expression) (ts : List Token) → begins_symbol pipe ts ≡ false → begins_word (codes "is") ts ≡ false →
+    filter_step r a ts ≡ stops
+unfolding filter_step
+filter_none r a [] e f = refl
+filter_none r a (symbol pipe ∷ ts) e f = cc
+filter_none r a (identifier n ∷ ts) e f = ap (λ b. if b then under (is_by r a ts) goes else stops) f
+filter_none r a (t ∷ ts) e f = refl
+
+pub part_none : (r : Deeper) (a : Expression) (ts : List Token) → begins_symbol dot ts ≡ false → begins_symbol bracket_open ts ≡ false →
+    begins_symbol paren_open ts ≡ false → part_step r a ts ≡ stops
+unfolding part_step
+part_none r a [] e f g = refl
+part_none r a (symbol dot ∷ ts) e f g = cc
+part_none r a (symbol bracket_open ∷ ts) e f g = cc
+part_none r a (symbol paren_open ∷ ts) e f g = cc
+part_none r a (t ∷ ts) e f g = refl
+
+-- behind `is`
+pub is_plain : (r : Deeper) (a : Expression) (ts : List Token) → begins_word (codes "not") ts ≡ false → is_by r a ts ≡ test_by r false a ts
+unfolding is_by test_by name_of and_then
+is_plain r a [] e = refl
+is_plain r a (t ∷ ts) e = ap (λ b. if b then test_by r true a ts else test_by r false a (t ∷ ts)) e
+
+pub is_not : (r : Deeper) (a : Expression) (ts : List Token) → is_by r a (word_not ∷ ts) ≡ test_by r true a ts
+unfolding is_by
+is_not r a ts = refl
+
+-- filters behind one another
+pub chain_goes : (r : Deeper) (value : Optional) (e : Expression) (old ts us : List Token) → old ≡ symbol pipe ∷ ts →
+    filter_by r value ts ≡ Ok (e, us) → chain_step r value old ≡ goes (given e) us
+unfolding chain_step under
+chain_goes r value e old ts us h i = ap (λ ts. chain_step r value ts) h ∙ ap (λ m. under m (λ e us. goes (given e) us)) i
+
+pub chain_fails : (r : Deeper) (value : Optional) (f : TokenFault) (old ts : List Token) → old ≡ symbol pipe ∷ ts →
+    filter_by r value ts ≡ Err f → chain_step r value old ≡ fails f
+unfolding chain_step under
+chain_fails r value f old ts h i = ap (λ ts. chain_step r value ts) h ∙ ap (λ m. under m (λ e us. goes (given e) us)) i
+
+pub chain_refused : (r : Deeper) (value : Optional) (e : Refusal) (old ts : List Token) → old ≡ symbol pipe ∷ ts →
+    Refused (filter_by r value ts) e → RefusedStep (chain_step r value old) e
+chain_refused r value e old ts h i = refused_under (filter_by r value ts) (chain_step r value old) e (λ f g. chain_fails r value f old ts h g) i
+
+pub chain_none : (r : Deeper) (value : Optional) (ts : List Token) → begins_symbol pipe ts ≡ false → chain_step r value ts ≡ stops
+unfolding chain_step
+chain_none r value [] e = refl
+chain_none r value (symbol pipe ∷ ts) e = cc
+chain_none r value (t ∷ ts) e = refl
+
+-- parts of a name
+pub dotted_goes : (n m part : List ℕ) (ts us : List Token) → ts ≡ symbol dot ∷ identifier part ∷ us → m ≡ dotted n part → dotted_step n ts ≡ goes m us
+unfolding dotted_step
+dotted_goes n m part ts us e f = ap (λ ts. dotted_step n ts) e ∙ ap (λ m. goes m us) (sym f)
+
+pub dotted_none : (n : List ℕ) (ts : List Token) → begins_dotted ts ≡ false → dotted_step n ts ≡ stops
+unfolding dotted_step
+dotted_none n [] e = refl
+dotted_none n (symbol dot ∷ []) e = refl
+dotted_none n (symbol dot ∷ identifier part ∷ ts) e = cc
+dotted_none n (symbol dot ∷ t ∷ ts) e = refl
+dotted_none n (t ∷ ts) e = refl
+
+-- names
+name_at : (n : List ℕ) (old : List Token) → Some n ≡ next_word old → name_of old ≡ all dotted_step n (passed old)
+unfolding name_of
+name_at n [] e = cc
+name_at n (identifier m ∷ ts) e = let same : n ≡ m = cc in ap (λ n. all dotted_step n ts) (sym same)
+name_at n (t ∷ ts) e = cc
+
+pub name_more : (n part m s : List ℕ) (old mid us new : List Token) → Some n ≡ next_word old → mid ≡ passed old →
+    mid ≡ symbol dot ∷ identifier part ∷ us → m ≡ dotted n part → all dotted_step m us ≡ Ok (s, new) → name_of old ≡ Ok (s, new)
+name_more n part m s old mid us new e f g h i =
+    name_at n old e ∙ ap (λ ts. all dotted_step n ts) (sym f) ∙ all_goes dotted_step dotted_takes n m mid us (dotted_goes n m part mid us g h) ∙ i
+
+pub name_alone : (n : List ℕ) (old mid new : List Token) → Some n ≡ next_word old → mid ≡ passed old → new ≡ mid → begins_dotted mid ≡ false →
+    name_of old ≡ Ok (n, new)
+name_alone n old mid new e f g h =
+    name_at n old e ∙ ap (λ ts. all dotted_step n ts) (sym f) ∙ all_stops dotted_step n mid (dotted_none n mid h) ∙ ap (λ ts. Ok (n, ts)) (sym g)

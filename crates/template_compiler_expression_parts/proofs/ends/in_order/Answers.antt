@@ -1,0 +1,7 @@
+use Rattle.template_compiler_expression_parts.proofs.Nothing.{order_at}
+use Rattle.template_compiler_expression_parts.proofs.ends.in_order.Goals as goal
+
+pub returns-then-skip : goal.returns-then-skip
+returns-then-skip c =
+    let here = rw c.if-skip.true at c.skip.ensures in
+    order_at _ _ _ _ _ here (c.few.ensures _)

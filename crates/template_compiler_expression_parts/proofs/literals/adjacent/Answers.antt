@@ -1,0 +1,20 @@
+use Rattle.std.proofs.Common.{string_bytes}
+use Rattle.template_compiler_expressions.specs.Reader.{text_step}
+use Rattle.template_compiler_expression_parts.proofs.Rounds.{rounds_end, rounds_go}
+use Rattle.template_compiler_expression_parts.proofs.Takes.{text_takes}
+use Rattle.template_compiler_expression_parts.proofs.literals.adjacent.Goals as goal
+
+pub loop-text-preserved : goal.loop-text-preserved
+loop-text-preserved c =
+    let more = rw c.in-Ok-true.field-0-test at c.in-Ok-true.ensures in
+    rounds_go text_step text_takes _ _ _ _ _ _ c.loop-text.invariant more
+
+pub loop-text-smaller : goal.loop-text-smaller
+loop-text-smaller c =
+    let more = rw c.in-Ok-true.field-0-test at c.in-Ok-true.ensures in
+    text_takes _ _ _ _ more
+
+pub returns-in-Ok-false : goal.returns-in-Ok-false
+returns-in-Ok-false c =
+    let ended = rw c.in-Ok-false.field-0-test at c.in-Ok-false.ensures in
+    rounds_end text_step _ _ _ _ _ _ c.loop-text.invariant ended

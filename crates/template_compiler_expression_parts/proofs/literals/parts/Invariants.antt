@@ -1,0 +1,10 @@
+use Rattle.std.proofs.Common.{◌≡◌, length, string_bytes}
+use Rattle.template_compiler_expressions.specs.Reader.{dotted_step}
+use Rattle.template_compiler_reading.specs.Steps.{all}
+use Rattle.template_compiler_expression_parts.proofs.literals.parts.Given as goal
+
+abbrev pub invariant-loop-part : goal.invariant-loop-part
+invariant-loop-part l = all dotted_step (string_bytes l.name) l.tokens ≡ all dotted_step (string_bytes l.initial.name) l.initial.tokens
+
+abbrev pub decreases-loop-part : goal.decreases-loop-part
+decreases-loop-part l = length l.tokens

@@ -1,0 +1,60 @@
+//! What repetitions put together.
+ghost use Rattle.std.specs.Prelude.{◌≡◌, IfOk};
+ghost use Rattle.template_compiler_expressions.specs.Trees.{and_pair, and_written};
+ghost use Rattle.template_compiler_expression_parts.specs.Parsed.{paired_in, written_in};
+ghost use Rattle.template_tree.specs.View.{argument_of, expression_of};
+
+use std::alloc::AllocError;
+use template_tree::{CallArg, Expr};
+
+/// What stands behind a value in a repetition.
+#[derive(Drop)]
+pub enum Behind<'source> {
+    /// The value with what goes on with it.
+    Goes(Expr<'source>),
+    /// The value: nothing goes on with it.
+    Stops(Expr<'source>),
+}
+
+/// The keys and the values of a map, as far as they are read.
+#[derive(Drop)]
+pub struct Pairs<'source> {
+    pub keys: Vec<Expr<'source>>,
+    pub values: Vec<Expr<'source>>,
+}
+
+impl<'source> Pairs<'source> {
+    /// Puts a key and its value behind the others.
+    #[tactic(auto, using(crate::proofs::Pushes::expressions_push))]
+    pub fn push(&mut self, key: Expr<'source>, value: Expr<'source>) -> Result<(), AllocError>
+        ensures { IfOk result (λ _. paired_in self.new ≡ and_pair (paired_in self.old) (expression_of key.entry)
+            (expression_of value.entry)) }
+    {
+        self.keys.push(key)?;
+        self.values.push(value)?;
+        Ok(())
+    }
+}
+
+/// Arguments, as far as they are read: those by place and those by keyword.
+#[derive(Drop)]
+pub struct Written<'source> {
+    pub by_place: Vec<CallArg<'source>>,
+    pub by_keyword: Vec<CallArg<'source>>,
+}
+
+impl<'source> Written<'source> {
+    /// Puts an argument behind the others of its kind.
+    #[tactic(auto, using(crate::proofs::Pushes::arguments_push))]
+    pub fn push(&mut self, argument: CallArg<'source>) -> Result<(), AllocError>
+        ensures { IfOk result (λ _. written_in self.new ≡ and_written (written_in self.old) (argument_of argument.entry)) }
+    {
+        match argument {
+            CallArg::Pos(expr) => self.by_place.push(CallArg::Pos(expr))?,
+            CallArg::PosSplat(expr) => self.by_place.push(CallArg::PosSplat(expr))?,
+            CallArg::Kwarg(name, expr) => self.by_keyword.push(CallArg::Kwarg(name, expr))?,
+            CallArg::KwargSplat(expr) => self.by_keyword.push(CallArg::KwargSplat(expr))?,
+        }
+        Ok(())
+    }
+}

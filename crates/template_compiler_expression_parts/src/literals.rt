@@ -1,0 +1,228 @@
+//! Names, numbers, texts, and the words that are literals.
+ghost use Rattle.std.specs.Prelude.{◌≡◌, ◌∷◌, pos, IfOk, IfErr, List, Ok, string_bytes};
+ghost use Rattle.std.specs.Cow.{cow_str_bytes};
+ghost use Rattle.template_compiler_expression_parts.specs.Parsed.{Parsed, ParsedAs, SteppedTo, WentOn};
+ghost use Rattle.template_compiler_stream.specs.declared.refusal.Refusal.TheVariants as refusals;
+ghost use Rattle.template_compiler_expressions.specs.Reader.{dot_part, dotted_step, name_of, nothing_deeper, primary_by, text_step, word_tree};
+ghost use Rattle.template_compiler_expressions.specs.Trees.{dotted};
+ghost use Rattle.template_compiler_expressions.specs.Words.{literal_word};
+ghost use Rattle.template_compiler_reading.specs.Steps.{all, and_then};
+ghost use Rattle.template_compiler_tokens.specs.Token as lexed;
+ghost use Rattle.template_compiler_tokens.specs.View.{token_of};
+ghost use Rattle.template_tree.specs.Tree.{constant, item};
+ghost use Rattle.template_tree.specs.View.{expression_of};
+ghost use Rattle.template_values_model.specs.Val.{int, text};
+
+use std::alloc::{AllocError, Global};
+use std::borrow::CowStr;
+use template_compiler_stream::{Fault, First, Refusal, TokenStream};
+use template_compiler_tokens::Token;
+use template_tree::{Expr, Span};
+use template_values_core::Value;
+
+/// The name of a filter or a test: identifiers with dots between them.
+///
+/// # Errors
+///
+/// The fault of the token where no identifier stands, or want of memory.
+#[tactic(auto, using(crate::proofs::Rounds::name_more, crate::proofs::Rounds::name_alone), unfolding(template_compiler_expressions::specs::Reader::name_of))]
+pub fn name<'source>(
+    alloc: Global,
+    tokens: &mut TokenStream<'source>,
+) -> Result<CowStr<'source>, Refusal>
+    ensures { ParsedAs cow_str_bytes (name_of tokens.old) tokens.new result }
+{
+    let first = match tokens.word() {
+        Some(first) => first,
+        None => return Err(Refusal::Token(tokens.fault())),
+    };
+    tokens.advance();
+    match tokens.skip_dotted() {
+        Some(part) => Ok(CowStr::Owned(parts(tokens, joined(alloc, first, part)?)?)),
+        None => Ok(CowStr::Borrowed(first)),
+    }
+}
+
+fn joined(alloc: Global, first: &str, part: &str) -> Result<String, AllocError>
+    ensures { IfOk result (λ s. string_bytes s ≡ dotted first.now part.now) }
+{
+    let mut name = String::from_str(alloc, first)?;
+    put_part(&mut name, part)?;
+    Ok(name)
+}
+
+fn put_part(name: &mut String, part: &str) -> Result<(), AllocError>
+    ensures { IfOk result (λ _. string_bytes name.new ≡ dotted (string_bytes name.old) part.now) }
+{
+    name.push_str(".")?;
+    name.push_str(part)
+}
+
+// The name with the parts behind it.
+fn parts(tokens: &mut TokenStream, name: String) -> Result<String, AllocError>
+    ensures { IfOk result (λ s. all dotted_step (string_bytes name) tokens.old ≡ Ok (string_bytes s, tokens.new)) }
+{
+    let mut name = name;
+    loop {
+        match tokens.skip_dotted() {
+            Some(part) => put_part(&mut name, part)?,
+            None => return Ok(name),
+        }
+    }
+}
+
+/// A primary without brackets: a name, a word that is a literal, a number, or adjacent texts, which are one.
+///
+/// # Errors
+///
+/// The fault of the token that is none of these, or want of memory.
+#[tactic(auto, unfolding(template_compiler_expressions::specs::Reader::primary_by))]
+pub fn literal<'source>(
+    alloc: Global,
+    tokens: &mut TokenStream<'source>,
+) -> Result<Expr<'source>, Refusal>
+    ensures { Parsed (primary_by nothing_deeper tokens.old) tokens.new result }
+{
+    match tokens.take() {
+        First::Token(token, span) => literal_from(alloc, tokens, token, span),
+        First::End => Err(Refusal::Token(Fault::Syntax)),
+        First::Bad(fault) => Err(Refusal::Token(fault)),
+    }
+}
+
+// The literal that begins with the token, behind which the tokens stand.
+#[tactic(auto, unfolding(template_compiler_expressions::specs::Reader::primary_by))]
+fn literal_from<'source>(
+    alloc: Global,
+    tokens: &mut TokenStream<'source>,
+    token: Token<'source>,
+    span: Span,
+) -> Result<Expr<'source>, Refusal>
+    ensures { Parsed (primary_by nothing_deeper (token_of token.entry ∷ tokens.old)) tokens.new result }
+{
+    match token {
+        Token::Ident(name) => Ok(word(alloc, name, span)?),
+        Token::Int(n) => Ok(Expr::constant(alloc, Value::from_int(i128::from(n)), span)?),
+        Token::Int128(n) => Ok(Expr::constant(alloc, whole(n)?, span)?),
+        Token::Str(text) => texts(alloc, tokens, String::from_str(alloc, text)?, span),
+        Token::String(text) => texts(alloc, tokens, text, span),
+        _ => Err(Refusal::Token(Fault::Syntax)),
+    }
+}
+
+// A name, or a word that is a literal.
+fn word<'source>(alloc: Global, name: &'source str, span: Span) -> Result<Expr<'source>, AllocError>
+    ensures { IfOk result (λ e. expression_of e ≡ word_tree (literal_word name.now) name.now) }
+{
+    match literal_word(name) {
+        Some(value) => Expr::constant(alloc, value, span),
+        None => Ok(Expr::variable(name, span)),
+    }
+}
+
+fn literal_word(name: &str) -> Option<Value>
+    ensures { result ≡ literal_word name.now }
+{
+    match name {
+        "true" => Some(Value::from_bool(true)),
+        "True" => Some(Value::from_bool(true)),
+        "false" => Some(Value::from_bool(false)),
+        "False" => Some(Value::from_bool(false)),
+        "none" => Some(Value::none()),
+        "None" => Some(Value::none()),
+        _ => None,
+    }
+}
+
+// A number of a token; past 2^127 - 1 no token is a number.
+fn whole(number: u128) -> Result<Value, Refusal>
+    ensures value { IfOk result (λ v. v ≡ int (pos number)) }
+    ensures none { IfErr result (λ e. e ≡ refusals.OutOfMemory) }
+{
+    match i128::try_from(number) {
+        Ok(n) => Ok(Value::from_int(n)),
+        Err(_) => Err(Refusal::OutOfMemory),
+    }
+}
+
+// The text with those behind it.
+#[tactic(auto, unfolding(template_compiler_reading::specs::Steps::and_then))]
+fn texts<'source>(
+    alloc: Global,
+    tokens: &mut TokenStream<'source>,
+    first: String,
+    span: Span,
+) -> Result<Expr<'source>, Refusal>
+    ensures { Parsed (and_then (all text_step (string_bytes first) tokens.old) (λ t us. Ok (constant (text t), us))) tokens.new result }
+{
+    match Value::from_text(adjacent(tokens, first)?) {
+        Ok(value) => Ok(Expr::constant(alloc, value, span)?),
+        Err(_) => Err(Refusal::OutOfMemory),
+    }
+}
+
+fn adjacent(tokens: &mut TokenStream, first: String) -> Result<String, AllocError>
+    ensures { IfOk result (λ s. all text_step (string_bytes first) tokens.old ≡ Ok (string_bytes s, tokens.new)) }
+{
+    let mut text = first;
+    loop {
+        match tokens.skip_text(&mut text) {
+            Ok(true) => {}
+            Ok(false) => return Ok(text),
+            Err(error) => return Err(error),
+        }
+    }
+}
+
+/// The attribute or the item that stands behind a dot.
+///
+/// # Errors
+///
+/// The fault of the token that is neither a name nor a number, or want of memory.
+#[tactic(auto, unfolding(template_compiler_expressions::specs::Reader::dot_part))]
+pub fn attribute<'source>(
+    alloc: Global,
+    tokens: &mut TokenStream<'source>,
+    value: Expr<'source>,
+    span: Span,
+) -> Result<Expr<'source>, Refusal>
+    ensures { WentOn (dot_part (expression_of value.entry) tokens.old) tokens.new result }
+{
+    match tokens.take() {
+        First::Token(token, place) => attribute_from(alloc, token, place, value, span),
+        First::End => Err(Refusal::Token(Fault::Syntax)),
+        First::Bad(fault) => Err(Refusal::Token(fault)),
+    }
+}
+
+#[tactic(auto, unfolding(template_compiler_expressions::specs::Reader::dot_part))]
+fn attribute_from<'source>(
+    alloc: Global,
+    token: Token<'source>,
+    place: Span,
+    value: Expr<'source>,
+    span: Span,
+) -> Result<Expr<'source>, Refusal>
+    ensures { (ts : List lexed.Token) → WentOn (dot_part (expression_of value.entry) (token_of token.entry ∷ ts)) ts result }
+{
+    match token {
+        Token::Ident(name) => Ok(Expr::attribute(alloc, value, name, span)?),
+        Token::Int(n) => Ok(numbered(alloc, value, Value::from_int(i128::from(n)), place, span)?),
+        Token::Int128(n) => Ok(numbered(alloc, value, whole(n)?, place, span)?),
+        _ => Err(Refusal::Token(Fault::Syntax)),
+    }
+}
+
+// The item of a value at a number.
+fn numbered<'source>(
+    alloc: Global,
+    value: Expr<'source>,
+    number: Value,
+    place: Span,
+    span: Span,
+) -> Result<Expr<'source>, AllocError>
+    ensures { IfOk result (λ e. expression_of e ≡ item (expression_of value.entry) (constant number)) }
+{
+    let key = Expr::constant(alloc, number, place)?;
+    Expr::item(alloc, value, key, span)
+}

@@ -1,0 +1,75 @@
+//! The trees of comparisons and of tests.
+ghost use Rattle.std.specs.Prelude.{◌≡◌, IfOk};
+ghost use Rattle.std.specs.Cow.{cow_str_bytes};
+ghost use Rattle.template_compiler_expressions.specs.Trees.{compared, compared_once, tested_as};
+ghost use Rattle.template_tree.specs.View.{arguments_in, expression_of, links_in};
+
+use std::alloc::{AllocError, Global};
+use std::borrow::CowStr;
+use template_tree::{BinOpKind, CallArg, CompareOp, CompareOpKind, Expr, Span, UnaryOpKind};
+
+/// A value with the comparisons behind it: none is the value, one an operator, more are a chain.
+#[tactic(auto, using(crate::proofs::Pushes::compared_chain))]
+pub fn compared<'source>(
+    alloc: Global,
+    value: Expr<'source>,
+    links: Vec<CompareOp<'source>>,
+    span: Span,
+) -> Result<Expr<'source>, AllocError>
+    ensures { IfOk result (λ e. expression_of e ≡ compared (expression_of value.entry) (links_in links.entry.items)) }
+{
+    let mut links = links;
+    if links.len() > 1 {
+        return Expr::chain(alloc, value, links, span);
+    }
+    match links.pop() {
+        Some(link) => compared_once(alloc, value, link, span),
+        None => Ok(value),
+    }
+}
+
+// One comparison; `not in` is `not` of `in`.
+fn compared_once<'source>(
+    alloc: Global,
+    value: Expr<'source>,
+    link: CompareOp<'source>,
+    span: Span,
+) -> Result<Expr<'source>, AllocError>
+    ensures { IfOk result (λ e. expression_of e ≡ compared_once (expression_of value.entry) link.entry.op (expression_of link.entry.expr)) }
+{
+    let CompareOp { op, expr } = link;
+    let kind = match op {
+        CompareOpKind::Eq => BinOpKind::Eq,
+        CompareOpKind::Ne => BinOpKind::Ne,
+        CompareOpKind::Lt => BinOpKind::Lt,
+        CompareOpKind::Lte => BinOpKind::Lte,
+        CompareOpKind::Gt => BinOpKind::Gt,
+        CompareOpKind::Gte => BinOpKind::Gte,
+        CompareOpKind::In => BinOpKind::In,
+        CompareOpKind::NotIn => {
+            let within = Expr::binary(alloc, BinOpKind::In, value, expr, span)?;
+            return Expr::unary(alloc, UnaryOpKind::Not, within, span);
+        }
+    };
+    Expr::binary(alloc, kind, value, expr, span)
+}
+
+/// A test of a value, or its negation.
+pub fn tested<'source>(
+    alloc: Global,
+    negated: bool,
+    name: CowStr<'source>,
+    value: Expr<'source>,
+    arguments: Vec<CallArg<'source>>,
+    span: Span,
+) -> Result<Expr<'source>, AllocError>
+    ensures { IfOk result
+        (λ e. expression_of e ≡ tested_as negated (cow_str_bytes name.entry) (expression_of value.entry) (arguments_in arguments.entry.items)) }
+{
+    let test = Expr::tested(alloc, name, value, arguments, span)?;
+    if negated {
+        Expr::unary(alloc, UnaryOpKind::Not, test, span)
+    } else {
+        Ok(test)
+    }
+}
