@@ -5,5 +5,4 @@ pub mod Ending
 pub mod Passes
 pub mod OutlineLemmas
 pub mod Standing
-pub mod NotedLemmas
 pub mod Visiting

@@ -23,7 +23,8 @@ pub record IsPartial (code : List Code) (table : ℕ → Option Shape) (upto : �
   pub begins : table 0 ≡ Some start
   pub reached : (q : ℕ) (s : Shape) → table q ≡ Some s → Reached code q s
   pub homes : (q : ℕ) (s : Shape) → table q ≡ Some s → EachLoop (HasHome table) s.frames
-  pub fine : (q : ℕ) (s : Shape) (c : Code) → q < upto → table q ≡ Some s → slice_get code q ≡ Some c → IsSomeAnd (effect_of code q c s) (Leads table q)
+  pub fine : (q : ℕ) (s : Shape) (c : Code) → q < upto → table q ≡ Some s → slice_get code q ≡ Some c
+      → IsSomeAnd (effect_of code q c s) (Leads table q)
 
 -- Some table is partial up to a place. It has the shape in hand there, and what is noted; and what it has further on is
 -- noted, and so is what it has before at each `Iterate`.

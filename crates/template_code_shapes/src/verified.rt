@@ -53,7 +53,8 @@ fn note_home(
     shape: &Outline,
 ) -> Result<(), Stop>
     requires { place < places_in notes.old }
-    ensures noted { IfOk result (λ _. Noted (home_of (code_in code.now) place (shape_of shape.now)) (noted_in notes.old) (noted_in notes.new)) }
+    ensures noted { IfOk result
+        (λ _. Noted (home_of (code_in code.now) place (shape_of shape.now)) (noted_in notes.old) (noted_in notes.new)) }
     ensures clash { IsErrOf result Stop.Bad → AgreesWith (noted_in notes.old) (home_of (code_in code.now) place (shape_of shape.now)) → ⊥ }
     ensures room { places_in notes.new ≡ places_in notes.old }
 {

@@ -126,7 +126,8 @@ pub fn branch_or_pop(
     to: u32,
     shape: Outline,
 ) -> Result<Option<Ways>, Error>
-    ensures { IfOk result (λ ways. option_map effect_in ways ≡ effect_of (code_in code.now) place (jump_if_false_or_pop to) (shape_of shape)) }
+    ensures { IfOk result
+        (λ ways. option_map effect_in ways ≡ effect_of (code_in code.now) place (jump_if_false_or_pop to) (shape_of shape)) }
 {
     let mut below = copied(&shape)?;
     if !below.take(1) {
@@ -203,7 +204,9 @@ pub fn scope_ways(
     instruction: &Instruction,
     shape: Outline,
 ) -> Result<Option<Ways>, Error>
-    ensures { IfOk result (λ ways. IsScope (code_of instruction.now) → option_map effect_in ways ≡ effect_of (code_in code.now) place (code_of instruction.now) (shape_of shape)) }
+    ensures { IfOk result
+        (λ ways. IsScope (code_of instruction.now)
+        → option_map effect_in ways ≡ effect_of (code_in code.now) place (code_of instruction.now) (shape_of shape)) }
 {
     let mut shape = shape;
     let admissible = match instruction {
@@ -255,7 +258,8 @@ pub fn ways_at(
     shape: Outline,
 ) -> Result<Option<Ways>, Error>
     requires { place < length (code_in code.now) }
-    ensures { IfOk result (λ ways. option_map effect_in ways ≡ effect_of (code_in code.now) place (code_of instruction.now) (shape_of shape)) }
+    ensures { IfOk result
+        (λ ways. option_map effect_in ways ≡ effect_of (code_in code.now) place (code_of instruction.now) (shape_of shape)) }
 {
     match instruction {
         Instruction::EmitRaw(_) => Ok(Some(falling_ways(shape))),

@@ -229,8 +229,8 @@ mutual
   all_move no_expressions r = moves_nothing 0
   all_move (expressions_more e es) r =
       let later : Moves (expressions_code es) 1 (suc (number_of es)) = (let P : ℕ → Type 0 = λ n. Moves (expressions_code es) 1 n in
-          let same : number_of es + 1 ≡ suc (number_of es) = omega arith in
-          subst P same (over_many (expressions_code es) (number_of es) 1 (all_move es r.1))) in
+      let same : number_of es + 1 ≡ suc (number_of es) = omega arith in
+      subst P same (over_many (expressions_code es) (number_of es) 1 (all_move es r.1))) in
       moves_then (expression_code e) (expressions_code es) 0 1 (suc (number_of es)) (expression_moves e r.0) later
 
   each_moves : (es : Expressions) → AreRunnable es → EachMoves (codes_of es)

@@ -182,7 +182,7 @@ runs_skipped looping ways f x code place s base plain h inside =
     let within : behind ≤ length code = (let all = stands_within code place (skipped jump_if_false f place) h in omega arith) in
     let e : Effect = record { falls = Some s; jumps = Some (behind, s) } in
     let inner = x code (suc place) s base plain (behind_one code place (jump_if_false behind) (f (suc place)) h)
-        (λ t. inside_part code ways s base place (place + length (skipped jump_if_false f place)) (suc place) behind (omega arith) (omega arith) (inside t)) in
+    (λ t. inside_part code ways s base place (place + length (skipped jump_if_false f place)) (suc place) behind (omega arith) (omega arith) (inside t)) in
     goes_to code place behind (place + length (skipped jump_if_false f place)) (given 1 s) (Some s) (Outs looping ways base) same
     (goes_then code place (suc place) behind (given 1 s) s (Some s) (Some s) (Lands e) (Outs looping ways base) (Outs looping ways base)
     (goes_on code place (jump_if_false behind) (given 1 s) e (instruction_at code place (jump_if_false behind) (f (suc place)) h) (tests_on code place behind s plain (omega arith) within))
@@ -356,7 +356,7 @@ runs_within looping ways assignments body r x code place s base plain h inside =
     let same_later : later_at ≡ behind = behind_then (assignments_code assignments) bare mid in
     let stands_later = stands_second code place (one push_with) later h in
     let closed = runs_closed looping ways pop_frame (opened with_frame) body (λ t k. k) (λ code place t k. refl) x code body_at s base plain (stands_second code mid (assignments_code assignments) bare stands_later)
-        (λ t. inside_part code ways s base place whole body_at behind (omega arith) (omega arith) (inside t)) in (
+    (λ t. inside_part code ways s base place whole body_at behind (omega arith) (omega arith) (inside t)) in (
       closed.0,
       goes_to code place behind whole s (gate closed.0 s) N (sym (same ∙ same_later))
           (goes_then code place mid behind s s1 (Some s1) (gate closed.0 s) N N N
@@ -379,7 +379,7 @@ runs_escaped looping ways body x code place s base plain h inside =
     let whole = place + length (then_code (one push_auto_escape) bare place) in
     let same : whole ≡ behind = behind_then (one push_auto_escape) bare place in
     let closed = runs_closed looping ways pop_auto_escape with_escape body (λ t k. k) (λ code place t k. ap (option_map falling) (escape_plain t k)) x code mid s base plain (stands_second code place (one push_auto_escape) bare h)
-        (λ t. inside_part code ways s base place whole mid behind (omega arith) (omega arith) (inside t)) in (
+    (λ t. inside_part code ways s base place whole mid behind (omega arith) (omega arith) (inside t)) in (
       closed.0,
       goes_to code place behind whole (given 1 s) (gate closed.0 s) N (sym same)
           (goes_then code place mid behind (given 1 s) s1 (Some s1) (gate closed.0 s) N N N

@@ -9,8 +9,10 @@ use Rattle.template_compiler_codegen.specs.Statements.{template_code, standalone
 
 -- The code of a runnable template has a table of shapes that shows it to be good.
 abbrev pub TemplatesAreCertified : Type 0
-TemplatesAreCertified = (tree : Statements) → IsRunnableTemplate tree → (table : ℕ → Option Shape) × IsCertificate Template (template_code tree) table
+TemplatesAreCertified = (tree : Statements) → IsRunnableTemplate tree
+    → (table : ℕ → Option Shape) × IsCertificate Template (template_code tree) table
 
 -- So has the code of a runnable expression alone.
 abbrev pub ExpressionsAreCertified : Type 0
-ExpressionsAreCertified = (e : Expression) → IsRunnable e → (table : ℕ → Option Shape) × IsCertificate ExpressionStream (standalone_code e) table
+ExpressionsAreCertified = (e : Expression) → IsRunnable e
+    → (table : ℕ → Option Shape) × IsCertificate ExpressionStream (standalone_code e) table

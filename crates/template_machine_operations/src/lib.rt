@@ -1,0 +1,18 @@
+//! How the values' events of a running template are answered: operators, parts of values, containers,
+//! truth, loops' items, printed texts and escapes, under what may be done with undefined values.
+#![tactic(auto)]
+
+mod containers;
+mod escapes;
+mod operators;
+mod parts;
+mod printing;
+mod sequence;
+mod undefined;
+
+pub use containers::{build_list, build_map, build_tuple};
+pub use escapes::escape_named;
+pub use operators::{compare, invert, negate, operate, truth_of};
+pub use parts::{get_attribute, get_item, get_slice};
+pub use printing::{print, write};
+pub use sequence::{Items, choices_in, iterate, unpack};

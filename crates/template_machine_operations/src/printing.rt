@@ -1,0 +1,104 @@
+//! Texts and values on their way into a sink.
+ghost use Rattle.std.specs.Prelude.{◌≡◌, [], Ok, IfSome, string_bytes};
+ghost use Rattle.template_values_forms.specs.Answers.{AppendsOrRefuses};
+ghost use Rattle.template_values_forms.specs.Escaped.{escaped};
+ghost use Rattle.template_values_forms.specs.Known.{Known};
+ghost use Rattle.template_machine_meaning.specs.Undefined.{forbids_printing};
+ghost use Rattle.template_machine_meaning.specs.Replies.{guarded, kinded};
+ghost use Rattle.template_machine_operations.specs.Outcomes.{TellsFailures, Writes, Prints};
+
+use crate::undefined::{forbids_printing, refusal};
+use template_machine_output::{Sink, write_text};
+use template_values_core::{Content, Value};
+use template_values_errors::Error;
+use template_values_modes::{AutoEscape, UndefinedBehavior};
+use template_values_records::Records;
+use template_values_text::escape_to;
+
+/// Puts a text into a sink. No byte of it is copied.
+///
+/// # Errors
+///
+/// [`ErrorKind::OutOfMemory`] where the sink wants memory, [`ErrorKind::WriteFailure`] where it failed;
+/// it has then taken a beginning of the text.
+///
+/// [`ErrorKind::OutOfMemory`]: template_values_errors::ErrorKind::OutOfMemory
+/// [`ErrorKind::WriteFailure`]: template_values_errors::ErrorKind::WriteFailure
+pub fn write<S: Sink>(text: &str, sink: &mut S) -> Result<(), Error>
+    ensures written { Writes text.now result (S.taken sink.old) (S.taken sink.new) }
+    ensures failures { TellsFailures result (S.failures sink.old) (S.failures sink.new) }
+{
+    Ok(write_text(sink, text)?)
+}
+
+/// Puts the text of a value under an escape into a sink. A text that stands as it is is not copied on
+/// the way; others are made in `scratch` first, which loses what it holds and keeps its room.
+///
+/// # Errors
+///
+/// [`ErrorKind::UndefinedError`] where the mode forbids to print an undefined value; else what
+/// [`escape_to`] refuses the value with, and the sink has taken nothing; and those of [`write`].
+///
+/// [`ErrorKind::UndefinedError`]: template_values_errors::ErrorKind::UndefinedError
+pub fn print<R: Records, S: Sink>(
+    mode: UndefinedBehavior,
+    escape: AutoEscape,
+    value: &Value,
+    records: &R,
+    scratch: &mut String,
+    sink: &mut S,
+) -> Result<(), Error>
+    ensures written { let forbidden = forbids_printing mode value.now in
+        let text = guarded forbidden (kinded (escaped escape (R.known records.now) value.now)) in
+        Prints text result (S.taken sink.old) (S.taken sink.new) }
+    ensures failures { TellsFailures result (S.failures sink.old) (S.failures sink.new) }
+{
+    if forbids_printing(mode, value) {
+        return refusal();
+    }
+    print_escaped(escape, value, records, scratch, sink)
+}
+
+fn print_escaped<R: Records, S: Sink>(
+    escape: AutoEscape,
+    value: &Value,
+    records: &R,
+    scratch: &mut String,
+    sink: &mut S,
+) -> Result<(), Error>
+    ensures written { let text = kinded (escaped escape (R.known records.now) value.now) in
+        Prints text result (S.taken sink.old) (S.taken sink.new) }
+    ensures failures { TellsFailures result (S.failures sink.old) (S.failures sink.new) }
+{
+    if let Some(text) = standing_text(value, escape) {
+        return write(text, sink);
+    }
+    make_text(value, escape, records, scratch)?;
+    write(scratch.as_str(), sink)
+}
+
+/// The text of a value that stands as it is under an escape, whatever is known of records: a safe text,
+/// or any without an escape.
+fn standing_text(value: &Value, escape: AutoEscape) -> Option<&str>
+    ensures { IfSome result (λ text. (known : Known) → escaped escape known value.now ≡ Ok text.now) }
+{
+    match (value.content(), escape) {
+        (_, AutoEscape::Custom(_)) => None,
+        (Content::SafeText(text), _) => Some(text),
+        (Content::Text(text), AutoEscape::None) => Some(text),
+        _ => None,
+    }
+}
+
+/// Makes the text of a value under an escape in `scratch`.
+fn make_text<R: Records>(
+    value: &Value,
+    escape: AutoEscape,
+    records: &R,
+    scratch: &mut String,
+) -> Result<(), Error>
+    ensures { AppendsOrRefuses [] (escaped escape (R.known records.now) value.now) result (string_bytes scratch.new) }
+{
+    scratch.clear();
+    escape_to(value, escape, records, scratch)
+}
