@@ -5,4 +5,4 @@ mod leaps;
 mod operators;
 
 pub use leaps::{Leap, land, load, load_copy, put, reserve};
-pub use operators::{leap_of, operator_instruction, unary_instruction};
+pub use operators::{comparison_instruction, leap_of, operator_instruction, unary_instruction};

@@ -54,3 +54,19 @@ pub fn operator_instruction<'source>(op: BinOpKind) -> Instruction<'source>
         BinOpKind::ScAnd | BinOpKind::ScOr => unreachable!(),
     }
 }
+
+/// The instruction of a comparison of a chain, which keeps its right side.
+pub fn comparison_instruction<'source>(op: CompareOpKind) -> Instruction<'source>
+    ensures { code_of result ≡ compare_and_preserve op }
+{
+    Instruction::CompareAndPreserve(match op {
+        CompareOpKind::Eq => CompareOp::Eq,
+        CompareOpKind::Ne => CompareOp::Ne,
+        CompareOpKind::Lt => CompareOp::Lt,
+        CompareOpKind::Lte => CompareOp::Lte,
+        CompareOpKind::Gt => CompareOp::Gt,
+        CompareOpKind::Gte => CompareOp::Gte,
+        CompareOpKind::In => CompareOp::In,
+        CompareOpKind::NotIn => CompareOp::NotIn,
+    })
+}

@@ -1,13 +1,13 @@
 -- Along a left chain: each node is runnable, and adds its own to what stands.
-use Rattle.std.proofs.Common.{◌≡◌, ℕ, ◌+◌, ◌<◌, zero, suc, List, [], ◌∷◌, ◌++◌, length, map, take, get_or, Option, Bor, sym, ap, subst, ◌∙◌, arith}
+use Rattle.std.proofs.Common.{◌≡◌, ℕ, ◌+◌, ◌<◌, ◌≤◌, zero, suc, List, [], ◌∷◌, ◌++◌, length, map, take, get_or, Option, Bor, sym, ap, subst, ◌∙◌, arith}
 use Rattle.std.specs.List.{All, fold}
 use Rattle.std.proofs.lemmas.List.{take_more}
 use Rattle.std.proofs.lemmas.List.Sums.{fold_push}
-use Rattle.std.proofs.lemmas.List.Elements.{All-nil, All-head, All-tail, All-same, All-push}
+use Rattle.std.proofs.lemmas.List.Elements.{All-nil, All-head, All-tail, All-same, All-push, All-get_or}
 use Rattle.template_values_model.specs.Val.{Val}
 use Rattle.template_tree.specs.Tree.{Expression, slice, binary, chain, filtered, tested, attribute, item, call}
 use Rattle.template_tree.specs.View.{expression_of}
-use Rattle.template_tree.specs.declared.expressions.Expr.{Expr}
+use Rattle.template_tree.specs.declared.expressions.Expr.{Expr, size-Expr}
 use Rattle.template_tree_spines.specs.Spine.{spine_of}
 use Rattle.template_walk.specs.Runnable.{IsRunnable}
 use Rattle.template_code.specs.Code.{Code}
@@ -39,6 +39,12 @@ pub runnable_at : (e : Expression) (ns : List (Bor Expr)) → IsRunnable e → m
 runnable_at e ns h nodes i n within read =
     let all = All-same IsRunnable (map (λ (m : Bor Expr). expression_of m.now) ns) (spine_of e) nodes (runnable_along e h) in
     subst (λ (m : Bor Expr). IsRunnable (expression_of m.now)) (sym read) (at_place ns i n all within)
+
+-- and no deeper than the tree
+pub depth_at : (m : ℕ) (ns : List (Bor Expr)) → All (λ (n : Bor Expr). size-Expr n.now ≤ m) ns
+    → (i : ℕ) (n : Bor Expr) → i < length ns → n ≡ get_or ns i n → size-Expr n.now ≤ m
+depth_at m ns all i n within read =
+    subst (λ (x : Bor Expr). size-Expr x.now ≤ m) (sym read) (All-get_or (λ (x : Bor Expr). size-Expr x.now ≤ m) ns i n within all)
 
 abbrev pub so_far : ℕ → List (Bor Expr) → Option Val × List Code
 so_far p ns = fold (λ a (n : Bor Expr). add_own p a (expression_of n.now)) no_left ns
