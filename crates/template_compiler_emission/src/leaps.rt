@@ -85,10 +85,7 @@ pub fn land<'source>(code: &mut Instructions<'source>, place: u32, leap: Leap)
 /// # Errors
 ///
 /// Those of [`Instructions::add`].
-pub fn load<'source>(
-    code: &mut Instructions<'source>,
-    constant: Option<Value>,
-) -> Result<(), Error>
+pub fn load<'source>(code: &mut Instructions<'source>, constant: Option<Value>) -> Result<(), Error>
     ensures put { OnOk result (Puts (held constant) code.old code.new) }
     ensures refused { IfErr result NoRoom }
 {

@@ -1,14 +1,23 @@
 -- The literals of a list that were read so far, and the rest of the list.
-use Rattle.std.proofs.Common.{◌≡◌, ℕ, ◌+◌, ◌<◌, ◌≤◌, zero, suc, List, [], ◌∷◌, ◌++◌, length, get_or, drop, Option, None, Some, refl, sym, ap, ◌∙◌, append-nil, append_assoc, arith}
+use Rattle.std.proofs.Common.{◌≡◌, ℕ, ◌+◌, ◌<◌, ◌≤◌, zero, suc, List, [], ◌∷◌, ◌++◌, length, get_or, drop, Option, None, Some, Box, Global, refl, sym, ap, ◌∙◌, append-nil, append_assoc, arith}
 use Rattle.std.proofs.lemmas.List.{drop_more, drop_all}
 use Rattle.template_values_model.specs.Val.{Val}
 use Rattle.template_values_core.specs.Shape.{pairs_in}
 use Rattle.template_values_core.proofs.PairLemmas.{pairs_in_push}
 use Rattle.template_values_core.specs.declared.value.Entry.{Entry}
 use Rattle.template_tree.specs.View.{expression_of, expressions_in}
-use Rattle.template_tree.specs.declared.expressions.Expr.{Expr}
+use Rattle.template_tree.specs.declared.span.Spanned.{Spanned}
+use Rattle.template_tree.specs.declared.expressions.Const.{Const as Literal}
+use Rattle.template_tree.specs.declared.expressions.Expr.{Expr, Const, Compare'}
+use Rattle.template_tree.specs.declared.expressions.Compare.{Compare' as compared}
 use Rattle.template_walk.specs.Constants.{both, literal_of, literals_of}
 use Rattle.template_walk.specs.Containers.{pairs_with}
+
+-- a node that is no constant is no literal
+pub other_than_literal : (e : Expr) → ((x : Spanned (Box Literal Global)) → e ≡ Const x → ⊥) → None ≡ literal_of (expression_of e)
+other_than_literal (Const n) h = absurd (h n refl)
+other_than_literal (Compare' p (compared expr shape ops) span) h = refl
+other_than_literal _ h = refl
 
 -- values, and then those that are left, where there are such
 abbrev pub joined : List Val → Option (List Val) → Option (List Val)
