@@ -1,0 +1,114 @@
+//! Instructions that are put behind others, and jumps whose targets are told later.
+ghost use Rattle.std.specs.Prelude.{◌≡◌, OnOk, IfOk, IfErr, length};
+ghost use Rattle.std.proofs.Math.ListN.{set};
+ghost use Rattle.template_code.specs.View.{code_of};
+ghost use Rattle.template_code.specs.Listing.{code_in, IsSameTemplate};
+ghost use Rattle.template_compiler_codegen.specs.Expressions.{one};
+ghost use Rattle.template_compiler_emission.specs.Leaps.{leap_code};
+ghost use Rattle.template_compiler_emission.specs.Puts.{Puts, NoRoom, held};
+
+use template_code::{Instruction, Instructions};
+use template_values_core::Value;
+use template_values_errors::Error;
+
+/// A jump, whose target may be told later.
+#[derive(Clone, Copy, Debug, PartialEq, Eq)]
+pub enum Leap {
+    /// Whatever is on top.
+    Always,
+    /// Where the value on top, which is taken, is false.
+    IfFalse,
+    /// Where the value on top is false; else it is taken.
+    IfFalseOrPop,
+    /// Where the value on top is true; else it is taken.
+    IfTrueOrPop,
+    /// Where the loop has no further item.
+    Iterate,
+}
+
+impl Leap {
+    /// The jump to a place.
+    pub fn to<'source>(self, target: u32) -> Instruction<'source>
+        ensures { code_of result ≡ leap_code self target }
+    {
+        match self {
+            Leap::Always => Instruction::Jump(target),
+            Leap::IfFalse => Instruction::JumpIfFalse(target),
+            Leap::IfFalseOrPop => Instruction::JumpIfFalseOrPop(target),
+            Leap::IfTrueOrPop => Instruction::JumpIfTrueOrPop(target),
+            Leap::Iterate => Instruction::Iterate(target),
+        }
+    }
+}
+
+/// Puts one instruction behind the others.
+///
+/// # Errors
+///
+/// Those of [`Instructions::add`].
+pub fn put<'source>(
+    code: &mut Instructions<'source>,
+    instruction: Instruction<'source>,
+) -> Result<(), Error>
+    ensures put { OnOk result (Puts (one (code_of instruction.entry)) code.old code.new) }
+    ensures refused { IfErr result NoRoom }
+{
+    code.add(instruction)?;
+    Ok(())
+}
+
+/// Puts a jump behind the others whose target is told later, and answers its place.
+///
+/// # Errors
+///
+/// Those of [`Instructions::add`].
+pub fn reserve<'source>(code: &mut Instructions<'source>, leap: Leap) -> Result<u32, Error>
+    ensures place { IfOk result (λ place. place ≡ length (code_in code.old)) }
+    ensures put { OnOk result (Puts (one (leap_code leap 0)) code.old code.new) }
+    ensures refused { IfErr result NoRoom }
+{
+    code.add(leap.to(0))
+}
+
+/// Tells the jump at a place its target: the place behind the last instruction. Where none stands, nothing
+/// changes.
+pub fn land<'source>(code: &mut Instructions<'source>, place: u32, leap: Leap)
+    ensures landed { code_in code.new ≡ set (code_in code.old) place (leap_code leap (length (code_in code.old))) }
+    ensures same { IsSameTemplate code.old code.new }
+{
+    let target = code.len() as u32;
+    code.replace(place, leap.to(target));
+}
+
+/// Puts the load of a constant behind the others, where there is one.
+///
+/// # Errors
+///
+/// Those of [`Instructions::add`].
+pub fn load<'source>(code: &mut Instructions<'source>, constant: Option<Value>) -> Result<(), Error>
+    ensures put { OnOk result (Puts (held constant) code.old code.new) }
+    ensures refused { IfErr result NoRoom }
+{
+    match constant {
+        Some(value) => put(code, Instruction::LoadConst(value)),
+        None => Ok(()),
+    }
+}
+
+/// Puts the load of a copy of a constant behind the others, where there is one.
+///
+/// # Errors
+///
+/// Those of [`Instructions::add`].
+pub fn load_copy<'source>(
+    code: &mut Instructions<'source>,
+    constant: &Option<Value>,
+) -> Result<(), Error>
+    ensures put { OnOk result (Puts (held constant.now) code.old code.new) }
+    ensures refused { IfErr result NoRoom }
+{
+    match constant {
+        Some(value) => put(code, Instruction::LoadConst(value.copy()?)),
+        None => Ok(()),
+    }
+}
