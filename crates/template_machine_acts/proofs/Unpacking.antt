@@ -1,5 +1,5 @@
 -- Unpacking gives as many items as are wanted, or is refused.
-use Rattle.std.proofs.Common.{◌≡◌, ℕ, suc, Bool, true, false, List, [], ◌∷◌, ◌++◌, map, length, ◌==◌, Option, None, Some, Result, Ok, Err, if◌then◌else◌, refl, sym, ap, subst, ◌∙◌}
+use Rattle.std.proofs.Common.{◌≡◌, ℕ, suc, Bool, true, false, List, ◌∷◌, ◌++◌, map, length, ◌==◌, Option, None, Some, Result, Ok, Err, if◌then◌else◌, refl, sym, ap, subst, ◌∙◌}
 use Rattle.template_values_errors.specs.declared.ErrorKind.{ErrorKind}
 use Rattle.template_values_errors.specs.declared.ErrorKind.TheVariants.{CannotUnpack}
 use Rattle.template_values_model.specs.Val.{Val}
@@ -9,7 +9,7 @@ use Rattle.template_code.specs.Code.{Operand, single, unpack_list}
 use Rattle.template_code.specs.Steps.{deed}
 use Rattle.template_machine_meaning.specs.World.{World}
 use Rattle.template_machine_meaning.specs.Replies.{replied_with}
-use Rattle.template_machine_meaning.specs.Surroundings.{Programs, answer, unpacked_into, unpacked}
+use Rattle.template_machine_meaning.specs.Surroundings.{Programs, unpacked_into, unpacked}
 use Rattle.template_machine_going.specs.Spots.{Spot}
 use Rattle.template_machine_going.specs.Acts.{Next}
 use Rattle.template_machine_acts.specs.Comings.{ComesTo, going_on, behind_it}
