@@ -1,1 +1,7 @@
 pub mod Acting
+pub mod Coming
+pub mod Laws
+pub mod Unpacking
+pub mod Framing
+pub mod Including
+pub mod Refusing

@@ -1,10 +1,106 @@
-//! What single instructions make of a world.
+//! What single instructions make of a run.
 #![tactic(auto)]
 
-ghost use Rattle.template_machine_acts.specs.Answers.{JumpActs, StoreActs};
+ghost use Rattle.template_machine_acts.specs.Answers.{ConstantActs, DiscardActs, DoubleActs, JumpActs, LookupActs, SwapActs};
+ghost use Rattle.template_machine_acts.specs.Events.{BreaksAstray, EventsAct, EventsFault, PassesActs, StuckAstray};
+ghost use Rattle.template_machine_acts.specs.Includes.{IncludeActs, IncludeFaults, IncludeRunsOut, IncludeWants};
+ghost use Rattle.template_machine_acts.specs.Refusals.{ChoiceRefused, IncludeRefused, MissingActs, RoomRefused};
+ghost use Rattle.template_machine_acts.specs.Scopes.{CloseEscapeActs, CloseFrameActs, CloseLoopActs, DidNotIterateActs, NextItemActs, NoItemActs, OpenEscapeActs, OpenFrameActs, OpenLoopActs, StoreActs};
+ghost use Rattle.template_machine_acts.specs.Values.{BuildListActs, BuildMapActs, BuildTupleActs, CompareActs, GetAttributeActs, GetItemActs, InvertActs, JumpIfFalseActs, JumpIfFalseOrPopActs, JumpIfTrueOrPopActs, NegateActs, OperateActs, SliceActs, UnpackActs};
+ghost use Rattle.template_machine_acts.specs.Writings.{PrintActs, PrintFaults, WriteActs};
 
-/// A jump goes on at its target, and a store changes the innermost frame.
-pub fn instructions_act()
+/// An instruction that asks nothing, or whose event is answered, acts; and one whose event fails faults.
+pub fn events_act<S>()
+    ensures passes { PassesActs S }
+    ensures acts { EventsAct S }
+    ensures faults { EventsFault S }
+{}
+
+/// An instruction is lost whose event breaks off, or whose operand is not there.
+pub fn events_stray<S>()
+    ensures breaks { BreaksAstray S }
+    ensures stuck { StuckAstray S }
+{}
+
+/// Jumps, constants and operands that change places ask nothing, and a look-up is always answered.
+pub fn operands_act()
     ensures jump { JumpActs }
+    ensures constant { ConstantActs }
+    ensures swap { SwapActs }
+    ensures double { DoubleActs }
+    ensures discard { DiscardActs }
+    ensures lookup { LookupActs }
+{}
+
+/// Operators and parts of values give a value, or fault.
+pub fn operators_act()
+    ensures negate { NegateActs }
+    ensures invert { InvertActs }
+    ensures operate { OperateActs }
+    ensures compare { CompareActs }
+    ensures attribute { GetAttributeActs }
+    ensures item { GetItemActs }
+    ensures slice { SliceActs }
+{}
+
+/// Containers are built and unpacked, or that faults.
+pub fn containers_act()
+    ensures list { BuildListActs }
+    ensures tuple { BuildTupleActs }
+    ensures map { BuildMapActs }
+    ensures unpack { UnpackActs }
+{}
+
+/// Jumps on a value's truth lead on or to their targets, or fault.
+pub fn truths_act()
+    ensures jump_if_false { JumpIfFalseActs }
+    ensures jump_if_false_or_pop { JumpIfFalseOrPopActs }
+    ensures jump_if_true_or_pop { JumpIfTrueOrPopActs }
+{}
+
+/// A store changes the innermost frame; frames open where there is room, and close.
+pub fn frames_act()
     ensures store { StoreActs }
+    ensures opened { OpenFrameActs }
+    ensures closed { CloseFrameActs }
+{}
+
+/// A loop opens over the items of a value, gives one after another, tells whether it gave any, and closes.
+pub fn loops_act()
+    ensures opened { OpenLoopActs }
+    ensures next { NextItemActs }
+    ensures over { NoItemActs }
+    ensures did_not_iterate { DidNotIterateActs }
+    ensures closed { CloseLoopActs }
+{}
+
+/// An escape that a value names is in force until it is closed.
+pub fn escapes_act()
+    ensures opened { OpenEscapeActs }
+    ensures closed { CloseEscapeActs }
+{}
+
+/// Texts are written, and values printed or refused.
+pub fn writings_act()
+    ensures write { WriteActs }
+    ensures print { PrintActs }
+    ensures refuse { PrintFaults }
+{}
+
+/// An include comes to what the first template that stands among its choices comes to: it goes on where that
+/// ends, and faults, runs out of fuel or stops where that does.
+pub fn includes_act()
+    ensures acts { IncludeActs }
+    ensures faults { IncludeFaults }
+    ensures runs_out { IncludeRunsOut }
+    ensures wants { IncludeWants }
+{}
+
+/// An include is refused that names no templates, reaches a choice that is no text, or has no room; and where
+/// none of its choices stands it is refused unless missing ones are ignored or it has none.
+pub fn includes_refuse()
+    ensures choices { IncludeRefused }
+    ensures choice { ChoiceRefused }
+    ensures missing { MissingActs }
+    ensures room { RoomRefused }
 {}

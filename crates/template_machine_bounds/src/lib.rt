@@ -1,0 +1,14 @@
+//! Laws of code under bounds on its instructions: what it has done under one it has done under every greater one.
+#![tactic(auto)]
+
+ghost use Rattle.template_machine_bounds.specs.Bounds.{BeginningsStay, EndsStay};
+
+/// Code that came to its end under a bound does the same under every greater one.
+pub fn ends_stay<S>()
+    ensures { EndsStay S }
+{}
+
+/// What code has left under a bound it leaves first under every greater one.
+pub fn beginnings_stay<S>()
+    ensures { BeginningsStay S }
+{}

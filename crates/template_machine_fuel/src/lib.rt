@@ -1,0 +1,31 @@
+//! What instructions cost of a fuel.
+#![tactic(auto)]
+
+ghost use Rattle.std.specs.Prelude.{◌≡◌, ◌≤◌, ◌∷◌, [], IfErr, OnOk, OnErr};
+ghost use Rattle.template_machine_going.specs.Paying.{Paid, IsSpent};
+
+use template_values_errors::{Error, ErrorKind};
+
+/// Takes the price of an instruction of what is left of a fuel, if one is set. A fuel n lets n - 1 steps run, and a fuel
+/// of 0 none; what costs nothing always runs.
+///
+/// # Errors
+///
+/// [`ErrorKind::OutOfFuel`]; the fuel is then as it was.
+pub fn charge(left: &mut Option<u64>, price: u64) -> Result<(), Error>
+    requires { price ≤ 1 }
+    ensures paid { OnOk result (Paid price left.old left.new) }
+    ensures priced { OnErr result (price ≡ 1) }
+    ensures spent { OnErr result (IsSpent left.old) }
+    ensures unchanged { OnErr result (left.new ≡ left.old) }
+    ensures kind { IfErr result (λ kinds. kinds ≡ ErrorKind.OutOfFuel ∷ []) }
+{
+    let Some(fuel) = *left else {
+        return Ok(());
+    };
+    if price > 0 && fuel <= price {
+        return Err(Error::new(ErrorKind::OutOfFuel));
+    }
+    *left = Some(fuel - price);
+    Ok(())
+}

@@ -1,0 +1,3 @@
+pub mod Strays
+pub mod Outcomes
+pub mod Laws
