@@ -79,7 +79,7 @@ filters-loop-next-smaller t c =
 
 pub links-returns-in-Ok-false : goal.links-returns-in-Ok-false
 links-returns-in-Ok-false t c =
-    let ended = rw c.in-Ok-false.field-0-is at c.in-Ok-false.ensures in
+    let ended = rw c.in-Ok-false.field-0-test at c.in-Ok-false.ensures in
     rounds_end (link_step (terms_by (deeper c.args.left))) _ _ _ _ _ _ c.loop-links.invariant ended
 
 pub links-returns-in-Err : goal.links-returns-in-Err
@@ -88,17 +88,17 @@ links-returns-in-Err t c =
 
 pub links-loop-links-preserved : goal.links-loop-links-preserved
 links-loop-links-preserved t c =
-    let more = rw c.in-Ok-true.field-0-is at c.in-Ok-true.ensures in
+    let more = rw c.in-Ok-true.field-0-test at c.in-Ok-true.ensures in
     rounds_go (link_step (terms_by (deeper c.args.left))) (link_shrinks c.args.left) _ _ _ _ _ _ c.loop-links.invariant more
 
 pub links-loop-links-smaller : goal.links-loop-links-smaller
 links-loop-links-smaller t c =
-    let more = rw c.in-Ok-true.field-0-is at c.in-Ok-true.ensures in
+    let more = rw c.in-Ok-true.field-0-test at c.in-Ok-true.ensures in
     link_shrinks c.args.left _ _ _ _ more
 
 pub items-returns-in-Ok-false : goal.items-returns-in-Ok-false
 items-returns-in-Ok-false t c =
-    let ended = rw c.in-Ok-false.field-0-is at c.in-Ok-false.ensures in
+    let ended = rw c.in-Ok-false.field-0-test at c.in-Ok-false.ensures in
     rounds_end (items_step (expression_by (deeper c.args.left))) _ _ _ _ _ _ c.loop-held.invariant ended
 
 pub items-returns-in-Err : goal.items-returns-in-Err
@@ -107,17 +107,17 @@ items-returns-in-Err t c =
 
 pub items-loop-held-preserved : goal.items-loop-held-preserved
 items-loop-held-preserved t c =
-    let more = rw c.in-Ok-true.field-0-is at c.in-Ok-true.ensures in
+    let more = rw c.in-Ok-true.field-0-test at c.in-Ok-true.ensures in
     rounds_go (items_step (expression_by (deeper c.args.left))) (item_takes c.args.left) _ _ _ _ _ _ c.loop-held.invariant more
 
 pub items-loop-held-smaller : goal.items-loop-held-smaller
 items-loop-held-smaller t c =
-    let more = rw c.in-Ok-true.field-0-is at c.in-Ok-true.ensures in
+    let more = rw c.in-Ok-true.field-0-test at c.in-Ok-true.ensures in
     item_takes c.args.left _ _ _ _ more
 
 pub pairs-returns-in-Ok-false : goal.pairs-returns-in-Ok-false
 pairs-returns-in-Ok-false t c =
-    let ended = rw c.in-Ok-false.field-0-is at c.in-Ok-false.ensures in
+    let ended = rw c.in-Ok-false.field-0-test at c.in-Ok-false.ensures in
     rounds_end (pairs_step (expression_by (deeper c.args.left))) _ _ _ _ _ _ c.loop-held.invariant ended
 
 pub pairs-returns-in-Err : goal.pairs-returns-in-Err
@@ -126,17 +126,17 @@ pairs-returns-in-Err t c =
 
 pub pairs-loop-held-preserved : goal.pairs-loop-held-preserved
 pairs-loop-held-preserved t c =
-    let more = rw c.in-Ok-true.field-0-is at c.in-Ok-true.ensures in
+    let more = rw c.in-Ok-true.field-0-test at c.in-Ok-true.ensures in
     rounds_go (pairs_step (expression_by (deeper c.args.left))) (pair_takes c.args.left) _ _ _ _ _ _ c.loop-held.invariant more
 
 pub pairs-loop-held-smaller : goal.pairs-loop-held-smaller
 pairs-loop-held-smaller t c =
-    let more = rw c.in-Ok-true.field-0-is at c.in-Ok-true.ensures in
+    let more = rw c.in-Ok-true.field-0-test at c.in-Ok-true.ensures in
     pair_takes c.args.left _ _ _ _ more
 
 pub written-returns-in-Ok-false : goal.written-returns-in-Ok-false
 written-returns-in-Ok-false t c =
-    let ended = rw c.in-Ok-false.field-0-is at c.in-Ok-false.ensures in
+    let ended = rw c.in-Ok-false.field-0-test at c.in-Ok-false.ensures in
     rounds_end (arguments_step (expression_by (deeper c.args.left))) _ _ _ _ _ _ c.loop-held.invariant ended
 
 pub written-returns-in-Err : goal.written-returns-in-Err
@@ -145,10 +145,10 @@ written-returns-in-Err t c =
 
 pub written-loop-held-preserved : goal.written-loop-held-preserved
 written-loop-held-preserved t c =
-    let more = rw c.in-Ok-true.field-0-is at c.in-Ok-true.ensures in
+    let more = rw c.in-Ok-true.field-0-test at c.in-Ok-true.ensures in
     rounds_go (arguments_step (expression_by (deeper c.args.left))) (next_argument_takes c.args.left) _ _ _ _ _ _ c.loop-held.invariant more
 
 pub written-loop-held-smaller : goal.written-loop-held-smaller
 written-loop-held-smaller t c =
-    let more = rw c.in-Ok-true.field-0-is at c.in-Ok-true.ensures in
+    let more = rw c.in-Ok-true.field-0-test at c.in-Ok-true.ensures in
     next_argument_takes c.args.left _ _ _ _ more
