@@ -1,18 +1,18 @@
 -- What is read has that tree, and a refusal's reason stands among the tokens.
-use Rattle.std.proofs.Common.{◌≡◌, ℕ, zero, suc, arith, Bool, true, false, if◌then◌else◌, List, [], ◌∷◌, codes, Option, None, Some, unwrap_or, Ok, Err, refl, sym, ◌∙◌, ap, subst, inl, inr}
+use Rattle.std.proofs.Common.{◌≡◌, ℕ, zero, suc, arith, Bool, true, false, if◌then◌else◌, List, [], ◌∷◌, length, ◌<◌, ◌≤◌, codes, Option, None, Some, unwrap_or, Ok, Err, refl, sym, ◌∙◌, ap, subst, inl, inr}
 use Rattle.std.specs.Prelude.{bytes_eq}
 use Rattle.std.proofs.lemmas.Slice.Eq.{bytes_eq-Decides}
 use Rattle.template_tree.specs.Tree.{Expression, variable, call, Optional, absent, given, Expressions, no_expressions, expressions_more, Arguments, Statement, print, for_loop, if_condition, with_block, set, set_block, auto_escape, filter_block, block, import, from_import, extends, include, macro, call_block, continue_loop, break_loop, do_call, Statements, no_statements, Assignments, no_assignments, Imports, no_imports}
 use Rattle.template_compiler_tokens.specs.Token.{Token, TokenFault, bad_syntax, template_data, variable_start, variable_end, block_start, block_end, identifier, symbol, dot, comma, assign, paren_open, paren_close}
 use Rattle.template_compiler_reading.specs.Blame.{Blamed}
-use Rattle.template_compiler_reading.specs.Steps.{Read, fault, and_then, all}
+use Rattle.template_compiler_reading.specs.Steps.{Read, fault, and_then, Step, goes, stops, fails, under, all}
 use Rattle.template_compiler_reading.proofs.Readings.{Kept, Reads, StepReads, fault_blamed, reads_ok, reads_end, reads_none, reads_syntax, reads_behind, reads_as, reads_then, reads_if, step_goes, step_stops, step_behind, step_under, step_if, reads_all}
 use Rattle.template_compiler_expressions.specs.Words.{is_word, word_in, disjunction}
 use Rattle.template_compiler_expressions.specs.Reader.{paren_end, expression_at}
 use Rattle.template_compiler_expressions.specs.Grammar.{IsExpression, IsBinary, IsFilter, IsFilterChain, chain_end, chain_more}
 use Rattle.template_compiler_expression_laws.proofs.Sound.{expression_sound, condition_sound, filter_sound, filter_chain_sound}
 use Rattle.template_compiler_statements.specs.Words.{tag, opens, word, is_reserved}
-use Rattle.template_compiler_statements.specs.Trees.{and_import, Branches, no_branches, and_branch, branched, Parameters, no_parameters, is_block_body, blocks_among, are_distinct}
+use Rattle.template_compiler_statements.specs.Trees.{and_statement, and_import, Branches, no_branches, and_branch, branched, Parameters, no_parameters, is_block_body, blocks_among, are_distinct}
 use Rattle.template_compiler_statements.specs.Grammar.{Around, nothing_around, loop_around, block_around, macro_around, IsStored, stored, IsPath, path_end, path_more, IsMore, more_end, more_next, IsTarget, name_target, path_target, paren_target, IsTargets, targets, IsMoreTargets, targets_end, targets_next, IsValue, value, IsValues, values, IsAssignment, assignment, IsAssignments, none_assigned, some_assigned, IsLoopFilter, no_loop_filter, a_loop_filter, IsWord, no_word, a_word, IsContext, no_context, with_context, IsMissing, not_ignored, ignored, IsImport, same_name, other_name, IsParameter, plain_parameter, default_parameter, IsParameters, none_declared, some_declared, IsOptionalParameters, not_declared, declared, IsBlockEnd, plain_end, named_end, IsStatements, statements_end, statements_next, IsStatement, text_statement, print_statement, for_statement, if_statement, with_statement, set_statement, set_block_statement, autoescape_statement, filter_statement, block_statement, import_statement, from_statement, extends_statement, include_statement, macro_statement, call_statement, do_statement, break_statement, continue_statement, IsBranches, branches_end, branches_next, IsElse, no_else, an_else, IsTemplate, whole_template}
 use Rattle.template_compiler_statements.specs.Reader.{expect_word, expect_assign, print_end, tag_end, expect_tag, more_step, path_step, stored_by, path_by, target_by, one_target_by, more_targets_by, targets_by, inner_targets, for_tag, if_tag, with_tag, set_tag, autoescape_tag, filter_tag, block_tag, import_tag, from_tag, extends_tag, include_tag, macro_tag, call_tag, do_tag, break_tag, continue_tag, value_by, values_by, assignment_by, assignments_by, word_by, context_by, missing_behind, missing_by, loop_filter_by, alias_by, import_by, is_nothing, default_by, parameter_by, parameters_by, optional_parameters_by, body_by, begins_tag, else_by, for_body, for_in, for_by, branch_by, branch_step, if_by, with_by, begins_values, set_values, set_body, set_behind, set_by, autoescape_by, filtered_body, filter_block_by, end_name_by, block_end_by, block_body, block_by, import_statement_by, from_by, extends_by, include_by, macro_by, call_parts, only_call, call_body, call_by, do_by, in_loop, Opening, opening, opened_by, opened_step, statement_step, statements_by, deeper_parameters, here_by, deeper_body, here, statements_at, template_behind, whole, template_of}
 
@@ -686,6 +686,35 @@ module _ (d : ℕ) (bodies : (p : Around) (ts : List Token) → Reads (λ body u
   statement_reads p ss (block_start ∷ identifier n ∷ ts) = step_behind (step_behind (tagged_reads p ss n ts))
   statement_reads p ss ts = step_stops
 
+  -- rounds take a token at least
+  printed_reads : (p : Around) (ss : Statements) (ts : List Token) →
+      StepReads (λ all us. Unit {0}) ts (under (and_then (expression_at d ts) (λ e us. print_end (print e) us)) (λ s us. goes (and_statement ss s) us))
+  printed_reads p ss ts =
+      step_under {Q = λ s us. Unit {0}} _
+      (reads_then _ (expression_sound d ts) (λ e us x. print_end_reads (λ s vs. Unit {0}) (print e) us (λ vs f. tt)))
+      (λ s us x. step_goes tt (same us))
+
+  statement_takes : (p : Around) (ss all : Statements) (ts us : List Token) → statement_step (here d) p ss ts ≡ goes all us → length us < length ts
+  unfolding statement_step here here_by
+  statement_takes p ss all (template_data s ∷ ts) us e = let same : ts ≡ us = cc in let l = ap length same in omega arith
+  statement_takes p ss all (variable_start ∷ ts) us e = let l = ((printed_reads p ss ts).tree all us e).1.1 in omega arith
+  statement_takes p ss all (block_start ∷ identifier n ∷ ts) us e = let l = ((tagged_reads p ss n ts).tree all us e).1.1 in omega arith
+  statement_takes p ss all _ us e = cc
+
+  branch_under_reads : (p : Around) (bs : Branches) (ts : List Token) →
+      StepReads (λ all us. Unit {0}) ts (under (branch_by (here d) p ts) (λ b us. goes (and_branch bs b.0 b.1) us))
+  branch_under_reads p bs ts = step_under _ (branch_reads p ts) (λ b us h. step_goes tt (same us))
+
+  branch_takes_by : (p : Around) (bs all : Branches) (ts us : List Token) (b : Bool) →
+      (if b then under (branch_by (here d) p ts) (λ b us. goes (and_branch bs b.0 b.1) us) else stops) ≡ goes all us → length us ≤ length ts
+  branch_takes_by p bs all ts us true e = ((branch_under_reads p bs ts).tree all us e).1.1
+  branch_takes_by p bs all ts us false e = cc
+
+  branch_takes : (p : Around) (bs all : Branches) (ts us : List Token) → branch_step (here d) p bs ts ≡ goes all us → length us < length ts
+  unfolding branch_step
+  branch_takes p bs all (block_start ∷ t ∷ ts) us e = let l = branch_takes_by p bs all ts us (is_word (codes "elif") t) e in omega arith
+  branch_takes p bs all _ us e = cc
+
   statements_reads : (p : Around) (ts : List Token) → Reads (λ all us. IsStatements d p no_statements ts all us) ts (statements_by (here d) p ts)
   unfolding statements_by
   statements_reads p ts =
@@ -737,3 +766,53 @@ template_sound ts ss h = (template_read ts).0 ss h
 
 pub template_blamed : (ts : List Token) (f : TokenFault) → template_of ts ≡ Err f → Blamed f ts
 template_blamed ts f h = (template_read ts).1 f h
+
+-- rounds take a token at least
+pub next_statement_takes : (d : ℕ) (p : Around) (ss all : Statements) (ts us : List Token) → statement_step (here d) p ss ts ≡ goes all us → length us < length ts
+next_statement_takes d p ss all ts us e = statement_takes d (bodies_read d) p ss all ts us e
+
+pub next_branch_takes : (d : ℕ) (p : Around) (bs all : Branches) (ts us : List Token) → branch_step (here d) p bs ts ≡ goes all us → length us < length ts
+next_branch_takes d p bs all ts us e = branch_takes d (bodies_read d) p bs all ts us e
+
+-- what is read of an item keeps tokens; with its comma it takes one
+read_within : {A : Type 0} {P : A → List Token → Type 0} {ts : List Token} {m : Read A} (a : A) (us : List Token) → Reads P ts m → m ≡ Ok (a, us) → length us ≤ length ts
+read_within a us r e = (r.tree a us e).1.1
+
+more_takes_by : {A : Type 0} (m : Read A) (b : A) (ts us : List Token) → ((a : A) (vs : List Token) → m ≡ Ok (a, vs) → length vs ≤ length ts) →
+    under m goes ≡ goes b us → length us ≤ length ts
+unfolding under
+more_takes_by (Ok x) b ts us within e = let same : x.1 ≡ us = cc in let k = within x.0 x.1 refl in let l = ap length same in omega arith
+more_takes_by (Err f) b ts us within e = cc
+
+more_takes : {A : Type 0} (read : A → List Token → Read A) →
+    ((a b : A) (ts us : List Token) → read a ts ≡ Ok (b, us) → length us ≤ length ts) → (a b : A) (ts us : List Token) →
+    more_step read a ts ≡ goes b us → length us < length ts
+unfolding more_step
+more_takes read within a b (symbol comma ∷ ts) us e = let l = more_takes_by (read a ts) b ts us (λ c vs f. within a c ts vs f) e in omega arith
+more_takes read within a b _ us e = cc
+
+one_target_within : (dots : Bool) (d : ℕ) (es fs : Expressions) (ts us : List Token) → one_target_by dots (inner_targets dots d) es ts ≡ Ok (fs, us) → length us ≤ length ts
+unfolding one_target_by
+one_target_within dots d es fs ts us e =
+    read_within fs us (reads_then {P = λ gs vs. Unit {0}} _ (target_reads dots d (inner_reads dots d) ts) (λ e us t. reads_end tt)) e
+
+pub next_target_takes : (dots : Bool) (d : ℕ) (es fs : Expressions) (ts us : List Token) →
+    more_step (one_target_by dots (inner_targets dots d)) es ts ≡ goes fs us → length us < length ts
+next_target_takes dots d es fs ts us e = more_takes (one_target_by dots (inner_targets dots d)) (one_target_within dots d) es fs ts us e
+
+pub next_value_takes : (d : ℕ) (es fs : Expressions) (ts us : List Token) → more_step (value_by (expression_at d)) es ts ≡ goes fs us → length us < length ts
+next_value_takes d es fs ts us e = more_takes (value_by (expression_at d)) (λ gs hs vs ws f. read_within hs ws (value_reads d gs vs) f) es fs ts us e
+
+pub next_assignment_takes : (d : ℕ) (gs hs : Assignments) (ts us : List Token) → more_step (assignment_by (here d)) gs ts ≡ goes hs us → length us < length ts
+next_assignment_takes d gs hs ts us e = more_takes (assignment_by (here d)) (λ gs hs vs ws f. read_within hs ws (assignment_reads d gs vs) f) gs hs ts us e
+
+pub next_import_takes : (is js : Imports) (ts us : List Token) → more_step import_by is ts ≡ goes js us → length us < length ts
+next_import_takes is js ts us e = more_takes import_by (λ gs hs vs ws f. read_within hs ws (import_reads gs vs) f) is js ts us e
+
+pub next_parameter_takes : (d : ℕ) (p q : Parameters) (ts us : List Token) → more_step (parameter_by (expression_at d)) p ts ≡ goes q us → length us < length ts
+next_parameter_takes d p q ts us e = more_takes (parameter_by (expression_at d)) (λ gs hs vs ws f. read_within hs ws (parameter_reads d gs vs) f) p q ts us e
+
+pub path_takes : (e f : Expression) (ts us : List Token) → path_step e ts ≡ goes f us → length us < length ts
+unfolding path_step
+path_takes e f (symbol dot ∷ identifier n ∷ ts) us h = let same : ts ≡ us = cc in let l = ap length same in omega arith
+path_takes e f _ us h = cc

@@ -2,3 +2,4 @@ pub mod Signs
 pub mod Refusals
 pub mod Left
 pub mod Skips
+pub mod Tags

@@ -10,6 +10,8 @@ ghost use Rattle.template_compiler_stream.specs.Signs.{assigned_behind, begins_s
 ghost use Rattle.template_compiler_tokens.specs.View.{token_of};
 ghost use Rattle.template_compiler_stream.specs.Skips.{PutsText, SkipsDotted, SkipsKeyword, SkipsSign, SkipsText, SkipsWord};
 
+mod tags;
+
 use crate::refusal::Fault;
 use crate::sign::{
     Level, Sign, begins_argument, closes, comparison_of, ends_bound, operator_of, sign_of,
@@ -281,8 +283,8 @@ impl<'source> TokenStream<'source> {
         }
     }
 
-    // The word behind the next token.
-    fn second_word(&self) -> Option<&'source str>
+    /// The word behind the next token.
+    pub fn second_word(&self) -> Option<&'source str>
         ensures { option_map (λ w. w.now) result ≡ second_word self.now }
     {
         match &self.first {

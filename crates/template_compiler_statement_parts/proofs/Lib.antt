@@ -1,0 +1,4 @@
+pub mod Standing
+pub mod Again
+pub mod Lists
+pub mod Rounds

@@ -1,0 +1,256 @@
+-- What is read where a token stands next, and where it does not.
+use Rattle.std.proofs.Common.{◌≡◌, ℕ, suc, Bool, true, false, if◌then◌else◌, List, [], ◌∷◌, Option, None, Some, Ok, Err, codes, bytes_eq, refl, sym, ap, ◌∙◌}
+use Rattle.template_tree.specs.Tree.{Expression, variable, attribute, absent, given, Imports, no_assignments}
+use Rattle.template_compiler_tokens.specs.Token.{Token, Symbol, bad_syntax, dot, comma, paren_open, variable_end, block_start, block_end, identifier, symbol, assign, paren_close}
+use Rattle.template_compiler_reading.specs.Steps.{Read, fault, and_then, Step, goes, stops, all}
+use Rattle.template_compiler_expressions.specs.Words.{begins_word, is_word}
+use Rattle.template_compiler_expressions.specs.Reader.{paren_end}
+use Rattle.template_compiler_stream.specs.Left.{passed}
+use Rattle.template_compiler_stream.specs.Signs.{begins_symbol, next_symbol, next_word, second_word}
+use Rattle.template_compiler_stream.specs.Tags.{begins_variable_end, begins_block_end, begins_block_start}
+use Rattle.template_compiler_statements.specs.Words.{is_reserved}
+use Rattle.template_compiler_statements.specs.Reader.{Here, print_end, tag_end, expect_word, expect_assign, expect_tag, stored_by, path_step, path_by, target_by, targets_by, inner_targets, more_step, begins_tag, begins_values, word_by, context_by, loop_filter_by, alias_by, optional_parameters_by, parameter_by, parameters_by, default_by, is_nothing, assignment_by, assignments_by, block_end_by, end_name_by}
+use Rattle.template_compiler_statements.specs.Trees.{Parameters, no_parameters, and_plain, and_import}
+use Rattle.template_compiler_reading.proofs.Loops.{all_goes}
+use Rattle.template_compiler_statement_laws.proofs.Sound.{path_takes}
+use Rattle.template_compiler_statement_parts.specs.Tags.{next_tag}
+
+pub print_end_here : {A : Type 0} (a : A) (ts : List Token) → begins_variable_end ts ≡ true → print_end a ts ≡ Ok (a, passed ts)
+unfolding print_end
+print_end_here a [] h = cc
+print_end_here a (variable_end ∷ ts) h = refl
+print_end_here a (t ∷ ts) h = cc
+
+pub print_end_none : {A : Type 0} (a : A) (ts : List Token) → begins_variable_end ts ≡ false → print_end a ts ≡ Err (fault ts)
+unfolding print_end
+print_end_none a [] h = refl
+print_end_none a (variable_end ∷ ts) h = cc
+print_end_none a (t ∷ ts) h = refl
+
+pub tag_end_here : {A : Type 0} (a : A) (ts : List Token) → begins_block_end ts ≡ true → tag_end a ts ≡ Ok (a, passed ts)
+unfolding tag_end
+tag_end_here a [] h = cc
+tag_end_here a (block_end ∷ ts) h = refl
+tag_end_here a (t ∷ ts) h = cc
+
+pub tag_end_none : {A : Type 0} (a : A) (ts : List Token) → begins_block_end ts ≡ false → tag_end a ts ≡ Err (fault ts)
+unfolding tag_end
+tag_end_none a [] h = refl
+tag_end_none a (block_end ∷ ts) h = cc
+tag_end_none a (t ∷ ts) h = refl
+
+pub word_none : {A : Type 0} (w : List ℕ) (a : A) (ts : List Token) → begins_word w ts ≡ false → expect_word w a ts ≡ Err (fault ts)
+unfolding expect_word
+word_none w a [] h = refl
+word_none w a (t ∷ ts) h = ap (λ b. if b then Ok (a, ts) else Err (fault (t ∷ ts))) h
+
+pub assign_none : {A : Type 0} (a : A) (ts : List Token) → begins_symbol assign ts ≡ false → expect_assign a ts ≡ Err (fault ts)
+unfolding expect_assign
+assign_none a [] h = refl
+assign_none a (symbol assign ∷ ts) h = cc
+assign_none a (t ∷ ts) h = refl
+
+pub paren_none : {A : Type 0} (a : A) (ts : List Token) → begins_symbol paren_close ts ≡ false → paren_end a ts ≡ Err (fault ts)
+unfolding paren_end
+paren_none a [] h = refl
+paren_none a (symbol paren_close ∷ ts) h = cc
+paren_none a (t ∷ ts) h = refl
+
+pub tag_here : {A : Type 0} (w : List ℕ) (a : A) (ts : List Token) → begins_block_start ts ≡ true →
+    ts ≡ block_start ∷ passed ts
+tag_here w a [] h = cc
+tag_here w a (block_start ∷ ts) h = refl
+tag_here w a (t ∷ ts) h = cc
+
+pub tag_none : {A : Type 0} (w : List ℕ) (a : A) (ts : List Token) → begins_block_start ts ≡ false → expect_tag w a ts ≡ Err (fault ts)
+unfolding expect_tag
+tag_none w a [] h = refl
+tag_none w a (block_start ∷ ts) h = cc
+tag_none w a (t ∷ ts) h = refl
+
+pub stored_word : (n : List ℕ) (ts : List Token) → Some n ≡ next_word ts →
+    stored_by ts ≡ (if is_reserved n then Err bad_syntax else Ok (variable n, passed ts))
+unfolding stored_by
+stored_word n [] h = cc
+stored_word n (identifier m ∷ ts) h =
+    let same : m ≡ n = cc in ap (λ m. if is_reserved m then Err bad_syntax else Ok (variable m, ts)) same
+stored_word n (t ∷ ts) h = cc
+
+pub stored_none : (ts : List Token) → None ≡ next_word ts → stored_by ts ≡ Err (fault ts)
+unfolding stored_by
+stored_none [] h = refl
+stored_none (identifier m ∷ ts) h = cc
+stored_none (t ∷ ts) h = refl
+
+-- tags
+pub next_tag_here : (ts : List Token) → begins_block_start ts ≡ true → next_tag ts ≡ second_word ts
+next_tag_here [] h = cc
+next_tag_here (block_start ∷ ts) h = refl
+next_tag_here (t ∷ ts) h = cc
+
+pub next_tag_none : (ts : List Token) → begins_block_start ts ≡ false → next_tag ts ≡ None
+next_tag_none [] h = refl
+next_tag_none (block_start ∷ ts) h = cc
+next_tag_none (t ∷ ts) h = refl
+
+begins_word_tag : (w n : List ℕ) (ts : List Token) → Some n ≡ next_word ts → begins_tag w (block_start ∷ ts) ≡ bytes_eq w n
+begins_word_tag w n [] h = cc
+begins_word_tag w n (identifier m ∷ ts) h = let same : m ≡ n = cc in ap (λ m. bytes_eq w m) same
+begins_word_tag w n (t ∷ ts) h = cc
+
+pub begins_tag_here : (w n : List ℕ) (ts : List Token) → Some n ≡ next_tag ts → begins_tag w ts ≡ bytes_eq w n
+begins_tag_here w n [] h = cc
+begins_tag_here w n (block_start ∷ ts) h = begins_word_tag w n ts h
+begins_tag_here w n (t ∷ ts) h = cc
+
+no_word_tag : (w : List ℕ) (ts : List Token) → None ≡ next_word ts → begins_tag w (block_start ∷ ts) ≡ false
+no_word_tag w [] h = refl
+no_word_tag w (identifier m ∷ ts) h = cc
+no_word_tag w (t ∷ ts) h = refl
+
+pub begins_tag_none : (w : List ℕ) (ts : List Token) → None ≡ next_tag ts → begins_tag w ts ≡ false
+begins_tag_none w [] h = refl
+begins_tag_none w (block_start ∷ ts) h = no_word_tag w ts h
+begins_tag_none w (t ∷ ts) h = refl
+
+pub values_here : (s : Symbol) (ts : List Token) → Some s ≡ next_symbol ts → begins_values ts ≡ begins_values (symbol s ∷ [])
+values_here s [] h = cc
+values_here s (symbol comma ∷ ts) h = let same : comma ≡ s = cc in ap (λ s. begins_values (symbol s ∷ [])) same
+values_here s (symbol assign ∷ ts) h = let same : assign ≡ s = cc in ap (λ s. begins_values (symbol s ∷ [])) same
+values_here s (symbol t ∷ ts) h = let same : t ≡ s = cc in ap (λ s. begins_values (symbol s ∷ [])) same
+values_here s (t ∷ ts) h = cc
+
+pub values_none : (ts : List Token) → None ≡ next_symbol ts → begins_values ts ≡ false
+values_none [] h = refl
+values_none (symbol comma ∷ ts) h = cc
+values_none (symbol assign ∷ ts) h = cc
+values_none (symbol t ∷ ts) h = cc
+values_none (t ∷ ts) h = refl
+
+-- words that do not stand next
+pub flag_none : (w : List ℕ) (ts : List Token) → begins_word w ts ≡ false → word_by w ts ≡ Ok (false, ts)
+unfolding word_by
+flag_none w [] h = refl
+flag_none w (t ∷ ts) h = ap (λ b. if b then Ok (true, ts) else Ok (false, t ∷ ts)) h
+
+pub context_none : {A : Type 0} (a : A) (ts : List Token) → begins_word (codes "with") ts ≡ false → context_by a ts ≡ Ok (a, ts)
+unfolding context_by
+context_none a [] h = refl
+context_none a (t ∷ ts) h = ap (λ b. if b then expect_word (codes "context") a ts else Ok (a, t ∷ ts)) h
+
+pub no_filter : (read : List Token → Read Expression) (ts : List Token) → begins_word (codes "if") ts ≡ false → loop_filter_by read ts ≡ Ok (absent, ts)
+unfolding loop_filter_by
+no_filter read [] h = refl
+no_filter read (t ∷ ts) h = ap (λ b. if b then and_then (read ts) (λ e us. Ok (given e, us)) else Ok (absent, t ∷ ts)) h
+
+pub no_alias : (is : Imports) (n : Expression) (ts : List Token) → begins_word (codes "as") ts ≡ false → alias_by is n ts ≡ Ok (and_import is n absent, ts)
+unfolding alias_by
+no_alias is n [] h = refl
+no_alias is n (t ∷ ts) h =
+    ap (λ b. if b then and_then (stored_by ts) (λ a us. Ok (and_import is n (given a), us)) else Ok (and_import is n absent, t ∷ ts)) h
+
+-- signs that do not stand next
+pub no_more : {A : Type 0} (item : A → List Token → Read A) (a : A) (ts : List Token) → begins_symbol comma ts ≡ false → more_step item a ts ≡ stops
+unfolding more_step
+no_more item a [] h = refl
+no_more item a (symbol comma ∷ ts) h = cc
+no_more item a (t ∷ ts) h = refl
+
+pub no_paren_target : (dots : Bool) (inner : List Token → Read Expression) (ts : List Token) → begins_symbol paren_open ts ≡ false →
+    target_by dots inner ts ≡ and_then (stored_by ts) (path_by dots)
+unfolding target_by
+no_paren_target dots inner [] h = refl
+no_paren_target dots inner (symbol paren_open ∷ ts) h = cc
+no_paren_target dots inner (t ∷ ts) h = refl
+
+pub no_parens : (r : Here) (ts : List Token) → begins_symbol paren_open ts ≡ false → optional_parameters_by r ts ≡ Ok (no_parameters, ts)
+unfolding optional_parameters_by
+no_parens r [] h = refl
+no_parens r (symbol paren_open ∷ ts) h = cc
+no_parens r (t ∷ ts) h = refl
+
+pub some_parameters : (read : List Token → Read Expression) (ts : List Token) → begins_symbol paren_close ts ≡ false →
+    parameters_by read ts ≡ and_then (parameter_by read no_parameters ts) (λ p us. and_then (all (more_step (parameter_by read)) p us) paren_end)
+unfolding parameters_by
+some_parameters read [] h = refl
+some_parameters read (symbol paren_close ∷ ts) h = cc
+some_parameters read (t ∷ ts) h = refl
+
+pub no_default : (read : List Token → Read Expression) (p : Parameters) (a : Expression) (ts : List Token) → begins_symbol assign ts ≡ false →
+    default_by read p a ts ≡ (if is_nothing p.1 then Ok (and_plain p a, ts) else Err bad_syntax)
+unfolding default_by
+no_default read p a [] h = refl
+no_default read p a (symbol assign ∷ ts) h = cc
+no_default read p a (t ∷ ts) h = refl
+
+-- the end of a tag
+pub no_assignment : (r : Here) (ts : List Token) → begins_block_end ts ≡ true → assignments_by r ts ≡ Ok (no_assignments, ts)
+unfolding assignments_by
+no_assignment r [] h = cc
+no_assignment r (block_end ∷ ts) h = refl
+no_assignment r (t ∷ ts) h = cc
+
+pub some_assignment : (r : Here) (ts : List Token) → begins_block_end ts ≡ false →
+    assignments_by r ts ≡ and_then (assignment_by r no_assignments ts) (all (more_step (assignment_by r)))
+unfolding assignments_by
+some_assignment r [] h = refl
+some_assignment r (block_end ∷ ts) h = cc
+some_assignment r (t ∷ ts) h = refl
+
+-- the end of a block
+pub block_end_none : {A : Type 0} (n : List ℕ) (a : A) (ts : List Token) → begins_block_start ts ≡ false → block_end_by n a ts ≡ Err (fault ts)
+unfolding block_end_by
+block_end_none n a [] h = refl
+block_end_none n a (block_start ∷ ts) h = cc
+block_end_none n a (t ∷ ts) h = refl
+
+pub end_name_here : {A : Type 0} (n m : List ℕ) (a : A) (ts : List Token) → Some m ≡ next_word ts →
+    end_name_by n a ts ≡ (if bytes_eq m n then tag_end a (passed ts) else Err bad_syntax)
+unfolding end_name_by
+end_name_here n m a [] h = cc
+end_name_here n m a (identifier k ∷ ts) h = let same : k ≡ m = cc in ap (λ k. if bytes_eq k n then tag_end a ts else Err bad_syntax) same
+end_name_here n m a (t ∷ ts) h = cc
+
+pub end_name_none : {A : Type 0} (n : List ℕ) (a : A) (ts : List Token) → None ≡ next_word ts → end_name_by n a ts ≡ tag_end a ts
+unfolding end_name_by
+end_name_none n a [] h = refl
+end_name_none n a (identifier k ∷ ts) h = cc
+end_name_none n a (t ∷ ts) h = refl
+
+-- parts of a path
+pub no_part_word : (e : Expression) (ts : List Token) → None ≡ second_word ts → path_step e ts ≡ stops
+unfolding path_step
+no_part_word e (symbol dot ∷ identifier n ∷ ts) h = cc
+no_part_word e _ h = refl
+
+pub no_part_dot : (e : Expression) (ts : List Token) → begins_symbol dot ts ≡ false → path_step e ts ≡ stops
+unfolding path_step
+no_part_dot e (symbol dot ∷ identifier n ∷ ts) h = cc
+no_part_dot e _ h = refl
+
+pub part_word : (n : List ℕ) (t : Token) (ts us : List Token) → Some n ≡ second_word ts → ts ≡ t ∷ us → us ≡ identifier n ∷ passed us
+part_word n t [] us h e = cc
+part_word n t (u ∷ []) us h e = cc
+part_word n t (u ∷ identifier m ∷ ts) us h e = let same : m ≡ n = cc in let rest : identifier m ∷ ts ≡ us = cc in sym rest ∙ ap (λ m. identifier m ∷ ts) same ∙ ap (λ vs. identifier n ∷ passed vs) rest
+part_word n t (u ∷ v ∷ ts) us h e = cc
+
+-- names
+pub stored_reserved : (n : List ℕ) (ts : List Token) → Some n ≡ next_word ts → is_reserved n ≡ true → stored_by ts ≡ Err bad_syntax
+stored_reserved n ts h e = stored_word n ts h ∙ ap (λ b. if b then Err bad_syntax else Ok (variable n, passed ts)) e
+
+pub stored_free : (n : List ℕ) (ts us : List Token) (e : Expression) → Some n ≡ next_word ts → is_reserved n ≡ false → us ≡ passed ts →
+    e ≡ variable n → stored_by ts ≡ Ok (e, us)
+stored_free n ts us e h f k l =
+    stored_word n ts h ∙ ap (λ b. if b then Err bad_syntax else Ok (variable n, passed ts)) f ∙ ap (λ e. Ok (e, passed ts)) (sym l) ∙
+    ap (λ us. Ok (e, us)) (sym k)
+
+-- paths
+pub path_on : (e f : Expression) (n : List ℕ) (ts us : List Token) → ts ≡ symbol dot ∷ identifier n ∷ us → f ≡ attribute e n →
+    all path_step e ts ≡ all path_step f us
+unfolding path_step
+path_on e f n ts us h k = all_goes path_step path_takes e f ts us (ap (λ ts. path_step e ts) h ∙ ap (λ f. goes f us) (sym k))
+
+-- one level less
+pub inner_less : (dots : Bool) (d n : ℕ) (ts : List Token) → d ≡ suc n → inner_targets dots d ts ≡ targets_by dots (inner_targets dots n) ts
+unfolding inner_targets
+inner_less dots d n ts e = ap (λ d. inner_targets dots d ts) e

@@ -1,0 +1,12 @@
+use Rattle.std.proofs.Common.{◌≡◌, length}
+use Rattle.template_tree.specs.StatementView.{imports_in}
+use Rattle.template_compiler_reading.specs.Steps.{all}
+use Rattle.template_compiler_statements.specs.Reader.{more_step, import_by}
+use Rattle.template_compiler_statement_parts.proofs.imports.all_imported.Given as goal
+
+abbrev pub invariant-loop-refusal : goal.invariant-loop-refusal
+invariant-loop-refusal l =
+    all (more_step import_by) (imports_in l.names.items) l.tokens ≡ all (more_step import_by) (imports_in l.initial.names.items) l.initial.tokens
+
+abbrev pub decreases-loop-refusal : goal.decreases-loop-refusal
+decreases-loop-refusal l = length l.tokens

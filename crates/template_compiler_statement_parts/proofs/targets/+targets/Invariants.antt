@@ -1,0 +1,31 @@
+use Rattle.std.proofs.Common.{◌≡◌, ◌+◌, ◌*◌, length}
+use Rattle.template_tree.specs.View.{expressions_in}
+use Rattle.template_compiler_reading.specs.Steps.{all}
+use Rattle.template_compiler_statements.specs.Reader.{more_step, one_target_by, inner_targets}
+use Rattle.template_compiler_statement_parts.proofs.targets.+targets.Given as goal
+
+abbrev pub decreases-read_target : goal.decreases-read_target
+decreases-read_target l = 8 * l.left + 2
+
+abbrev pub decreases-read_inner_targets : goal.decreases-read_inner_targets
+decreases-read_inner_targets l = 8 * l.left + 1
+
+abbrev pub decreases-read_targets : goal.decreases-read_targets
+decreases-read_targets l = 8 * l.left + 6
+
+abbrev pub decreases-read_more_targets : goal.decreases-read_more_targets
+decreases-read_more_targets l = 8 * l.left + 5
+
+abbrev pub decreases-all_targets : goal.decreases-all_targets
+decreases-all_targets l = 8 * l.left + 4
+
+abbrev pub decreases-next_target : goal.decreases-next_target
+decreases-next_target l = 8 * l.left + 3
+
+abbrev pub invariant-all_targets-loop-refusal : goal.invariant-all_targets-loop-refusal
+invariant-all_targets-loop-refusal l =
+    all (more_step (one_target_by l.dots (inner_targets l.dots l.left))) (expressions_in l.targets.items) l.tokens ≡
+    all (more_step (one_target_by l.dots (inner_targets l.dots l.left))) (expressions_in l.initial.targets.items) l.initial.tokens
+
+abbrev pub decreases-all_targets-loop-refusal : goal.decreases-all_targets-loop-refusal
+decreases-all_targets-loop-refusal l = length l.tokens

@@ -1,0 +1,11 @@
+use Rattle.std.proofs.Common.{◌≡◌, length}
+use Rattle.template_tree.specs.View.{expression_of}
+use Rattle.template_compiler_reading.specs.Steps.{all}
+use Rattle.template_compiler_statements.specs.Reader.{path_step}
+use Rattle.template_compiler_statement_parts.proofs.targets.read_path.Given as goal
+
+abbrev pub invariant-loop-part : goal.invariant-loop-part
+invariant-loop-part l = all path_step (expression_of l.target) l.tokens ≡ all path_step (expression_of l.initial.target) l.initial.tokens
+
+abbrev pub decreases-loop-part : goal.decreases-loop-part
+decreases-loop-part l = length l.tokens

@@ -1,0 +1,144 @@
+//! What must stand behind something.
+ghost use Rattle.template_compiler_expressions.specs.Reader.{paren_end};
+ghost use Rattle.template_compiler_statement_parts.specs.Parsed.{ParsedAs, passing};
+ghost use Rattle.template_compiler_statements.specs.Reader.{block_end_by, end_name_by, expect_assign, expect_tag, expect_word, print_end, tag_end};
+
+use template_compiler_stream::{Fault, Refusal, Sign, TokenStream};
+
+/// Passes the end of a print.
+///
+/// # Errors
+///
+/// The fault of the token that stands there.
+#[tactic(auto, using(crate::proofs::Standing::print_end_here, crate::proofs::Standing::print_end_none))]
+pub fn expect_print_end<'source>(tokens: &mut TokenStream<'source>) -> Result<(), Refusal>
+    ensures { ParsedAs passing (print_end tt tokens.old) tokens.new result }
+{
+    if tokens.ends_print() {
+        tokens.advance();
+        Ok(())
+    } else {
+        Err(Refusal::Token(tokens.fault()))
+    }
+}
+
+/// Passes the end of a tag.
+///
+/// # Errors
+///
+/// The fault of the token that stands there.
+#[tactic(auto, using(crate::proofs::Standing::tag_end_here, crate::proofs::Standing::tag_end_none))]
+pub fn expect_tag_end<'source>(tokens: &mut TokenStream<'source>) -> Result<(), Refusal>
+    ensures { ParsedAs passing (tag_end tt tokens.old) tokens.new result }
+{
+    if tokens.ends_tag() {
+        tokens.advance();
+        Ok(())
+    } else {
+        Err(Refusal::Token(tokens.fault()))
+    }
+}
+
+/// Passes the word.
+///
+/// # Errors
+///
+/// The fault of the token that stands there.
+#[tactic(auto, using(crate::proofs::Standing::word_none), unfolding(template_compiler_statements::specs::Reader::expect_word))]
+pub fn expect_word<'source>(tokens: &mut TokenStream<'source>, word: &str) -> Result<(), Refusal>
+    ensures { ParsedAs passing (expect_word word.now tt tokens.old) tokens.new result }
+{
+    if tokens.skip_word(word) {
+        Ok(())
+    } else {
+        Err(Refusal::Token(tokens.fault()))
+    }
+}
+
+/// Passes `=`.
+///
+/// # Errors
+///
+/// The fault of the token that stands there.
+#[tactic(auto, using(crate::proofs::Standing::assign_none), unfolding(template_compiler_statements::specs::Reader::expect_assign))]
+pub fn expect_assign<'source>(tokens: &mut TokenStream<'source>) -> Result<(), Refusal>
+    ensures { ParsedAs passing (expect_assign tt tokens.old) tokens.new result }
+{
+    if tokens.skip(Sign::Assign) {
+        Ok(())
+    } else {
+        Err(Refusal::Token(tokens.fault()))
+    }
+}
+
+/// Passes `)`.
+///
+/// # Errors
+///
+/// The fault of the token that stands there.
+#[tactic(auto, using(crate::proofs::Standing::paren_none), unfolding(template_compiler_expressions::specs::Reader::paren_end))]
+pub fn expect_paren_end<'source>(tokens: &mut TokenStream<'source>) -> Result<(), Refusal>
+    ensures { ParsedAs passing (paren_end tt tokens.old) tokens.new result }
+{
+    if tokens.skip(Sign::ParenClose) {
+        Ok(())
+    } else {
+        Err(Refusal::Token(tokens.fault()))
+    }
+}
+
+/// Passes a tag that is the word alone.
+///
+/// # Errors
+///
+/// The fault of the first token that does not fit.
+#[tactic(auto, using(crate::proofs::Standing::tag_here, crate::proofs::Standing::tag_none), unfolding(template_compiler_reading::specs::Steps::and_then, template_compiler_statements::specs::Reader::expect_tag))]
+pub fn expect_tag<'source>(tokens: &mut TokenStream<'source>, word: &str) -> Result<(), Refusal>
+    ensures { ParsedAs passing (expect_tag word.now tt tokens.old) tokens.new result }
+{
+    if tokens.starts_tag() {
+        tokens.advance();
+        expect_word(tokens, word)?;
+        expect_tag_end(tokens)
+    } else {
+        Err(Refusal::Token(tokens.fault()))
+    }
+}
+
+/// Passes the end of a block, which may have the block's name.
+///
+/// # Errors
+///
+/// The fault of the token that does not fit.
+#[tactic(auto, using(crate::proofs::Standing::tag_here, crate::proofs::Standing::block_end_none), unfolding(template_compiler_reading::specs::Steps::and_then, template_compiler_statements::specs::Reader::block_end_by))]
+pub fn expect_block_end<'source>(
+    tokens: &mut TokenStream<'source>,
+    name: &str,
+) -> Result<(), Refusal>
+    ensures { ParsedAs passing (block_end_by name.now tt tokens.old) tokens.new result }
+{
+    if tokens.starts_tag() {
+        tokens.advance();
+        expect_word(tokens, "endblock")?;
+        expect_end_name(tokens, name)
+    } else {
+        Err(Refusal::Token(tokens.fault()))
+    }
+}
+
+#[tactic(auto, using(crate::proofs::Standing::end_name_here, crate::proofs::Standing::end_name_none), unfolding(template_compiler_statements::specs::Reader::end_name_by))]
+fn expect_end_name<'source>(tokens: &mut TokenStream<'source>, name: &str) -> Result<(), Refusal>
+    ensures { ParsedAs passing (end_name_by name.now tt tokens.old) tokens.new result }
+{
+    match tokens.word() {
+        Some(end) => {
+            tokens.advance();
+            if end == name {
+                expect_tag_end(tokens)
+            } else {
+                Err(Refusal::Token(Fault::Syntax))
+            }
+        }
+        None => expect_tag_end(tokens),
+    }
+}

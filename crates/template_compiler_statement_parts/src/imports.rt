@@ -1,0 +1,79 @@
+//! Imported names.
+ghost use Rattle.template_compiler_reading.specs.Steps.{and_then, all};
+ghost use Rattle.template_tree.specs.Tree.{no_imports};
+ghost use Rattle.template_compiler_statement_parts.specs.Parsed.{ParsedAs, SteppedTo, ParsedInto};
+ghost use Rattle.template_compiler_statements.specs.Reader.{import_by, more_step};
+ghost use Rattle.template_tree.specs.StatementView.{imports_in};
+
+use crate::names::read_stored;
+use std::alloc::Global;
+use template_compiler_stream::{Refusal, Sign, TokenStream};
+use template_tree::Expr;
+
+/// Reads the names that are imported, each perhaps with an alias.
+///
+/// # Errors
+///
+/// The fault of the token that does not fit, or want of memory.
+#[tactic(auto, unfolding(template_compiler_reading::specs::Steps::and_then))]
+pub fn read_imports<'source>(
+    alloc: Global,
+    tokens: &mut TokenStream<'source>,
+) -> Result<Vec<(Expr<'source>, Option<Expr<'source>>)>, Refusal>
+    ensures { ParsedAs (λ v. imports_in v.items) (and_then (import_by no_imports tokens.old) (all (more_step import_by)))
+        tokens.new result }
+{
+    let mut names = Vec::new(alloc);
+    read_imported(tokens, &mut names)?;
+    all_imported(tokens, &mut names)?;
+    Ok(names)
+}
+
+#[tactic(auto, using(crate::proofs::Lists::imports_push, crate::proofs::Standing::no_alias), unfolding(template_compiler_reading::specs::Steps::and_then, template_compiler_statements::specs::Reader::import_by, template_compiler_statements::specs::Reader::alias_by))]
+fn read_imported<'source>(
+    tokens: &mut TokenStream<'source>,
+    names: &mut Vec<(Expr<'source>, Option<Expr<'source>>)>,
+) -> Result<(), Refusal>
+    ensures { ParsedInto (import_by (imports_in names.old.items) tokens.old) (imports_in names.new.items) tokens.new result }
+{
+    let name = read_stored(tokens)?;
+    if tokens.skip_word("as") {
+        let alias = read_stored(tokens)?;
+        names.push((name, Some(alias)))?;
+    } else {
+        names.push((name, None))?;
+    }
+    Ok(())
+}
+
+fn all_imported<'source>(
+    tokens: &mut TokenStream<'source>,
+    names: &mut Vec<(Expr<'source>, Option<Expr<'source>>)>,
+) -> Result<(), Refusal>
+    ensures { ParsedInto (all (more_step import_by) (imports_in names.old.items) tokens.old)
+        (imports_in names.new.items) tokens.new result }
+{
+    loop {
+        match next_imported(tokens, names) {
+            Ok(true) => {}
+            Ok(false) => return Ok(()),
+            Err(refusal) => return Err(refusal),
+        }
+    }
+}
+
+#[tactic(auto, using(crate::proofs::Standing::no_more), unfolding(template_compiler_reading::specs::Steps::under, template_compiler_statements::specs::Reader::more_step))]
+fn next_imported<'source>(
+    tokens: &mut TokenStream<'source>,
+    names: &mut Vec<(Expr<'source>, Option<Expr<'source>>)>,
+) -> Result<bool, Refusal>
+    ensures { SteppedTo (more_step import_by (imports_in names.old.items) tokens.old)
+        (imports_in names.old.items) tokens.old (imports_in names.new.items) tokens.new result }
+{
+    if tokens.skip(Sign::Comma) {
+        read_imported(tokens, names)?;
+        Ok(true)
+    } else {
+        Ok(false)
+    }
+}

@@ -1,0 +1,48 @@
+//! Names that may be stored.
+ghost use Rattle.std.specs.Prelude.{◌≡◌};
+ghost use Rattle.template_compiler_statement_parts.specs.Parsed.{Parsed};
+ghost use Rattle.template_compiler_statements.specs.Reader.{stored_by};
+ghost use Rattle.template_compiler_statements.specs.Words.{is_reserved};
+
+use template_compiler_stream::{Fault, Refusal, TokenStream};
+use template_tree::Expr;
+
+/// Whether the word is no name of a target, a macro, an argument or an alias.
+pub fn is_reserved(name: &str) -> bool
+    ensures { result ≡ is_reserved name.now }
+{
+    match name {
+        "true" => true,
+        "True" => true,
+        "false" => true,
+        "False" => true,
+        "none" => true,
+        "None" => true,
+        "loop" => true,
+        "self" => true,
+        _ => false,
+    }
+}
+
+/// Reads a name that may be stored.
+///
+/// # Errors
+///
+/// The fault of the token that stands there.
+#[tactic(auto, using(crate::proofs::Standing::stored_word, crate::proofs::Standing::stored_none))]
+pub fn read_stored<'source>(tokens: &mut TokenStream<'source>) -> Result<Expr<'source>, Refusal>
+    ensures { Parsed (stored_by tokens.old) tokens.new result }
+{
+    let span = tokens.span();
+    match tokens.word() {
+        Some(name) => {
+            tokens.advance();
+            if is_reserved(name) {
+                Err(Refusal::Token(Fault::Syntax))
+            } else {
+                Ok(Expr::variable(name, span))
+            }
+        }
+        None => Err(Refusal::Token(tokens.fault())),
+    }
+}

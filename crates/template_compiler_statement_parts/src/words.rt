@@ -1,0 +1,89 @@
+//! Words that may stand, and what a tag begins with.
+ghost use Rattle.std.specs.Prelude.{◌≡◌, Ok, option_map};
+ghost use Rattle.template_compiler_statement_parts.specs.Parsed.{ParsedAs, passing};
+ghost use Rattle.template_compiler_statement_parts.specs.Tags.{next_tag};
+ghost use Rattle.template_compiler_statements.specs.Reader.{begins_tag, begins_values, context_by, missing_by, word_by};
+
+use crate::ends::expect_word;
+use template_compiler_stream::{Refusal, Sign, TokenStream};
+
+/// The word of the tag that stands next.
+#[tactic(auto, using(crate::proofs::Standing::next_tag_here, crate::proofs::Standing::next_tag_none))]
+pub fn tag_word<'source>(tokens: &TokenStream<'source>) -> Option<&'source str>
+    ensures { option_map (λ w. w.now) result ≡ next_tag tokens.now }
+{
+    if tokens.starts_tag() {
+        tokens.second_word()
+    } else {
+        None
+    }
+}
+
+/// Whether a tag of this word stands next.
+#[tactic(auto, using(crate::proofs::Standing::begins_tag_here, crate::proofs::Standing::begins_tag_none))]
+pub fn begins_tag<'source>(tokens: &TokenStream<'source>, word: &str) -> bool
+    ensures { result ≡ begins_tag word.now tokens.now }
+{
+    match tag_word(tokens) {
+        Some(next) => next == word,
+        None => false,
+    }
+}
+
+/// Whether a comma or `=` stands next, as behind the first target of `set`.
+#[tactic(auto, using(crate::proofs::Standing::values_here, crate::proofs::Standing::values_none))]
+pub fn begins_values<'source>(tokens: &TokenStream<'source>) -> bool
+    ensures { result ≡ begins_values tokens.now }
+{
+    match tokens.sign() {
+        Some(sign) => match sign {
+            Sign::Comma => true,
+            Sign::Assign => true,
+            _ => false,
+        },
+        None => false,
+    }
+}
+
+/// Passes the word where it stands next.
+#[tactic(auto, using(crate::proofs::Standing::flag_none), unfolding(template_compiler_statements::specs::Reader::word_by))]
+pub fn read_flag<'source>(tokens: &mut TokenStream<'source>, word: &str) -> bool
+    ensures { word_by word.now tokens.old ≡ Ok (result, tokens.new) }
+{
+    tokens.skip_word(word)
+}
+
+/// Passes `with context`, which changes nothing, where `with` stands next.
+///
+/// # Errors
+///
+/// The fault of the token that stands in the place of `context`.
+#[tactic(auto, using(crate::proofs::Standing::context_none), unfolding(template_compiler_statements::specs::Reader::context_by))]
+pub fn pass_context<'source>(tokens: &mut TokenStream<'source>) -> Result<(), Refusal>
+    ensures { ParsedAs passing (context_by tt tokens.old) tokens.new result }
+{
+    if tokens.skip_word("with") {
+        expect_word(tokens, "context")
+    } else {
+        Ok(())
+    }
+}
+
+/// Reads `ignore missing`, with or without `with context` on either side: whether it stands there.
+///
+/// # Errors
+///
+/// The fault of the token that does not fit.
+#[tactic(auto, using(crate::proofs::Again::context_again, crate::proofs::Again::word_again, crate::proofs::Standing::flag_none), unfolding(template_compiler_reading::specs::Steps::and_then, template_compiler_statements::specs::Reader::missing_by, template_compiler_statements::specs::Reader::missing_behind, template_compiler_statements::specs::Reader::word_by))]
+pub fn read_missing<'source>(tokens: &mut TokenStream<'source>) -> Result<bool, Refusal>
+    ensures { ParsedAs (λ b. b) (missing_by tokens.old) tokens.new result }
+{
+    pass_context(tokens)?;
+    if tokens.skip_word("ignore") {
+        expect_word(tokens, "missing")?;
+        pass_context(tokens)?;
+        Ok(true)
+    } else {
+        Ok(false)
+    }
+}
