@@ -1,36 +1,29 @@
--- A body and its end, whatever is made of the body.
-use Rattle.std.proofs.Common.{◌≡◌, ℕ, List, Ok, Err, refl, sym, ap, ◌∙◌}
-use Rattle.template_compiler_tokens.specs.Token.{Token}
+-- The end of a block is read alike whatever it stands behind.
+use Rattle.std.proofs.Common.{◌≡◌, ℕ, Bool, true, false, if◌then◌else◌, List, [], ◌∷◌, Ok, Err, codes, bytes_eq, refl, ap, ◌∙◌}
+use Rattle.template_compiler_tokens.specs.Token.{Token, bad_syntax, block_start, identifier}
 use Rattle.template_compiler_reading.specs.Steps.{Read, and_then}
-use Rattle.template_compiler_stream.specs.declared.refusal.Refusal.{Refusal}
-use Rattle.template_compiler_stream.specs.declared.refusal.Refusal.TheVariants as refusals
-use Rattle.template_compiler_stream.specs.Refusals.{Refused}
-use Rattle.template_compiler_statements.specs.Reader.{expect_tag}
-use Rattle.template_compiler_statement_parts.proofs.Again.{unit, again, tag_again}
+use Rattle.template_compiler_statements.specs.Reader.{tag_end, expect_word, end_name_by, block_end_by}
+use Rattle.template_compiler_statement_parts.proofs.Again.{unit, again, tag_end_again, word_again}
 
-remade : {A B : Type 0} → (A → B) → Read A → Read B
-remade make (Ok x) = Ok (make x.0, x.1)
-remade make (Err f) = Err f
+name_again : {A : Type 0} (a : A) (ts : List Token) (b : Bool) →
+    (if b then tag_end a ts else Err bad_syntax) ≡ again a (if b then tag_end unit ts else Err bad_syntax)
+name_again a ts true = tag_end_again a ts
+name_again a ts false = refl
 
-remade_again : {A B : Type 0} (make : A → B) (a : A) (q : Read (Unit {0})) → again (make a) q ≡ remade make (again a q)
-unfolding remade
-remade_again make a (Ok x) = refl
-remade_again make a (Err f) = refl
+end_name_again : {A : Type 0} (name : List ℕ) (a : A) (ts : List Token) → end_name_by name a ts ≡ again a (end_name_by name unit ts)
+unfolding end_name_by
+end_name_again name a [] = tag_end_again a []
+end_name_again name a (identifier n ∷ ts) = name_again a ts (bytes_eq n name)
+end_name_again name a (t ∷ ts) = tag_end_again a (t ∷ ts)
 
-ended_by : {A B : Type 0} (m : Read A) (end : List ℕ) (make : A → B) →
-    and_then m (λ a us. expect_tag end (make a) us) ≡ remade make (and_then m (expect_tag end))
-unfolding and_then remade
-ended_by (Ok x) end make =
-    tag_again end (make x.0) x.1 ∙ remade_again make x.0 (expect_tag end unit x.1) ∙ ap (remade make) (sym (tag_again end x.0 x.1))
-ended_by (Err f) end make = refl
+block_end_under : {A : Type 0} (name : List ℕ) (a : A) (r : Read (Unit {0})) →
+    and_then (again a r) (end_name_by name) ≡ again a (and_then r (end_name_by name))
+unfolding and_then
+block_end_under name a (Ok x) = end_name_again name a x.1
+block_end_under name a (Err f) = refl
 
-pub ended_ok : {A B : Type 0} {m : Read A} {end : List ℕ} {make : A → B} {a : A} {us : List Token} →
-    and_then m (expect_tag end) ≡ Ok (a, us) → and_then m (λ a us. expect_tag end (make a) us) ≡ Ok (make a, us)
-unfolding remade
-ended_ok {m = m} {end = end} {make = make} h = ended_by m end make ∙ ap (remade make) h
-
-pub ended_refused : {A B : Type 0} {m : Read A} {end : List ℕ} {make : A → B} (e : Refusal) →
-    Refused (and_then m (expect_tag end)) e → Refused (and_then m (λ a us. expect_tag end (make a) us)) e
-unfolding remade
-ended_refused {m = m} {end = end} {make = make} (refusals.Token f) h = ended_by m end make ∙ ap (remade make) h
-ended_refused refusals.OutOfMemory h = tt
+pub block_end_again : {A : Type 0} (name : List ℕ) (a : A) (ts : List Token) → block_end_by name a ts ≡ again a (block_end_by name unit ts)
+unfolding block_end_by
+block_end_again name a (block_start ∷ ts) =
+    ap (λ m. and_then m (end_name_by name)) (word_again (codes "endblock") a ts) ∙ block_end_under name a (expect_word (codes "endblock") unit ts)
+block_end_again name a _ = refl

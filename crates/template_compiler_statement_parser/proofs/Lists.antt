@@ -1,18 +1,11 @@
--- Bodies and branches with one more at the end.
-use Rattle.std.proofs.Common.{◌≡◌, ◌&&◌, List, [], ◌∷◌, ◌++◌, refl, ap, ◌∙◌}
-use Rattle.template_tree.specs.Tree.{Statement, raw, Statements, no_statements, statements_more, if_condition}
+-- Branches with one more at the end.
+use Rattle.std.proofs.Common.{◌≡◌, List, [], ◌∷◌, ◌++◌, refl, ap, ◌∙◌}
+use Rattle.template_tree.specs.Tree.{Statements, no_statements, statements_more, if_condition}
 use Rattle.template_tree.specs.View.{expression_of}
-use Rattle.template_tree.specs.StatementView.{statement_of}
-use Rattle.template_tree.specs.declared.statements.Stmt.{Stmt}
-use Rattle.template_compiler_statement_parser.specs.Listed.{statements_in}
-use Rattle.template_compiler_statements.specs.Trees.{and_statement, Branches, branches_more, and_branch, branched, is_blank}
-use Rattle.template_compiler_statement_parser.specs.Blank.{is_blank_statement}
+use Rattle.template_compiler_statement_makers.specs.Listed.{statements_in}
+use Rattle.template_compiler_statements.specs.Trees.{Branches, branches_more, and_branch, branched}
 use Rattle.template_compiler_statement_parser.specs.declared.statements.Branch.{Branch}
 use Rattle.template_compiler_statement_parser.specs.Bodies.{branches_in}
-
-pub statements_push : (xs : List Stmt) (s : Stmt) → statements_in (xs ++ s ∷ []) ≡ and_statement (statements_in xs) (statement_of s)
-statements_push [] s = refl
-statements_push (x ∷ xs) s = ap (λ ss. statements_more (statement_of x) ss) (statements_push xs s)
 
 pub branches_push : (xs : List Branch) (b : Branch) →
     branches_in (xs ++ b ∷ []) ≡ and_branch (branches_in xs) (expression_of b.expr) (statements_in b.body.items)
@@ -31,8 +24,3 @@ pub branched_last : (xs ys : List Branch) (b : Branch) (last : Statements) → x
     branched (branches_in xs) last ≡
     branched (branches_in ys) (statements_more (if_condition (expression_of b.expr) (statements_in b.body.items) last) no_statements)
 branched_last xs ys b last e = ap (λ zs. branched (branches_in zs) last) e ∙ branched_push ys b last
-
--- blank bodies, statement by statement
-pub blank_more : (s : Statement) (rest : Statements) → is_blank (statements_more s rest) ≡ (is_blank_statement s && is_blank rest)
-blank_more (raw text) rest = refl
-blank_more _ rest = refl

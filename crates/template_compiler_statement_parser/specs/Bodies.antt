@@ -5,7 +5,7 @@ use Rattle.template_tree.specs.Tree.{Statement, macro, Statements}
 use Rattle.template_tree.specs.View.{expression_of}
 use Rattle.template_tree.specs.StatementView.{statement_of}
 use Rattle.template_tree.specs.declared.statements.Stmt.{Stmt}
-use Rattle.template_compiler_statement_parser.specs.Listed.{statements_in}
+use Rattle.template_compiler_statement_makers.specs.Listed.{statements_in}
 use Rattle.template_compiler_tokens.specs.Token.{Token}
 use Rattle.template_compiler_reading.specs.Steps.{Read, and_then}
 use Rattle.template_compiler_stream.specs.declared.refusal.Refusal.{Refusal}

@@ -10,14 +10,14 @@ ghost use Rattle.template_tree.specs.Tree.{break_loop, continue_loop, print};
 ghost use Rattle.template_tree.specs.StatementView.{statement_of};
 ghost use Rattle.template_tree.specs.View.{expression_of};
 
-use crate::makers;
-use crate::values::read_values;
 use std::alloc::Global;
 use template_compiler_expression_parser::read_expression;
+use template_compiler_statement_makers::makers;
 use template_compiler_statement_parts::{
     expect_assign, expect_print_end, expect_tag_end, expect_word, pass_context, read_imports,
     read_missing, read_more_targets, read_stored,
 };
+use template_compiler_statement_values::read_values;
 use template_compiler_stream::{Fault, Refusal, TokenStream};
 use template_tree::{Call, Expr, Span, Spanned, Stmt};
 

@@ -3,27 +3,26 @@ ghost use Rattle.std.specs.Prelude.{◌≡◌, IfErr, IfOk};
 ghost use Rattle.template_compiler_statement_parts.specs.Parsed.{ParsedAs, SteppedTo};
 ghost use Rattle.template_compiler_reading.specs.Steps.{all, and_then};
 ghost use Rattle.template_compiler_statement_parser.specs.Bodies.{ParsedBody, ParsedStatement, branches_in, macro_behind};
-ghost use Rattle.template_compiler_statement_parser.specs.Surroundings.{around_of, opening_of};
+ghost use Rattle.template_compiler_statement_makers.specs.Surroundings.{around_of, opening_of};
 ghost use Rattle.template_compiler_stream.specs.Left.{passed};
 ghost use Rattle.template_compiler_statements.specs.Reader.{autoescape_by, block_body, block_by, branch_by, branch_step, call_body, call_by, deeper_body, else_by, expect_tag, filter_block_by, filtered_body, for_body, for_by, for_in, here, if_by, macro_by, opened_by, opened_step, opening, set_behind, set_body, set_by, statement_step, statements_at, with_by};
 ghost use Rattle.template_compiler_statements.specs.Trees.{branched, no_branches};
 ghost use Rattle.template_compiler_stream.specs.declared.refusal.Refusal.TheVariants as refusals;
-ghost use Rattle.template_compiler_statement_parser.specs.Written.{parameters_of};
+ghost use Rattle.template_compiler_statement_values.specs.Written.{parameters_of};
 ghost use Rattle.template_tree.specs.StatementView.{statement_of};
 ghost use Rattle.template_tree.specs.View.{arguments_in, expression_of, optional_in};
-ghost use Rattle.template_compiler_statement_parser.specs.Listed.{statements_in};
+ghost use Rattle.template_compiler_statement_makers.specs.Listed.{statements_in};
 
-use crate::around::Around;
-use crate::blocks::is_blank;
-use crate::opening::{Opening, opening_named};
-use crate::parameters::{Parameters, read_deeper_parameters, read_optional_parameters};
-use crate::values::{read_assignments, read_loop_filter};
-use crate::{leaves, makers};
+use crate::leaves;
 use std::alloc::{AllocError, Global};
 use template_compiler_expression_parser::{
     read_condition, read_expression, read_filter, read_filter_chain,
 };
+use template_compiler_statement_makers::{Around, Opening, is_blank, makers, opening_named};
 use template_compiler_statement_parts as parts;
+use template_compiler_statement_values::{
+    Parameters, read_assignments, read_deeper_parameters, read_loop_filter, read_optional_parameters,
+};
 use template_compiler_stream::{Fault, Refusal, Sign, TokenStream};
 use template_tree::{Call, Expr, ForLoop, Macro, Span, Spanned, Stmt};
 
@@ -80,7 +79,7 @@ pub fn read_statements<'source>(
 
 // A text, a print or a tag that begins a statement.
 #[cycle(statements)]
-#[tactic(auto, using(crate::proofs::Next::text_here, crate::proofs::Next::print_here, crate::proofs::Next::tag_here, crate::proofs::Next::nothing_here, crate::proofs::Lists::statements_push), unfolding(template_compiler_reading::specs::Steps::under, template_compiler_statements::specs::Reader::here, template_compiler_statements::specs::Reader::here_by))]
+#[tactic(auto, using(crate::proofs::Next::text_here, crate::proofs::Next::print_here, crate::proofs::Next::tag_here, crate::proofs::Next::nothing_here, template_compiler_statement_makers::proofs::Lists::statements_push), unfolding(template_compiler_reading::specs::Steps::under, template_compiler_statements::specs::Reader::here, template_compiler_statements::specs::Reader::here_by))]
 fn next_statement<'source>(
     alloc: Global,
     tokens: &mut TokenStream<'source>,
@@ -110,7 +109,7 @@ fn next_statement<'source>(
 
 // The statement that the word of the next tag begins.
 #[cycle(statements)]
-#[tactic(auto, using(crate::proofs::Lists::statements_push), unfolding(template_compiler_reading::specs::Steps::under, template_compiler_statements::specs::Reader::opened_step))]
+#[tactic(auto, using(template_compiler_statement_makers::proofs::Lists::statements_push), unfolding(template_compiler_reading::specs::Steps::under, template_compiler_statements::specs::Reader::opened_step))]
 fn next_tag<'source>(
     alloc: Global,
     tokens: &mut TokenStream<'source>,
@@ -353,7 +352,7 @@ fn next_branch<'source>(
 }
 
 #[cycle(statements)]
-#[tactic(auto, using(template_compiler_statement_parts::proofs::Again::tag_end_again, crate::proofs::Ended::ended_ok), unfolding(template_compiler_reading::specs::Steps::and_then, template_compiler_statements::specs::Reader::here, template_compiler_statements::specs::Reader::here_by, template_compiler_statements::specs::Reader::with_by, template_compiler_statements::specs::Reader::body_by))]
+#[tactic(auto, using(template_compiler_statement_parts::proofs::Again::tag_end_again, template_compiler_statement_parts::proofs::Again::tag_again), unfolding(template_compiler_reading::specs::Steps::and_then, template_compiler_statements::specs::Reader::here, template_compiler_statements::specs::Reader::here_by, template_compiler_statements::specs::Reader::with_by, template_compiler_statements::specs::Reader::body_by))]
 fn with_block<'source>(
     alloc: Global,
     tokens: &mut TokenStream<'source>,
@@ -365,7 +364,8 @@ fn with_block<'source>(
 {
     let assignments = read_assignments(alloc, tokens, left)?;
     parts::expect_tag_end(tokens)?;
-    let body = ended_body(alloc, tokens, left, around, "endwith")?;
+    let body = body(alloc, tokens, left, around)?;
+    parts::expect_tag(tokens, "endwith")?;
     Ok(makers::with_block(alloc, assignments, body, span)?)
 }
 
@@ -390,7 +390,7 @@ fn set<'source>(
 
 // A set block, behind its target.
 #[cycle(statements)]
-#[tactic(auto, using(template_compiler_statement_parts::proofs::Again::tag_end_again, crate::proofs::Ended::ended_ok), unfolding(template_compiler_reading::specs::Steps::and_then, template_compiler_statements::specs::Reader::here, template_compiler_statements::specs::Reader::here_by, template_compiler_statements::specs::Reader::set_body, template_compiler_statements::specs::Reader::body_by))]
+#[tactic(auto, using(template_compiler_statement_parts::proofs::Again::tag_end_again, template_compiler_statement_parts::proofs::Again::tag_again), unfolding(template_compiler_reading::specs::Steps::and_then, template_compiler_statements::specs::Reader::here, template_compiler_statements::specs::Reader::here_by, template_compiler_statements::specs::Reader::set_body, template_compiler_statements::specs::Reader::body_by))]
 fn set_block<'source>(
     alloc: Global,
     tokens: &mut TokenStream<'source>,
@@ -403,12 +403,13 @@ fn set_block<'source>(
 {
     let filter = read_filter_chain(alloc, tokens, left, None)?;
     parts::expect_tag_end(tokens)?;
-    let body = ended_body(alloc, tokens, left, around, "endset")?;
+    let body = body(alloc, tokens, left, around)?;
+    parts::expect_tag(tokens, "endset")?;
     Ok(makers::set_block(alloc, target, filter, body, span)?)
 }
 
 #[cycle(statements)]
-#[tactic(auto, using(template_compiler_statement_parts::proofs::Again::tag_end_again, crate::proofs::Ended::ended_ok), unfolding(template_compiler_reading::specs::Steps::and_then, template_compiler_statements::specs::Reader::here, template_compiler_statements::specs::Reader::here_by, template_compiler_statements::specs::Reader::autoescape_by, template_compiler_statements::specs::Reader::body_by))]
+#[tactic(auto, using(template_compiler_statement_parts::proofs::Again::tag_end_again, template_compiler_statement_parts::proofs::Again::tag_again), unfolding(template_compiler_reading::specs::Steps::and_then, template_compiler_statements::specs::Reader::here, template_compiler_statements::specs::Reader::here_by, template_compiler_statements::specs::Reader::autoescape_by, template_compiler_statements::specs::Reader::body_by))]
 fn auto_escape<'source>(
     alloc: Global,
     tokens: &mut TokenStream<'source>,
@@ -420,12 +421,13 @@ fn auto_escape<'source>(
 {
     let enabled = read_expression(alloc, tokens, left)?;
     parts::expect_tag_end(tokens)?;
-    let body = ended_body(alloc, tokens, left, around, "endautoescape")?;
+    let body = body(alloc, tokens, left, around)?;
+    parts::expect_tag(tokens, "endautoescape")?;
     Ok(makers::auto_escape(alloc, enabled, body, span)?)
 }
 
 #[cycle(statements)]
-#[tactic(auto, using(template_compiler_statement_parts::proofs::Again::tag_end_again, crate::proofs::Ended::ended_ok), unfolding(template_compiler_reading::specs::Steps::and_then, template_compiler_statements::specs::Reader::here, template_compiler_statements::specs::Reader::here_by, template_compiler_statements::specs::Reader::filter_block_by, template_compiler_statements::specs::Reader::body_by))]
+#[tactic(auto, using(template_compiler_statement_parts::proofs::Again::tag_end_again, template_compiler_statement_parts::proofs::Again::tag_again), unfolding(template_compiler_reading::specs::Steps::and_then, template_compiler_statements::specs::Reader::here, template_compiler_statements::specs::Reader::here_by, template_compiler_statements::specs::Reader::filter_block_by, template_compiler_statements::specs::Reader::body_by))]
 fn filter_block<'source>(
     alloc: Global,
     tokens: &mut TokenStream<'source>,
@@ -438,7 +440,8 @@ fn filter_block<'source>(
     let first = read_filter(alloc, tokens, left, None)?;
     let filter = read_filter_chain(alloc, tokens, left, Some(first))?;
     parts::expect_tag_end(tokens)?;
-    let body = ended_body(alloc, tokens, left, around, "endfilter")?;
+    let body = body(alloc, tokens, left, around)?;
+    parts::expect_tag(tokens, "endfilter")?;
     Ok(filtered_body(alloc, filter, body, span)?)
 }
 
@@ -468,7 +471,7 @@ fn block<'source>(
 
 // A block, from the end of its tag on.
 #[cycle(statements)]
-#[tactic(auto, using(template_compiler_statement_parts::proofs::Again::tag_end_again), unfolding(template_compiler_reading::specs::Steps::and_then, template_compiler_statements::specs::Reader::here, template_compiler_statements::specs::Reader::here_by, template_compiler_statements::specs::Reader::block_body))]
+#[tactic(auto, using(template_compiler_statement_parts::proofs::Again::tag_end_again, crate::proofs::Ended::block_end_again), unfolding(template_compiler_reading::specs::Steps::and_then, template_compiler_statements::specs::Reader::here, template_compiler_statements::specs::Reader::here_by, template_compiler_statements::specs::Reader::block_body))]
 fn block_behind<'source>(
     alloc: Global,
     tokens: &mut TokenStream<'source>,
@@ -516,7 +519,7 @@ fn macro_block<'source>(
 
 // A macro, behind the `(` of its arguments.
 #[cycle(statements)]
-#[tactic(auto, using(template_compiler_statement_parts::proofs::Again::tag_end_again, crate::proofs::Ended::ended_ok), unfolding(template_compiler_reading::specs::Steps::and_then, template_compiler_statements::specs::Reader::here, template_compiler_statements::specs::Reader::here_by, template_compiler_statements::specs::Reader::body_by))]
+#[tactic(auto, using(template_compiler_statement_parts::proofs::Again::tag_end_again, template_compiler_statement_parts::proofs::Again::tag_again), unfolding(template_compiler_reading::specs::Steps::and_then, template_compiler_statements::specs::Reader::here, template_compiler_statements::specs::Reader::here_by, template_compiler_statements::specs::Reader::body_by))]
 fn macro_behind<'source>(
     alloc: Global,
     tokens: &mut TokenStream<'source>,
@@ -528,7 +531,8 @@ fn macro_behind<'source>(
 {
     let parameters = read_deeper_parameters(alloc, tokens, left)?;
     parts::expect_tag_end(tokens)?;
-    let body = ended_body(alloc, tokens, left, Around::within_macro(), "endmacro")?;
+    let body = body(alloc, tokens, left, Around::within_macro())?;
+    parts::expect_tag(tokens, "endmacro")?;
     let node = Macro {
         name,
         args: parameters.args,
@@ -553,7 +557,7 @@ fn call_block<'source>(
 }
 
 // A call block, behind its call.
-#[tactic(auto, using(template_compiler_statement_parts::proofs::Again::tag_end_again, crate::proofs::Ended::ended_ok), unfolding(template_compiler_reading::specs::Steps::and_then, template_compiler_statements::specs::Reader::here, template_compiler_statements::specs::Reader::here_by, template_compiler_statements::specs::Reader::call_body, template_compiler_statements::specs::Reader::body_by))]
+#[tactic(auto, using(template_compiler_statement_parts::proofs::Again::tag_end_again, template_compiler_statement_parts::proofs::Again::tag_again), unfolding(template_compiler_reading::specs::Steps::and_then, template_compiler_statements::specs::Reader::here, template_compiler_statements::specs::Reader::here_by, template_compiler_statements::specs::Reader::call_body, template_compiler_statements::specs::Reader::body_by))]
 fn call_behind<'source>(
     alloc: Global,
     tokens: &mut TokenStream<'source>,
@@ -566,7 +570,8 @@ fn call_behind<'source>(
         (arguments_in call.entry.node.value.args.items) tokens.old) tokens.new result }
 {
     parts::expect_tag_end(tokens)?;
-    let body = ended_body(alloc, tokens, left, Around::within_macro(), "endcall")?;
+    let body = body(alloc, tokens, left, Around::within_macro())?;
+    parts::expect_tag(tokens, "endcall")?;
     let node = Macro {
         name: "caller",
         args: parameters.args,
@@ -592,6 +597,7 @@ fn filtered_body<'source>(
 }
 
 // Each branch is the one statement of the body before it.
+#[tactic(auto, using(crate::proofs::Lists::branched_last))]
 fn branched<'source>(
     alloc: Global,
     branches: Vec<Branch<'source>>,

@@ -2,7 +2,7 @@ use Rattle.std.proofs.Common.{◌≡◌, ◌-◌, refl, sym, ◌∙◌, subst, a
 use Rattle.template_compiler_statements.specs.Reader.{here, statement_step, statements_by, statements_at, branch_step}
 use Rattle.template_compiler_statement_laws.proofs.Sound.{next_statement_takes, next_branch_takes}
 use Rattle.template_compiler_statement_parts.proofs.Rounds.{rounds_end, rounds_go, rounds_refused}
-use Rattle.template_compiler_statement_parser.specs.Surroundings.{around_of}
+use Rattle.template_compiler_statement_makers.specs.Surroundings.{around_of}
 use Rattle.template_compiler_statement_parser.specs.Bodies.{ParsedBody}
 use Rattle.template_compiler_statement_parser.proofs.Less.{body_less}
 use Rattle.template_compiler_statement_parser.proofs.statements.+statements.Goals as goal

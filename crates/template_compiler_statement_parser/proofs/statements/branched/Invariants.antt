@@ -1,6 +1,6 @@
 use Rattle.std.proofs.Common.{◌≡◌, vec_len}
 use Rattle.template_compiler_statements.specs.Trees.{branched}
-use Rattle.template_compiler_statement_parser.specs.Listed.{statements_in}
+use Rattle.template_compiler_statement_makers.specs.Listed.{statements_in}
 use Rattle.template_compiler_statement_parser.specs.Bodies.{branches_in}
 use Rattle.template_compiler_statement_parser.proofs.statements.branched.Given as goal
 
