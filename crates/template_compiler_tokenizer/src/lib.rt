@@ -16,6 +16,3 @@ mod words;
 pub use stream::TokenStream;
 pub use template_compiler_syntax::StartMarker;
 pub use tokenizer::Tokenizer;
-
-#[cfg(test)]
-mod tests;

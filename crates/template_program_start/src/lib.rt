@@ -6,10 +6,6 @@ mod inputs;
 mod performing;
 mod starting;
 mod status;
-#[cfg(test)]
-mod tests;
-#[cfg(test)]
-mod words_tests;
 
 pub use starting::{refuse_arguments, start};
 pub use status::status_of;

@@ -2,7 +2,7 @@
 use crate::{Environment, Error, ErrorKind, StateIds};
 use std::alloc::Global;
 use std::test::Fail;
-use template_values_core::{Entry, Value};
+use template_values_json::context_from_json;
 
 const HELLO: &str = "Hello {{ name }}!";
 
@@ -17,26 +17,6 @@ fn hello(
     Ok(environment)
 }
 
-fn context(alloc: Global) -> Result<Value, Error> {
-    let name = text(alloc, "name")?;
-    let world = text(alloc, "World")?;
-    let mut entries = Vec::new(alloc);
-    match entries.push(Entry {
-        key: name,
-        value: world,
-    }) {
-        Ok(()) => Value::from_map(alloc, entries),
-        Err(_refused) => Err(Error::new(ErrorKind::OutOfMemory)),
-    }
-}
-
-fn text(alloc: Global, text: &str) -> Result<Value, Error> {
-    match String::from_str(alloc, text) {
-        Ok(text) => Value::from_text(text),
-        Err(_refused) => Err(Error::new(ErrorKind::OutOfMemory)),
-    }
-}
-
 // What is written and how it ends, with the levels of the fuel after a render that is done.
 fn rendered(
     alloc: Global,
@@ -46,7 +26,8 @@ fn rendered(
     let mut ids = StateIds::new(0);
     let environment = hello(alloc, &mut ids, fuel)?;
     let template = environment.get_template("t.txt")?;
-    let captured = template.render_captured_to(&mut ids, context(alloc)?, out)?;
+    let context = context_from_json(alloc, b"{\"name\": \"World\"}")?;
+    let captured = template.render_captured_to(&mut ids, context, out)?;
     Ok(captured.state().fuel_levels())
 }
 

@@ -8,29 +8,12 @@ use std::process::Abort;
 use std::test::Fail;
 use template_compiler_code::{Instruction, Instructions};
 use template_values_core::{Entry, Value};
-
-fn text(alloc: Global, text: &str) -> Result<Value, Error> {
-    match String::from_str(alloc, text) {
-        Ok(text) => Value::from_text(text),
-        Err(_refused) => Err(Error::new(ErrorKind::OutOfMemory)),
-    }
-}
-
-// A context that knows one name.
-fn context(alloc: Global, name: &str, value: Value) -> Result<Value, Error> {
-    let key = text(alloc, name)?;
-    let mut entries = Vec::new(alloc);
-    match entries.push(Entry { key, value }) {
-        Ok(()) => Value::from_map(alloc, entries),
-        Err(_refused) => Err(Error::new(ErrorKind::OutOfMemory)),
-    }
-}
+use template_values_json::context_from_json;
 
 fn with<'a>(
-    code: Instructions<'a>,
+    mut code: Instructions<'a>,
     instruction: Instruction<'a>,
 ) -> Result<Instructions<'a>, Error> {
-    let mut code = code;
     code.add(instruction)?;
     Ok(code)
 }
@@ -47,21 +30,15 @@ fn lookup(name: &str) -> Instruction<'_> {
     Instruction::Lookup(CowStr::Borrowed(name))
 }
 
+// The code of `{{ name }}` behind other code.
+fn with_print(code: Instructions<'static>) -> Result<Instructions<'static>, Error> {
+    with(with(code, lookup("name"))?, Instruction::Emit)
+}
+
 // The code of `Hello {{ name }}!`.
 fn hello(alloc: Global) -> Result<Instructions<'static>, Error> {
     let code = with(empty(alloc), raw("Hello "))?;
-    let code = with(code, lookup("name"))?;
-    with(with(code, Instruction::Emit)?, raw("!"))
-}
-
-fn render<S: Sink>(
-    alloc: Global,
-    escape: AutoEscape,
-    context: &Value,
-    fuel: &mut Option<FuelTracker>,
-    sink: &mut S,
-) -> Result<(), Error> {
-    run(alloc, hello(alloc)?, escape, context, fuel, sink)
+    with(with_print(code)?, raw("!"))
 }
 
 // Runs the code of a template, and refuses any other.
@@ -89,17 +66,27 @@ fn kind_of<T>(answer: Result<T, Error>) -> Result<T, ErrorKind> {
     }
 }
 
-fn world(alloc: Global) -> Result<Value, Error> {
-    context(alloc, "name", text(alloc, "World")?)
+// How `Hello {{ name }}!` ends under a fuel, without any escape.
+fn render<S: Sink>(
+    alloc: Global,
+    context: &Value,
+    fuel: &mut Option<FuelTracker>,
+    sink: &mut S,
+) -> Result<(), ErrorKind> {
+    let code = kind_of(hello(alloc))?;
+    kind_of(run(alloc, code, AutoEscape::None, context, fuel, sink))
+}
+
+fn world(alloc: Global) -> Result<Value, ErrorKind> {
+    kind_of(context_from_json(alloc, b"{\"name\": \"World\"}"))
 }
 
 #[test]
 fn a_fuel_stops_a_template_before_the_step_that_it_does_not_pay(
     rt: HostRuntime,
 ) -> Result<(), Fail> {
-    let alloc = rt.alloc();
-    let context = kind_of(world(alloc))?;
-    let cases = [
+    let context = world(rt.alloc())?;
+    for (fuel, answer, written, consumed) in [
         (0, Err(ErrorKind::OutOfFuel), "", 0),
         (1, Err(ErrorKind::OutOfFuel), "", 1),
         (2, Err(ErrorKind::OutOfFuel), "Hello ", 2),
@@ -107,193 +94,188 @@ fn a_fuel_stops_a_template_before_the_step_that_it_does_not_pay(
         (4, Err(ErrorKind::OutOfFuel), "Hello World", 4),
         (5, Ok(()), "Hello World!", 4),
         (u64::MAX, Ok(()), "Hello World!", 4),
-    ];
-    for (fuel, answer, written, consumed) in cases {
+    ] {
         let mut tank = Some(FuelTracker::new(fuel));
-        let mut out = String::new(alloc);
-        assert_eq!(rt;
-            kind_of(render(alloc, AutoEscape::None, &context, &mut tank, &mut out)),
-            answer,
-            "fuel {fuel}"
-        );
+        let mut out = String::new(rt.alloc());
+        let ended = render(rt.alloc(), &context, &mut tank, &mut out);
+        assert_eq!(rt; ended, answer, "fuel {fuel}");
         assert_eq!(rt; out.as_str(), written, "fuel {fuel}");
-        let tracker = tank.expect(&rt, "the fuel is still set");
-        assert_eq!(rt; tracker.consumed(), consumed, "fuel {fuel}");
-        assert_eq!(rt;
-            tracker.remaining(),
-            fuel - consumed.min(fuel),
-            "fuel {fuel}"
-        );
+        assert_levels(&rt, &tank, fuel, consumed);
     }
     Ok(())
 }
 
-fn safe_text(alloc: Global, text: &str) -> Result<Value, Fail> {
-    Ok(kind_of(Value::from_safe_text(String::from_str(alloc, text)?))?)
+fn assert_levels(rt: &impl Abort, tank: &Option<FuelTracker>, fuel: u64, consumed: u64) {
+    match tank {
+        Some(tracker) => {
+            assert_eq!(rt; tracker.consumed(), consumed, "fuel {fuel}");
+            assert_eq!(rt;
+                tracker.remaining(),
+                fuel - consumed.min(fuel),
+                "fuel {fuel}"
+            );
+        }
+        None => panic!(rt; "the fuel {fuel} is gone"),
+    }
 }
 
-fn list(alloc: Global, first: Value, second: Value) -> Result<Value, Fail> {
-    let mut items = Vec::new(alloc);
-    items.push(first)?;
-    items.push(second)?;
-    Ok(kind_of(Value::from_list(alloc, items))?)
+// Asserts how `Hello {{ name }}!` ends and what it writes over a context.
+fn assert_written<R: AllocGlobal + Abort>(
+    rt: &R,
+    escape: AutoEscape,
+    context: &Value,
+    answer: Result<(), ErrorKind>,
+    wanted: &str,
+) -> Result<(), Fail> {
+    let code = kind_of(hello(rt.alloc()))?;
+    let mut out = String::new(rt.alloc());
+    let ended = kind_of(run(rt.alloc(), code, escape, context, &mut None, &mut out));
+    assert_eq!(rt; ended, answer, "before {wanted}");
+    assert_eq!(rt; out.as_str(), wanted);
+    Ok(())
 }
 
-// A map of one entry.
-fn map(alloc: Global, key: Value, value: Value) -> Result<Value, Fail> {
-    let mut entries = Vec::new(alloc);
-    entries.push(Entry { key, value })?;
-    Ok(kind_of(Value::from_map(alloc, entries))?)
+// The same where the context is read from JSON, and the run is whole.
+fn assert_all_written<R: AllocGlobal + Abort>(
+    rt: &R,
+    escape: AutoEscape,
+    rows: &[(&str, &str)],
+) -> Result<(), Fail> {
+    for (json, wanted) in rows {
+        let context = kind_of(context_from_json(rt.alloc(), json.as_bytes()))?;
+        assert_written(rt, escape, &context, Ok(()), wanted)?;
+    }
+    Ok(())
 }
 
-// What `Hello {{ name }}!` answers and writes where `name` has the value.
-fn writes(
-    rt: &impl Abort,
-    alloc: Global,
+// The same where `name` alone has a value.
+fn assert_value_written<R: AllocGlobal + Abort>(
+    rt: &R,
     escape: AutoEscape,
     value: Value,
     answer: Result<(), ErrorKind>,
     wanted: &str,
 ) -> Result<(), Fail> {
-    let context = kind_of(context(alloc, "name", value))?;
-    let mut out = String::new(alloc);
-    let outcome = kind_of(render(alloc, escape, &context, &mut None, &mut out));
-    assert_eq!(rt; outcome, answer, "before {wanted}");
-    assert_eq!(rt; out.as_str(), wanted);
-    Ok(())
+    let pairs = vec![in rt.alloc(); ("name", value)]?;
+    let context = kind_of(Value::from_pairs(rt.alloc(), pairs))?;
+    assert_written(rt, escape, &context, answer, wanted)
 }
 
 #[test]
 fn a_value_is_looked_up_and_printed(rt: HostRuntime) -> Result<(), Fail> {
-    let alloc = rt.alloc();
-    let plain = AutoEscape::None;
-    let least = "Hello -170141183460469231731687303715884105728!";
-    writes(&rt, alloc, plain, Value::from_int(i128::MIN), Ok(()), least)?;
-    writes(&rt, alloc, plain, Value::undefined(), Ok(()), "Hello !")?;
-    writes(
-        &rt,
-        alloc,
-        plain,
-        Value::function(1, 2),
-        Ok(()),
-        "Hello <function>!",
-    )?;
-    let items = list(alloc, Value::from_int(1), kind_of(text(alloc, "<"))?)?;
-    writes(&rt, alloc, plain, items, Ok(()), "Hello [1, \"<\"]!")?;
-    let entries = map(alloc, kind_of(text(alloc, "a"))?, Value::none())?;
-    writes(&rt, alloc, plain, entries, Ok(()), "Hello {\"a\": none}!")?;
-    let unknown = kind_of(context(alloc, "other", Value::from_int(-7)))?;
-    let mut out = String::new(alloc);
-    kind_of(render(alloc, plain, &unknown, &mut None, &mut out))?;
-    assert_eq!(rt; out.as_str(), "Hello !");
-    Ok(())
-}
-
-#[test]
-fn a_value_is_escaped_as_html(rt: HostRuntime) -> Result<(), Fail> {
-    let alloc = rt.alloc();
-    let html = AutoEscape::Html;
-    let tag = kind_of(text(alloc, "<b>"))?;
-    writes(&rt, alloc, html, tag, Ok(()), "Hello &lt;b&gt;!")?;
-    writes(
-        &rt,
-        alloc,
-        html,
-        safe_text(alloc, "<b>")?,
-        Ok(()),
-        "Hello <b>!",
-    )?;
-    let items = list(alloc, Value::from_int(1), kind_of(text(alloc, "<"))?)?;
-    writes(
-        &rt,
-        alloc,
-        html,
-        items,
-        Ok(()),
-        "Hello [1, &quot;&lt;&quot;]!",
-    )?;
-    writes(&rt, alloc, html, Value::undefined(), Ok(()), "Hello !")?;
-    Ok(())
-}
-
-#[test]
-fn a_value_is_written_as_json(rt: HostRuntime) -> Result<(), Fail> {
-    let alloc = rt.alloc();
-    let json = AutoEscape::Json;
-    let tag = kind_of(text(alloc, "<b>"))?;
-    writes(&rt, alloc, json, tag, Ok(()), "Hello \"<b>\"!")?;
-    writes(
-        &rt,
-        alloc,
-        json,
-        safe_text(alloc, "<b>")?,
-        Ok(()),
-        "Hello <b>!",
-    )?;
-    let items = list(alloc, Value::from_int(1), Value::none())?;
-    let entries = map(alloc, kind_of(text(alloc, "a"))?, items)?;
-    writes(&rt, alloc, json, entries, Ok(()), "Hello {\"a\":[1,null]}!")?;
-    writes(&rt, alloc, json, Value::undefined(), Ok(()), "Hello null!")?;
-    Ok(())
-}
-
-#[test]
-fn a_value_without_a_text_faults_behind_the_text_before_it(rt: HostRuntime) -> Result<(), Fail> {
-    let alloc = rt.alloc();
-    let large = Value::from_int(18446744073709551616);
-    let number_key = map(alloc, Value::from_int(1), Value::from_int(2))?;
-    let cases = [
-        (AutoEscape::Json, large, ErrorKind::BadSerialization),
-        (AutoEscape::Json, number_key, ErrorKind::BadSerialization),
-        (
-            AutoEscape::None,
-            Value::namespace(1, 2),
-            ErrorKind::InvalidOperation,
-        ),
-        (
-            AutoEscape::Custom(1),
-            safe_text(alloc, "<b>")?,
-            ErrorKind::InvalidOperation,
-        ),
+    let rows = [
+        ("{\"name\": [1, \"<\"]}", "Hello [1, \"<\"]!"),
+        ("{\"name\": {\"a\": null}}", "Hello {\"a\": none}!"),
+        ("{\"other\": -7}", "Hello !"),
     ];
-    for (escape, value, kind) in cases {
-        writes(&rt, alloc, escape, value, Err(kind), "Hello ")?;
+    assert_all_written(&rt, AutoEscape::None, rows.as_slice())
+}
+
+#[test]
+fn a_value_that_is_no_json_is_printed(rt: HostRuntime) -> Result<(), Fail> {
+    for (value, wanted) in [
+        (
+            Value::from_int(i128::MIN),
+            "Hello -170141183460469231731687303715884105728!",
+        ),
+        (Value::undefined(), "Hello !"),
+        (Value::function(1, 2), "Hello <function>!"),
+    ] {
+        assert_value_written(&rt, AutoEscape::None, value, Ok(()), wanted)?;
     }
     Ok(())
 }
 
 #[test]
+fn a_value_is_escaped_as_html(rt: HostRuntime) -> Result<(), Fail> {
+    let rows = [
+        ("{\"name\": \"<b>\"}", "Hello &lt;b&gt;!"),
+        ("{\"name\": [1, \"<\"]}", "Hello [1, &quot;&lt;&quot;]!"),
+        ("{}", "Hello !"),
+    ];
+    assert_all_written(&rt, AutoEscape::Html, rows.as_slice())
+}
+
+#[test]
+fn a_value_is_written_as_json(rt: HostRuntime) -> Result<(), Fail> {
+    let rows = [
+        ("{\"name\": \"<b>\"}", "Hello \"<b>\"!"),
+        ("{\"name\": {\"a\": [1, null]}}", "Hello {\"a\":[1,null]}!"),
+        ("{}", "Hello null!"),
+    ];
+    assert_all_written(&rt, AutoEscape::Json, rows.as_slice())
+}
+
+#[test]
+fn a_safe_text_stands_as_it_is(rt: HostRuntime) -> Result<(), Fail> {
+    for (escape, answer, wanted) in [
+        (AutoEscape::Html, Ok(()), "Hello <b>!"),
+        (AutoEscape::Json, Ok(()), "Hello <b>!"),
+        (
+            AutoEscape::Custom(1),
+            Err(ErrorKind::InvalidOperation),
+            "Hello ",
+        ),
+    ] {
+        let text = String::from_str(rt.alloc(), "<b>")?;
+        let safe = kind_of(Value::from_safe_text(text))?;
+        assert_value_written(&rt, escape, safe, answer, wanted)?;
+    }
+    Ok(())
+}
+
+#[test]
+fn a_value_without_a_text_faults_behind_the_text_before_it(rt: HostRuntime) -> Result<(), Fail> {
+    let large = Value::from_int(18446744073709551616);
+    let refused = Err(ErrorKind::BadSerialization);
+    assert_value_written(&rt, AutoEscape::Json, large, refused, "Hello ")?;
+    let refused = Err(ErrorKind::InvalidOperation);
+    let namespace = Value::namespace(1, 2);
+    assert_value_written(&rt, AutoEscape::None, namespace, refused, "Hello ")
+}
+
+#[test]
+fn a_key_that_is_no_text_is_no_json(rt: HostRuntime) -> Result<(), Fail> {
+    let entry = Entry {
+        key: Value::from_int(1),
+        value: Value::from_int(2),
+    };
+    let map = kind_of(Value::from_map(rt.alloc(), vec![in rt.alloc(); entry]?))?;
+    let refused = Err(ErrorKind::BadSerialization);
+    assert_value_written(&rt, AutoEscape::Json, map, refused, "Hello ")
+}
+
+#[test]
 fn a_print_keeps_nothing_of_the_one_before(rt: HostRuntime) -> Result<(), Fail> {
-    let alloc = rt.alloc();
-    let code = kind_of(with(empty(alloc), lookup("name")))?;
-    let code = kind_of(with(code, Instruction::Emit))?;
-    let code = kind_of(with(code, lookup("name")))?;
-    let code = kind_of(with(code, Instruction::Emit))?;
-    let context = kind_of(context(alloc, "name", Value::from_int(7)))?;
-    let mut out = String::new(alloc);
-    kind_of(run(alloc, code, AutoEscape::Html, &context, &mut None, &mut out))?;
+    let code = kind_of(with_print(empty(rt.alloc())))?;
+    let code = kind_of(with_print(code))?;
+    let context = kind_of(context_from_json(rt.alloc(), b"{\"name\": 7}"))?;
+    let mut out = String::new(rt.alloc());
+    kind_of(run(
+        rt.alloc(),
+        code,
+        AutoEscape::Html,
+        &context,
+        &mut None,
+        &mut out,
+    ))?;
     assert_eq!(rt; out.as_str(), "77");
     Ok(())
 }
 
 #[test]
 fn a_full_writer_has_the_bytes_before(rt: HostRuntime) -> Result<(), Fail> {
-    let alloc = rt.alloc();
-    let context = kind_of(world(alloc))?;
+    let context = world(rt.alloc())?;
     let whole = b"Hello World!";
     for room in 0..=12 {
         let mut bytes = [0u8; 12];
         let mut sink = WriteWrapper::new(&mut bytes[..room]);
-        let answer = if room < 12 {
-            Err(ErrorKind::WriteFailure)
-        } else {
-            Ok(())
+        let answer = match room {
+            12 => Ok(()),
+            _ => Err(ErrorKind::WriteFailure),
         };
-        assert_eq!(rt;
-            kind_of(render(alloc, AutoEscape::None, &context, &mut None, &mut sink)),
-            answer,
-            "after {room} bytes"
-        );
+        let ended = render(rt.alloc(), &context, &mut None, &mut sink);
+        assert_eq!(rt; ended, answer, "after {room} bytes");
         assert_eq!(rt; &bytes[..room], &whole[..room], "after {room} bytes");
     }
     Ok(())
@@ -301,12 +283,11 @@ fn a_full_writer_has_the_bytes_before(rt: HostRuntime) -> Result<(), Fail> {
 
 #[test]
 fn an_empty_code_needs_no_fuel(rt: HostRuntime) -> Result<(), Fail> {
-    let alloc = rt.alloc();
     let mut tank = Some(FuelTracker::new(0));
-    let mut out = String::new(alloc);
+    let mut out = String::new(rt.alloc());
     kind_of(run(
-        alloc,
-        empty(alloc),
+        rt.alloc(),
+        empty(rt.alloc()),
         AutoEscape::None,
         &Value::undefined(),
         &mut tank,
@@ -326,14 +307,11 @@ fn verified(code: Instructions<'_>) -> Result<(StreamKind, usize), (ErrorKind, u
 
 #[test]
 fn operands_decide_what_a_stream_is_of(rt: HostRuntime) -> Result<(), Fail> {
-    let alloc = rt.alloc();
-    assert_eq!(rt;
-        verified(kind_of(hello(alloc))?),
-        Ok((StreamKind::Template, 4))
-    );
-    let name = kind_of(with(empty(alloc), lookup("a")))?;
+    let hello = kind_of(hello(rt.alloc()))?;
+    assert_eq!(rt; verified(hello), Ok((StreamKind::Template, 4)));
+    let name = kind_of(with(empty(rt.alloc()), lookup("a")))?;
     assert_eq!(rt; verified(name), Ok((StreamKind::Expression, 1)));
-    let print = kind_of(with(empty(alloc), Instruction::Emit))?;
+    let print = kind_of(with(empty(rt.alloc()), Instruction::Emit))?;
     assert_eq!(rt; verified(print), Err((ErrorKind::BadStream, 1)));
     Ok(())
 }

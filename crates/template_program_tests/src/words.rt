@@ -1,4 +1,4 @@
-//! What `clap` makes of words, and what it refuses.
+// What `clap` makes of words, and what it refuses.
 use std::alloc::Global;
 use std::test::Fail;
 use template_program_words::{Definition, NamesWords, RenderWords, Words, WordsFault, read_words};

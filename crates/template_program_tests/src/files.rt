@@ -1,10 +1,12 @@
-//! What no clause says: that inputs are read at all, and what files give.
-use crate::*;
+// That inputs are read at all, and what files give.
 use std::io::Read;
 use std::test::Fail;
 use std::{fs, io};
+use template_program_files::{
+    FileFault, ReadWrapper, read_file, read_text, read_text_file, read_whole,
+};
 
-/// Gives its bytes three at a time, and fails once where none is left.
+// Gives its bytes three at a time, and fails once where none is left.
 #[derive(Drop)]
 struct Interrupted<'a> {
     bytes: &'a [u8],

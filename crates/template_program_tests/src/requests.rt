@@ -1,10 +1,10 @@
-//! What no clause says: that requests are answered at all, and what well-known templates write.
-use crate::*;
+// That requests are answered at all, and what well-known templates write.
 use std::process::Abort;
 use std::test::Fail;
 use template_machine_ids::StateIds;
+use template_program_run::{Command, Outcome, Request, run};
 
-/// Renders `{{ a }}` under a name over a context in JSON, and asserts what it writes.
+// Renders `{{ a }}` under a name over a context in JSON, and asserts what it writes.
 fn assert_written<R: AllocGlobal + Abort>(
     rt: &R,
     name: &str,
