@@ -83,7 +83,8 @@ fn reads_each_kind(rt: HostRuntime) -> Result<(), Fail> {
 
 #[test]
 fn powers_go_to_the_right(rt: HostRuntime) -> Result<(), Fail> {
-    match expression(rt.alloc(), &["2", "**", "3", "**", "2"]) {
+    let read = expression(rt.alloc(), &["2", "**", "3", "**", "2"]);
+    match &read {
         Ok(Expr::BinOp(n)) => {
             assert_eq!(rt; n.node.op, BinOpKind::Pow);
             assert_eq!(rt; n.node.left.description(), "constant");
@@ -96,7 +97,8 @@ fn powers_go_to_the_right(rt: HostRuntime) -> Result<(), Fail> {
 
 #[test]
 fn a_minus_takes_the_parts_behind_its_operand(rt: HostRuntime) -> Result<(), Fail> {
-    match expression(rt.alloc(), &["-", "x", ".", "y"]) {
+    let read = expression(rt.alloc(), &["-", "x", ".", "y"]);
+    match &read {
         Ok(Expr::UnaryOp(n)) => {
             assert_eq!(rt; n.node.op, UnaryOpKind::Neg);
             assert_eq!(rt; n.node.expr.description(), "attribute lookup");
@@ -108,7 +110,8 @@ fn a_minus_takes_the_parts_behind_its_operand(rt: HostRuntime) -> Result<(), Fai
 
 #[test]
 fn not_in_is_the_negation_of_in(rt: HostRuntime) -> Result<(), Fail> {
-    match expression(rt.alloc(), &["x", "not", "in", "y"]) {
+    let read = expression(rt.alloc(), &["x", "not", "in", "y"]);
+    match &read {
         Ok(Expr::UnaryOp(n)) => {
             assert_eq!(rt; n.node.op, UnaryOpKind::Not);
             match &n.node.expr {
@@ -123,7 +126,8 @@ fn not_in_is_the_negation_of_in(rt: HostRuntime) -> Result<(), Fail> {
 
 #[test]
 fn arguments_by_place_stand_first(rt: HostRuntime) -> Result<(), Fail> {
-    match expression(rt.alloc(), &["f", "(", "a", "=", "1", ",", "x", ")"]) {
+    let read = expression(rt.alloc(), &["f", "(", "a", "=", "1", ",", "x", ")"]);
+    match &read {
         Ok(Expr::Call(n)) => match n.node.args.as_slice() {
             [CallArg::Pos(_), CallArg::Kwarg(name, _)] => assert_eq!(rt; *name, "a"),
             _ => panic!(rt; "other arguments"),
