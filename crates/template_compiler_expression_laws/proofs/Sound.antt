@@ -567,6 +567,3 @@ filter_chain_sound d value ts = reads_all (chain_step (deeper d)) (IsFilterChain
 pub optional_arguments_sound : (d : ℕ) (ts : List Token) → Reads (IsOptionalArguments d ts) ts (optional_arguments_at d ts)
 unfolding optional_arguments_at
 optional_arguments_sound d ts = optional_reads d (deeper_reads d) ts
-
-pub argument_sound : (d : ℕ) (ts : List Token) → Reads (IsArgument d ts) ts (argument_by (expression_by (deeper d)) ts)
-argument_sound d ts = argument_reads d (deeper_reads d) ts

@@ -1,12 +1,12 @@
 -- Each round of a repetition takes a token at least.
 use Rattle.std.proofs.Common.{◌≡◌, ◌<◌, ◌≤◌, ℕ, Bool, true, false, if◌then◌else◌, List, [], ◌∷◌, ◌++◌, length, Ok, Err, refl, ap, arith}
-use Rattle.template_tree.specs.Tree.{Expression, Optional, Expressions, Argument}
-use Rattle.template_compiler_tokens.specs.Token.{Token, TokenFault, symbol, comma, colon, pipe}
+use Rattle.template_tree.specs.Tree.{Expression, Optional, Expressions, Argument, positional, keyword, positional_spread, keyword_spread}
+use Rattle.template_compiler_tokens.specs.Token.{Token, TokenFault, symbol, identifier, mul, pow, comma, colon, assign, pipe}
 use Rattle.template_compiler_reading.specs.Steps.{Read, fault, and_then, Step, goes, stops, fails, under}
 use Rattle.template_compiler_expressions.specs.Trees.{and_expression, Paired, and_pair, Written, and_written}
-use Rattle.template_compiler_expressions.specs.Reader.{deeper, colon_end, begins_closing, separated, unless_closing, expression_by, expression_at, items_step, pairs_step, argument_by, arguments_step, filter_by, filter_at, chain_step}
+use Rattle.template_compiler_expressions.specs.Reader.{deeper, colon_end, begins_closing, separated, unless_closing, expression_by, expression_at, items_step, pairs_step, named_argument, argument_by, arguments_step, filter_by, filter_at, chain_step}
 use Rattle.template_compiler_expressions.proofs.Shrinks as shrinks
-use Rattle.template_compiler_expression_laws.proofs.Sound.{expression_sound, filter_sound, argument_sound}
+use Rattle.template_compiler_expression_laws.proofs.Sound.{expression_sound, filter_sound}
 
 pub expression_takes : (d : ℕ) (e : Expression) (ts us : List Token) → expression_by (deeper d) ts ≡ Ok (e, us) → length us < length ts
 unfolding expression_at
@@ -16,8 +16,32 @@ filter_takes : (d : ℕ) (value : Optional) (e : Expression) (ts us : List Token
 unfolding filter_at
 filter_takes d value e ts us h = shrinks.filter_shrinks ((filter_sound d value ts).tree e us h).0
 
+made_by : (m : Read Expression) (make : Expression → Argument) (a : Argument) (ts us : List Token) →
+    ((e : Expression) (vs : List Token) → m ≡ Ok (e, vs) → length vs < length ts) → and_then m (λ e vs. Ok (make e, vs)) ≡ Ok (a, us) →
+    length us < length ts
+unfolding and_then
+made_by (Ok x) make a ts us takes h = let same : (make x.0, x.1) ≡ (a, us) = cc in let l = ap (λ x. length x.1) same in let k = takes x.0 x.1 refl in omega arith
+made_by (Err f) make a ts us takes h = cc
+
+-- an argument is an expression, mostly with something before it
+made_takes : (d : ℕ) (make : Expression → Argument) (a : Argument) (ts us : List Token) →
+    and_then (expression_by (deeper d) ts) (λ e vs. Ok (make e, vs)) ≡ Ok (a, us) → length us < length ts
+made_takes d make a ts us h = made_by (expression_by (deeper d) ts) make a ts us (λ e vs i. expression_takes d e ts vs i) h
+
+named_takes : (d : ℕ) (n : List ℕ) (a : Argument) (ts us : List Token) →
+    named_argument (expression_by (deeper d)) n ts ≡ Ok (a, us) → length us < length (identifier n ∷ ts)
+unfolding named_argument
+named_takes d n a [] us h = made_takes d positional a (identifier n ∷ []) us h
+named_takes d n a (symbol assign ∷ ts) us h = let l = made_takes d (keyword n) a ts us h in omega arith
+named_takes d n a (t ∷ ts) us h = made_takes d positional a (identifier n ∷ t ∷ ts) us h
+
 argument_takes : (d : ℕ) (a : Argument) (ts us : List Token) → argument_by (expression_by (deeper d)) ts ≡ Ok (a, us) → length us < length ts
-argument_takes d a ts us h = shrinks.argument_shrinks ((argument_sound d ts).tree a us h).0
+unfolding argument_by
+argument_takes d a [] us h = made_takes d positional a [] us h
+argument_takes d a (identifier n ∷ ts) us h = named_takes d n a ts us h
+argument_takes d a (symbol mul ∷ ts) us h = let l = made_takes d positional_spread a ts us h in omega arith
+argument_takes d a (symbol pow ∷ ts) us h = let l = made_takes d keyword_spread a ts us h in omega arith
+argument_takes d a (t ∷ ts) us h = made_takes d positional a (t ∷ ts) us h
 
 -- a round that begins with a reading
 under_takes : {A B : Type 0} (m : Read A) (go : A → List Token → Step B) (b : B) (ts us : List Token) →
