@@ -20,7 +20,10 @@ made_by : (m : Read Expression) (make : Expression → Argument) (a : Argument) 
     ((e : Expression) (vs : List Token) → m ≡ Ok (e, vs) → length vs < length ts) → and_then m (λ e vs. Ok (make e, vs)) ≡ Ok (a, us) →
     length us < length ts
 unfolding and_then
-made_by (Ok x) make a ts us takes h = let same : (make x.0, x.1) ≡ (a, us) = cc in let l = ap (λ x. length x.1) same in let k = takes x.0 x.1 refl in omega arith
+made_by (Ok x) make a ts us takes h =
+    let same : (make x.0, x.1) ≡ (a, us) = cc in
+    let l : length x.1 ≡ length us = ap (λ (y : Argument × List Token). length y.1) same in
+    let k = takes x.0 x.1 refl in omega arith
 made_by (Err f) make a ts us takes h = cc
 
 -- an argument is an expression, mostly with something before it
@@ -78,7 +81,9 @@ item_takes d es fs ts us e =
 colon_within : (a b : Expression) (ts us : List Token) → colon_end a ts ≡ Ok (b, us) → length us ≤ length ts
 unfolding colon_end
 colon_within a b [] us e = cc
-colon_within a b (symbol colon ∷ ts) us e = let same : (a, ts) ≡ (b, us) = cc in let l = ap (λ x. length x.1) same in omega arith
+colon_within a b (symbol colon ∷ ts) us e =
+    let same : (a, ts) ≡ (b, us) = cc in
+    let l : length ts ≡ length us = ap (λ (y : Expression × List Token). length y.1) same in omega arith
 colon_within a b (t ∷ ts) us e = cc
 
 then_takes : (m : Read Expression) (b : Expression) (ts us : List Token) → ((a : Expression) (vs : List Token) → m ≡ Ok (a, vs) → length vs < length ts) →

@@ -891,7 +891,7 @@ fn argument<'source>(
 }
 
 #[cycle(parser)]
-#[tactic(auto, using(template_compiler_expression_parts::proofs::Nothing::no_spread), unfolding(template_compiler_reading::specs::Steps::and_then))]
+#[tactic(auto, using(template_compiler_expression_parts::proofs::Nothing::no_spread), unfolding(template_compiler_reading::specs::Steps::and_then, template_compiler_expression_parts::specs::Parsed::unnamed_by))]
 fn unnamed<'source>(
     alloc: Global,
     tokens: &mut TokenStream<'source>,

@@ -1,9 +1,11 @@
 use Rattle.std.proofs.Common.{◌≡◌, refl, sym, ◌∙◌, ap, arith}
-use Rattle.template_tree.specs.View.{expression_of}
+use Rattle.template_tree.specs.View.{argument_of, expression_of, expressions_in}
 use Rattle.template_compiler_expressions.specs.Reader.{deeper, expression_by, operand_by, operand_step, part_step, filter_step, link_step, terms_by, items_step, pairs_step, arguments_step}
 use Rattle.template_compiler_expression_laws.proofs.Sound.{operand_shrinks, part_shrinks, filter_shrinks, link_shrinks}
 use Rattle.template_compiler_stream.specs.Signs.{level_of}
 use Rattle.template_compiler_expression_parts.proofs.Rounds.{next_operand_goes, next_operand_refused, rounds_end, rounds_go, rounds_refused}
+use Rattle.template_compiler_expression_parts.proofs.Pushes.{expressions_push}
+use Rattle.template_compiler_expression_parser.proofs.Items.{argument_goes, item_goes, pair_goes}
 use Rattle.template_compiler_expression_parser.proofs.Takes.{item_takes, pair_takes, next_argument_takes}
 use Rattle.template_compiler_expression_parser.proofs.expressions.+parser.Goals as goal
 
@@ -152,3 +154,18 @@ pub written-loop-held-smaller : goal.written-loop-held-smaller
 written-loop-held-smaller t c =
     let more = rw c.in-Ok-true.field-0-test at c.in-Ok-true.ensures in
     next_argument_takes c.args.left _ _ _ _ more
+
+pub next_item-returns : goal.next_item-returns
+next_item-returns t c =
+    item_goes (expression_by (deeper c.args.left)) _ _ (expression_of c.in-Ok.item) _ _ _ (sym c.closes.ensures ∙ c.if-closes.false)
+        c.in-Ok.ensures (ap expressions_in c.in_ok-push.ensures.items ∙ expressions_push _ _) c.in_ok-separated.ensures
+
+pub next_pair-returns : goal.next_pair-returns
+next_pair-returns t c =
+    pair_goes (expression_by (deeper c.args.left)) _ _ (expression_of c.in-Ok.key) (expression_of c.in-Ok-expression.value) _ _ _ _
+        (sym c.closes.ensures ∙ c.if-closes.false) c.in-Ok.ensures c.in-Ok-expression.ensures c.in_ok-push.ensures c.in_ok-separated.ensures
+
+pub next_argument-returns : goal.next_argument-returns
+next_argument-returns t c =
+    argument_goes (expression_by (deeper c.args.left)) _ _ (argument_of c.in-Ok.argument) _ _ _ (sym c.closes.ensures ∙ c.if-closes.false)
+        c.in-Ok.ensures c.in_ok-push.ensures c.in_ok-separated.ensures

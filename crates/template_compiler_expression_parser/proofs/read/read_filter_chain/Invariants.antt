@@ -4,9 +4,9 @@ use Rattle.template_compiler_expressions.specs.Reader.{deeper, chain_step}
 use Rattle.template_compiler_reading.specs.Steps.{all}
 use Rattle.template_compiler_expression_parser.proofs.read.read_filter_chain.Given as goal
 
-abbrev pub invariant-loop-value : goal.invariant-loop-value
-invariant-loop-value l =
+abbrev pub invariant-loop-alloc : goal.invariant-loop-alloc
+invariant-loop-alloc l =
     all (chain_step (deeper l.left)) (optional_in l.value) l.tokens ≡ all (chain_step (deeper l.left)) (optional_in l.initial.value) l.initial.tokens
 
-abbrev pub decreases-loop-value : goal.decreases-loop-value
-decreases-loop-value l = length l.tokens
+abbrev pub decreases-loop-alloc : goal.decreases-loop-alloc
+decreases-loop-alloc l = length l.tokens
