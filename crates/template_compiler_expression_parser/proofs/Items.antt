@@ -1,8 +1,8 @@
 -- Rounds of items, pairs and arguments, by what they read.
-use Rattle.std.proofs.Common.{◌≡◌, Bool, true, false, if◌then◌else◌, List, Result, Ok, Err, refl, sym, ap, ◌∙◌}
+use Rattle.std.proofs.Common.{◌≡◌, true, false, if◌then◌else◌, List, Ok, sym, ap, ◌∙◌}
 use Rattle.template_tree.specs.Tree.{Expression, Expressions, Argument}
-use Rattle.template_compiler_tokens.specs.Token.{Token, TokenFault}
-use Rattle.template_compiler_reading.specs.Steps.{Read, and_then, Step, goes, stops, fails, under}
+use Rattle.template_compiler_tokens.specs.Token.{Token}
+use Rattle.template_compiler_reading.specs.Steps.{Read, and_then, Step, goes, stops, under}
 use Rattle.template_compiler_expressions.specs.Trees.{and_expression, Paired, and_pair, Written, and_written}
 use Rattle.template_compiler_expressions.specs.Reader.{argument_by, arguments_step, begins_closing, colon_end, items_step, pairs_step, separated, unless_closing}
 use Rattle.template_compiler_stream.specs.declared.refusal.Refusal.{Refusal}
@@ -49,14 +49,14 @@ module _ {A B : Type 0} (m : Read A) (make : A → B) (ts : List Token) (bare : 
   round_refused : (e : Refusal) → Refused m e → RefusedStep (unless_closing (under m (λ a vs. separated (make a) vs)) ts) e
   round_refused e h =
       refused_at (under m (λ a vs. separated (make a) vs)) _ e (opened (under m (λ a vs. separated (make a) vs)) ts bare)
-          (under_refused m (λ a vs. separated (make a) vs) e h)
+      (under_refused m (λ a vs. separated (make a) vs) e h)
 
   round_unseparated : (a : A) (mid : List Token) (e : Refusal) → m ≡ Ok (a, mid) → RefusedStep (separated true mid) e →
       RefusedStep (unless_closing (under m (λ a vs. separated (make a) vs)) ts) e
   round_unseparated a mid e read h =
       refused_at (separated (make a) mid) _ e
-          (opened (under m (λ a vs. separated (make a) vs)) ts bare ∙ under_at m (λ a vs. separated (make a) vs) a mid read)
-          (separated_refused (make a) mid e h)
+      (opened (under m (λ a vs. separated (make a) vs)) ts bare ∙ under_at m (λ a vs. separated (make a) vs) a mid read)
+      (separated_refused (make a) mid e h)
 
 -- items
 pub item_goes : (read : List Token → Read Expression) (es fs : Expressions) (e : Expression) (ts mid us : List Token) → begins_closing ts ≡ false →
@@ -99,20 +99,20 @@ pub key_refused : (read : List Token → Read Expression) (p : Paired) (ts : Lis
     Refused (and_then (read ts) colon_end) e → RefusedStep (pairs_step read p ts) e
 key_refused read p ts e bare h =
     refused_at (under (and_then (read ts) colon_end) (keyed read p)) _ e (opened (under (and_then (read ts) colon_end) (keyed read p)) ts bare)
-        (under_refused (and_then (read ts) colon_end) (keyed read p) e h)
+    (under_refused (and_then (read ts) colon_end) (keyed read p) e h)
 
 pub value_refused : (read : List Token → Read Expression) (p : Paired) (k : Expression) (ts mid : List Token) (e : Refusal) → begins_closing ts ≡ false →
     and_then (read ts) colon_end ≡ Ok (k, mid) → Refused (read mid) e → RefusedStep (pairs_step read p ts) e
 value_refused read p k ts mid e bare at h =
     refused_at (keyed read p k mid) _ e
-        (opened (under (and_then (read ts) colon_end) (keyed read p)) ts bare ∙ under_at (and_then (read ts) colon_end) (keyed read p) k mid at)
-        (under_refused (read mid) (λ v vs. separated (and_pair p k v) vs) e h)
+    (opened (under (and_then (read ts) colon_end) (keyed read p)) ts bare ∙ under_at (and_then (read ts) colon_end) (keyed read p) k mid at)
+    (under_refused (read mid) (λ v vs. separated (and_pair p k v) vs) e h)
 
 pub pair_unseparated : (read : List Token → Read Expression) (p : Paired) (k v : Expression) (ts mid vs : List Token) (e : Refusal) →
     begins_closing ts ≡ false → and_then (read ts) colon_end ≡ Ok (k, mid) → read mid ≡ Ok (v, vs) → RefusedStep (separated true vs) e →
     RefusedStep (pairs_step read p ts) e
 pair_unseparated read p k v ts mid vs e bare at behind h =
     refused_at (separated (and_pair p k v) vs) _ e
-        (opened (under (and_then (read ts) colon_end) (keyed read p)) ts bare ∙ under_at (and_then (read ts) colon_end) (keyed read p) k mid at ∙
-            under_at (read mid) (λ v vs. separated (and_pair p k v) vs) v vs behind)
-        (separated_refused (and_pair p k v) vs e h)
+    (opened (under (and_then (read ts) colon_end) (keyed read p)) ts bare ∙ under_at (and_then (read ts) colon_end) (keyed read p) k mid at ∙
+    under_at (read mid) (λ v vs. separated (and_pair p k v) vs) v vs behind)
+    (separated_refused (and_pair p k v) vs e h)

@@ -1,5 +1,5 @@
 -- Comparisons behind a sum, by what stands next.
-use Rattle.std.proofs.Common.{◌≡◌, codes, Bool, true, false, if◌then◌else◌, ℕ, Result, Ok, Err, List, [], ◌∷◌, Option, None, Some, refl, sym, ap, ◌∙◌}
+use Rattle.std.proofs.Common.{◌≡◌, codes, Bool, true, false, if◌then◌else◌, Result, Ok, Err, List, [], ◌∷◌, None, Some, refl, sym, ap, ◌∙◌}
 use Rattle.template_tree.specs.Tree.{Expression, Links}
 use Rattle.template_tree.specs.declared.operators.CompareOpKind.{CompareOpKind}
 use Rattle.template_tree.specs.declared.operators.CompareOpKind.TheVariants as comparisons
@@ -67,7 +67,7 @@ pub link_not : (read : List Token → Read Expression) (ls ms : Links) (old mid 
     old ≡ identifier (codes "not") ∷ mid → SteppedTo (not_in_link read ls mid) ls mid ms new r → SteppedTo (link_step read ls old) ls old ms new r
 link_not read ls ms old mid new r e h =
     moved (not_in_link read ls mid) (link_step read ls old) ls ms old mid new r
-        (ap (λ us. link_step read ls us) e ∙ link_not_at read ls mid) (not_in_never read ls mid) h
+    (ap (λ us. link_step read ls us) e ∙ link_not_at read ls mid) (not_in_never read ls mid) h
 
 pub link_none : (read : List Token → Read Expression) (ls : Links) (ts : List Token) → None ≡ next_comparison ts → begins_word (codes "not") ts ≡ false →
     link_step read ls ts ≡ stops

@@ -1,5 +1,5 @@
 -- Each round of a repetition takes a token at least.
-use Rattle.std.proofs.Common.{◌≡◌, ◌<◌, ◌≤◌, ℕ, Bool, true, false, if◌then◌else◌, List, [], ◌∷◌, ◌++◌, length, Ok, Err, refl, ap, arith}
+use Rattle.std.proofs.Common.{◌≡◌, ◌<◌, ◌≤◌, ℕ, Bool, true, false, if◌then◌else◌, List, [], ◌∷◌, length, Ok, Err, refl, ap, arith}
 use Rattle.template_tree.specs.Tree.{Expression, Optional, Expressions, Argument, positional, keyword, positional_spread, keyword_spread}
 use Rattle.template_compiler_tokens.specs.Token.{Token, TokenFault, symbol, identifier, mul, pow, comma, colon, assign, pipe}
 use Rattle.template_compiler_reading.specs.Steps.{Read, fault, and_then, Step, goes, stops, fails, under}
@@ -76,7 +76,7 @@ unless_goes s ts a us e = unless_by s (begins_closing ts) a us e
 pub item_takes : (d : ℕ) (es fs : Expressions) (ts us : List Token) → items_step (expression_by (deeper d)) es ts ≡ goes fs us → length us < length ts
 item_takes d es fs ts us e =
     under_takes (expression_by (deeper d) ts) _ fs ts us (λ a vs h. expression_takes d a ts vs h)
-        (λ a vs h. separated_within (and_expression es a) fs vs us h) (unless_goes _ ts fs us e)
+    (λ a vs h. separated_within (and_expression es a) fs vs us h) (unless_goes _ ts fs us e)
 
 colon_within : (a b : Expression) (ts us : List Token) → colon_end a ts ≡ Ok (b, us) → length us ≤ length ts
 unfolding colon_end
@@ -96,18 +96,18 @@ under_within : (d : ℕ) (p q : Paired) (k : Expression) (ts us : List Token) �
     under (expression_by (deeper d) ts) (λ v vs. separated (and_pair p k v) vs) ≡ goes q us → length us ≤ length ts
 under_within d p q k ts us e =
     let l = under_takes (expression_by (deeper d) ts) _ q ts us (λ a vs h. expression_takes d a ts vs h)
-        (λ a vs h. separated_within (and_pair p k a) q vs us h) e in omega arith
+    (λ a vs h. separated_within (and_pair p k a) q vs us h) e in omega arith
 
 pub pair_takes : (d : ℕ) (p q : Paired) (ts us : List Token) → pairs_step (expression_by (deeper d)) p ts ≡ goes q us → length us < length ts
 pair_takes d p q ts us e =
     under_takes (and_then (expression_by (deeper d) ts) colon_end) _ q ts us
-        (λ a vs h. then_takes (expression_by (deeper d) ts) a ts vs (λ b ws i. expression_takes d b ts ws i) h)
-        (λ a vs h. under_within d p q a vs us h) (unless_goes _ ts q us e)
+    (λ a vs h. then_takes (expression_by (deeper d) ts) a ts vs (λ b ws i. expression_takes d b ts ws i) h)
+    (λ a vs h. under_within d p q a vs us h) (unless_goes _ ts q us e)
 
 pub next_argument_takes : (d : ℕ) (w x : Written) (ts us : List Token) → arguments_step (expression_by (deeper d)) w ts ≡ goes x us → length us < length ts
 next_argument_takes d w x ts us e =
     under_takes (argument_by (expression_by (deeper d)) ts) _ x ts us (λ a vs h. argument_takes d a ts vs h)
-        (λ a vs h. separated_within (and_written w a) x vs us h) (unless_goes _ ts x us e)
+    (λ a vs h. separated_within (and_written w a) x vs us h) (unless_goes _ ts x us e)
 
 -- chains of filters
 chain_within : (b : Optional) (o : Optional) (ts us : List Token) → goes b ts ≡ goes o us → length us ≤ length ts

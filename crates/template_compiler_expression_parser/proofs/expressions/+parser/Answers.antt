@@ -1,4 +1,4 @@
-use Rattle.std.proofs.Common.{◌≡◌, refl, sym, ◌∙◌, ap, arith}
+use Rattle.std.proofs.Common.{sym, ◌∙◌, ap}
 use Rattle.template_tree.specs.View.{argument_of, expression_of, expressions_in}
 use Rattle.template_compiler_expressions.specs.Reader.{deeper, expression_by, operand_by, operand_step, part_step, filter_step, link_step, terms_by, items_step, pairs_step, arguments_step}
 use Rattle.template_compiler_expression_laws.proofs.Sound.{operand_shrinks, part_shrinks, filter_shrinks, link_shrinks}
@@ -12,29 +12,29 @@ use Rattle.template_compiler_expression_parser.proofs.expressions.+parser.Goals 
 pub next_operand-returns-in_ok-binary-in-Some : goal.next_operand-returns-in_ok-binary-in-Some
 next_operand-returns-in_ok-binary-in-Some t c =
     next_operand_goes (level_of c.args.level) (operand_by (deeper c.args.left) (level_of c.args.level)) _ _ _ _ _ _ c.in-Some.op
-        c.in-Some.ensures.operator c.in-Some.ensures.passed c.in-Ok.ensures c.in_ok-binary-in-Some.ensures.tree
+    c.in-Some.ensures.operator c.in-Some.ensures.passed c.in-Ok.ensures c.in_ok-binary-in-Some.ensures.tree
 
 pub next_operand-returns-in-Err : goal.next_operand-returns-in-Err
 next_operand-returns-in-Err t c =
     next_operand_refused (level_of c.args.level) (operand_by (deeper c.args.left) (level_of c.args.level)) _ _ _ c.in-Some.op c.in-Err.refusal
-        c.in-Some.ensures.operator c.in-Some.ensures.passed c.in-Err.ensures
+    c.in-Some.ensures.operator c.in-Some.ensures.passed c.in-Err.ensures
 
 pub operands-returns-in-Ok-Stops : goal.operands-returns-in-Ok-Stops
 operands-returns-in-Ok-Stops t c =
     let ended = rw c.in-Ok-Stops.field-0-is at c.in-Ok-Stops.ensures in
     rounds_end (operand_step (level_of c.args.level) (operand_by (deeper c.args.left) (level_of c.args.level)))
-        _ _ _ _ _ _ c.loop-next.invariant ended
+    _ _ _ _ _ _ c.loop-next.invariant ended
 
 pub operands-returns-in-Err : goal.operands-returns-in-Err
 operands-returns-in-Err t c =
     rounds_refused (operand_step (level_of c.args.level) (operand_by (deeper c.args.left) (level_of c.args.level)))
-        _ _ _ _ c.in-Err.refusal c.loop-next.invariant c.in-Err.ensures
+    _ _ _ _ c.in-Err.refusal c.loop-next.invariant c.in-Err.ensures
 
 pub operands-loop-next-preserved : goal.operands-loop-next-preserved
 operands-loop-next-preserved t c =
     let more = rw c.in-Ok-Goes.field-0-is at c.in-Ok-Goes.ensures in
     rounds_go (operand_step (level_of c.args.level) (operand_by (deeper c.args.left) (level_of c.args.level)))
-        (operand_shrinks c.args.left (level_of c.args.level)) _ _ _ _ _ _ c.loop-next.invariant more
+    (operand_shrinks c.args.left (level_of c.args.level)) _ _ _ _ _ _ c.loop-next.invariant more
 
 pub operands-loop-next-smaller : goal.operands-loop-next-smaller
 operands-loop-next-smaller t c =
@@ -158,14 +158,14 @@ written-loop-held-smaller t c =
 pub next_item-returns : goal.next_item-returns
 next_item-returns t c =
     item_goes (expression_by (deeper c.args.left)) _ _ (expression_of c.in-Ok.item) _ _ _ (sym c.closes.ensures ∙ c.if-closes.false)
-        c.in-Ok.ensures (ap expressions_in c.in_ok-push.ensures.items ∙ expressions_push _ _) c.in_ok-separated.ensures
+    c.in-Ok.ensures (ap expressions_in c.in_ok-push.ensures.items ∙ expressions_push _ _) c.in_ok-separated.ensures
 
 pub next_pair-returns : goal.next_pair-returns
 next_pair-returns t c =
     pair_goes (expression_by (deeper c.args.left)) _ _ (expression_of c.in-Ok.key) (expression_of c.in-Ok-expression.value) _ _ _ _
-        (sym c.closes.ensures ∙ c.if-closes.false) c.in-Ok.ensures c.in-Ok-expression.ensures c.in_ok-push.ensures c.in_ok-separated.ensures
+    (sym c.closes.ensures ∙ c.if-closes.false) c.in-Ok.ensures c.in-Ok-expression.ensures c.in_ok-push.ensures c.in_ok-separated.ensures
 
 pub next_argument-returns : goal.next_argument-returns
 next_argument-returns t c =
     argument_goes (expression_by (deeper c.args.left)) _ _ (argument_of c.in-Ok.argument) _ _ _ (sym c.closes.ensures ∙ c.if-closes.false)
-        c.in-Ok.ensures c.in_ok-push.ensures c.in_ok-separated.ensures
+    c.in-Ok.ensures c.in_ok-push.ensures c.in_ok-separated.ensures
