@@ -39,7 +39,8 @@ operands-loop-next-preserved t c =
 pub operands-loop-next-smaller : goal.operands-loop-next-smaller
 operands-loop-next-smaller t c =
     let more = rw c.in-Ok-Goes.field-0-is at c.in-Ok-Goes.ensures in
-    operand_shrinks c.args.left (level_of c.args.level) (expression_of c.loop-next.value) (expression_of c.in-Ok-Goes.next) c.loop-next.tokens c.next_operand.new.tokens more
+    operand_shrinks c.args.left (level_of c.args.level) (expression_of c.loop-next.value) (expression_of c.in-Ok-Goes.next)
+    c.loop-next.tokens c.next_operand.new.tokens more
 
 pub parts-returns-in-Ok-Stops : goal.parts-returns-in-Ok-Stops
 parts-returns-in-Ok-Stops t c =
