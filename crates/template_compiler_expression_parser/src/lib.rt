@@ -1,0 +1,6 @@
+//! The parser of expressions.
+#![tactic(auto)]
+
+mod read;
+
+pub use read::{read_condition, read_expression, read_filter, read_filter_chain};

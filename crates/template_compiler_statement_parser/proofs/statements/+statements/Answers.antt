@@ -1,0 +1,51 @@
+use Rattle.std.proofs.Common.{◌≡◌, ◌-◌, refl, sym, ◌∙◌, subst, arith}
+use Rattle.template_compiler_statements.specs.Reader.{here, statement_step, statements_by, statements_at, branch_step}
+use Rattle.template_compiler_statement_laws.proofs.Sound.{next_statement_takes, next_branch_takes}
+use Rattle.template_compiler_statement_parts.proofs.Rounds.{rounds_end, rounds_go, rounds_refused}
+use Rattle.template_compiler_statement_makers.specs.Surroundings.{around_of}
+use Rattle.template_compiler_statement_parser.specs.Bodies.{ParsedBody}
+use Rattle.template_compiler_statement_parser.proofs.Less.{body_less}
+use Rattle.template_compiler_statement_parser.proofs.statements.+statements.Goals as goal
+
+pub body-returns-else-left-eq0 : goal.body-returns-else-left-eq0
+body-returns-else-left-eq0 t c =
+    subst (λ m. ParsedBody m c.read_statements.new.tokens c.read_statements.result)
+        (sym (body_less c.args.left (c.args.left - 1) (around_of c.args.around) c.args.tokens.now (omega arith))) c.read_statements.ensures
+
+pub branches-returns-in-Ok-false : goal.branches-returns-in-Ok-false
+branches-returns-in-Ok-false t c =
+    let ended = rw c.in-Ok-false.field-0-test at c.in-Ok-false.ensures in
+    rounds_end (branch_step (here c.args.left) (around_of c.args.around)) _ _ _ _ _ _ c.loop-refusal.invariant ended
+
+pub branches-returns-in-Err : goal.branches-returns-in-Err
+branches-returns-in-Err t c = rounds_refused (branch_step (here c.args.left) (around_of c.args.around)) _ _ _ _ c.in-Err.refusal c.loop-refusal.invariant c.in-Err.ensures
+
+pub branches-loop-refusal-preserved : goal.branches-loop-refusal-preserved
+branches-loop-refusal-preserved t c =
+    let more = rw c.in-Ok-true.field-0-test at c.in-Ok-true.ensures in
+    rounds_go (branch_step (here c.args.left) (around_of c.args.around)) (next_branch_takes c.args.left (around_of c.args.around)) _ _ _ _ _ _ c.loop-refusal.invariant more
+
+pub branches-loop-refusal-smaller : goal.branches-loop-refusal-smaller
+branches-loop-refusal-smaller t c =
+    let more = rw c.in-Ok-true.field-0-test at c.in-Ok-true.ensures in
+    next_branch_takes c.args.left (around_of c.args.around) _ _ _ _ more
+
+pub read_statements-returns-in-Ok-false : goal.read_statements-returns-in-Ok-false
+unfolding statements_at statements_by
+read_statements-returns-in-Ok-false t c =
+    let ended = rw c.in-Ok-false.field-0-test at c.in-Ok-false.ensures in
+    rounds_end (statement_step (here c.args.left) (around_of c.args.around)) _ _ _ _ _ _ c.loop-refusal.invariant ended
+
+pub read_statements-returns-in-Err : goal.read_statements-returns-in-Err
+unfolding statements_at statements_by
+read_statements-returns-in-Err t c = rounds_refused (statement_step (here c.args.left) (around_of c.args.around)) _ _ _ _ c.in-Err.refusal c.loop-refusal.invariant c.in-Err.ensures
+
+pub read_statements-loop-refusal-preserved : goal.read_statements-loop-refusal-preserved
+read_statements-loop-refusal-preserved t c =
+    let more = rw c.in-Ok-true.field-0-test at c.in-Ok-true.ensures in
+    rounds_go (statement_step (here c.args.left) (around_of c.args.around)) (next_statement_takes c.args.left (around_of c.args.around)) _ _ _ _ _ _ c.loop-refusal.invariant more
+
+pub read_statements-loop-refusal-smaller : goal.read_statements-loop-refusal-smaller
+read_statements-loop-refusal-smaller t c =
+    let more = rw c.in-Ok-true.field-0-test at c.in-Ok-true.ensures in
+    next_statement_takes c.args.left (around_of c.args.around) _ _ _ _ more
