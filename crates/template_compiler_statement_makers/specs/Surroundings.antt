@@ -1,4 +1,5 @@
 -- What stands around a statement, and what begins one, as contracts see them.
+use Rattle.std.specs.Prelude.{ℕ, List, Option, None, Some, codes, bytes_eq, if◌then◌else◌}
 use Rattle.template_compiler_statements.specs.Grammar as grammar
 use Rattle.template_compiler_statements.specs.Reader as reader
 use Rattle.template_compiler_statement_makers.specs.declared.around.Around.{Around}
@@ -25,3 +26,16 @@ opening_of Call = reader.call_tag
 opening_of Do = reader.do_tag
 opening_of Break = reader.break_tag
 opening_of Continue = reader.continue_tag
+
+-- what the other words begin
+abbrev pub other_opening : List ℕ → Option reader.Opening
+other_opening n =
+    if bytes_eq (codes "from") n then Some reader.from_tag
+    else if bytes_eq (codes "extends") n then Some reader.extends_tag
+    else if bytes_eq (codes "include") n then Some reader.include_tag
+    else if bytes_eq (codes "macro") n then Some reader.macro_tag
+    else if bytes_eq (codes "call") n then Some reader.call_tag
+    else if bytes_eq (codes "do") n then Some reader.do_tag
+    else if bytes_eq (codes "break") n then Some reader.break_tag
+    else if bytes_eq (codes "continue") n then Some reader.continue_tag
+    else None

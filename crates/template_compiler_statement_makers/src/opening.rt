@@ -1,6 +1,6 @@
 //! The words that begin a statement.
 ghost use Rattle.std.specs.Prelude.{◌≡◌, option_map};
-ghost use Rattle.template_compiler_statement_makers.specs.Surroundings.{opening_of};
+ghost use Rattle.template_compiler_statement_makers.specs.Surroundings.{opening_of, other_opening};
 ghost use Rattle.template_compiler_statements.specs.Reader.{opening};
 
 /// The statement that a word begins.
@@ -37,6 +37,15 @@ pub fn opening_named(word: &str) -> Option<Opening>
         "filter" => Some(Opening::Filter),
         "block" => Some(Opening::Block),
         "import" => Some(Opening::Import),
+        _ => other_opening(word),
+    }
+}
+
+// The words behind these, in the grammar's order.
+fn other_opening(word: &str) -> Option<Opening>
+    ensures { option_map opening_of result ≡ other_opening word.now }
+{
+    match word {
         "from" => Some(Opening::From),
         "extends" => Some(Opening::Extends),
         "include" => Some(Opening::Include),

@@ -1,7 +1,6 @@
-//! The parser of templates: statements, and the whole.
+//! The parser of templates: statements with their bodies.
 #![tactic(auto)]
 
-mod leaves;
 mod statements;
 
 pub use statements::read_statements;

@@ -13,15 +13,16 @@ ghost use Rattle.template_tree.specs.StatementView.{statement_of};
 ghost use Rattle.template_tree.specs.View.{arguments_in, expression_of, optional_in};
 ghost use Rattle.template_compiler_statement_makers.specs.Listed.{statements_in};
 
-use crate::leaves;
 use std::alloc::{AllocError, Global};
 use template_compiler_expression_parser::{
     read_condition, read_expression, read_filter, read_filter_chain,
 };
+use template_compiler_statement_leaves as leaves;
 use template_compiler_statement_makers::{Around, Opening, is_blank, makers, opening_named};
 use template_compiler_statement_parts as parts;
 use template_compiler_statement_values::{
-    Parameters, read_assignments, read_deeper_parameters, read_loop_filter, read_optional_parameters,
+    Parameters, read_assignments, read_deeper_parameters, read_loop_filter,
+    read_optional_parameters,
 };
 use template_compiler_stream::{Fault, Refusal, Sign, TokenStream};
 use template_tree::{Call, Expr, ForLoop, Macro, Span, Spanned, Stmt};
@@ -543,7 +544,7 @@ fn macro_behind<'source>(
 }
 
 #[cycle(statements)]
-#[tactic(auto, unfolding(template_compiler_reading::specs::Steps::and_then, template_compiler_statements::specs::Reader::here, template_compiler_statements::specs::Reader::here_by, template_compiler_statements::specs::Reader::call_by, template_compiler_statements::specs::Reader::only_call))]
+#[tactic(auto, using(template_compiler_statement_leaves::proofs::Calls::call_here, template_compiler_statement_leaves::proofs::Calls::no_call), unfolding(template_compiler_reading::specs::Steps::and_then, template_compiler_statements::specs::Reader::here, template_compiler_statements::specs::Reader::here_by, template_compiler_statements::specs::Reader::call_by))]
 fn call_block<'source>(
     alloc: Global,
     tokens: &mut TokenStream<'source>,
@@ -552,11 +553,16 @@ fn call_block<'source>(
 ) -> Result<Stmt<'source>, Refusal>
     ensures { ParsedStatement (call_by (here left) tokens.old) tokens.new result }
 {
-    // The call is taken out of the expression by a method of `Expr`, which is still to come.
-    Err(Refusal::OutOfMemory)
+    let parameters = read_optional_parameters(alloc, tokens, left)?;
+    let expr = read_expression(alloc, tokens, left)?;
+    match expr.into_call() {
+        Some(call) => call_behind(alloc, tokens, left, parameters, call, span),
+        None => Err(Refusal::Token(Fault::Syntax)),
+    }
 }
 
 // A call block, behind its call.
+#[cycle(statements)]
 #[tactic(auto, using(template_compiler_statement_parts::proofs::Again::tag_end_again, template_compiler_statement_parts::proofs::Again::tag_again), unfolding(template_compiler_reading::specs::Steps::and_then, template_compiler_statements::specs::Reader::here, template_compiler_statements::specs::Reader::here_by, template_compiler_statements::specs::Reader::call_body, template_compiler_statements::specs::Reader::body_by))]
 fn call_behind<'source>(
     alloc: Global,

@@ -10,7 +10,7 @@ use Rattle.template_compiler_statement_parser.proofs.statements.+statements.Goal
 pub body-returns-else-left-eq0 : goal.body-returns-else-left-eq0
 body-returns-else-left-eq0 t c =
     subst (λ m. ParsedBody m c.read_statements.new.tokens c.read_statements.result)
-        (sym (body_less c.args.left (c.args.left - 1) (around_of c.args.around) c.args.tokens.now (omega arith))) c.read_statements.ensures
+    (sym (body_less c.args.left (c.args.left - 1) (around_of c.args.around) c.args.tokens.now (omega arith))) c.read_statements.ensures
 
 pub branches-returns-in-Ok-false : goal.branches-returns-in-Ok-false
 branches-returns-in-Ok-false t c =

@@ -68,6 +68,9 @@ decreases-macro_block l = 16 * l.left + 5
 abbrev pub decreases-call_block : goal.decreases-call_block
 decreases-call_block l = 16 * l.left + 5
 
+abbrev pub decreases-call_behind : goal.decreases-call_behind
+decreases-call_behind l = 16 * l.left + 4
+
 abbrev pub decreases-opened : goal.decreases-opened
 decreases-opened l = 16 * l.left + 8
 
