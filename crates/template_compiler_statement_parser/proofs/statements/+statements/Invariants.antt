@@ -15,7 +15,7 @@ abbrev pub decreases-ended_body : goal.decreases-ended_body
 decreases-ended_body l = 16 * l.left + 2
 
 abbrev pub decreases-otherwise : goal.decreases-otherwise
-decreases-otherwise l = 16 * l.left + 3
+decreases-otherwise l = 16 * l.left + 6
 
 abbrev pub decreases-read_branch : goal.decreases-read_branch
 decreases-read_branch l = 16 * l.left + 3
@@ -27,16 +27,16 @@ abbrev pub decreases-branches : goal.decreases-branches
 decreases-branches l = 16 * l.left + 5
 
 abbrev pub decreases-if_condition : goal.decreases-if_condition
-decreases-if_condition l = 16 * l.left + 6
+decreases-if_condition l = 16 * l.left + 7
 
 abbrev pub decreases-for_body : goal.decreases-for_body
-decreases-for_body l = 16 * l.left + 4
+decreases-for_body l = 16 * l.left + 7
 
 abbrev pub decreases-for_in : goal.decreases-for_in
-decreases-for_in l = 16 * l.left + 5
+decreases-for_in l = 16 * l.left + 8
 
 abbrev pub decreases-for_loop : goal.decreases-for_loop
-decreases-for_loop l = 16 * l.left + 6
+decreases-for_loop l = 16 * l.left + 9
 
 abbrev pub decreases-with_block : goal.decreases-with_block
 decreases-with_block l = 16 * l.left + 4
@@ -72,16 +72,16 @@ abbrev pub decreases-call_behind : goal.decreases-call_behind
 decreases-call_behind l = 16 * l.left + 4
 
 abbrev pub decreases-opened : goal.decreases-opened
-decreases-opened l = 16 * l.left + 8
+decreases-opened l = 16 * l.left + 10
 
 abbrev pub decreases-next_tag : goal.decreases-next_tag
-decreases-next_tag l = 16 * l.left + 9
+decreases-next_tag l = 16 * l.left + 11
 
 abbrev pub decreases-next_statement : goal.decreases-next_statement
-decreases-next_statement l = 16 * l.left + 10
+decreases-next_statement l = 16 * l.left + 12
 
 abbrev pub decreases-read_statements : goal.decreases-read_statements
-decreases-read_statements l = 16 * l.left + 11
+decreases-read_statements l = 16 * l.left + 13
 
 abbrev pub invariant-read_statements-loop-refusal : goal.invariant-read_statements-loop-refusal
 invariant-read_statements-loop-refusal l =
