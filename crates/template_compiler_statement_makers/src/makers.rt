@@ -30,23 +30,14 @@ pub fn for_loop<'source>(
 #[tactic(auto, using(crate::proofs::Rows::statements_row))]
 pub fn if_condition<'source>(
     alloc: Global,
-    expr: Expr<'source>,
-    true_body: Vec<Stmt<'source>>,
-    false_body: Vec<Stmt<'source>>,
+    node: IfCond<'source>,
     span: Span,
 ) -> Result<Stmt<'source>, AllocError>
     ensures { IfOk result (λ s. statement_of s ≡
-        tree.if_condition (expression_of expr.entry) (statements_in true_body.entry.items) (statements_in false_body.entry.items)) }
+        tree.if_condition (expression_of node.entry.expr) (statements_in node.entry.true_body.items)
+        (statements_in node.entry.false_body.items)) }
 {
-    let node = Box::new(
-        alloc,
-        IfCond {
-            expr,
-            true_body,
-            false_body,
-        },
-    )?;
-    Ok(Stmt::IfCond(Spanned::new(node, span)))
+    Ok(Stmt::IfCond(Spanned::new(Box::new(alloc, node)?, span)))
 }
 
 /// `{% with assignments %}body{% endwith %}`.

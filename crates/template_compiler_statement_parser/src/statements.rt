@@ -25,7 +25,7 @@ use template_compiler_statement_values::{
     read_optional_parameters,
 };
 use template_compiler_stream::{Fault, Refusal, Sign, TokenStream};
-use template_tree::{Call, Expr, ForLoop, Macro, Span, Spanned, Stmt};
+use template_tree::{Call, Expr, ForLoop, IfCond, Macro, Span, Spanned, Stmt};
 
 /// A condition with its body.
 #[derive(Drop)]
@@ -288,7 +288,12 @@ fn if_condition<'source>(
     let others = branches(alloc, tokens, left, around)?;
     let last = otherwise(alloc, tokens, left, around, "endif")?;
     let false_body = branched(alloc, others, last)?;
-    Ok(makers::if_condition(alloc, first.expr, first.body, false_body, span)?)
+    let node = IfCond {
+        expr: first.expr,
+        true_body: first.body,
+        false_body,
+    };
+    Ok(makers::if_condition(alloc, node, span)?)
 }
 
 // A condition with its body.
@@ -620,7 +625,12 @@ fn branched<'source>(
             body: true_body,
             span,
         } = branch;
-        let statement = makers::if_condition(alloc, expr, true_body, body, span)?;
+        let node = IfCond {
+            expr,
+            true_body,
+            false_body: body,
+        };
+        let statement = makers::if_condition(alloc, node, span)?;
         body = Vec::new(alloc);
         body.push(statement)?;
     }
