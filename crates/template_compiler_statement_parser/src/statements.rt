@@ -1,13 +1,12 @@
 //! Statements and their bodies: what calls itself. A body is one nesting level deeper than its statement.
-ghost use Rattle.std.specs.Prelude.{◌≡◌, IfErr, IfOk};
+ghost use Rattle.std.specs.Prelude.{◌≡◌, IfOk};
 ghost use Rattle.template_compiler_statement_parts.specs.Parsed.{ParsedAs, SteppedTo};
 ghost use Rattle.template_compiler_reading.specs.Steps.{all, and_then};
 ghost use Rattle.template_compiler_statement_parser.specs.Bodies.{ParsedBody, ParsedStatement, branches_in, macro_behind};
 ghost use Rattle.template_compiler_statement_makers.specs.Surroundings.{around_of, opening_of};
 ghost use Rattle.template_compiler_stream.specs.Left.{passed};
 ghost use Rattle.template_compiler_statements.specs.Reader.{autoescape_by, block_body, block_by, branch_by, branch_step, call_body, call_by, deeper_body, else_by, expect_tag, filter_block_by, filtered_body, for_body, for_by, for_in, here, if_by, macro_by, opened_by, opened_step, opening, set_behind, set_body, set_by, statement_step, statements_at, with_by};
-ghost use Rattle.template_compiler_statements.specs.Trees.{branched, no_branches};
-ghost use Rattle.template_compiler_stream.specs.declared.refusal.Refusal.TheVariants as refusals;
+ghost use Rattle.template_compiler_statements.specs.Trees.{branched, is_block_body, no_branches};
 ghost use Rattle.template_compiler_statement_values.specs.Written.{parameters_of};
 ghost use Rattle.template_tree.specs.StatementView.{statement_of};
 ghost use Rattle.template_tree.specs.View.{arguments_in, expression_of, optional_in};
@@ -491,7 +490,7 @@ fn block_behind<'source>(
 {
     parts::expect_tag_end(tokens)?;
     let body = body(alloc, tokens, left, around.within_block())?;
-    if required && !is_blank(&body) {
+    if !is_block_body(required, &body) {
         return Err(Refusal::Token(Fault::Syntax));
     }
     parts::expect_block_end(tokens, name)?;
@@ -592,6 +591,13 @@ fn call_behind<'source>(
     Ok(makers::call_block(alloc, call, node, span)?)
 }
 
+// A required block has a blank body. Linear.
+fn is_block_body<'source>(required: bool, body: &[Stmt<'source>]) -> bool
+    ensures { result ≡ is_block_body required (statements_in body.now) }
+{
+    if required { is_blank(body) } else { true }
+}
+
 // A filter block; the chain of its filters is never empty.
 fn filtered_body<'source>(
     alloc: Global,
@@ -613,9 +619,8 @@ fn branched<'source>(
     alloc: Global,
     branches: Vec<Branch<'source>>,
     last: Vec<Stmt<'source>>,
-) -> Result<Vec<Stmt<'source>>, Refusal>
-    ensures body { IfOk result (λ v. statements_in v.items ≡ branched (branches_in branches.entry.items) (statements_in last.entry.items)) }
-    ensures memory { IfErr result (λ e. e ≡ refusals.OutOfMemory) }
+) -> Result<Vec<Stmt<'source>>, AllocError>
+    ensures { IfOk result (λ v. statements_in v.items ≡ branched (branches_in branches.entry.items) (statements_in last.entry.items)) }
 {
     let mut branches = branches;
     let mut body = last;

@@ -15,18 +15,18 @@ body-returns-else-left-eq0 t c =
 pub branches-returns-in-Ok-false : goal.branches-returns-in-Ok-false
 branches-returns-in-Ok-false t c =
     let ended = rw c.in-Ok-false.field-0-test at c.in-Ok-false.ensures in
-    rounds_end (branch_step (here c.args.left) (around_of c.args.around)) _ _ _ _ _ _ c.loop-refusal.invariant ended
+    rounds_end (branch_step (here c.args.left) (around_of c.args.around)) _ _ _ _ _ _ c.loop-branches.invariant ended
 
 pub branches-returns-in-Err : goal.branches-returns-in-Err
-branches-returns-in-Err t c = rounds_refused (branch_step (here c.args.left) (around_of c.args.around)) _ _ _ _ c.in-Err.refusal c.loop-refusal.invariant c.in-Err.ensures
+branches-returns-in-Err t c = rounds_refused (branch_step (here c.args.left) (around_of c.args.around)) _ _ _ _ c.in-Err.refusal c.loop-branches.invariant c.in-Err.ensures
 
-pub branches-loop-refusal-preserved : goal.branches-loop-refusal-preserved
-branches-loop-refusal-preserved t c =
+pub branches-loop-branches-preserved : goal.branches-loop-branches-preserved
+branches-loop-branches-preserved t c =
     let more = rw c.in-Ok-true.field-0-test at c.in-Ok-true.ensures in
-    rounds_go (branch_step (here c.args.left) (around_of c.args.around)) (next_branch_takes c.args.left (around_of c.args.around)) _ _ _ _ _ _ c.loop-refusal.invariant more
+    rounds_go (branch_step (here c.args.left) (around_of c.args.around)) (next_branch_takes c.args.left (around_of c.args.around)) _ _ _ _ _ _ c.loop-branches.invariant more
 
-pub branches-loop-refusal-smaller : goal.branches-loop-refusal-smaller
-branches-loop-refusal-smaller t c =
+pub branches-loop-branches-smaller : goal.branches-loop-branches-smaller
+branches-loop-branches-smaller t c =
     let more = rw c.in-Ok-true.field-0-test at c.in-Ok-true.ensures in
     next_branch_takes c.args.left (around_of c.args.around) _ _ _ _ more
 
@@ -34,18 +34,18 @@ pub read_statements-returns-in-Ok-false : goal.read_statements-returns-in-Ok-fal
 unfolding statements_at statements_by
 read_statements-returns-in-Ok-false t c =
     let ended = rw c.in-Ok-false.field-0-test at c.in-Ok-false.ensures in
-    rounds_end (statement_step (here c.args.left) (around_of c.args.around)) _ _ _ _ _ _ c.loop-refusal.invariant ended
+    rounds_end (statement_step (here c.args.left) (around_of c.args.around)) _ _ _ _ _ _ c.loop-statements.invariant ended
 
 pub read_statements-returns-in-Err : goal.read_statements-returns-in-Err
 unfolding statements_at statements_by
-read_statements-returns-in-Err t c = rounds_refused (statement_step (here c.args.left) (around_of c.args.around)) _ _ _ _ c.in-Err.refusal c.loop-refusal.invariant c.in-Err.ensures
+read_statements-returns-in-Err t c = rounds_refused (statement_step (here c.args.left) (around_of c.args.around)) _ _ _ _ c.in-Err.refusal c.loop-statements.invariant c.in-Err.ensures
 
-pub read_statements-loop-refusal-preserved : goal.read_statements-loop-refusal-preserved
-read_statements-loop-refusal-preserved t c =
+pub read_statements-loop-statements-preserved : goal.read_statements-loop-statements-preserved
+read_statements-loop-statements-preserved t c =
     let more = rw c.in-Ok-true.field-0-test at c.in-Ok-true.ensures in
-    rounds_go (statement_step (here c.args.left) (around_of c.args.around)) (next_statement_takes c.args.left (around_of c.args.around)) _ _ _ _ _ _ c.loop-refusal.invariant more
+    rounds_go (statement_step (here c.args.left) (around_of c.args.around)) (next_statement_takes c.args.left (around_of c.args.around)) _ _ _ _ _ _ c.loop-statements.invariant more
 
-pub read_statements-loop-refusal-smaller : goal.read_statements-loop-refusal-smaller
-read_statements-loop-refusal-smaller t c =
+pub read_statements-loop-statements-smaller : goal.read_statements-loop-statements-smaller
+read_statements-loop-statements-smaller t c =
     let more = rw c.in-Ok-true.field-0-test at c.in-Ok-true.ensures in
     next_statement_takes c.args.left (around_of c.args.around) _ _ _ _ more

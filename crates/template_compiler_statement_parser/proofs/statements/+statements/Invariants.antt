@@ -83,18 +83,18 @@ decreases-next_statement l = 16 * l.left + 12
 abbrev pub decreases-read_statements : goal.decreases-read_statements
 decreases-read_statements l = 16 * l.left + 13
 
-abbrev pub invariant-read_statements-loop-refusal : goal.invariant-read_statements-loop-refusal
-invariant-read_statements-loop-refusal l =
+abbrev pub invariant-read_statements-loop-statements : goal.invariant-read_statements-loop-statements
+invariant-read_statements-loop-statements l =
     all (statement_step (here l.left) (around_of l.around)) (statements_in l.statements.items) l.tokens ≡
     all (statement_step (here l.left) (around_of l.around)) no_statements l.initial.tokens
 
-abbrev pub decreases-read_statements-loop-refusal : goal.decreases-read_statements-loop-refusal
-decreases-read_statements-loop-refusal l = length l.tokens
+abbrev pub decreases-read_statements-loop-statements : goal.decreases-read_statements-loop-statements
+decreases-read_statements-loop-statements l = length l.tokens
 
-abbrev pub invariant-branches-loop-refusal : goal.invariant-branches-loop-refusal
-invariant-branches-loop-refusal l =
+abbrev pub invariant-branches-loop-branches : goal.invariant-branches-loop-branches
+invariant-branches-loop-branches l =
     all (branch_step (here l.left) (around_of l.around)) (branches_in l.branches.items) l.tokens ≡
     all (branch_step (here l.left) (around_of l.around)) no_branches l.initial.tokens
 
-abbrev pub decreases-branches-loop-refusal : goal.decreases-branches-loop-refusal
-decreases-branches-loop-refusal l = length l.tokens
+abbrev pub decreases-branches-loop-branches : goal.decreases-branches-loop-branches
+decreases-branches-loop-branches l = length l.tokens
