@@ -93,13 +93,40 @@ fn reads_statements_without_a_body(rt: HostRuntime) -> Result<(), Fail> {
     assert_eq!(rt; kind(alloc, &["text"]), "text");
     assert_eq!(rt; kind(alloc, &["{{", "x", "}}"]), "print");
     assert_eq!(rt; kind(alloc, &["{{", "x", "%}"]), "refused");
-    assert_eq!(rt; kind(alloc, &["{%", "set", "a", ",", "b", "=", "x", "%}"]), "set");
-    assert_eq!(rt; kind(alloc, &["{%", "set", "a", ".", "b", "=", "x", ",", "y", "%}"]), "set");
-    assert_eq!(rt; kind(alloc, &["{%", "set", "loop", "=", "x", "%}"]), "refused");
-    assert_eq!(rt; kind(alloc, &["{%", "import", "x", "as", "y", "with", "context", "%}"]), "import");
-    assert_eq!(rt; kind(alloc, &["{%", "from", "x", "import", "a", "as", "b", ",", "c", "%}"]), "from");
+    assert_eq!(rt;
+        kind(alloc, &["{%", "set", "a", ",", "b", "=", "x", "%}"]),
+        "set"
+    );
+    assert_eq!(rt;
+        kind(
+            alloc,
+            &["{%", "set", "a", ".", "b", "=", "x", ",", "y", "%}"]
+        ),
+        "set"
+    );
+    assert_eq!(rt;
+        kind(alloc, &["{%", "set", "loop", "=", "x", "%}"]),
+        "refused"
+    );
+    assert_eq!(rt;
+        kind(
+            alloc,
+            &["{%", "import", "x", "as", "y", "with", "context", "%}"]
+        ),
+        "import"
+    );
+    assert_eq!(rt;
+        kind(
+            alloc,
+            &["{%", "from", "x", "import", "a", "as", "b", ",", "c", "%}"]
+        ),
+        "from"
+    );
     assert_eq!(rt; kind(alloc, &["{%", "extends", "x", "%}"]), "extends");
-    assert_eq!(rt; kind(alloc, &["{%", "include", "x", "ignore", "missing", "%}"]), "include");
+    assert_eq!(rt;
+        kind(alloc, &["{%", "include", "x", "ignore", "missing", "%}"]),
+        "include"
+    );
     assert_eq!(rt; kind(alloc, &["{%", "do", "f", "(", ")", "%}"]), "do");
     assert_eq!(rt; kind(alloc, &["{%", "do", "f", "%}"]), "refused");
     assert_eq!(rt; kind(alloc, &["{%", "break", "%}"]), "refused");
@@ -110,33 +137,120 @@ fn reads_statements_without_a_body(rt: HostRuntime) -> Result<(), Fail> {
 #[test]
 fn reads_statements_with_bodies(rt: HostRuntime) -> Result<(), Fail> {
     let alloc = rt.alloc();
-    let names = ["{%", "for", "a", ",", "b", "in", "x", "if", "a", "recursive", "%}", "{%", "break", "%}", "{%", "endfor", "%}"];
+    let names = [
+        "{%",
+        "for",
+        "a",
+        ",",
+        "b",
+        "in",
+        "x",
+        "if",
+        "a",
+        "recursive",
+        "%}",
+        "{%",
+        "break",
+        "%}",
+        "{%",
+        "endfor",
+        "%}",
+    ];
     assert_eq!(rt; kind(alloc, &names), "for");
-    let words = ["{%", "for", "a", "in", "x", "%}", "{%", "else", "%}", "text", "{%", "endfor", "%}"];
+    let words = [
+        "{%", "for", "a", "in", "x", "%}", "{%", "else", "%}", "text", "{%", "endfor", "%}",
+    ];
     assert_eq!(rt; kind(alloc, &words), "for");
-    let words = ["{%", "for", "a", "in", "x", "%}", "{%", "else", "%}", "{%", "break", "%}", "{%", "endfor", "%}"];
+    let words = [
+        "{%", "for", "a", "in", "x", "%}", "{%", "else", "%}", "{%", "break", "%}", "{%", "endfor",
+        "%}",
+    ];
     assert_eq!(rt; kind(alloc, &words), "refused");
-    let words = ["{%", "with", "a", "=", "x", ",", "b", "=", "y", "%}", "text", "{%", "endwith", "%}"];
+    let words = [
+        "{%", "with", "a", "=", "x", ",", "b", "=", "y", "%}", "text", "{%", "endwith", "%}",
+    ];
     assert_eq!(rt; kind(alloc, &words), "with");
-    assert_eq!(rt; kind(alloc, &["{%", "with", "%}", "{%", "endwith", "%}"]), "with");
-    let words = ["{%", "set", "a", "|", "f", "%}", "text", "{%", "endset", "%}"];
+    assert_eq!(rt;
+        kind(alloc, &["{%", "with", "%}", "{%", "endwith", "%}"]),
+        "with"
+    );
+    let words = [
+        "{%", "set", "a", "|", "f", "%}", "text", "{%", "endset", "%}",
+    ];
     assert_eq!(rt; kind(alloc, &words), "set block");
-    assert_eq!(rt; kind(alloc, &["{%", "autoescape", "x", "%}", "{%", "endautoescape", "%}"]), "autoescape");
-    let words = ["{%", "filter", "f", "|", "g", "%}", "text", "{%", "endfilter", "%}"];
+    assert_eq!(rt;
+        kind(
+            alloc,
+            &["{%", "autoescape", "x", "%}", "{%", "endautoescape", "%}"]
+        ),
+        "autoescape"
+    );
+    let words = [
+        "{%",
+        "filter",
+        "f",
+        "|",
+        "g",
+        "%}",
+        "text",
+        "{%",
+        "endfilter",
+        "%}",
+    ];
     assert_eq!(rt; kind(alloc, &words), "filter");
-    assert_eq!(rt; kind(alloc, &["{%", "block", "b", "%}", "{%", "endblock", "b", "%}"]), "block");
-    assert_eq!(rt; kind(alloc, &["{%", "block", "b", "%}", "{%", "endblock", "c", "%}"]), "refused");
-    assert_eq!(rt; kind(alloc, &["{%", "block", "b", "required", "%}", " ", "{%", "endblock", "%}"]), "block");
-    assert_eq!(rt; kind(alloc, &["{%", "block", "b", "required", "%}", "text", "{%", "endblock", "%}"]), "refused");
-    let words = ["{%", "macro", "m", "(", "a", ",", "b", "=", "x", ")", "%}", "{%", "endmacro", "%}"];
+    assert_eq!(rt;
+        kind(
+            alloc,
+            &["{%", "block", "b", "%}", "{%", "endblock", "b", "%}"]
+        ),
+        "block"
+    );
+    assert_eq!(rt;
+        kind(
+            alloc,
+            &["{%", "block", "b", "%}", "{%", "endblock", "c", "%}"]
+        ),
+        "refused"
+    );
+    assert_eq!(rt;
+        kind(
+            alloc,
+            &[
+                "{%", "block", "b", "required", "%}", " ", "{%", "endblock", "%}"
+            ]
+        ),
+        "block"
+    );
+    assert_eq!(rt;
+        kind(
+            alloc,
+            &[
+                "{%", "block", "b", "required", "%}", "text", "{%", "endblock", "%}"
+            ]
+        ),
+        "refused"
+    );
+    let words = [
+        "{%", "macro", "m", "(", "a", ",", "b", "=", "x", ")", "%}", "{%", "endmacro", "%}",
+    ];
     assert_eq!(rt; kind(alloc, &words), "macro");
-    let words = ["{%", "macro", "m", "(", "a", "=", "x", ",", "b", ")", "%}", "{%", "endmacro", "%}"];
+    let words = [
+        "{%", "macro", "m", "(", "a", "=", "x", ",", "b", ")", "%}", "{%", "endmacro", "%}",
+    ];
     assert_eq!(rt; kind(alloc, &words), "refused");
-    let words = ["{%", "macro", "m", "(", ")", "%}", "{%", "block", "b", "%}", "{%", "endblock", "%}", "{%", "endmacro", "%}"];
+    let words = [
+        "{%", "macro", "m", "(", ")", "%}", "{%", "block", "b", "%}", "{%", "endblock", "%}", "{%",
+        "endmacro", "%}",
+    ];
     assert_eq!(rt; kind(alloc, &words), "refused");
-    let words = ["{%", "call", "(", "a", ")", "f", "(", "x", ")", "%}", "{%", "endcall", "%}"];
+    let words = [
+        "{%", "call", "(", "a", ")", "f", "(", "x", ")", "%}", "{%", "endcall", "%}",
+    ];
     assert_eq!(rt; kind(alloc, &words), "call");
-    assert_eq!(rt; kind(alloc, &["{%", "call", "f", "%}", "{%", "endcall", "%}"]), "refused");
+    assert_eq!(rt;
+        kind(alloc, &["{%", "call", "f", "%}", "{%", "endcall", "%}"]),
+        "refused"
+    );
     assert_eq!(rt; kind(alloc, &["{%", "with", "%}", "text"]), "refused");
     Ok(())
 }
@@ -145,7 +259,8 @@ fn reads_statements_with_bodies(rt: HostRuntime) -> Result<(), Fail> {
 fn a_branch_is_the_one_statement_of_the_body_before_it(rt: HostRuntime) -> Result<(), Fail> {
     let alloc = rt.alloc();
     let words = [
-        "{%", "if", "x", "%}", "text", "{%", "elif", "y", "%}", "{%", "else", "%}", "text", "{%", "endif", "%}",
+        "{%", "if", "x", "%}", "text", "{%", "elif", "y", "%}", "{%", "else", "%}", "text", "{%",
+        "endif", "%}",
     ];
     let (read, all) = statements(alloc, &words)?;
     assert!(rt; all);
@@ -164,7 +279,9 @@ fn a_branch_is_the_one_statement_of_the_body_before_it(rt: HostRuntime) -> Resul
         }
         _ => panic!(rt; "no condition"),
     }
-    let words = ["{%", "if", "x", "%}", "{%", "else", "%}", "{%", "elif", "y", "%}", "{%", "endif", "%}"];
+    let words = [
+        "{%", "if", "x", "%}", "{%", "else", "%}", "{%", "elif", "y", "%}", "{%", "endif", "%}",
+    ];
     assert_eq!(rt; kind(alloc, &words), "refused");
     Ok(())
 }
