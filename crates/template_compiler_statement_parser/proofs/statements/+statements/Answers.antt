@@ -3,7 +3,11 @@ use Rattle.template_compiler_statements.specs.Reader.{here, statement_step, stat
 use Rattle.template_compiler_statement_laws.proofs.Sound.{next_statement_takes, next_branch_takes}
 use Rattle.template_compiler_statement_parts.proofs.Rounds.{rounds_end, rounds_go, rounds_refused}
 use Rattle.template_compiler_statement_makers.specs.Surroundings.{around_of}
-use Rattle.template_compiler_statement_parser.specs.Bodies.{ParsedBody}
+use Rattle.template_compiler_statement_parser.specs.Bodies.{ParsedBody, ParsedStatement}
+use Rattle.template_compiler_statement_makers.specs.Listed.{statements_in}
+use Rattle.template_compiler_statement_parts.specs.Parsed.{SteppedTo}
+use Rattle.template_compiler_tokens.specs.Token.{paren_open}
+use Rattle.template_compiler_statement_parser.proofs.Next.{block_in_macro, block_outside, macro_reserved, skipped, tag_here}
 use Rattle.template_compiler_statement_parser.proofs.Less.{body_less}
 use Rattle.template_compiler_statement_parser.proofs.statements.+statements.Goals as goal
 
@@ -49,3 +53,27 @@ pub read_statements-loop-statements-smaller : goal.read_statements-loop-statemen
 read_statements-loop-statements-smaller t c =
     let more = rw c.in-Ok-true.field-0-test at c.in-Ok-true.ensures in
     next_statement_takes c.args.left (around_of c.args.around) _ _ _ _ more
+
+pub next_statement-returns-in-Some-tag_word : goal.next_statement-returns-in-Some-tag_word
+next_statement-returns-in-Some-tag_word t c =
+    let ss = statements_in c.args.statements.now.items in
+    subst (λ m. SteppedTo m ss c.args.tokens.now (statements_in c.next_tag.new.statements.items) c.next_tag.new.tokens c.next_tag.result)
+    (sym (tag_here (here c.args.left) (around_of c.args.around) ss c.in-Some-tag_word.word.now c.args.tokens.now c.in-Some-tag_word.ensures))
+    c.next_tag.ensures
+
+pub block-returns-then-around : goal.block-returns-then-around
+block-returns-then-around t c =
+    block_in_macro (here c.args.left) (around_of c.args.around) c.in-Some.name.now c.args.tokens.now c.in-Some.ensures c.if-around.true
+
+pub block-returns-else-around : goal.block-returns-else-around
+block-returns-else-around t c =
+    subst (λ m. ParsedStatement m c.block_behind.new.tokens c.block_behind.result)
+    (sym (block_outside (here c.args.left) (around_of c.args.around) c.in-Some.name.now c.read_flag-required.result c.args.tokens.now
+    c.advance.new.self c.read_flag-required.new.tokens c.in-Some.ensures c.if-around.false c.advance.ensures c.read_flag-required.ensures))
+    c.block_behind.ensures
+
+pub macro_block-returns-then-is_reserved : goal.macro_block-returns-then-is_reserved
+macro_block-returns-then-is_reserved t c =
+    let stood = skipped paren_open c.advance.new.self c.skip.new.self c.skip.result c.if-not-skip.false c.skip.ensures in
+    macro_reserved (here c.args.left) c.in-Some.name.now c.args.tokens.now c.skip.new.self c.advance.new.self c.in-Some.ensures c.advance.ensures stood
+    (sym c.is_reserved.ensures ∙ c.if-is_reserved.true)
