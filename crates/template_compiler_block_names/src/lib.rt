@@ -1,0 +1,9 @@
+//! The names of a template's blocks, and whether each stands once.
+#![tactic(auto)]
+
+mod distinct;
+mod names;
+mod parts;
+
+pub use distinct::are_distinct;
+pub use names::block_names;

@@ -1,0 +1,97 @@
+//! Statements about other templates.
+ghost use Rattle.std.specs.Prelude.{◌≡◌};
+ghost use Rattle.template_compiler_statement_parts.specs.Parsed.{ParsedAs};
+ghost use Rattle.template_compiler_statements.specs.Reader.{extends_by, from_by, here, import_statement_by, include_by};
+ghost use Rattle.template_tree.specs.StatementView.{statement_of};
+
+use std::alloc::Global;
+use template_compiler_expression_parser::read_expression;
+use template_compiler_statement_makers::makers;
+use template_compiler_statement_parts::{
+    expect_tag_end, expect_word, pass_context, read_imports, read_missing, read_stored,
+};
+use template_compiler_stream::{Refusal, TokenStream};
+use template_tree::{Span, Stmt};
+
+/// Reads an `import`.
+///
+/// # Errors
+///
+/// The fault of the token that does not fit, or want of memory.
+#[tactic(auto, using(template_compiler_statement_parts::proofs::Again::tag_end_again, template_compiler_statement_parts::proofs::Again::word_again, template_compiler_statement_parts::proofs::Again::context_again), unfolding(template_compiler_reading::specs::Steps::and_then, template_compiler_statements::specs::Reader::here, template_compiler_statements::specs::Reader::here_by, template_compiler_statements::specs::Reader::import_statement_by))]
+pub fn read_import<'source>(
+    alloc: Global,
+    tokens: &mut TokenStream<'source>,
+    left: u32,
+    span: Span,
+) -> Result<Stmt<'source>, Refusal>
+    ensures { ParsedAs statement_of (import_statement_by (here left) tokens.old) tokens.new result }
+{
+    let expr = read_expression(alloc, tokens, left)?;
+    expect_word(tokens, "as")?;
+    let name = read_stored(tokens)?;
+    pass_context(tokens)?;
+    expect_tag_end(tokens)?;
+    Ok(makers::import(alloc, expr, name, span)?)
+}
+
+/// Reads a `from`.
+///
+/// # Errors
+///
+/// The fault of the token that does not fit, or want of memory.
+#[tactic(auto, using(template_compiler_statement_parts::proofs::Again::tag_end_again, template_compiler_statement_parts::proofs::Again::word_again, template_compiler_statement_parts::proofs::Again::context_again), unfolding(template_compiler_reading::specs::Steps::and_then, template_compiler_statements::specs::Reader::here, template_compiler_statements::specs::Reader::here_by, template_compiler_statements::specs::Reader::from_by))]
+pub fn read_from<'source>(
+    alloc: Global,
+    tokens: &mut TokenStream<'source>,
+    left: u32,
+    span: Span,
+) -> Result<Stmt<'source>, Refusal>
+    ensures { ParsedAs statement_of (from_by (here left) tokens.old) tokens.new result }
+{
+    let expr = read_expression(alloc, tokens, left)?;
+    expect_word(tokens, "import")?;
+    let names = read_imports(alloc, tokens)?;
+    pass_context(tokens)?;
+    expect_tag_end(tokens)?;
+    Ok(makers::from_import(alloc, expr, names, span)?)
+}
+
+/// Reads an `extends`.
+///
+/// # Errors
+///
+/// The fault of the token that does not fit, or want of memory.
+#[tactic(auto, using(template_compiler_statement_parts::proofs::Again::tag_end_again), unfolding(template_compiler_reading::specs::Steps::and_then, template_compiler_statements::specs::Reader::here, template_compiler_statements::specs::Reader::here_by, template_compiler_statements::specs::Reader::extends_by))]
+pub fn read_extends<'source>(
+    alloc: Global,
+    tokens: &mut TokenStream<'source>,
+    left: u32,
+    span: Span,
+) -> Result<Stmt<'source>, Refusal>
+    ensures { ParsedAs statement_of (extends_by (here left) tokens.old) tokens.new result }
+{
+    let name = read_expression(alloc, tokens, left)?;
+    expect_tag_end(tokens)?;
+    Ok(makers::extends(name, span))
+}
+
+/// Reads an `include`.
+///
+/// # Errors
+///
+/// The fault of the token that does not fit, or want of memory.
+#[tactic(auto, using(template_compiler_statement_parts::proofs::Again::tag_end_again), unfolding(template_compiler_reading::specs::Steps::and_then, template_compiler_statements::specs::Reader::here, template_compiler_statements::specs::Reader::here_by, template_compiler_statements::specs::Reader::include_by))]
+pub fn read_include<'source>(
+    alloc: Global,
+    tokens: &mut TokenStream<'source>,
+    left: u32,
+    span: Span,
+) -> Result<Stmt<'source>, Refusal>
+    ensures { ParsedAs statement_of (include_by (here left) tokens.old) tokens.new result }
+{
+    let name = read_expression(alloc, tokens, left)?;
+    let ignore_missing = read_missing(tokens)?;
+    expect_tag_end(tokens)?;
+    Ok(makers::include(alloc, name, ignore_missing, span)?)
+}

@@ -1,0 +1,98 @@
+//! Statements about values.
+ghost use Rattle.std.specs.Prelude.{◌≡◌};
+ghost use Rattle.template_compiler_expressions.specs.Reader.{expression_at};
+ghost use Rattle.template_compiler_reading.specs.Steps.{and_then};
+ghost use Rattle.template_compiler_statement_leaves.specs.Behind.{set_targets};
+ghost use Rattle.template_compiler_statement_parts.specs.Parsed.{ParsedAs};
+ghost use Rattle.template_compiler_statements.specs.Reader.{do_by, here, print_end, set_values};
+ghost use Rattle.template_tree.specs.Tree.{print};
+ghost use Rattle.template_tree.specs.StatementView.{statement_of};
+ghost use Rattle.template_tree.specs.View.{expression_of};
+
+use std::alloc::Global;
+use template_compiler_expression_parser::read_expression;
+use template_compiler_statement_makers::makers;
+use template_compiler_statement_parts::{
+    expect_assign, expect_print_end, expect_tag_end, read_more_targets,
+};
+use template_compiler_statement_values::read_values;
+use template_compiler_stream::{Fault, Refusal, TokenStream};
+use template_tree::{Expr, Span, Stmt};
+
+/// Reads a print, behind its start.
+///
+/// # Errors
+///
+/// The fault of the token that does not fit, or want of memory.
+#[tactic(auto, using(template_compiler_statement_parts::proofs::Again::print_end_again), unfolding(template_compiler_reading::specs::Steps::and_then))]
+pub fn read_print<'source>(
+    alloc: Global,
+    tokens: &mut TokenStream<'source>,
+    left: u32,
+    span: Span,
+) -> Result<Stmt<'source>, Refusal>
+    ensures { ParsedAs statement_of (and_then (expression_at left tokens.old) (λ e us. print_end (print e) us)) tokens.new result }
+{
+    let expr = read_expression(alloc, tokens, left)?;
+    expect_print_end(tokens)?;
+    Ok(makers::print(expr, span))
+}
+
+/// Reads a `set` behind its first target: further targets, and the value behind `=`.
+///
+/// # Errors
+///
+/// The fault of the token that does not fit, or want of memory.
+#[tactic(auto, using(template_compiler_statement_parts::proofs::Again::assign_again), unfolding(template_compiler_reading::specs::Steps::and_then, template_compiler_statements::specs::Reader::here, template_compiler_statements::specs::Reader::here_by))]
+pub fn read_set<'source>(
+    alloc: Global,
+    tokens: &mut TokenStream<'source>,
+    left: u32,
+    first: Expr<'source>,
+    span: Span,
+) -> Result<Stmt<'source>, Refusal>
+    ensures { ParsedAs statement_of (set_targets (here left) (expression_of first.entry) tokens.old) tokens.new result }
+{
+    let target = read_more_targets(alloc, tokens, left, true, first)?;
+    expect_assign(tokens)?;
+    read_set_value(alloc, tokens, left, target, span)
+}
+
+#[tactic(auto, using(template_compiler_statement_parts::proofs::Again::tag_end_again), unfolding(template_compiler_reading::specs::Steps::and_then, template_compiler_statements::specs::Reader::here, template_compiler_statements::specs::Reader::here_by, template_compiler_statements::specs::Reader::set_values))]
+fn read_set_value<'source>(
+    alloc: Global,
+    tokens: &mut TokenStream<'source>,
+    left: u32,
+    target: Expr<'source>,
+    span: Span,
+) -> Result<Stmt<'source>, Refusal>
+    ensures { ParsedAs statement_of (set_values (here left) (expression_of target.entry) tokens.old) tokens.new result }
+{
+    let value = read_values(alloc, tokens, left)?;
+    expect_tag_end(tokens)?;
+    Ok(makers::set(alloc, target, value, span)?)
+}
+
+/// Reads a `do`.
+///
+/// # Errors
+///
+/// The fault of the token that does not fit, or want of memory.
+#[tactic(auto, using(crate::proofs::Calls::call_here, crate::proofs::Calls::no_call, template_compiler_statement_parts::proofs::Again::tag_end_again), unfolding(template_compiler_reading::specs::Steps::and_then, template_compiler_statements::specs::Reader::here, template_compiler_statements::specs::Reader::here_by, template_compiler_statements::specs::Reader::do_by))]
+pub fn read_do<'source>(
+    alloc: Global,
+    tokens: &mut TokenStream<'source>,
+    left: u32,
+    span: Span,
+) -> Result<Stmt<'source>, Refusal>
+    ensures { ParsedAs statement_of (do_by (here left) tokens.old) tokens.new result }
+{
+    let expr = read_expression(alloc, tokens, left)?;
+    match expr.into_call() {
+        Some(call) => {
+            expect_tag_end(tokens)?;
+            Ok(makers::do_call(call, span))
+        }
+        None => Err(Refusal::Token(Fault::Syntax)),
+    }
+}

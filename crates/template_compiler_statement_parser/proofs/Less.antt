@@ -1,0 +1,9 @@
+-- What is one level deeper is read with one level less.
+use Rattle.std.proofs.Common.{◌≡◌, ℕ, suc, List, refl, ap}
+use Rattle.template_compiler_tokens.specs.Token.{Token}
+use Rattle.template_compiler_statements.specs.Grammar.{Around}
+use Rattle.template_compiler_statements.specs.Reader.{here, deeper_body, statements_at}
+
+pub body_less : (d n : ℕ) (p : Around) (ts : List Token) → d ≡ suc n → deeper_body d p ts ≡ statements_at n p ts
+unfolding deeper_body statements_at here
+body_less d n p ts e = ap (λ d. deeper_body d p ts) e

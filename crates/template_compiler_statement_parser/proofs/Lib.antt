@@ -1,0 +1,4 @@
+pub mod Lists
+pub mod Ended
+pub mod Next
+pub mod Less

@@ -1,0 +1,6 @@
+//! The parser of templates: statements with their bodies.
+#![tactic(auto)]
+
+mod statements;
+
+pub use statements::read_statements;

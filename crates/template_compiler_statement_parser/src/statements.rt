@@ -1,0 +1,643 @@
+//! Statements and their bodies: what calls itself. A body is one nesting level deeper than its statement.
+ghost use Rattle.std.specs.Prelude.{◌≡◌, IfOk};
+ghost use Rattle.template_compiler_statement_parts.specs.Parsed.{ParsedAs, SteppedTo};
+ghost use Rattle.template_compiler_reading.specs.Steps.{all, and_then};
+ghost use Rattle.template_compiler_statement_parser.specs.Bodies.{ParsedBody, ParsedStatement, branches_in, macro_behind};
+ghost use Rattle.template_compiler_statement_makers.specs.Surroundings.{around_of, opening_of};
+ghost use Rattle.template_compiler_stream.specs.Left.{passed};
+ghost use Rattle.template_compiler_statements.specs.Reader.{autoescape_by, block_body, block_by, branch_by, branch_step, call_body, call_by, deeper_body, else_by, expect_tag, filter_block_by, filtered_body, for_body, for_by, for_in, here, if_by, macro_by, opened_by, opened_step, opening, set_behind, set_body, set_by, statement_step, statements_at, with_by};
+ghost use Rattle.template_compiler_statements.specs.Trees.{branched, is_block_body, no_branches};
+ghost use Rattle.template_compiler_statement_values.specs.Written.{parameters_of};
+ghost use Rattle.template_tree.specs.StatementView.{statement_of};
+ghost use Rattle.template_tree.specs.View.{arguments_in, expression_of, optional_in};
+ghost use Rattle.template_compiler_statement_makers.specs.Listed.{statements_in};
+
+use std::alloc::{AllocError, Global};
+use template_compiler_expression_parser::{
+    read_condition, read_expression, read_filter, read_filter_chain,
+};
+use template_compiler_statement_leaves as leaves;
+use template_compiler_statement_makers::{Around, Opening, is_blank, makers, opening_named};
+use template_compiler_statement_parts as parts;
+use template_compiler_statement_values::{
+    Parameters, read_assignments, read_deeper_parameters, read_loop_filter,
+    read_optional_parameters,
+};
+use template_compiler_stream::{Fault, Refusal, Sign, TokenStream};
+use template_tree::{Call, Expr, ForLoop, IfCond, Macro, Span, Spanned, Stmt};
+
+/// A condition with its body.
+#[derive(Drop)]
+pub struct Branch<'source> {
+    pub expr: Expr<'source>,
+    pub body: Vec<Stmt<'source>>,
+    pub span: Span,
+}
+
+// A body, one nesting level deeper.
+#[cycle(statements)]
+#[tactic(auto, unfolding(template_compiler_statements::specs::Reader::deeper_body, template_compiler_statements::specs::Reader::statements_at, template_compiler_statements::specs::Reader::here))]
+fn body<'source>(
+    alloc: Global,
+    tokens: &mut TokenStream<'source>,
+    left: u32,
+    around: Around,
+) -> Result<Vec<Stmt<'source>>, Refusal>
+    ensures { ParsedBody (deeper_body left (around_of around) tokens.old) tokens.new result }
+{
+    if left == 0 {
+        Err(Refusal::Token(Fault::Syntax))
+    } else {
+        read_statements(alloc, tokens, left - 1, around)
+    }
+}
+
+/// Reads statements, up to what begins none.
+///
+/// # Errors
+///
+/// The fault of the token that does not fit, or want of memory.
+#[cycle(statements)]
+#[tactic(auto, unfolding(template_compiler_statements::specs::Reader::statements_at, template_compiler_statements::specs::Reader::statements_by))]
+pub fn read_statements<'source>(
+    alloc: Global,
+    tokens: &mut TokenStream<'source>,
+    left: u32,
+    around: Around,
+) -> Result<Vec<Stmt<'source>>, Refusal>
+    ensures { ParsedBody (statements_at left (around_of around) tokens.old) tokens.new result }
+{
+    let mut statements = Vec::new(alloc);
+    loop {
+        match next_statement(alloc, tokens, left, around, &mut statements) {
+            Ok(true) => {}
+            Ok(false) => return Ok(statements),
+            Err(refusal) => return Err(refusal),
+        }
+    }
+}
+
+// A text, a print or a tag that begins a statement.
+#[cycle(statements)]
+#[tactic(auto, using(crate::proofs::Next::text_here, crate::proofs::Next::print_here, crate::proofs::Next::tag_here, crate::proofs::Next::nothing_here, template_compiler_statement_makers::proofs::Lists::statements_push), unfolding(template_compiler_reading::specs::Steps::under, template_compiler_statements::specs::Reader::here, template_compiler_statements::specs::Reader::here_by))]
+fn next_statement<'source>(
+    alloc: Global,
+    tokens: &mut TokenStream<'source>,
+    left: u32,
+    around: Around,
+    statements: &mut Vec<Stmt<'source>>,
+) -> Result<bool, Refusal>
+    ensures { SteppedTo (statement_step (here left) (around_of around) (statements_in statements.old.items) tokens.old)
+        (statements_in statements.old.items) tokens.old (statements_in statements.new.items) tokens.new result }
+{
+    let span = tokens.span();
+    if let Some(text) = tokens.text() {
+        tokens.advance();
+        statements.push(makers::raw(text, span))?;
+        return Ok(true);
+    }
+    if tokens.starts_print() {
+        tokens.advance();
+        statements.push(leaves::read_print(alloc, tokens, left, span)?)?;
+        return Ok(true);
+    }
+    match parts::tag_word(tokens) {
+        Some(word) => next_tag(alloc, tokens, left, around, statements, word),
+        None => Ok(false),
+    }
+}
+
+// The statement that the word of the next tag begins.
+#[cycle(statements)]
+#[tactic(auto, using(template_compiler_statement_makers::proofs::Lists::statements_push), unfolding(template_compiler_reading::specs::Steps::under, template_compiler_statements::specs::Reader::opened_step))]
+fn next_tag<'source>(
+    alloc: Global,
+    tokens: &mut TokenStream<'source>,
+    left: u32,
+    around: Around,
+    statements: &mut Vec<Stmt<'source>>,
+    word: &str,
+) -> Result<bool, Refusal>
+    ensures { SteppedTo (opened_step (here left) (around_of around) (statements_in statements.old.items) (opening word.now) (passed (passed tokens.old)))
+        (statements_in statements.old.items) tokens.old (statements_in statements.new.items) tokens.new result }
+{
+    match opening_named(word) {
+        Some(opening) => {
+            let span = tokens.span();
+            tokens.advance();
+            tokens.advance();
+            statements.push(opened(alloc, tokens, left, around, opening, span)?)?;
+            Ok(true)
+        }
+        None => Ok(false),
+    }
+}
+
+// A statement, behind the word that begins it.
+#[cycle(statements)]
+#[tactic(auto, unfolding(template_compiler_statements::specs::Reader::opened_by, template_compiler_statements::specs::Reader::in_loop))]
+fn opened<'source>(
+    alloc: Global,
+    tokens: &mut TokenStream<'source>,
+    left: u32,
+    around: Around,
+    opening: Opening,
+    span: Span,
+) -> Result<Stmt<'source>, Refusal>
+    ensures { ParsedStatement (opened_by (here left) (around_of around) (opening_of opening) tokens.old) tokens.new result }
+{
+    match opening {
+        Opening::For => for_loop(alloc, tokens, left, around, span),
+        Opening::If => if_condition(alloc, tokens, left, around, span),
+        Opening::With => with_block(alloc, tokens, left, around, span),
+        Opening::Set => set(alloc, tokens, left, around, span),
+        Opening::AutoEscape => auto_escape(alloc, tokens, left, around, span),
+        Opening::Filter => filter_block(alloc, tokens, left, around, span),
+        Opening::Block => block(alloc, tokens, left, around, span),
+        Opening::Import => leaves::read_import(alloc, tokens, left, span),
+        Opening::From => leaves::read_from(alloc, tokens, left, span),
+        Opening::Extends => leaves::read_extends(alloc, tokens, left, span),
+        Opening::Include => leaves::read_include(alloc, tokens, left, span),
+        Opening::Macro => macro_block(alloc, tokens, left, span),
+        Opening::Call => call_block(alloc, tokens, left, span),
+        Opening::Do => leaves::read_do(alloc, tokens, left, span),
+        Opening::Break => leaves::read_break(tokens, around.in_loop, span),
+        Opening::Continue => leaves::read_continue(tokens, around.in_loop, span),
+    }
+}
+
+// A body, and the tag that ends it.
+#[cycle(statements)]
+#[tactic(auto, using(template_compiler_statement_parts::proofs::Again::tag_again), unfolding(template_compiler_reading::specs::Steps::and_then))]
+fn ended_body<'source>(
+    alloc: Global,
+    tokens: &mut TokenStream<'source>,
+    left: u32,
+    around: Around,
+    end: &str,
+) -> Result<Vec<Stmt<'source>>, Refusal>
+    ensures { ParsedBody (and_then (deeper_body left (around_of around) tokens.old) (expect_tag end.now)) tokens.new result }
+{
+    let body = body(alloc, tokens, left, around)?;
+    parts::expect_tag(tokens, end)?;
+    Ok(body)
+}
+
+// The other body, where there is one, and the tag that ends the statement.
+#[cycle(statements)]
+#[tactic(auto, using(template_compiler_statement_parts::proofs::Again::tag_again), unfolding(template_compiler_reading::specs::Steps::and_then, template_compiler_statements::specs::Reader::here, template_compiler_statements::specs::Reader::here_by, template_compiler_statements::specs::Reader::else_by))]
+fn otherwise<'source>(
+    alloc: Global,
+    tokens: &mut TokenStream<'source>,
+    left: u32,
+    around: Around,
+    end: &str,
+) -> Result<Vec<Stmt<'source>>, Refusal>
+    ensures { ParsedBody (else_by (here left) (around_of around) end.now tokens.old) tokens.new result }
+{
+    if parts::begins_tag(tokens, "else") {
+        parts::expect_tag(tokens, "else")?;
+        ended_body(alloc, tokens, left, around, end)
+    } else {
+        parts::expect_tag(tokens, end)?;
+        Ok(Vec::new(alloc))
+    }
+}
+
+#[cycle(statements)]
+#[tactic(auto, using(template_compiler_statement_parts::proofs::Again::word_again), unfolding(template_compiler_reading::specs::Steps::and_then, template_compiler_statements::specs::Reader::here, template_compiler_statements::specs::Reader::here_by, template_compiler_statements::specs::Reader::for_by))]
+fn for_loop<'source>(
+    alloc: Global,
+    tokens: &mut TokenStream<'source>,
+    left: u32,
+    around: Around,
+    span: Span,
+) -> Result<Stmt<'source>, Refusal>
+    ensures { ParsedStatement (for_by (here left) (around_of around) tokens.old) tokens.new result }
+{
+    let target = parts::read_targets(alloc, tokens, left, false)?;
+    parts::expect_word(tokens, "in")?;
+    for_in(alloc, tokens, left, around, target, span)
+}
+
+// A loop, behind its `in`.
+#[cycle(statements)]
+#[tactic(auto, unfolding(template_compiler_reading::specs::Steps::and_then, template_compiler_statements::specs::Reader::here, template_compiler_statements::specs::Reader::here_by, template_compiler_statements::specs::Reader::for_in))]
+fn for_in<'source>(
+    alloc: Global,
+    tokens: &mut TokenStream<'source>,
+    left: u32,
+    around: Around,
+    target: Expr<'source>,
+    span: Span,
+) -> Result<Stmt<'source>, Refusal>
+    ensures { ParsedStatement (for_in (here left) (around_of around) (expression_of target.entry) tokens.old) tokens.new result }
+{
+    let iter = read_condition(alloc, tokens, left)?;
+    let filter = read_loop_filter(alloc, tokens, left)?;
+    let recursive = parts::read_flag(tokens, "recursive");
+    for_body(
+        alloc, tokens, left, around, target, iter, filter, recursive, span,
+    )
+}
+
+// A loop, from the end of its tag on.
+#[cycle(statements)]
+#[tactic(auto, using(template_compiler_statement_parts::proofs::Again::tag_end_again), unfolding(template_compiler_reading::specs::Steps::and_then, template_compiler_statements::specs::Reader::here, template_compiler_statements::specs::Reader::here_by, template_compiler_statements::specs::Reader::for_body))]
+fn for_body<'source>(
+    alloc: Global,
+    tokens: &mut TokenStream<'source>,
+    left: u32,
+    around: Around,
+    target: Expr<'source>,
+    iter: Expr<'source>,
+    filter_expr: Option<Expr<'source>>,
+    recursive: bool,
+    span: Span,
+) -> Result<Stmt<'source>, Refusal>
+    ensures { ParsedStatement (for_body (here left) (around_of around) (expression_of target.entry) (expression_of iter.entry) (optional_in filter_expr.entry) recursive tokens.old)
+        tokens.new result }
+{
+    parts::expect_tag_end(tokens)?;
+    let body = body(alloc, tokens, left, around.within_loop())?;
+    let else_body = otherwise(alloc, tokens, left, around, "endfor")?;
+    let node = ForLoop {
+        target,
+        iter,
+        filter_expr,
+        recursive,
+        body,
+        else_body,
+    };
+    Ok(makers::for_loop(alloc, node, span)?)
+}
+
+#[cycle(statements)]
+#[tactic(auto, unfolding(template_compiler_reading::specs::Steps::and_then, template_compiler_statements::specs::Reader::if_by))]
+fn if_condition<'source>(
+    alloc: Global,
+    tokens: &mut TokenStream<'source>,
+    left: u32,
+    around: Around,
+    span: Span,
+) -> Result<Stmt<'source>, Refusal>
+    ensures { ParsedStatement (if_by (here left) (around_of around) tokens.old) tokens.new result }
+{
+    let first = read_branch(alloc, tokens, left, around, span)?;
+    let others = branches(alloc, tokens, left, around)?;
+    let last = otherwise(alloc, tokens, left, around, "endif")?;
+    let false_body = branched(alloc, others, last)?;
+    let node = IfCond {
+        expr: first.expr,
+        true_body: first.body,
+        false_body,
+    };
+    Ok(makers::if_condition(alloc, node, span)?)
+}
+
+// A condition with its body.
+#[cycle(statements)]
+#[tactic(auto, using(template_compiler_statement_parts::proofs::Again::tag_end_again), unfolding(template_compiler_reading::specs::Steps::and_then, template_compiler_statements::specs::Reader::here, template_compiler_statements::specs::Reader::here_by, template_compiler_statements::specs::Reader::branch_by))]
+fn read_branch<'source>(
+    alloc: Global,
+    tokens: &mut TokenStream<'source>,
+    left: u32,
+    around: Around,
+    span: Span,
+) -> Result<Branch<'source>, Refusal>
+    ensures { ParsedAs (λ b. (expression_of b.expr, statements_in b.body.items)) (branch_by (here left) (around_of around) tokens.old) tokens.new result }
+{
+    let expr = read_expression(alloc, tokens, left)?;
+    parts::expect_tag_end(tokens)?;
+    let body = body(alloc, tokens, left, around)?;
+    Ok(Branch { expr, body, span })
+}
+
+// The branches behind the first one.
+#[cycle(statements)]
+fn branches<'source>(
+    alloc: Global,
+    tokens: &mut TokenStream<'source>,
+    left: u32,
+    around: Around,
+) -> Result<Vec<Branch<'source>>, Refusal>
+    ensures { ParsedAs (λ v. branches_in v.items) (all (branch_step (here left) (around_of around)) no_branches tokens.old) tokens.new result }
+{
+    let mut branches = Vec::new(alloc);
+    loop {
+        match next_branch(alloc, tokens, left, around, &mut branches) {
+            Ok(true) => {}
+            Ok(false) => return Ok(branches),
+            Err(refusal) => return Err(refusal),
+        }
+    }
+}
+
+#[cycle(statements)]
+#[tactic(auto, using(crate::proofs::Next::branch_here, crate::proofs::Next::no_branch, crate::proofs::Lists::branches_push), unfolding(template_compiler_reading::specs::Steps::under))]
+fn next_branch<'source>(
+    alloc: Global,
+    tokens: &mut TokenStream<'source>,
+    left: u32,
+    around: Around,
+    branches: &mut Vec<Branch<'source>>,
+) -> Result<bool, Refusal>
+    ensures { SteppedTo (branch_step (here left) (around_of around) (branches_in branches.old.items) tokens.old)
+        (branches_in branches.old.items) tokens.old (branches_in branches.new.items) tokens.new result }
+{
+    if parts::begins_tag(tokens, "elif") {
+        let span = tokens.span();
+        tokens.advance();
+        tokens.advance();
+        branches.push(read_branch(alloc, tokens, left, around, span)?)?;
+        Ok(true)
+    } else {
+        Ok(false)
+    }
+}
+
+#[cycle(statements)]
+#[tactic(auto, using(template_compiler_statement_parts::proofs::Again::tag_end_again, template_compiler_statement_parts::proofs::Again::tag_again), unfolding(template_compiler_reading::specs::Steps::and_then, template_compiler_statements::specs::Reader::here, template_compiler_statements::specs::Reader::here_by, template_compiler_statements::specs::Reader::with_by, template_compiler_statements::specs::Reader::body_by))]
+fn with_block<'source>(
+    alloc: Global,
+    tokens: &mut TokenStream<'source>,
+    left: u32,
+    around: Around,
+    span: Span,
+) -> Result<Stmt<'source>, Refusal>
+    ensures { ParsedStatement (with_by (here left) (around_of around) tokens.old) tokens.new result }
+{
+    let assignments = read_assignments(alloc, tokens, left)?;
+    parts::expect_tag_end(tokens)?;
+    let body = body(alloc, tokens, left, around)?;
+    parts::expect_tag(tokens, "endwith")?;
+    Ok(makers::with_block(alloc, assignments, body, span)?)
+}
+
+#[cycle(statements)]
+#[tactic(auto, unfolding(template_compiler_reading::specs::Steps::and_then, template_compiler_statements::specs::Reader::here, template_compiler_statements::specs::Reader::here_by, template_compiler_statements::specs::Reader::set_by, template_compiler_statements::specs::Reader::set_behind))]
+fn set<'source>(
+    alloc: Global,
+    tokens: &mut TokenStream<'source>,
+    left: u32,
+    around: Around,
+    span: Span,
+) -> Result<Stmt<'source>, Refusal>
+    ensures { ParsedStatement (set_by (here left) (around_of around) tokens.old) tokens.new result }
+{
+    let target = parts::read_target(alloc, tokens, left, true)?;
+    if parts::begins_values(tokens) {
+        leaves::read_set(alloc, tokens, left, target, span)
+    } else {
+        set_block(alloc, tokens, left, around, target, span)
+    }
+}
+
+// A set block, behind its target.
+#[cycle(statements)]
+#[tactic(auto, using(template_compiler_statement_parts::proofs::Again::tag_end_again, template_compiler_statement_parts::proofs::Again::tag_again), unfolding(template_compiler_reading::specs::Steps::and_then, template_compiler_statements::specs::Reader::here, template_compiler_statements::specs::Reader::here_by, template_compiler_statements::specs::Reader::set_body, template_compiler_statements::specs::Reader::body_by))]
+fn set_block<'source>(
+    alloc: Global,
+    tokens: &mut TokenStream<'source>,
+    left: u32,
+    around: Around,
+    target: Expr<'source>,
+    span: Span,
+) -> Result<Stmt<'source>, Refusal>
+    ensures { ParsedStatement (set_body (here left) (around_of around) (expression_of target.entry) tokens.old) tokens.new result }
+{
+    let filter = read_filter_chain(alloc, tokens, left, None)?;
+    parts::expect_tag_end(tokens)?;
+    let body = body(alloc, tokens, left, around)?;
+    parts::expect_tag(tokens, "endset")?;
+    Ok(makers::set_block(alloc, target, filter, body, span)?)
+}
+
+#[cycle(statements)]
+#[tactic(auto, using(template_compiler_statement_parts::proofs::Again::tag_end_again, template_compiler_statement_parts::proofs::Again::tag_again), unfolding(template_compiler_reading::specs::Steps::and_then, template_compiler_statements::specs::Reader::here, template_compiler_statements::specs::Reader::here_by, template_compiler_statements::specs::Reader::autoescape_by, template_compiler_statements::specs::Reader::body_by))]
+fn auto_escape<'source>(
+    alloc: Global,
+    tokens: &mut TokenStream<'source>,
+    left: u32,
+    around: Around,
+    span: Span,
+) -> Result<Stmt<'source>, Refusal>
+    ensures { ParsedStatement (autoescape_by (here left) (around_of around) tokens.old) tokens.new result }
+{
+    let enabled = read_expression(alloc, tokens, left)?;
+    parts::expect_tag_end(tokens)?;
+    let body = body(alloc, tokens, left, around)?;
+    parts::expect_tag(tokens, "endautoescape")?;
+    Ok(makers::auto_escape(alloc, enabled, body, span)?)
+}
+
+#[cycle(statements)]
+#[tactic(auto, using(template_compiler_statement_parts::proofs::Again::tag_end_again, template_compiler_statement_parts::proofs::Again::tag_again), unfolding(template_compiler_reading::specs::Steps::and_then, template_compiler_statements::specs::Reader::here, template_compiler_statements::specs::Reader::here_by, template_compiler_statements::specs::Reader::filter_block_by, template_compiler_statements::specs::Reader::body_by))]
+fn filter_block<'source>(
+    alloc: Global,
+    tokens: &mut TokenStream<'source>,
+    left: u32,
+    around: Around,
+    span: Span,
+) -> Result<Stmt<'source>, Refusal>
+    ensures { ParsedStatement (filter_block_by (here left) (around_of around) tokens.old) tokens.new result }
+{
+    let first = read_filter(alloc, tokens, left, None)?;
+    let filter = read_filter_chain(alloc, tokens, left, Some(first))?;
+    parts::expect_tag_end(tokens)?;
+    let body = body(alloc, tokens, left, around)?;
+    parts::expect_tag(tokens, "endfilter")?;
+    Ok(filtered_body(alloc, filter, body, span)?)
+}
+
+#[cycle(statements)]
+#[tactic(auto, using(crate::proofs::Next::block_here, crate::proofs::Next::no_block), unfolding(template_compiler_reading::specs::Steps::and_then))]
+fn block<'source>(
+    alloc: Global,
+    tokens: &mut TokenStream<'source>,
+    left: u32,
+    around: Around,
+    span: Span,
+) -> Result<Stmt<'source>, Refusal>
+    ensures { ParsedStatement (block_by (here left) (around_of around) tokens.old) tokens.new result }
+{
+    match tokens.word() {
+        Some(name) => {
+            tokens.advance();
+            if around.in_macro {
+                return Err(Refusal::Token(Fault::Syntax));
+            }
+            let required = parts::read_flag(tokens, "required");
+            block_behind(alloc, tokens, left, around, name, required, span)
+        }
+        None => Err(Refusal::Token(tokens.fault())),
+    }
+}
+
+// A block, from the end of its tag on.
+#[cycle(statements)]
+#[tactic(auto, using(template_compiler_statement_parts::proofs::Again::tag_end_again, crate::proofs::Ended::block_end_again), unfolding(template_compiler_reading::specs::Steps::and_then, template_compiler_statements::specs::Reader::here, template_compiler_statements::specs::Reader::here_by, template_compiler_statements::specs::Reader::block_body))]
+fn block_behind<'source>(
+    alloc: Global,
+    tokens: &mut TokenStream<'source>,
+    left: u32,
+    around: Around,
+    name: &'source str,
+    required: bool,
+    span: Span,
+) -> Result<Stmt<'source>, Refusal>
+    ensures { ParsedStatement (block_body (here left) (around_of around) name.now required tokens.old) tokens.new result }
+{
+    parts::expect_tag_end(tokens)?;
+    let body = body(alloc, tokens, left, around.within_block())?;
+    if !is_block_body(required, &body) {
+        return Err(Refusal::Token(Fault::Syntax));
+    }
+    parts::expect_block_end(tokens, name)?;
+    Ok(makers::block(alloc, name, required, body, span)?)
+}
+
+#[cycle(statements)]
+#[tactic(auto, using(crate::proofs::Next::macro_here, crate::proofs::Next::no_paren, crate::proofs::Next::no_macro))]
+fn macro_block<'source>(
+    alloc: Global,
+    tokens: &mut TokenStream<'source>,
+    left: u32,
+    span: Span,
+) -> Result<Stmt<'source>, Refusal>
+    ensures { ParsedStatement (macro_by (here left) tokens.old) tokens.new result }
+{
+    match tokens.word() {
+        Some(name) => {
+            tokens.advance();
+            if !tokens.skip(Sign::ParenOpen) {
+                return Err(Refusal::Token(tokens.fault()));
+            }
+            if parts::is_reserved(name) {
+                return Err(Refusal::Token(Fault::Syntax));
+            }
+            macro_behind(alloc, tokens, left, name, span)
+        }
+        None => Err(Refusal::Token(tokens.fault())),
+    }
+}
+
+// A macro, behind the `(` of its arguments.
+#[cycle(statements)]
+#[tactic(auto, using(template_compiler_statement_parts::proofs::Again::tag_end_again, template_compiler_statement_parts::proofs::Again::tag_again), unfolding(template_compiler_reading::specs::Steps::and_then, template_compiler_statements::specs::Reader::here, template_compiler_statements::specs::Reader::here_by, template_compiler_statements::specs::Reader::body_by))]
+fn macro_behind<'source>(
+    alloc: Global,
+    tokens: &mut TokenStream<'source>,
+    left: u32,
+    name: &'source str,
+    span: Span,
+) -> Result<Stmt<'source>, Refusal>
+    ensures { ParsedStatement (macro_behind (here left) name.now tokens.old) tokens.new result }
+{
+    let parameters = read_deeper_parameters(alloc, tokens, left)?;
+    parts::expect_tag_end(tokens)?;
+    let body = body(alloc, tokens, left, Around::within_macro())?;
+    parts::expect_tag(tokens, "endmacro")?;
+    let node = Macro {
+        name,
+        args: parameters.args,
+        defaults: parameters.defaults,
+        body,
+    };
+    Ok(makers::macro_declared(alloc, node, span)?)
+}
+
+#[cycle(statements)]
+#[tactic(auto, using(template_compiler_statement_leaves::proofs::Calls::call_here, template_compiler_statement_leaves::proofs::Calls::no_call), unfolding(template_compiler_reading::specs::Steps::and_then, template_compiler_statements::specs::Reader::here, template_compiler_statements::specs::Reader::here_by, template_compiler_statements::specs::Reader::call_by))]
+fn call_block<'source>(
+    alloc: Global,
+    tokens: &mut TokenStream<'source>,
+    left: u32,
+    span: Span,
+) -> Result<Stmt<'source>, Refusal>
+    ensures { ParsedStatement (call_by (here left) tokens.old) tokens.new result }
+{
+    let parameters = read_optional_parameters(alloc, tokens, left)?;
+    let expr = read_expression(alloc, tokens, left)?;
+    match expr.into_call() {
+        Some(call) => call_behind(alloc, tokens, left, parameters, call, span),
+        None => Err(Refusal::Token(Fault::Syntax)),
+    }
+}
+
+// A call block, behind its call.
+#[cycle(statements)]
+#[tactic(auto, using(template_compiler_statement_parts::proofs::Again::tag_end_again, template_compiler_statement_parts::proofs::Again::tag_again), unfolding(template_compiler_reading::specs::Steps::and_then, template_compiler_statements::specs::Reader::here, template_compiler_statements::specs::Reader::here_by, template_compiler_statements::specs::Reader::call_body, template_compiler_statements::specs::Reader::body_by))]
+fn call_behind<'source>(
+    alloc: Global,
+    tokens: &mut TokenStream<'source>,
+    left: u32,
+    parameters: Parameters<'source>,
+    call: Spanned<Box<Call<'source>>>,
+    span: Span,
+) -> Result<Stmt<'source>, Refusal>
+    ensures { ParsedStatement (call_body (here left) (parameters_of parameters.entry) (expression_of call.entry.node.value.expr)
+        (arguments_in call.entry.node.value.args.items) tokens.old) tokens.new result }
+{
+    parts::expect_tag_end(tokens)?;
+    let body = body(alloc, tokens, left, Around::within_macro())?;
+    parts::expect_tag(tokens, "endcall")?;
+    let node = Macro {
+        name: "caller",
+        args: parameters.args,
+        defaults: parameters.defaults,
+        body,
+    };
+    Ok(makers::call_block(alloc, call, node, span)?)
+}
+
+// A required block has a blank body. Linear.
+fn is_block_body<'source>(required: bool, body: &[Stmt<'source>]) -> bool
+    ensures { result ≡ is_block_body required (statements_in body.now) }
+{
+    if required { is_blank(body) } else { true }
+}
+
+// A filter block; the chain of its filters is never empty.
+fn filtered_body<'source>(
+    alloc: Global,
+    filter: Option<Expr<'source>>,
+    body: Vec<Stmt<'source>>,
+    span: Span,
+) -> Result<Stmt<'source>, AllocError>
+    ensures { IfOk result (λ s. statement_of s ≡ filtered_body (optional_in filter.entry) (statements_in body.entry.items)) }
+{
+    match filter {
+        Some(filter) => makers::filter_block(alloc, filter, body, span),
+        None => Ok(makers::raw("", span)),
+    }
+}
+
+// Each branch is the one statement of the body before it.
+#[tactic(auto, using(crate::proofs::Lists::branched_last))]
+fn branched<'source>(
+    alloc: Global,
+    branches: Vec<Branch<'source>>,
+    last: Vec<Stmt<'source>>,
+) -> Result<Vec<Stmt<'source>>, AllocError>
+    ensures { IfOk result (λ v. statements_in v.items ≡ branched (branches_in branches.entry.items) (statements_in last.entry.items)) }
+{
+    let mut branches = branches;
+    let mut body = last;
+    while let Some(branch) = branches.pop() {
+        let Branch {
+            expr,
+            body: true_body,
+            span,
+        } = branch;
+        let node = IfCond {
+            expr,
+            true_body,
+            false_body: body,
+        };
+        let statement = makers::if_condition(alloc, node, span)?;
+        body = Vec::new(alloc);
+        body.push(statement)?;
+    }
+    Ok(body)
+}

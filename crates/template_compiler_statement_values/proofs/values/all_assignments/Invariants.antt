@@ -1,0 +1,12 @@
+use Rattle.std.proofs.Common.{◌≡◌, length}
+use Rattle.template_tree.specs.StatementView.{assignments_in}
+use Rattle.template_compiler_reading.specs.Steps.{all}
+use Rattle.template_compiler_statements.specs.Reader.{more_step, assignment_by, here}
+use Rattle.template_compiler_statement_values.proofs.values.all_assignments.Given as goal
+
+abbrev pub invariant-loop-refusal : goal.invariant-loop-refusal
+invariant-loop-refusal l =
+    all (more_step (assignment_by (here l.left))) (assignments_in l.pairs.items) l.tokens ≡ all (more_step (assignment_by (here l.left))) (assignments_in l.initial.pairs.items) l.initial.tokens
+
+abbrev pub decreases-loop-refusal : goal.decreases-loop-refusal
+decreases-loop-refusal l = length l.tokens

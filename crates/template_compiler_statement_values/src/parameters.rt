@@ -1,0 +1,155 @@
+//! The arguments that a macro or the body of a call is declared with.
+ghost use Rattle.std.specs.Prelude.{◌≡◌, [], ◌∷◌};
+ghost use Rattle.template_compiler_expressions.specs.Reader.{expression_at};
+ghost use Rattle.template_compiler_statement_parts.specs.Parsed.{ParsedAs, SteppedTo, ParsedInto};
+ghost use Rattle.template_compiler_statement_values.specs.Written.{parameters_of};
+ghost use Rattle.template_compiler_statements.specs.Reader.{deeper_parameters, here, is_nothing, more_step, optional_parameters_by, parameter_by, parameters_by};
+ghost use Rattle.template_compiler_statements.specs.Trees.{no_parameters};
+ghost use Rattle.template_compiler_reading.specs.Steps.{all};
+
+use std::alloc::Global;
+use template_compiler_expression_parser::read_expression;
+use template_compiler_statement_parts::{expect_paren_end, read_stored};
+use template_compiler_stream::{Fault, Refusal, Sign, TokenStream};
+use template_tree::Expr;
+
+/// Arguments, and the defaults of the last of them.
+#[derive(Drop)]
+pub struct Parameters<'source> {
+    pub args: Vec<Expr<'source>>,
+    pub defaults: Vec<Expr<'source>>,
+}
+
+fn no_parameters<'source>(alloc: Global) -> Parameters<'source>
+    ensures { parameters_of result ≡ no_parameters }
+{
+    Parameters {
+        args: Vec::new(alloc),
+        defaults: Vec::new(alloc),
+    }
+}
+
+/// Reads arguments in parentheses, where they stand next.
+///
+/// # Errors
+///
+/// The fault of the token that does not fit, or want of memory.
+#[tactic(auto, using(template_compiler_statement_parts::proofs::Standing::no_parens), unfolding(template_compiler_statements::specs::Reader::here, template_compiler_statements::specs::Reader::here_by, template_compiler_statements::specs::Reader::optional_parameters_by))]
+pub fn read_optional_parameters<'source>(
+    alloc: Global,
+    tokens: &mut TokenStream<'source>,
+    left: u32,
+) -> Result<Parameters<'source>, Refusal>
+    ensures { ParsedAs parameters_of (optional_parameters_by (here left) tokens.old) tokens.new result }
+{
+    if tokens.skip(Sign::ParenOpen) {
+        read_deeper_parameters(alloc, tokens, left)
+    } else {
+        Ok(no_parameters(alloc))
+    }
+}
+
+/// Reads arguments behind `(`, and `)`. They are one nesting level deeper.
+///
+/// # Errors
+///
+/// The fault of the token that does not fit, or want of memory.
+#[tactic(auto, unfolding(template_compiler_statements::specs::Reader::deeper_parameters))]
+pub fn read_deeper_parameters<'source>(
+    alloc: Global,
+    tokens: &mut TokenStream<'source>,
+    left: u32,
+) -> Result<Parameters<'source>, Refusal>
+    ensures { ParsedAs parameters_of (deeper_parameters left tokens.old) tokens.new result }
+{
+    if left == 0 {
+        Err(Refusal::Token(Fault::Syntax))
+    } else {
+        read_parameters(alloc, tokens, left - 1)
+    }
+}
+
+#[tactic(auto, using(template_compiler_statement_parts::proofs::Standing::some_parameters, template_compiler_statement_parts::proofs::Again::paren_end_again), unfolding(template_compiler_reading::specs::Steps::and_then, template_compiler_statements::specs::Reader::parameters_by))]
+fn read_parameters<'source>(
+    alloc: Global,
+    tokens: &mut TokenStream<'source>,
+    left: u32,
+) -> Result<Parameters<'source>, Refusal>
+    ensures { ParsedAs parameters_of (parameters_by (expression_at left) tokens.old) tokens.new result }
+{
+    let mut parameters = no_parameters(alloc);
+    if tokens.skip(Sign::ParenClose) {
+        return Ok(parameters);
+    }
+    read_parameter(alloc, tokens, left, &mut parameters)?;
+    all_parameters(alloc, tokens, left, &mut parameters)?;
+    expect_paren_end(tokens)?;
+    Ok(parameters)
+}
+
+#[tactic(auto, using(template_compiler_statement_parts::proofs::Lists::expressions_push, template_compiler_statement_parts::proofs::Standing::no_default), unfolding(template_compiler_reading::specs::Steps::and_then, template_compiler_statements::specs::Reader::parameter_by, template_compiler_statements::specs::Reader::default_by))]
+fn read_parameter<'source>(
+    alloc: Global,
+    tokens: &mut TokenStream<'source>,
+    left: u32,
+    parameters: &mut Parameters<'source>,
+) -> Result<(), Refusal>
+    ensures { ParsedInto (parameter_by (expression_at left) (parameters_of parameters.old) tokens.old)
+        (parameters_of parameters.new) tokens.new result }
+{
+    let name = read_stored(tokens)?;
+    if tokens.skip(Sign::Assign) {
+        let default = read_expression(alloc, tokens, left)?;
+        parameters.args.push(name)?;
+        parameters.defaults.push(default)?;
+        Ok(())
+    } else if has_no_default(parameters) {
+        parameters.args.push(name)?;
+        Ok(())
+    } else {
+        Err(Refusal::Token(Fault::Syntax))
+    }
+}
+
+#[tactic(auto, using(crate::proofs::Lists::nothing_in))]
+fn has_no_default<'source>(parameters: &Parameters<'source>) -> bool
+    ensures { result ≡ is_nothing (parameters_of parameters.now).1 }
+{
+    parameters.defaults.is_empty()
+}
+
+fn all_parameters<'source>(
+    alloc: Global,
+    tokens: &mut TokenStream<'source>,
+    left: u32,
+    parameters: &mut Parameters<'source>,
+) -> Result<(), Refusal>
+    ensures { ParsedInto (all (more_step (parameter_by (expression_at left))) (parameters_of parameters.old) tokens.old)
+        (parameters_of parameters.new) tokens.new result }
+{
+    loop {
+        match next_parameter(alloc, tokens, left, parameters) {
+            Ok(true) => {}
+            Ok(false) => return Ok(()),
+            Err(refusal) => return Err(refusal),
+        }
+    }
+}
+
+#[tactic(auto, using(template_compiler_statement_parts::proofs::Standing::no_more), unfolding(template_compiler_reading::specs::Steps::under, template_compiler_statements::specs::Reader::more_step))]
+fn next_parameter<'source>(
+    alloc: Global,
+    tokens: &mut TokenStream<'source>,
+    left: u32,
+    parameters: &mut Parameters<'source>,
+) -> Result<bool, Refusal>
+    ensures { SteppedTo (more_step (parameter_by (expression_at left)) (parameters_of parameters.old) tokens.old)
+        (parameters_of parameters.old) tokens.old (parameters_of parameters.new) tokens.new result }
+{
+    if tokens.skip(Sign::Comma) {
+        read_parameter(alloc, tokens, left, parameters)?;
+        Ok(true)
+    } else {
+        Ok(false)
+    }
+}

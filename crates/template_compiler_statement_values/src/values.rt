@@ -1,0 +1,200 @@
+//! Values, and targets with values.
+ghost use Rattle.std.specs.Prelude.{◌≡◌, IfOk};
+ghost use Rattle.template_compiler_statement_parts.specs.Parsed.{Parsed, ParsedAs, SteppedTo, ParsedInto};
+ghost use Rattle.template_compiler_expressions.specs.Reader.{expression_at};
+ghost use Rattle.template_compiler_statements.specs.Reader.{assignment_by, assignments_by, here, loop_filter_by, more_step, value_by, values_by};
+ghost use Rattle.template_compiler_statements.specs.Trees.{together};
+ghost use Rattle.template_compiler_reading.specs.Steps.{all};
+ghost use Rattle.template_tree.specs.View.{expression_of, expressions_in, optional_in};
+ghost use Rattle.template_tree.specs.StatementView.{assignments_in};
+
+use std::alloc::{AllocError, Global};
+use template_compiler_expression_parser::read_expression;
+use template_compiler_statement_parts::{expect_assign, read_target};
+use template_compiler_stream::{Refusal, Sign, TokenStream};
+use template_tree::{Expr, Span};
+
+/// Reads an expression, or several with commas between them, which are a tuple.
+///
+/// # Errors
+///
+/// The fault of the token that does not fit, or want of memory.
+#[tactic(auto, unfolding(template_compiler_reading::specs::Steps::and_then, template_compiler_statements::specs::Reader::values_by))]
+pub fn read_values<'source>(
+    alloc: Global,
+    tokens: &mut TokenStream<'source>,
+    left: u32,
+) -> Result<Expr<'source>, Refusal>
+    ensures { Parsed (values_by (expression_at left) tokens.old) tokens.new result }
+{
+    let span = tokens.span();
+    let mut values = Vec::new(alloc);
+    read_value(alloc, tokens, left, &mut values)?;
+    all_values(alloc, tokens, left, &mut values)?;
+    Ok(together(alloc, values, span)?)
+}
+
+#[tactic(auto, using(template_compiler_statement_parts::proofs::Lists::expressions_push), unfolding(template_compiler_reading::specs::Steps::and_then, template_compiler_statements::specs::Reader::value_by))]
+fn read_value<'source>(
+    alloc: Global,
+    tokens: &mut TokenStream<'source>,
+    left: u32,
+    values: &mut Vec<Expr<'source>>,
+) -> Result<(), Refusal>
+    ensures { ParsedInto (value_by (expression_at left) (expressions_in values.old.items) tokens.old)
+        (expressions_in values.new.items) tokens.new result }
+{
+    let value = read_expression(alloc, tokens, left)?;
+    values.push(value)?;
+    Ok(())
+}
+
+fn all_values<'source>(
+    alloc: Global,
+    tokens: &mut TokenStream<'source>,
+    left: u32,
+    values: &mut Vec<Expr<'source>>,
+) -> Result<(), Refusal>
+    ensures { ParsedInto (all (more_step (value_by (expression_at left))) (expressions_in values.old.items) tokens.old)
+        (expressions_in values.new.items) tokens.new result }
+{
+    loop {
+        match next_value(alloc, tokens, left, values) {
+            Ok(true) => {}
+            Ok(false) => return Ok(()),
+            Err(refusal) => return Err(refusal),
+        }
+    }
+}
+
+#[tactic(auto, using(template_compiler_statement_parts::proofs::Standing::no_more), unfolding(template_compiler_reading::specs::Steps::under, template_compiler_statements::specs::Reader::more_step))]
+fn next_value<'source>(
+    alloc: Global,
+    tokens: &mut TokenStream<'source>,
+    left: u32,
+    values: &mut Vec<Expr<'source>>,
+) -> Result<bool, Refusal>
+    ensures { SteppedTo (more_step (value_by (expression_at left)) (expressions_in values.old.items) tokens.old)
+        (expressions_in values.old.items) tokens.old (expressions_in values.new.items) tokens.new result }
+{
+    if tokens.skip(Sign::Comma) {
+        read_value(alloc, tokens, left, values)?;
+        Ok(true)
+    } else {
+        Ok(false)
+    }
+}
+
+// One value is itself, several are a tuple.
+#[tactic(auto, using(template_compiler_statement_parts::proofs::Lists::several_together))]
+fn together<'source>(
+    alloc: Global,
+    values: Vec<Expr<'source>>,
+    span: Span,
+) -> Result<Expr<'source>, AllocError>
+    ensures { IfOk result (λ e. expression_of e ≡ together (expressions_in values.entry.items)) }
+{
+    let mut values = values;
+    if values.len() == 1 {
+        if let Some(only) = values.pop() {
+            return Ok(only);
+        }
+    }
+    Expr::tuple(alloc, values, span)
+}
+
+/// Reads targets with their values, as in a `with` tag; there may be none.
+///
+/// # Errors
+///
+/// The fault of the token that does not fit, or want of memory.
+#[tactic(auto, using(template_compiler_statement_parts::proofs::Standing::no_assignment, template_compiler_statement_parts::proofs::Standing::some_assignment), unfolding(template_compiler_reading::specs::Steps::and_then, template_compiler_statements::specs::Reader::assignments_by))]
+pub fn read_assignments<'source>(
+    alloc: Global,
+    tokens: &mut TokenStream<'source>,
+    left: u32,
+) -> Result<Vec<(Expr<'source>, Expr<'source>)>, Refusal>
+    ensures { ParsedAs (λ v. assignments_in v.items) (assignments_by (here left) tokens.old) tokens.new result }
+{
+    let mut pairs = Vec::new(alloc);
+    if tokens.ends_tag() {
+        return Ok(pairs);
+    }
+    read_assignment(alloc, tokens, left, &mut pairs)?;
+    all_assignments(alloc, tokens, left, &mut pairs)?;
+    Ok(pairs)
+}
+
+#[tactic(auto, using(template_compiler_statement_parts::proofs::Lists::assignments_push, template_compiler_statement_parts::proofs::Again::assign_again), unfolding(template_compiler_reading::specs::Steps::and_then, template_compiler_statements::specs::Reader::here, template_compiler_statements::specs::Reader::here_by, template_compiler_statements::specs::Reader::assignment_by))]
+fn read_assignment<'source>(
+    alloc: Global,
+    tokens: &mut TokenStream<'source>,
+    left: u32,
+    pairs: &mut Vec<(Expr<'source>, Expr<'source>)>,
+) -> Result<(), Refusal>
+    ensures { ParsedInto (assignment_by (here left) (assignments_in pairs.old.items) tokens.old)
+        (assignments_in pairs.new.items) tokens.new result }
+{
+    let target = read_target(alloc, tokens, left, false)?;
+    expect_assign(tokens)?;
+    let value = read_expression(alloc, tokens, left)?;
+    pairs.push((target, value))?;
+    Ok(())
+}
+
+fn all_assignments<'source>(
+    alloc: Global,
+    tokens: &mut TokenStream<'source>,
+    left: u32,
+    pairs: &mut Vec<(Expr<'source>, Expr<'source>)>,
+) -> Result<(), Refusal>
+    ensures { ParsedInto (all (more_step (assignment_by (here left))) (assignments_in pairs.old.items) tokens.old)
+        (assignments_in pairs.new.items) tokens.new result }
+{
+    loop {
+        match next_assignment(alloc, tokens, left, pairs) {
+            Ok(true) => {}
+            Ok(false) => return Ok(()),
+            Err(refusal) => return Err(refusal),
+        }
+    }
+}
+
+#[tactic(auto, using(template_compiler_statement_parts::proofs::Standing::no_more), unfolding(template_compiler_reading::specs::Steps::under, template_compiler_statements::specs::Reader::more_step))]
+fn next_assignment<'source>(
+    alloc: Global,
+    tokens: &mut TokenStream<'source>,
+    left: u32,
+    pairs: &mut Vec<(Expr<'source>, Expr<'source>)>,
+) -> Result<bool, Refusal>
+    ensures { SteppedTo (more_step (assignment_by (here left)) (assignments_in pairs.old.items) tokens.old)
+        (assignments_in pairs.old.items) tokens.old (assignments_in pairs.new.items) tokens.new result }
+{
+    if tokens.skip(Sign::Comma) {
+        read_assignment(alloc, tokens, left, pairs)?;
+        Ok(true)
+    } else {
+        Ok(false)
+    }
+}
+
+/// Reads the condition on a loop's items, where one stands next.
+///
+/// # Errors
+///
+/// The fault of the token that does not fit, or want of memory.
+#[tactic(auto, using(template_compiler_statement_parts::proofs::Standing::no_filter), unfolding(template_compiler_reading::specs::Steps::and_then, template_compiler_statements::specs::Reader::loop_filter_by))]
+pub fn read_loop_filter<'source>(
+    alloc: Global,
+    tokens: &mut TokenStream<'source>,
+    left: u32,
+) -> Result<Option<Expr<'source>>, Refusal>
+    ensures { ParsedAs optional_in (loop_filter_by (expression_at left) tokens.old) tokens.new result }
+{
+    if tokens.skip_word("if") {
+        let filter = read_expression(alloc, tokens, left)?;
+        Ok(Some(filter))
+    } else {
+        Ok(None)
+    }
+}
