@@ -1,0 +1,3 @@
+pub mod Surroundings
+pub mod Blank
+pub mod Listed

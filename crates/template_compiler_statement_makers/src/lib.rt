@@ -1,0 +1,12 @@
+//! What the parser of templates makes statements with: makers of nodes, the words that begin a statement, what stands
+//! around it, and blank bodies.
+#![tactic(auto)]
+
+mod around;
+mod blocks;
+pub mod makers;
+mod opening;
+
+pub use around::Around;
+pub use blocks::is_blank;
+pub use opening::{Opening, opening_named};
