@@ -8,18 +8,7 @@ use Rattle.template_tree.specs.declared.statements.CallBlock.{CallBlock' as call
 use Rattle.template_tree.specs.declared.statements.Stmt.{Stmt, EmitRaw, CallBlock'}
 use Rattle.template_compiler_statements.specs.Trees.{and_statement, is_blank}
 use Rattle.template_compiler_statement_makers.specs.Listed.{statements_in}
-use Rattle.template_compiler_statement_makers.specs.Blank.{is_blank_statement}
 
 pub statements_push : (xs : List Stmt) (s : Stmt) → statements_in (xs ++ s ∷ []) ≡ and_statement (statements_in xs) (statement_of s)
 statements_push [] s = refl
 statements_push (x ∷ xs) s = ap (λ ss. statements_more (statement_of x) ss) (statements_push xs s)
-
--- blank bodies, statement by statement
-pub blank_more : (s : Statement) (rest : Statements) → is_blank (statements_more s rest) ≡ (is_blank_statement s && is_blank rest)
-blank_more (raw text) rest = refl
-blank_more _ rest = refl
-
-pub other_statement : (s : Stmt) → ((x : Spanned Text) → s ≡ EmitRaw x → ⊥) → false ≡ is_blank_statement (statement_of s)
-other_statement (EmitRaw n) h = absurd (h n refl)
-other_statement (CallBlock' p (called call q name args defaults shape body inner) span) h = refl
-other_statement _ h = refl

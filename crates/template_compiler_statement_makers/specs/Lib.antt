@@ -1,3 +1,2 @@
 pub mod Surroundings
-pub mod Blank
 pub mod Listed

@@ -1,12 +1,5 @@
-//! What the parser of templates makes statements with: makers of nodes, the words that begin a statement, what stands
-//! around it, and blank bodies.
+//! TRIMMED for the proof of what stands above: the definitions alone.
 #![tactic(auto)]
 
 mod around;
-mod blocks;
-pub mod makers;
-mod opening;
-
 pub use around::Around;
-pub use blocks::is_blank;
-pub use opening::{Opening, opening_named};

@@ -1,0 +1,34 @@
+//! All tokens of a source.
+ghost use Rattle.std.specs.Prelude.{◌≡◌, IfOk, IfErr};
+ghost use Rattle.template_compiler_stream.specs.declared.refusal.Refusal.TheVariants as refusals;
+
+use crate::refusals::fault_of;
+use std::alloc::Global;
+use template_compiler_stream::{Refusal, TokenStream};
+use template_compiler_tokenizer::Tokenizer;
+
+/// Reads the tokens that are left of a template, and what stands behind them where that is none. Linear.
+///
+/// # Errors
+///
+/// Want of memory.
+pub fn read_tokens<'source>(
+    alloc: Global,
+    tokenizer: Tokenizer<'source>,
+) -> Result<TokenStream<'source>, Refusal>
+    ensures tokens { IfOk result (λ stream. stream ≡ tokenizer.entry.left) }
+    ensures refused { IfErr result (λ refusal. refusal ≡ refusals.OutOfMemory) }
+{
+    let mut tokenizer = tokenizer;
+    let mut tokens = Vec::new(alloc);
+    loop {
+        match tokenizer.next_token() {
+            Ok(Some(token)) => tokens.push(token)?,
+            Ok(None) => return Ok(TokenStream::new(tokens, None)),
+            Err(error) => match fault_of(error.kind()) {
+                Some(fault) => return Ok(TokenStream::new(tokens, Some(fault))),
+                None => return Err(Refusal::OutOfMemory),
+            },
+        }
+    }
+}

@@ -1,0 +1,53 @@
+-- Which tree a source has, and why it has none.
+use Rattle.std.specs.Prelude.{◌≡◌, ◌≤◌, ◌^◌, ◌⊎◌, ℕ, List, [], ◌∷◌, length}
+use Rattle.template_values_errors.specs.declared.ErrorKind.{ErrorKind}
+use Rattle.template_values_errors.specs.declared.ErrorKind.TheVariants as kinds
+use Rattle.template_tree.specs.Tree.{Expression, Statement, template, Statements}
+use Rattle.template_compiler_tokens.specs.Token.{Token, TokenFault}
+use Rattle.template_compiler_tokens.specs.Left.{kind_of}
+use Rattle.template_compiler_reading.specs.Blame.{Blamed}
+use Rattle.template_compiler_syntax.specs.Syntax.{Syntax}
+use Rattle.template_compiler_segments.specs.Flat.{IsTokens}
+use Rattle.template_compiler_source_tokens.specs.Spelled.{IsSpelled}
+use Rattle.template_compiler_expressions.specs.Grammar.{IsExpression}
+use Rattle.template_compiler_statements.specs.Grammar.{IsTemplate}
+
+-- the source's tokens are the template's statements
+pub data IsSource (x : Syntax) (source : List ℕ) : Statement → Type 0 where
+  source_of : {tokens : List Token} {body : Statements} → IsTokens x source tokens → IsTemplate tokens body →
+      IsSource x source (template body)
+
+-- the source has no tree, and the fault stands among its tokens
+pub record IsFaulty (x : Syntax) (source : List ℕ) (fault : TokenFault) : Type 0 where
+  pub tokens : List Token
+  pub spelled : IsTokens x source tokens
+  pub blamed : Blamed fault tokens
+  pub treeless : (tree : Statement) → IsSource x source tree → ⊥
+
+-- the source's tokens are the expression
+pub data IsExpressionSource (source : List ℕ) : Expression → Type 0 where
+  expression_source : {tokens : List Token} {tree : Expression} → IsSpelled source tokens → IsExpression 150 tokens tree [] →
+      IsExpressionSource source tree
+
+-- the source is no expression, and the fault stands among its tokens
+pub record IsFaultyExpression (source : List ℕ) (fault : TokenFault) : Type 0 where
+  pub tokens : List Token
+  pub spelled : IsSpelled source tokens
+  pub blamed : Blamed fault tokens
+  pub treeless : (tree : Expression) → IsExpressionSource source tree → ⊥
+
+-- the error alone, without a cause
+abbrev pub IsAlone : ErrorKind → List ErrorKind → Type 0
+IsAlone kind e = e ≡ kind ∷ []
+
+-- why a source is refused: for want of memory, for its size, or for the fault
+abbrev pub Refuses : List ℕ → (TokenFault → Type 0) → List ErrorKind → Type 0
+Refuses source faulty e =
+    IsAlone kinds.OutOfMemory e ⊎ ((IsAlone kinds.TooLarge e × (2 ^ 32 ≤ length source)) ⊎
+    ((fault : TokenFault) × IsAlone (kind_of fault) e × faulty fault))
+
+abbrev pub RefusesSource : Syntax → List ℕ → List ErrorKind → Type 0
+RefusesSource x source = Refuses source (IsFaulty x source)
+
+abbrev pub RefusesExpression : List ℕ → List ErrorKind → Type 0
+RefusesExpression source = Refuses source (IsFaultyExpression source)

@@ -1,0 +1,39 @@
+-- What the reading of all tokens answers.
+use Rattle.std.specs.Prelude.{◌≡◌, List, [], ◌∷◌, Result, Ok, Err}
+use Rattle.template_tree.specs.Tree.{Expression, Statement, template, Statements}
+use Rattle.template_tree.specs.View.{expression_of}
+use Rattle.template_tree.specs.StatementView.{statement_of}
+use Rattle.template_tree.specs.declared.expressions.Expr.{Expr}
+use Rattle.template_tree.specs.declared.statements.Stmt.{Stmt}
+use Rattle.template_compiler_tokens.specs.Token.{Token, TokenFault}
+use Rattle.template_compiler_reading.specs.Steps.{Read, fault}
+use Rattle.template_compiler_expressions.specs.Reader.{expression_at}
+use Rattle.template_compiler_stream.specs.Refusals.{fault_of}
+use Rattle.template_compiler_stream.specs.declared.refusal.Refusal.{Refusal}
+use Rattle.template_compiler_stream.specs.declared.refusal.Refusal.TheVariants as refusals
+use Rattle.template_compiler_statement_makers.specs.Listed.{statements_in}
+
+-- the reader's statements or its fault; or no memory
+abbrev pub ParsedWhole : Result Statements TokenFault → Result (List Stmt) Refusal → Type 0
+ParsedWhole r (Ok body) = r ≡ Ok (statements_in body)
+ParsedWhole r (Err (refusals.Token f)) = r ≡ Err (fault_of f)
+ParsedWhole r (Err refusals.OutOfMemory) = Unit {0}
+
+abbrev pub ParsedTemplate : Result Statements TokenFault → Result Stmt Refusal → Type 0
+ParsedTemplate r (Ok tree) = (body : Statements) × (statement_of tree ≡ template body) × (r ≡ Ok body)
+ParsedTemplate r (Err (refusals.Token f)) = r ≡ Err (fault_of f)
+ParsedTemplate r (Err refusals.OutOfMemory) = Unit {0}
+
+-- an expression, and nothing behind it
+abbrev pub nothing_behind : Read Expression → Result Expression TokenFault
+nothing_behind (Ok (e, [])) = Ok e
+nothing_behind (Ok (e, t ∷ ts)) = Err (fault (t ∷ ts))
+nothing_behind (Err f) = Err f
+
+abbrev pub expression_alone : List Token → Result Expression TokenFault
+expression_alone ts = nothing_behind (expression_at 150 ts)
+
+abbrev pub ParsedExpression : Result Expression TokenFault → Result Expr Refusal → Type 0
+ParsedExpression r (Ok e) = r ≡ Ok (expression_of e)
+ParsedExpression r (Err (refusals.Token f)) = r ≡ Err (fault_of f)
+ParsedExpression r (Err refusals.OutOfMemory) = Unit {0}

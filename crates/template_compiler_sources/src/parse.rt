@@ -1,0 +1,70 @@
+//! The tree of a template's source.
+ghost use Rattle.std.specs.Prelude.{◌≡◌, ◌≤◌, ◌^◌, length, IfOk, IfErr, IsErrAnd};
+ghost use Rattle.template_compiler_sources.specs.Source.{IsAlone, IsSource, RefusesSource};
+ghost use Rattle.template_values_errors.specs.declared.ErrorKind.TheVariants.{TooLarge};
+ghost use Rattle.template_compiler_sources.specs.Wholes.{ParsedTemplate};
+ghost use Rattle.template_compiler_statements.specs.Reader.{template_of};
+ghost use Rattle.template_tree.specs.StatementView.{statement_of};
+
+use crate::template::read_template;
+use std::alloc::Global;
+use template_compiler_source_tokens::{error_of, read_tokens};
+use template_compiler_stream::{Refusal, TokenStream};
+use template_compiler_syntax::SyntaxConfig;
+use template_compiler_tokenizer::Tokenizer;
+use template_tree::{Span, Spanned, Stmt, Template};
+use template_values_errors::{Error, ErrorKind};
+
+/// The tree of a template's source under a syntax, in linear time. Texts and names are slices of the source. The file
+/// name is for messages alone.
+///
+/// # Errors
+///
+/// `TooLarge` for a source of 2^32 bytes or more, else `BadEscape` for a text literal with an escape that is none,
+/// `NoFloats` for a number with a fraction or an exponent, `SyntaxError` for all else where the source has no tree;
+/// `OutOfMemory`.
+pub fn parse<'source>(
+    alloc: Global,
+    source: &'source str,
+    filename: &'source str,
+    syntax: SyntaxConfig,
+) -> Result<Stmt<'source>, Error>
+    ensures found { IfOk result (λ tree. IsSource syntax source.now (statement_of tree)) }
+    ensures refused { IfErr result (RefusesSource syntax source.now) }
+    ensures too_large { 2 ^ 32 ≤ length source.now → IsErrAnd result (IsAlone TooLarge) }
+{
+    if source.len() > u32::MAX as usize {
+        return Err(Error::new(ErrorKind::TooLarge));
+    }
+    let tokenizer = Tokenizer::new(alloc, source, filename, syntax);
+    match read_tokens(alloc, tokenizer) {
+        Ok(mut tokens) => match whole_template(alloc, &mut tokens) {
+            Ok(tree) => Ok(tree),
+            Err(refusal) => Err(error_of(refusal)),
+        },
+        Err(refusal) => Err(error_of(refusal)),
+    }
+}
+
+// Reads all tokens as a template, from its first token to its last.
+fn whole_template<'source>(
+    alloc: Global,
+    tokens: &mut TokenStream<'source>,
+) -> Result<Stmt<'source>, Refusal>
+    ensures { ParsedTemplate (template_of tokens.old) result }
+{
+    let start = tokens.span();
+    let children = read_template(alloc, tokens)?;
+    let span = between(start, tokens.span());
+    Ok(Stmt::Template(Spanned::new(Template { children }, span)))
+}
+
+// From where the first one starts to where the second one ends.
+fn between(start: Span, end: Span) -> Span {
+    Span {
+        end_line: end.end_line,
+        end_col: end.end_col,
+        end_offset: end.end_offset,
+        ..start
+    }
+}

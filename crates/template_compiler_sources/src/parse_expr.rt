@@ -1,0 +1,54 @@
+//! The tree of an expression's source.
+ghost use Rattle.std.specs.Prelude.{◌≡◌, ◌≤◌, ◌^◌, length, IfOk, IfErr, IsErrAnd};
+ghost use Rattle.template_compiler_sources.specs.Source.{IsAlone, IsExpressionSource, RefusesExpression};
+ghost use Rattle.template_compiler_sources.specs.Wholes.{ParsedExpression, expression_alone};
+ghost use Rattle.template_tree.specs.View.{expression_of};
+ghost use Rattle.template_values_errors.specs.declared.ErrorKind.TheVariants.{TooLarge};
+
+use crate::template::MAX_DEPTH;
+use std::alloc::Global;
+use template_compiler_expression_parser::read_expression;
+use template_compiler_source_tokens::{error_of, read_expression_tokens};
+use template_compiler_stream::{Refusal, TokenStream};
+use template_tree::Expr;
+use template_values_errors::{Error, ErrorKind};
+
+/// The tree of an expression that is all of its source, in linear time. Texts and names are slices of the source.
+///
+/// # Errors
+///
+/// `TooLarge` for a source of 2^32 bytes or more, else `BadEscape` for a text literal with an escape that is none,
+/// `NoFloats` for a number with a fraction or an exponent, `SyntaxError` for all else where the source has no tree;
+/// `OutOfMemory`.
+pub fn parse_expr<'source>(alloc: Global, source: &'source str) -> Result<Expr<'source>, Error>
+    ensures found { IfOk result (λ tree. IsExpressionSource source.now (expression_of tree)) }
+    ensures refused { IfErr result (RefusesExpression source.now) }
+    ensures too_large { 2 ^ 32 ≤ length source.now → IsErrAnd result (IsAlone TooLarge) }
+{
+    if source.len() > u32::MAX as usize {
+        return Err(Error::new(ErrorKind::TooLarge));
+    }
+    match read_expression_tokens(alloc, source) {
+        Ok(mut tokens) => match whole_expression(alloc, &mut tokens) {
+            Ok(tree) => Ok(tree),
+            Err(refusal) => Err(error_of(refusal)),
+        },
+        Err(refusal) => Err(error_of(refusal)),
+    }
+}
+
+// Reads all tokens as one expression.
+#[tactic(auto, unfolding(template_compiler_expressions::specs::Reader::expression_at))]
+fn whole_expression<'source>(
+    alloc: Global,
+    tokens: &mut TokenStream<'source>,
+) -> Result<Expr<'source>, Refusal>
+    ensures { ParsedExpression (expression_alone tokens.old) result }
+{
+    let tree = read_expression(alloc, tokens, MAX_DEPTH)?;
+    if tokens.is_done() {
+        Ok(tree)
+    } else {
+        Err(Refusal::Token(tokens.fault()))
+    }
+}

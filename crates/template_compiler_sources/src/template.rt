@@ -1,0 +1,34 @@
+//! The statements of a whole template.
+ghost use Rattle.std.specs.Prelude.{◌≡◌};
+ghost use Rattle.template_compiler_statements.specs.Reader.{template_of};
+ghost use Rattle.template_compiler_sources.specs.Wholes.{ParsedWhole};
+
+use std::alloc::Global;
+use template_compiler_block_names::{are_distinct, block_names};
+use template_compiler_statement_makers::Around;
+use template_compiler_statement_parser::read_statements;
+use template_compiler_stream::{Fault, Refusal, TokenStream};
+use template_tree::Stmt;
+
+// How deep statements and expressions may nest.
+pub(crate) const MAX_DEPTH: u32 = 150;
+
+// Reads all tokens as the statements of a template.
+#[tactic(auto, unfolding(template_compiler_statements::specs::Reader::template_of, template_compiler_statements::specs::Reader::template_behind))]
+pub(crate) fn read_template<'source>(
+    alloc: Global,
+    tokens: &mut TokenStream<'source>,
+) -> Result<Vec<Stmt<'source>>, Refusal>
+    ensures { ParsedWhole (template_of tokens.old) result }
+{
+    let body = read_statements(alloc, tokens, MAX_DEPTH, Around::nothing())?;
+    if !tokens.is_done() {
+        return Err(Refusal::Token(tokens.fault()));
+    }
+    let names = block_names(alloc, &body)?;
+    if are_distinct(alloc, &names)? {
+        Ok(body)
+    } else {
+        Err(Refusal::Token(Fault::Syntax))
+    }
+}

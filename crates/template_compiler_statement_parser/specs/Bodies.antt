@@ -1,0 +1,12 @@
+use Rattle.std.specs.Prelude.{List, Result}
+use Rattle.std.specs.Global.{Vec}
+use Rattle.template_tree.specs.Tree.{Statements}
+use Rattle.template_tree.specs.declared.statements.Stmt.{Stmt}
+use Rattle.template_compiler_statement_makers.specs.Listed.{statements_in}
+use Rattle.template_compiler_tokens.specs.Token.{Token}
+use Rattle.template_compiler_reading.specs.Steps.{Read}
+use Rattle.template_compiler_stream.specs.declared.refusal.Refusal.{Refusal}
+use Rattle.template_compiler_statement_parts.specs.Parsed.{ParsedAs}
+
+abbrev pub ParsedBody : Read Statements → List Token → Result (Vec Stmt) Refusal → Type 0
+ParsedBody = ParsedAs (λ v. statements_in v.items)
