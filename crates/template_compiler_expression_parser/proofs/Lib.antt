@@ -1,0 +1,4 @@
+pub mod Chains
+pub mod Items
+pub mod Links
+pub mod Takes

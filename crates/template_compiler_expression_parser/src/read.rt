@@ -1,0 +1,83 @@
+//! What the parser of statements reads of expressions. Each function takes the nesting levels that are left, and takes the
+//! tokens of what it reads off the stream. Where it refuses, nothing is said of the tokens that are left.
+ghost use Rattle.template_compiler_expression_parts.specs.Parsed.{Parsed, ParsedOptional};
+ghost use Rattle.template_compiler_expressions.specs.Reader.{expression_at, condition_at, filter_at, filter_chain_at};
+ghost use Rattle.template_tree.specs.View.{optional_in};
+
+use crate::expressions::{binary, expression, filter};
+use std::alloc::Global;
+use template_compiler_stream::{Level, Refusal, Sign, TokenStream};
+use template_tree::Expr;
+
+/// Reads an expression.
+///
+/// # Errors
+///
+/// The fault of the token that does not fit, or want of memory.
+#[tactic(auto, unfolding(template_compiler_expressions::specs::Reader::expression_at))]
+pub fn read_expression<'source>(
+    alloc: Global,
+    tokens: &mut TokenStream<'source>,
+    left: u32,
+) -> Result<Expr<'source>, Refusal>
+    ensures { Parsed (expression_at left tokens.old) tokens.new result }
+{
+    expression(alloc, tokens, left)
+}
+
+/// Reads an expression that is no if-expression, as behind the `in` of a loop: an `if` behind it stays.
+///
+/// # Errors
+///
+/// The fault of the token that does not fit, or want of memory.
+#[tactic(auto, unfolding(template_compiler_expressions::specs::Reader::condition_at))]
+pub fn read_condition<'source>(
+    alloc: Global,
+    tokens: &mut TokenStream<'source>,
+    left: u32,
+) -> Result<Expr<'source>, Refusal>
+    ensures { Parsed (condition_at left tokens.old) tokens.new result }
+{
+    binary(alloc, tokens, left, Level::Disjunction)
+}
+
+/// Reads a filter's name and its arguments: the filter of the value, or of none, as the first one of a filter block.
+///
+/// # Errors
+///
+/// The fault of the token that does not fit, or want of memory.
+#[tactic(auto, unfolding(template_compiler_expressions::specs::Reader::filter_at))]
+pub fn read_filter<'source>(
+    alloc: Global,
+    tokens: &mut TokenStream<'source>,
+    left: u32,
+    value: Option<Expr<'source>>,
+) -> Result<Expr<'source>, Refusal>
+    ensures { Parsed (filter_at left (optional_in value.entry) tokens.old) tokens.new result }
+{
+    let span = tokens.span();
+    filter(alloc, tokens, left, value, span)
+}
+
+/// Reads the filters behind the value, or behind none, each after a `|`: the value itself where no `|` stands next.
+///
+/// # Errors
+///
+/// The fault of the token that does not fit, or want of memory.
+#[tactic(auto, using(crate::proofs::Chains::chain_more, crate::proofs::Chains::chain_falls, crate::proofs::Chains::chain_ends, crate::proofs::Chains::chain_fails_at), unfolding(template_compiler_expressions::specs::Reader::filter_chain_at, template_compiler_expressions::specs::Reader::filter_chain_by))]
+pub fn read_filter_chain<'source>(
+    alloc: Global,
+    tokens: &mut TokenStream<'source>,
+    left: u32,
+    value: Option<Expr<'source>>,
+) -> Result<Option<Expr<'source>>, Refusal>
+    ensures { ParsedOptional (filter_chain_at left (optional_in value.entry) tokens.old) tokens.new result }
+{
+    let mut value = value;
+    while tokens.skip(Sign::Pipe) {
+        let span = tokens.span();
+        let filtered = filter(alloc, tokens, left, value, span)?;
+        value = Some(filtered);
+    }
+    Ok(value)
+}
