@@ -1,9 +1,9 @@
 -- A statement's blocks and weight, by its parts.
-use Rattle.std.proofs.Common.{◌≡◌, ℕ, ◌+◌, ◌<◌, ◌≤◌, List, [], ◌∷◌, ◌++◌, refl, sym, subst, ap, ◌∙◌, arith, Box, Global}
+use Rattle.std.proofs.Common.{◌≡◌, ℕ, ◌+◌, ◌<◌, ◌≤◌, List, [], ◌∷◌, ◌++◌, refl, sym, subst, ap, ◌∙◌, arith, rules, Box, Global}
 use Rattle.std.proofs.lemmas.List.{append-nil, append_assoc}
 use Rattle.template_tree.specs.StatementView.{statement_of}
 use Rattle.template_tree.specs.declared.span.Spanned.{Spanned}
-use Rattle.template_tree.specs.declared.statements.Stmt.{CallBlock as calls}
+use Rattle.template_tree.specs.declared.statements.Stmt.{CallBlock as calls, the_lemmas}
 use Rattle.template_tree.specs.declared.statements.CallBlock.{CallBlock, CallBlock' as called, out-CallBlock}
 use Rattle.template_compiler_statement_makers.specs.Listed.{statements_in}
 use Rattle.template_compiler_statement_makers.proofs.Rows.{statements_row}
@@ -84,5 +84,10 @@ call_other n = other_by n n.node.value
 
 body_by : (n : Spanned (Box CallBlock Global)) (v : CallBlock) →
     statements_in (out-CallBlock v).macro_decl.node.value.body.items ≡ body_in (statement_of (calls (with_value n v)))
+unfolding with_value out-CallBlock
+body_by n (called call q name args defaults shape body inner) = search (rules, the_lemmas, statements_row)
+
+pub call_body : (n : Spanned (Box CallBlock Global)) →
+    statements_in (out-CallBlock n.node.value).macro_decl.node.value.body.items ≡ body_in (statement_of (calls n))
 unfolding with_value
-body_by n (called call q name args defaults shape body inner) = sym (statements_row body)
+call_body n = body_by n n.node.value

@@ -1,6 +1,7 @@
 use Rattle.std.proofs.Common.{rules}
 use Rattle.template_tree.specs.declared.statements.Stmt.{the_lemmas}
 use Rattle.template_compiler_statement_makers.proofs.Rows.{statements_row}
+use Rattle.template_compiler_block_names.proofs.Weighing.{call_body}
 use Rattle.template_compiler_block_names.proofs.parts.body_of.Goals as goal
 
 pub returns-in-Template : goal.returns-in-Template
@@ -31,4 +32,4 @@ pub returns-in-Macro : goal.returns-in-Macro
 returns-in-Macro c = search (rules, the_lemmas, statements_row)
 
 pub returns-in-CallBlock : goal.returns-in-CallBlock
-returns-in-CallBlock c = search (rules, the_lemmas, statements_row)
+returns-in-CallBlock c = search (rules, call_body c.in-CallBlock.n)
