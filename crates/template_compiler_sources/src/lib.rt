@@ -1,9 +1,9 @@
 //! Sources to trees: `parse` reads a template, `parse_expr` an expression.
 #![tactic(auto)]
 
-mod parse;
-mod parse_expr;
+mod expression;
+mod source;
 mod template;
 
-pub use parse::parse;
-pub use parse_expr::parse_expr;
+pub use expression::parse_expr;
+pub use source::parse;
