@@ -1,9 +1,10 @@
 //! What a machine does at each instruction but an include.
 #![tactic(auto)]
 
+mod operands;
 mod perform;
-mod quiet;
 mod rules;
+mod scoped;
 mod writing;
 
 pub use perform::perform;
