@@ -2,10 +2,10 @@
 #![tactic(auto)]
 
 mod operands;
-mod perform;
+mod plain;
 mod rules;
 mod scoped;
 mod writing;
 
-pub use perform::perform;
+pub use plain::perform;
 pub use rules::Rules;
