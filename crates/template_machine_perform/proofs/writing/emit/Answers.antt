@@ -21,4 +21,4 @@ returns-in_err-value g c program limit =
 pub returns : goal.returns
 returns g c program limit =
     print_out (ruled program limit c.args.mode) c.in_ok-value.value _ _ c.args.state.now _ _ _ c.in_ok-value.ensures.taken
-    (subst (λ e. Prints (guarded (forbids_printing c.args.mode c.in_ok-value.value) (kinded (escaped e nothing_known c.in_ok-value.value))) c.print.result (g.S.Sink.taken c.args.sink.now) (g.S.Sink.taken c.print.new.sink)) c.auto_escape.ensures c.print.ensures.written)
+    (subst (λ e. Prints (guarded (forbids_printing c.args.mode c.in_ok-value.value) (kinded (escaped e nothing_known c.in_ok-value.value))) c.print.result (g.S.Sink.taken c.args.sink.now) (g.S.Sink.taken c.print.new.sink)) c.auto_escape-escape.ensures c.print.ensures.written)
