@@ -3,12 +3,10 @@
 
 mod context;
 mod frame;
-mod items;
 mod locals;
 mod loops;
 
 pub use context::Context;
 pub use frame::Frame;
-pub use items::LoopItems;
 pub use locals::Locals;
 pub use loops::LoopState;

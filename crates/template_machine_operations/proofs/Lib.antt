@@ -1,3 +1,2 @@
 mod Answering
 mod Unprinted
-mod Keys

@@ -1,4 +1,2 @@
 pub mod Answers
 pub mod Outcomes
-pub mod Shared
-pub mod Held

@@ -15,4 +15,4 @@ pub use escapes::escape_named;
 pub use operators::{compare, invert, negate, operate, truth_of};
 pub use parts::{get_attribute, get_item, get_slice};
 pub use printing::{print, write};
-pub use sequence::{Items, choices_in, iterate, unpack};
+pub use sequence::{choices_in, iterate, unpack};

@@ -3,8 +3,8 @@ use Rattle.std.specs.List.{slice_get}
 use Rattle.std.specs.Option.{option_map}
 use Rattle.std.proofs.lemmas.Option.{slice_get-get_or, slice_get_past}
 use Rattle.template_values_core.specs.declared.value.Entry.{Entry}
-use Rattle.template_machine_operations.proofs.Keys.{key_at}
-use Rattle.template_machine_operations.proofs.sequence.key_at.Goals as goal
+use Rattle.template_machine_items.proofs.Keys.{key_at}
+use Rattle.template_machine_items.proofs.key_at.Goals as goal
 
 pub returns-in-Some : goal.returns-in-Some
 returns-in-Some c =

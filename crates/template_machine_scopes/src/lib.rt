@@ -1,0 +1,13 @@
+//! What a machine does at instructions that change or ask what surrounds a running template: names, frames,
+//! loops and escapes.
+#![tactic(auto)]
+
+mod escapes;
+mod frames;
+mod loops;
+mod names;
+
+pub use escapes::{pop_auto_escape, push_auto_escape};
+pub use frames::{pop_frame, push_with};
+pub use loops::{iterate, pop_loop_frame, push_did_not_iterate, push_loop};
+pub use names::{lookup, store_local};

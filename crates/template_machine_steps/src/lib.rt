@@ -1,0 +1,14 @@
+//! What a machine does at instructions that only take and give operands, and where its run goes on.
+#![tactic(auto)]
+
+mod operands;
+mod operators;
+mod parts;
+mod truths;
+mod ways;
+
+pub use operands::{discard_top, dup_top, load_const, swap};
+pub use operators::{compare_and_preserve, invert, negate, operate};
+pub use parts::{get_attr, get_item, slice};
+pub use truths::{jump, jump_if_false, jump_if_false_or_pop, jump_if_true_or_pop};
+pub use ways::Way;
