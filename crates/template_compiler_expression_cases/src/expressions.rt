@@ -42,10 +42,7 @@ fn stream<'source>(
     Ok(TokenStream::new(tokens, None))
 }
 
-fn expression<'source>(
-    alloc: Global,
-    words: &[&'source str],
-) -> Result<Expr<'source>, Refusal> {
+fn expression<'source>(alloc: Global, words: &[&'source str]) -> Result<Expr<'source>, Refusal> {
     let mut tokens = stream(alloc, words)?;
     read_expression(alloc, &mut tokens, 150)
 }
@@ -69,7 +66,10 @@ fn reads_each_kind(rt: HostRuntime) -> Result<(), Fail> {
     assert_eq!(rt; kind(alloc, &["1", "<", "x", "<", "3"]), "comparison");
     assert_eq!(rt; kind(alloc, &["1", "<", "x"]), "binary operator");
     assert_eq!(rt; kind(alloc, &["1", "if", "x"]), "if expression");
-    assert_eq!(rt; kind(alloc, &["x", "|", "f", ".", "g", "(", "1", ")"]), "filter expression");
+    assert_eq!(rt;
+        kind(alloc, &["x", "|", "f", ".", "g", "(", "1", ")"]),
+        "filter expression"
+    );
     assert_eq!(rt; kind(alloc, &["x", "is", "t", "1"]), "test expression");
     assert_eq!(rt; kind(alloc, &["x", "is", "not", "t"]), "unary operator");
     assert_eq!(rt; kind(alloc, &["(", ")"]), "tuple literal");

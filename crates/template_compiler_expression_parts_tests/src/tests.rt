@@ -80,9 +80,18 @@ fn a_number_behind_a_dot_is_an_item(rt: HostRuntime) -> Result<(), Fail> {
     let alloc = rt.alloc();
     let mut tokens = stream(alloc, &["y", "1", ")"])?;
     let place = Span::default();
-    assert_eq!(rt; kind(attribute(alloc, &mut tokens, variable("x"), place)), "attribute lookup");
-    assert_eq!(rt; kind(attribute(alloc, &mut tokens, variable("x"), place)), "item lookup");
-    assert_eq!(rt; kind(attribute(alloc, &mut tokens, variable("x"), place)), "refused");
+    assert_eq!(rt;
+        kind(attribute(alloc, &mut tokens, variable("x"), place)),
+        "attribute lookup"
+    );
+    assert_eq!(rt;
+        kind(attribute(alloc, &mut tokens, variable("x"), place)),
+        "item lookup"
+    );
+    assert_eq!(rt;
+        kind(attribute(alloc, &mut tokens, variable("x"), place)),
+        "refused"
+    );
     Ok(())
 }
 
@@ -109,9 +118,23 @@ fn two_comparisons_are_a_chain(rt: HostRuntime) -> Result<(), Fail> {
 fn a_test_can_be_negated(rt: HostRuntime) -> Result<(), Fail> {
     let alloc = rt.alloc();
     let place = Span::default();
-    let plain = tested(alloc, false, CowStr::Borrowed("odd"), variable("x"), Vec::new(alloc), place)?;
+    let plain = tested(
+        alloc,
+        false,
+        CowStr::Borrowed("odd"),
+        variable("x"),
+        Vec::new(alloc),
+        place,
+    )?;
     assert_eq!(rt; plain.description(), "test expression");
-    let negated = tested(alloc, true, CowStr::Borrowed("odd"), variable("x"), Vec::new(alloc), place)?;
+    let negated = tested(
+        alloc,
+        true,
+        CowStr::Borrowed("odd"),
+        variable("x"),
+        Vec::new(alloc),
+        place,
+    )?;
     assert_eq!(rt; negated.description(), "unary operator");
     Ok(())
 }
