@@ -1,0 +1,5 @@
+pub mod Along
+pub mod Items
+pub mod Linked
+pub mod Own
+pub mod Putting

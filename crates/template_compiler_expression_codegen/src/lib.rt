@@ -1,0 +1,6 @@
+//! From expressions to the instructions that give their values.
+#![tactic(auto)]
+
+mod expressions;
+
+pub use expressions::{compile_expr, fold_expr};
