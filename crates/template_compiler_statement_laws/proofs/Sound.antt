@@ -2,6 +2,7 @@
 use Rattle.std.proofs.Common.{◌≡◌, ℕ, zero, suc, arith, Bool, true, false, if◌then◌else◌, List, [], ◌∷◌, length, ◌<◌, ◌≤◌, codes, Option, None, Some, unwrap_or, Ok, Err, refl, sym, ◌∙◌, ap, subst, inl, inr}
 use Rattle.std.specs.Prelude.{bytes_eq}
 use Rattle.std.proofs.lemmas.Slice.Eq.{bytes_eq-Decides}
+use Rattle.template_tree.specs.Kinds.{call_parts}
 use Rattle.template_tree.specs.Tree.{Expression, variable, call, Optional, absent, given, Expressions, no_expressions, expressions_more, Arguments, Statement, print, for_loop, if_condition, with_block, set, set_block, auto_escape, filter_block, block, import, from_import, extends, include, macro, call_block, continue_loop, break_loop, do_call, Statements, no_statements, Assignments, no_assignments, Imports, no_imports}
 use Rattle.template_compiler_tokens.specs.Token.{Token, TokenFault, bad_syntax, template_data, variable_start, variable_end, block_start, block_end, identifier, symbol, dot, comma, assign, paren_open, paren_close}
 use Rattle.template_compiler_reading.specs.Blame.{Blamed}
@@ -14,7 +15,7 @@ use Rattle.template_compiler_expression_laws.proofs.Sound.{expression_sound, con
 use Rattle.template_compiler_statements.specs.Words.{tag, opens, word, is_reserved}
 use Rattle.template_compiler_statements.specs.Trees.{and_statement, and_import, Branches, no_branches, and_branch, branched, Parameters, no_parameters, is_block_body, blocks_among, are_distinct}
 use Rattle.template_compiler_statements.specs.Grammar.{Around, nothing_around, loop_around, block_around, macro_around, IsStored, stored, IsPath, path_end, path_more, IsMore, more_end, more_next, IsTarget, name_target, path_target, paren_target, IsTargets, targets, IsMoreTargets, targets_end, targets_next, IsValue, value, IsValues, values, IsAssignment, assignment, IsAssignments, none_assigned, some_assigned, IsLoopFilter, no_loop_filter, a_loop_filter, IsWord, no_word, a_word, IsContext, no_context, with_context, IsMissing, not_ignored, ignored, IsImport, same_name, other_name, IsParameter, plain_parameter, default_parameter, IsParameters, none_declared, some_declared, IsOptionalParameters, not_declared, declared, IsBlockEnd, plain_end, named_end, IsStatements, statements_end, statements_next, IsStatement, text_statement, print_statement, for_statement, if_statement, with_statement, set_statement, set_block_statement, autoescape_statement, filter_statement, block_statement, import_statement, from_statement, extends_statement, include_statement, macro_statement, call_statement, do_statement, break_statement, continue_statement, IsBranches, branches_end, branches_next, IsElse, no_else, an_else, IsTemplate, whole_template}
-use Rattle.template_compiler_statements.specs.Reader.{expect_word, expect_assign, print_end, tag_end, expect_tag, more_step, path_step, stored_by, path_by, target_by, one_target_by, more_targets_by, targets_by, inner_targets, for_tag, if_tag, with_tag, set_tag, autoescape_tag, filter_tag, block_tag, import_tag, from_tag, extends_tag, include_tag, macro_tag, call_tag, do_tag, break_tag, continue_tag, value_by, values_by, assignment_by, assignments_by, word_by, context_by, missing_behind, missing_by, loop_filter_by, alias_by, import_by, is_nothing, default_by, parameter_by, parameters_by, optional_parameters_by, body_by, begins_tag, else_by, for_body, for_in, for_by, branch_by, branch_step, if_by, with_by, begins_values, set_values, set_body, set_behind, set_by, autoescape_by, filtered_body, filter_block_by, end_name_by, block_end_by, block_body, block_by, import_statement_by, from_by, extends_by, include_by, macro_by, call_parts, only_call, call_body, call_by, do_by, in_loop, Opening, opening, opened_by, opened_step, statement_step, statements_by, deeper_parameters, here_by, deeper_body, here, statements_at, template_behind, whole, template_of}
+use Rattle.template_compiler_statements.specs.Reader.{expect_word, expect_assign, print_end, tag_end, expect_tag, more_step, path_step, stored_by, path_by, target_by, one_target_by, more_targets_by, targets_by, inner_targets, for_tag, if_tag, with_tag, set_tag, autoescape_tag, filter_tag, block_tag, import_tag, from_tag, extends_tag, include_tag, macro_tag, call_tag, do_tag, break_tag, continue_tag, value_by, values_by, assignment_by, assignments_by, word_by, context_by, missing_behind, missing_by, loop_filter_by, alias_by, import_by, is_nothing, default_by, parameter_by, parameters_by, optional_parameters_by, body_by, begins_tag, else_by, for_body, for_in, for_by, branch_by, branch_step, if_by, with_by, begins_values, set_values, set_body, set_behind, set_by, autoescape_by, filtered_body, filter_block_by, end_name_by, block_end_by, block_body, block_by, import_statement_by, from_by, extends_by, include_by, macro_by, only_call, call_body, call_by, do_by, in_loop, Opening, opening, opened_by, opened_step, statement_step, statements_by, deeper_parameters, here_by, deeper_body, here, statements_at, template_behind, whole, template_of}
 
 same : (ts : List Token) → Kept ts ts
 same ts = ((λ f k. k), omega arith)

@@ -2,6 +2,7 @@
 -- it; that it is the grammar is proved.
 use Rattle.std.specs.Prelude.{ℕ, zero, suc, Bool, true, false, if◌then◌else◌, codes, List, [], ◌∷◌, Option, None, Some, Result, Ok, Err, bytes_eq}
 use Rattle.template_tree.specs.Tree.{Expression, variable, attribute, call, Optional, absent, given, Expressions, no_expressions, expressions_more, Arguments, Statement, raw, print, for_loop, if_condition, with_block, set, set_block, auto_escape, filter_block, block, import, from_import, extends, include, macro, call_block, continue_loop, break_loop, do_call, Statements, no_statements, Assignments, no_assignments, Imports, no_imports}
+use Rattle.template_tree.specs.Kinds.{call_parts}
 use Rattle.template_compiler_tokens.specs.Token.{Token, TokenFault, bad_syntax, template_data, variable_start, variable_end, block_start, block_end, identifier, symbol, dot, comma, assign, paren_open, paren_close}
 use Rattle.template_compiler_expressions.specs.Words.{is_word}
 use Rattle.template_compiler_expressions.specs.Trees.{and_expression}
@@ -282,11 +283,6 @@ macro_by r (identifier n ∷ symbol paren_open ∷ ts) =
     body_by r macro_around (codes "endmacro") (macro n q.0 q.1) vs))
 macro_by r (identifier n ∷ ts) = Err (fault ts)
 macro_by r ts = Err (fault ts)
-
--- the callee and the arguments of a call; all other trees are none
-abbrev pub call_parts : Expression → Option (Expression × Arguments)
-call_parts (call c args) = Some (c, args)
-call_parts _ = None
 
 unfoldable pub only_call : {A : Type 0} → (Expression → Arguments → List Token → Read A) → Option (Expression × Arguments) →
     List Token → Read A

@@ -1,6 +1,11 @@
 -- What contracts see of a call's kind.
+use Rattle.std.specs.Prelude.{Option, None, Some}
+use Rattle.std.specs.Global.{Box}
+use Rattle.template_tree.specs.Tree.{Expression, Arguments}
 use Rattle.template_tree.specs.Kinds.{Called, calls_function, calls_method, calls_block, calls_value}
-use Rattle.template_tree.specs.View.{expression_of}
+use Rattle.template_tree.specs.View.{expression_of, arguments_in}
+use Rattle.template_tree.specs.declared.calls.Call.{Call}
+use Rattle.template_tree.specs.declared.span.Spanned.{Spanned}
 use Rattle.template_tree.specs.declared.calls.CallType.{CallType}
 use Rattle.template_tree.specs.declared.calls.CallType.TheVariants.{Function, Method, Block, Object}
 
@@ -9,3 +14,7 @@ called (Function name) = calls_function name.now
 called (Method expr name) = calls_method (expression_of expr.now) name.now
 called (Block name) = calls_block name.now
 called (Object expr) = calls_value (expression_of expr.now)
+
+abbrev pub call_in : Option (Spanned (Box Call)) → Option (Expression × Arguments)
+call_in None = None
+call_in (Some n) = Some (expression_of n.node.value.expr, arguments_in n.node.value.args.items)

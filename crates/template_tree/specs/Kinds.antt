@@ -1,5 +1,5 @@
 -- What kind of expression or call stands at a node.
-use Rattle.std.specs.Prelude.{ℕ, Bool, true, false, ◌&&◌, List, codes, bytes_eq, if◌then◌else◌}
+use Rattle.std.specs.Prelude.{ℕ, Bool, true, false, ◌&&◌, List, Option, None, Some, codes, bytes_eq, if◌then◌else◌}
 use Rattle.template_tree.specs.Tree.{Expression, variable, constant, slice, unary, binary, chain, conditional, filtered, tested, attribute, item, call, list_literal, tuple_literal, map_literal, Arguments, no_arguments, arguments_more}
 
 -- the words for an expression of this kind
@@ -19,6 +19,11 @@ description_of (call callee args) = codes "call"
 description_of (list_literal items) = codes "list literal"
 description_of (tuple_literal items) = codes "tuple literal"
 description_of (map_literal keys values) = codes "map literal"
+
+-- a call's callee and its arguments, where the expression is a call
+abbrev pub call_parts : Expression → Option (Expression × Arguments)
+call_parts (call callee args) = Some (callee, args)
+call_parts _ = None
 
 -- what a call calls
 pub data Called : Type 0 where

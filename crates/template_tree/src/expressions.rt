@@ -218,7 +218,18 @@ impl<'source> Expr<'source> {
 
 impl<'source> Expr<'source> {
     ghost use Rattle.template_tree.specs.View.{expression_of};
-    ghost use Rattle.template_tree.specs.Kinds.{is_self_name};
+    ghost use Rattle.template_tree.specs.Kinds.{call_parts, is_self_name};
+    ghost use Rattle.template_tree.specs.CallView.{call_in};
+
+    /// The call that this expression is, or none where it is another one.
+    pub fn into_call(self) -> Option<Spanned<Box<Call<'source>>>>
+        ensures { call_in result ≡ call_parts (expression_of self.entry) }
+    {
+        match self {
+            Expr::Call(n) => Some(n),
+            _ => None,
+        }
+    }
 
     // The name `self`.
     pub(crate) fn is_self(&self) -> bool
