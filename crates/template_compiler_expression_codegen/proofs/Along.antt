@@ -63,9 +63,10 @@ one_node ns i n begun old new k o within read runnable known_is old_is own_is ne
     let more : so_far p (take (i + 1) ns) ≡ with_own p s t =
     ap (λ (l : List (Bor Expr)). fold f no_left l) (take_more ns i n within) ∙ fold_push f no_left (take i ns) (get_or ns i n) ∙
     ap (λ (m : Bor Expr). f s m) (sym read) ∙ own_runnable p s t runnable in
-    let o_is : o ≡ own_constant s.0 t = own_is ∙ ap (λ (x : Option Val). own_constant x t) known_is in
-    (o_is ∙ sym (ap (λ (a : Option Val × List Code). a.0) more),
-    added begun s.1 old new (unless o (own_code k t)) old_is new_is ∙
-    ap (λ (x : Option Val). begun ++ (s.1 ++ unless x (own_code k t) (p + length s.1))) o_is ∙
-    ap (λ (x : Option Val). begun ++ (s.1 ++ unless (own_constant s.0 t) (own_code x t) (p + length s.1))) known_is ∙
-    ap (λ (a : Option Val × List Code). begun ++ a.1) (sym more))
+    let o_is : o ≡ own_constant s.0 t = own_is ∙ ap (λ (x : Option Val). own_constant x t) known_is in (
+      o_is ∙ sym (ap (λ (a : Option Val × List Code). a.0) more),
+      added begun s.1 old new (unless o (own_code k t)) old_is new_is ∙
+          ap (λ (x : Option Val). begun ++ (s.1 ++ unless x (own_code k t) (p + length s.1))) o_is ∙
+          ap (λ (x : Option Val). begun ++ (s.1 ++ unless (own_constant s.0 t) (own_code x t) (p + length s.1))) known_is ∙
+          ap (λ (a : Option Val × List Code). begun ++ a.1) (sym more),
+    )

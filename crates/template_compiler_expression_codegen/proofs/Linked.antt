@@ -2,30 +2,10 @@
 use Rattle.std.proofs.Common.{◌≡◌, ℕ, ◌+◌, suc, List, [], ◌∷◌, ◌++◌, length, refl, sym, ap, ◌∙◌, append-nil, append_assoc, length-append, arith}
 use Rattle.std.proofs.Math.ListN.{set}
 use Rattle.std.proofs.Math.Seq.{set-append_seam}
-use Rattle.template_tree.specs.declared.operators.CompareOpKind.{CompareOpKind}
-use Rattle.template_tree.specs.Tree.{Expression, Links, no_links, links_more}
-use Rattle.template_code.specs.Code.{Code, compare_and_preserve, jump_if_false_or_pop}
-use Rattle.template_compiler_codegen.specs.Expressions.{Coded, nothing, one, then_code, expression_code, linked_code}
-
--- a comparison behind the value at its left
-abbrev pub link_code : CompareOpKind → Expression → Coded
-link_code op e = then_code (expression_code e) (one (compare_and_preserve op))
-
--- later comparisons whose leaps all lead to one place
-abbrev pub linked_to : ℕ → Links → Coded
-linked_to to no_links place = []
-linked_to to (links_more op e links) place =
-    let piece = link_code op e (suc place) in jump_if_false_or_pop to ∷ (piece ++ linked_to to links (suc place + length piece))
-
--- the places of those leaps
-abbrev pub leaps_in : Links → ℕ → List ℕ
-leaps_in no_links place = []
-leaps_in (links_more op e links) place = place ∷ leaps_in links (suc place + length (link_code op e (suc place)))
-
--- the leaps at the places lead to a target
-abbrev pub leapt : ℕ → List ℕ → List Code → List Code
-leapt to [] code = code
-leapt to (place ∷ places) code = set (leapt to places code) place (jump_if_false_or_pop to)
+use Rattle.template_tree.specs.Tree.{Links, no_links, links_more}
+use Rattle.template_code.specs.Code.{Code, jump_if_false_or_pop}
+use Rattle.template_compiler_codegen.specs.Expressions.{linked_code}
+use Rattle.template_compiler_expression_codegen.specs.Chains.{link_code, linked_to, leaps_in, leapt}
 
 -- all leaps lead to the end of the chain
 pub linked_is : (links : Links) (p : ℕ) → linked_code links p ≡ linked_to (p + length (linked_code links p)) links p
@@ -60,7 +40,7 @@ leaps_lead (links_more op e links) to xs =
     let at : length front ≡ q = length-append xs (jump_if_false_or_pop 0 ∷ piece) ∙ (omega arith) in
     let split = λ (l : List Code). append_assoc xs (jump_if_false_or_pop 0 ∷ piece) l in
     let inner : leapt to (leaps_in links q) (xs ++ jump_if_false_or_pop 0 ∷ (piece ++ linked_to 0 links q))
-        ≡ xs ++ jump_if_false_or_pop 0 ∷ (piece ++ linked_to to links q) =
+    ≡ xs ++ jump_if_false_or_pop 0 ∷ (piece ++ linked_to to links q) =
     ap (λ (l : List Code). leapt to (leaps_in links q) l) (sym (split (linked_to 0 links q))) ∙
     ap (λ (k : ℕ). leapt to (leaps_in links k) (front ++ linked_to 0 links k)) (sym at) ∙
     leaps_lead links to front ∙ ap (λ (k : ℕ). front ++ linked_to to links k) at ∙ split (linked_to to links q) in

@@ -1,24 +1,32 @@
 //! Expressions. A tree is gone along its left parts in a loop; its other parts nest at most 150 deep.
-ghost use Rattle.std.specs.Prelude.{◌≡◌, IsNone, OnOk, IfOk, IfErr};
-ghost use Rattle.template_values_model.specs.Val.{none};
-ghost use Rattle.template_tree.specs.View.{expression_of, optional_in};
-ghost use Rattle.template_walk.specs.Constants.{constant_of};
-ghost use Rattle.template_walk.specs.Runnable.{IsRunnable, IsRunnableIfGiven};
-ghost use Rattle.template_code.specs.Code.{operate};
-ghost use Rattle.template_compiler_codegen.specs.Expressions.{one, then_code, skipped, either_code, unary_code, expression_code, optional_code};
-ghost use Rattle.template_compiler_folding.specs.Folding.{unary_folded, binary_folded};
+ghost use Rattle.std.specs.Prelude.{◌≡◌, IsNone, None, OnOk, IfOk, IfErr, length, option_and_then};
+ghost use Rattle.template_values_model.specs.Val.{none, silent_undefined};
+ghost use Rattle.template_tree.specs.Tree.{list_literal, tuple_literal, map_literal};
+ghost use Rattle.template_tree.specs.View.{expression_of, optional_in, expressions_in, links_in};
+ghost use Rattle.template_walk.specs.Constants.{constant_of, chain_constant};
+ghost use Rattle.template_walk.specs.Runnable.{IsRunnable, IsRunnableIfGiven, AreRunnable, IsRunnableChain, AreRunnableLinks};
+ghost use Rattle.template_walk.specs.Statements.{number_of};
+ghost use Rattle.template_code.specs.Code.{build_list, build_map, build_tuple, get_item, operate, slice};
+ghost use Rattle.template_code.specs.Listing.{code_in};
+ghost use Rattle.template_compiler_codegen.specs.Expressions.{one, then_code, skipped, either_code, unary_code, expression_code, optional_code, expressions_code, entries_code, codes_of, entry_count, chain_code};
+ghost use Rattle.template_compiler_folding.specs.Folding.{unary_folded, binary_folded, comparison_folded};
 ghost use Rattle.template_compiler_emission.specs.Leaps.{leap_code, leap_of};
 ghost use Rattle.template_compiler_emission.specs.Puts.{Puts, NoRoom, unless, behind};
+ghost use Rattle.template_compiler_expression_codegen.specs.Chains.{Grows, constant_behind, leaps_in, left_behind, link_code, linked_to};
 ghost use Rattle.template_compiler_expression_codegen.specs.Own.{own_constant, own_code};
 
+use crate::chains::{is_false, tell_leaps};
 use std::alloc::Global;
 use std::borrow::CowStr;
 use template_code::{Instruction, Instructions};
 use template_compiler_emission::{
-    Leap, land, leap_of, load, load_copy, operator_instruction, put, reserve, unary_instruction,
+    Leap, comparison_instruction, land, leap_of, load, load_copy, operator_instruction, put,
+    reserve, unary_instruction,
 };
-use template_compiler_folding::{fold_binary, fold_unary};
-use template_tree::{BinOpKind, Expr, UnaryOpKind};
+use template_compiler_folding::{
+    fold_binary, fold_comparison, fold_list, fold_map, fold_tuple, fold_unary,
+};
+use template_tree::{BinOpKind, CompareOp, Expr, UnaryOpKind};
 use template_tree_spines::spine;
 use template_values_core::Value;
 use template_values_errors::Error;
@@ -99,16 +107,14 @@ fn fold_node<'source>(
             None => fold_operator(alloc, code, n.node.op, left, &n.node.right),
         },
         Expr::IfExpr(n) => {
-            compile_expr(alloc, code, &n.node.test_expr)?;
-            let otherwise = reserve(code, Leap::IfFalse)?;
-            compile_expr(alloc, code, &n.node.true_expr)?;
-            let end = reserve(code, Leap::Always)?;
-            land(code, otherwise, Leap::IfFalse);
-            match &n.node.false_expr {
-                Some(part) => compile_expr(alloc, code, part)?,
-                None => put(code, Instruction::LoadConst(Value::silent_undefined()))?,
-            }
-            land(code, end, Leap::Always);
+            let node = &n.node;
+            compile_choice(
+                alloc,
+                code,
+                &node.test_expr,
+                &node.true_expr,
+                &node.false_expr,
+            )?;
             Ok(None)
         }
         Expr::GetAttr(n) => {
@@ -117,20 +123,14 @@ fn fold_node<'source>(
             Ok(None)
         }
         Expr::GetItem(n) => {
-            load(code, left)?;
-            compile_expr(alloc, code, &n.node.subscript_expr)?;
-            put(code, Instruction::GetItem)?;
+            compile_item(alloc, code, left, &n.node.subscript_expr)?;
             Ok(None)
         }
         Expr::Filter(_) => unreachable!(),
         Expr::Test(_) => unreachable!(),
         Expr::Call(_) => unreachable!(),
         Expr::Slice(n) => {
-            load(code, left)?;
-            compile_bound(alloc, code, &n.node.start)?;
-            compile_bound(alloc, code, &n.node.stop)?;
-            compile_bound(alloc, code, &n.node.step)?;
-            put(code, Instruction::Slice)?;
+            compile_slice(alloc, code, left, &n.node.start, &n.node.stop, &n.node.step)?;
             Ok(None)
         }
         Expr::Compare(n) => fold_chain(alloc, code, left, &n.node.ops),
@@ -236,21 +236,93 @@ fn fold_operator<'source>(
     }
 }
 
-// A bound of a slice; one that is left out is none.
+// An expression that may be left out, for which a constant stands then.
 #[cycle(expression)]
-fn compile_bound<'source>(
+fn compile_optional<'source>(
     alloc: Global,
     code: &mut Instructions<'source>,
-    bound: &Option<Expr<'source>>,
+    expr: &Option<Expr<'source>>,
+    missing: Value,
 ) -> Result<(), Error>
-    requires { IsRunnableIfGiven (optional_in bound.now) }
-    ensures put { OnOk result (Puts (optional_code none (optional_in bound.now)) code.old code.new) }
+    requires { IsRunnableIfGiven (optional_in expr.now) }
+    ensures put { OnOk result (Puts (optional_code missing (optional_in expr.now)) code.old code.new) }
     ensures refused { IfErr result NoRoom }
 {
-    match bound {
-        Some(bound) => compile_expr(alloc, code, bound),
-        None => put(code, Instruction::LoadConst(Value::none())),
+    match expr {
+        Some(expr) => compile_expr(alloc, code, expr),
+        None => put(code, Instruction::LoadConst(missing)),
     }
+}
+
+// A test, and one of two values; the other one is undefined where it is left out.
+#[cycle(expression)]
+fn compile_choice<'source>(
+    alloc: Global,
+    code: &mut Instructions<'source>,
+    test: &Expr<'source>,
+    branch: &Expr<'source>,
+    otherwise: &Option<Expr<'source>>,
+) -> Result<(), Error>
+    requires test { IsRunnable (expression_of test.now) }
+    requires branch { IsRunnable (expression_of branch.now) }
+    requires otherwise { IsRunnableIfGiven (optional_in otherwise.now) }
+    ensures put { OnOk result
+        (Puts (then_code (expression_code (expression_of test.now))
+        (either_code (expression_code (expression_of branch.now)) (optional_code silent_undefined (optional_in otherwise.now))))
+        code.old code.new) }
+    ensures refused { IfErr result NoRoom }
+{
+    compile_expr(alloc, code, test)?;
+    let second = reserve(code, Leap::IfFalse)?;
+    compile_expr(alloc, code, branch)?;
+    let end = reserve(code, Leap::Always)?;
+    land(code, second, Leap::IfFalse);
+    compile_optional(alloc, code, otherwise, Value::silent_undefined())?;
+    land(code, end, Leap::Always);
+    Ok(())
+}
+
+// An item of the left part.
+#[cycle(expression)]
+fn compile_item<'source>(
+    alloc: Global,
+    code: &mut Instructions<'source>,
+    left: Option<Value>,
+    key: &Expr<'source>,
+) -> Result<(), Error>
+    requires { IsRunnable (expression_of key.now) }
+    ensures put { OnOk result
+        (Puts (behind left (then_code (expression_code (expression_of key.now)) (one get_item))) code.old code.new) }
+    ensures refused { IfErr result NoRoom }
+{
+    load(code, left)?;
+    compile_expr(alloc, code, key)?;
+    put(code, Instruction::GetItem)
+}
+
+// A slice of the left part; a bound that is left out is none.
+#[cycle(expression)]
+fn compile_slice<'source>(
+    alloc: Global,
+    code: &mut Instructions<'source>,
+    left: Option<Value>,
+    start: &Option<Expr<'source>>,
+    stop: &Option<Expr<'source>>,
+    step: &Option<Expr<'source>>,
+) -> Result<(), Error>
+    requires start { IsRunnableIfGiven (optional_in start.now) }
+    requires stop { IsRunnableIfGiven (optional_in stop.now) }
+    requires step { IsRunnableIfGiven (optional_in step.now) }
+    ensures put { OnOk result
+        (Puts (behind left (then_code (optional_code none (optional_in start.now)) (then_code (optional_code none (optional_in stop.now))
+        (then_code (optional_code none (optional_in step.now)) (one slice))))) code.old code.new) }
+    ensures refused { IfErr result NoRoom }
+{
+    load(code, left)?;
+    compile_optional(alloc, code, start, Value::none())?;
+    compile_optional(alloc, code, stop, Value::none())?;
+    compile_optional(alloc, code, step, Value::none())?;
+    put(code, Instruction::Slice)
 }
 
 // The expressions, from the first to the last.
@@ -370,10 +442,16 @@ fn fold_map_literal<'source>(
     }
 }
 
-// What is constant of a comparison: its truth, and its right side.
+// What is constant of a comparison: its truth, and behind it the left side of the next one.
 struct Link {
     holds: Option<Value>,
-    right: Option<Value>,
+    left: Option<Value>,
+}
+
+// What is constant of a chain, and the places of its leaps.
+struct Linked {
+    holds: Option<Value>,
+    leaps: Vec<u32>,
 }
 
 // A comparison behind the value at its left; it is put, be it constant or not.
@@ -385,20 +463,89 @@ fn compile_link<'source>(
     link: &CompareOp<'source>,
 ) -> Result<Link, Error>
     requires { IsRunnable (expression_of link.now.expr) }
-    ensures right { IfOk result (λ l. l.right ≡ constant_of (expression_of link.now.expr)) }
     ensures holds { IfOk result (λ l. l.holds ≡ comparison_folded link.now.op left.now (constant_of (expression_of link.now.expr))) }
+    ensures left { IfOk result (λ l. l.left ≡ left_behind l.holds (constant_of (expression_of link.now.expr))) }
     ensures put { OnOk result (Puts (link_code link.now.op (expression_of link.now.expr)) code.old code.new) }
     ensures refused { IfErr result NoRoom }
 {
     let right = fold_expr(alloc, code, &link.expr)?;
     load_copy(code, &right)?;
     put(code, comparison_instruction(link.op))?;
-    let holds = fold_comparison(link.op, left, &right)?;
-    Ok(Link { holds, right })
+    match fold_comparison(link.op, left, &right)? {
+        Some(holds) => Ok(Link {
+            holds: Some(holds),
+            left: right,
+        }),
+        None => Ok(Link {
+            holds: None,
+            left: None,
+        }),
+    }
 }
 
-// The comparisons behind the first operand. They are dropped again at the first one that is constant and
-// false, and behind the last one where all are constant.
+// The comparisons behind the first one, each behind a leap whose target is told later, up to one that is
+// constant and false.
+#[cycle(expression)]
+fn compile_links<'source>(
+    alloc: Global,
+    code: &mut Instructions<'source>,
+    first: Link,
+    links: &[CompareOp<'source>],
+) -> Result<Linked, Error>
+    requires links { AreRunnableLinks (links_in links.now) }
+    requires first { first.holds ≡ None → first.left ≡ None }
+    ensures constant { IfOk result (λ l. l.holds ≡ constant_behind first.holds first.left (links_in links.now)) }
+    ensures leaps { IfOk result (λ l. l.holds ≡ None → l.leaps.items ≡ leaps_in (links_in links.now) (length (code_in code.old))) }
+    ensures put { IfOk result (λ l. l.holds ≡ None → Puts (linked_to 0 (links_in links.now)) code.old code.new) }
+    ensures grown { OnOk result (Grows code.old code.new) }
+    ensures refused { IfErr result NoRoom }
+{
+    let mut link = first;
+    let mut leaps = Vec::new(alloc);
+    for next in links {
+        if is_false(&link.holds) {
+            let Link { holds, .. } = link;
+            return Ok(Linked { holds, leaps });
+        }
+        leaps.push(reserve(code, Leap::IfFalseOrPop)?)?;
+        link = compile_link(alloc, code, &link.left, next)?;
+    }
+    let Link { holds, .. } = link;
+    Ok(Linked { holds, leaps })
+}
+
+// The comparisons behind the first operand. Where they are constant, what is put is to be dropped again.
+#[cycle(expression)]
+fn compile_chain<'source>(
+    alloc: Global,
+    code: &mut Instructions<'source>,
+    left: &Option<Value>,
+    links: &[CompareOp<'source>],
+) -> Result<Option<Value>, Error>
+    requires { IsRunnableChain (links_in links.now) }
+    ensures constant { IfOk result (λ o. o ≡ option_and_then (λ v. chain_constant v (links_in links.now)) left.now) }
+    ensures put { IfOk result (λ o. o ≡ None → Puts (chain_code (links_in links.now)) code.old code.new) }
+    ensures grown { OnOk result (Grows code.old code.new) }
+    ensures refused { IfErr result NoRoom }
+{
+    let (first, later) = match links.split_first() {
+        Some(parts) => parts,
+        None => unreachable!(),
+    };
+    let link = compile_link(alloc, code, left, first)?;
+    let Linked { holds, leaps } = compile_links(alloc, code, link, later)?;
+    match holds {
+        Some(holds) => Ok(Some(holds)),
+        None => {
+            tell_leaps(code, leaps);
+            put(code, Instruction::Swap)?;
+            put(code, Instruction::DiscardTop)?;
+            Ok(None)
+        }
+    }
+}
+
+// The comparisons behind the first operand, which are dropped again where they are constant.
 #[cycle(expression)]
 fn fold_chain<'source>(
     alloc: Global,
@@ -413,37 +560,11 @@ fn fold_chain<'source>(
 {
     let begins = code.len();
     load_copy(code, &left)?;
-    let mut left = left;
-    let mut leaps = Vec::new(alloc);
-    for (i, link) in links.iter().enumerate() {
-        if i > 0 {
-            leaps.push(reserve(code, Leap::IfFalseOrPop)?)?;
+    match compile_chain(alloc, code, &left, links)? {
+        Some(holds) => {
+            code.truncate(begins);
+            Ok(Some(holds))
         }
-        let Link { holds, right } = compile_link(alloc, code, &left, link)?;
-        left = match holds {
-            Some(holds) => {
-                if i + 1 == links.len() || !holds.is_true() {
-                    code.truncate(begins);
-                    return Ok(Some(holds));
-                }
-                right
-            }
-            None => None,
-        };
-    }
-    lead(code, leaps, Leap::IfFalseOrPop);
-    put(code, Instruction::Swap)?;
-    put(code, Instruction::DiscardTop)?;
-    Ok(None)
-}
-
-// Tells the leaps at the places their target: behind the last instruction.
-fn lead<'source>(code: &mut Instructions<'source>, leaps: Vec<u32>, leap: Leap)
-    ensures told { code_in code.new ≡ led_by leap (length (code_in code.old)) leaps.items (code_in code.old) }
-    ensures same { IsSameTemplate code.old code.new }
-{
-    let mut left = leaps;
-    while let Some(place) = left.pop() {
-        land(code, place, leap);
+        None => Ok(None),
     }
 }

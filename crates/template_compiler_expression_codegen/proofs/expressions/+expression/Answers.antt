@@ -19,7 +19,7 @@ pub fold_choice-returns-clause-put : goal.fold_choice-returns-clause-put
 fold_choice-returns-clause-put t c =
     let whole = puts_whole (expression_of c.args.right.now) c.in_ok-constant.ensures.constant c.in_ok-constant.ensures.put c.in_ok-load-in-None.ensures.put in
     let landed = c.land.ensures.landed ∙
-        ap (λ m. set (code_in c.load.new.code) m (leap_code c.args.leap (length (code_in c.load.new.code)))) c.in_ok-jump.ensures.place in
+    ap (λ m. set (code_in c.load.new.code) m (leap_code c.args.leap (length (code_in c.load.new.code)))) c.in_ok-jump.ensures.place in
     puts_behind c.args.left c.in_ok-load_copy.ensures.put (puts_skipped c.args.leap c.in_ok-jump.ensures.put whole landed c.land.ensures.same)
 
 pub fold_expr-loop-i-preserved : goal.fold_expr-loop-i-preserved
@@ -27,9 +27,9 @@ fold_expr-loop-i-preserved t c =
     let ns = c.in_ok-nodes.nodes.items in
     let within : c.loop-i.i < length ns = omega arith in
     let more = one_node ns c.loop-i.i c.index.result (code_in c.args.code.now) (code_in c.loop-i.code) (code_in c.fold_node.new.code)
-        c.loop-i.constant c.in_ok-constant.constant within c.index.ensures
-        (runnable_at (expression_of c.args.expr.now) ns c.requires c.in_ok-nodes.ensures.nodes c.loop-i.i c.index.result within c.index.ensures)
-        c.loop-i.invariant.constant c.loop-i.invariant.code c.in_ok-constant.ensures.constant c.in_ok-constant.ensures.put.code in
+    c.loop-i.constant c.in_ok-constant.constant within c.index.ensures
+    (runnable_at (expression_of c.args.expr.now) ns c.requires c.in_ok-nodes.ensures.nodes c.loop-i.i c.index.result within c.index.ensures)
+    c.loop-i.invariant.constant c.loop-i.invariant.code c.in_ok-constant.ensures.constant c.in_ok-constant.ensures.put.code in
     record { constant = more.0; code = more.1; same = same_then c.loop-i.invariant.same c.in_ok-constant.ensures.put.same }
 
 pub fold_expr-returns-clause-constant : goal.fold_expr-returns-clause-constant
@@ -44,9 +44,10 @@ pub fold_expr-fold_node-requires : goal.fold_expr-fold_node-requires
 fold_expr-fold_node-requires t c =
     let ns = c.in_ok-nodes.nodes.items in
     let within : c.loop-i.i < length ns = omega arith in
-    let deep = depth_at (size-Expr c.args.expr.now) ns c.in_ok-nodes.ensures.depth c.loop-i.i c.index.result within c.index.ensures in
-    (omega (arith, deep, c.decreases),
-    runnable_at (expression_of c.args.expr.now) ns c.requires c.in_ok-nodes.ensures.nodes c.loop-i.i c.index.result within c.index.ensures)
+    let deep = depth_at (size-Expr c.args.expr.now) ns c.in_ok-nodes.ensures.depth c.loop-i.i c.index.result within c.index.ensures in (
+      omega (arith, deep, c.decreases),
+      runnable_at (expression_of c.args.expr.now) ns c.requires c.in_ok-nodes.ensures.nodes c.loop-i.i c.index.result within c.index.ensures,
+    )
 
 pub fold_expr-returns-clause-put : goal.fold_expr-returns-clause-put
 fold_expr-returns-clause-put t c =
