@@ -1,9 +1,9 @@
 -- What kind of expression stands at a node: facts for the arms of a match that take all other nodes.
-use Rattle.std.proofs.Common.{◌≡◌, false, List, [], ◌∷◌, length, ◌==◌, refl, arith, codes, Box, Global}
+use Rattle.std.proofs.Common.{◌≡◌, false, None, List, [], ◌∷◌, length, ◌==◌, refl, arith, codes, Box, Global}
 use Rattle.std.proofs.lemmas.Bool.Decides.{nat_tests}
 use Rattle.template_tree.specs.Tree.{Arguments}
 use Rattle.template_tree.specs.View.{expression_of, chain_of, arguments_in}
-use Rattle.template_tree.specs.Kinds.{description_of, is_self_name, is_empty, called_by, calls_value}
+use Rattle.template_tree.specs.Kinds.{description_of, is_self_name, is_empty, called_by, calls_value, call_parts}
 use Rattle.template_tree.specs.declared.calls.CallArg.{CallArg}
 use Rattle.template_tree.specs.declared.span.Spanned.{Spanned}
 use Rattle.template_tree.specs.declared.expressions.Var.{Var as Name}
@@ -13,6 +13,10 @@ use Rattle.template_tree.specs.declared.expressions.Compare.{Compare, Compare' a
 
 pub chain_description : (c : Compare) → description_of (chain_of c) ≡ codes "comparison"
 chain_description (compared expr shape ops) = refl
+
+-- no comparison is a call
+pub chain_call : (c : Compare) → None ≡ call_parts (chain_of c)
+chain_call (compared expr shape ops) = refl
 
 pub other_than_name : (e : Expr) → ((x : Spanned Name) → e ≡ Var x → ⊥) → false ≡ is_self_name (expression_of e)
 other_than_name (Var n) h = absurd (h n refl)

@@ -227,7 +227,20 @@ impl<'source> Expr<'source> {
     {
         match self {
             Expr::Call(n) => Some(n),
-            _ => None,
+            Expr::Var(_) => None,
+            Expr::Const(_) => None,
+            Expr::Slice(_) => None,
+            Expr::UnaryOp(_) => None,
+            Expr::BinOp(_) => None,
+            Expr::Compare(_) => None,
+            Expr::IfExpr(_) => None,
+            Expr::Filter(_) => None,
+            Expr::Test(_) => None,
+            Expr::GetAttr(_) => None,
+            Expr::GetItem(_) => None,
+            Expr::List(_) => None,
+            Expr::Tuple(_) => None,
+            Expr::Map(_) => None,
         }
     }
 
