@@ -1,11 +1,25 @@
 -- The comparisons of a chain behind the first one, whose leaps are told their target at the end of the chain.
-use Rattle.std.proofs.Common.{◌≡◌, ℕ, ◌+◌, suc, List, [], ◌∷◌, ◌++◌, length, refl, sym, ap, ◌∙◌, append-nil, append_assoc, length-append, arith}
+use Rattle.std.proofs.Common.{◌≡◌, ℕ, ◌+◌, ◌<◌, suc, false, List, [], ◌∷◌, ◌++◌, length, get_or, drop, Option, None, Some, refl, sym, ap, subst, ◌∙◌, append_assoc, length-append, arith}
 use Rattle.std.proofs.Math.ListN.{set}
 use Rattle.std.proofs.Math.Seq.{set-append_seam}
-use Rattle.template_tree.specs.Tree.{Links, no_links, links_more}
+use Rattle.std.proofs.lemmas.List.{drop_more, drop_all, length-set}
+use Rattle.std.specs.Prelude.{option_and_then}
+use Rattle.template_values_model.specs.Fault.{Fault}
+use Rattle.template_values_model.specs.Val.{Val}
+use Rattle.template_values_core.specs.Reads.{is_true}
+use Rattle.template_values_forms.specs.Known.{nothing_known}
+use Rattle.template_tree.specs.declared.expressions.CompareOp.{CompareOp}
+use Rattle.template_tree.specs.declared.operators.CompareOpKind.{CompareOpKind}
+use Rattle.template_tree.specs.Tree.{Expression, Links, no_links, links_more}
+use Rattle.template_tree.specs.View.{expression_of, links_in}
+use Rattle.template_walk.specs.Constants.{chain_constant, chain_decided, constant_of, made}
+use Rattle.template_walk.specs.Operators.{compared}
+use Rattle.template_walk.specs.Runnable.{IsRunnable, AreRunnableLinks}
 use Rattle.template_code.specs.Code.{Code, jump_if_false_or_pop}
-use Rattle.template_compiler_codegen.specs.Expressions.{linked_code}
-use Rattle.template_compiler_expression_codegen.specs.Chains.{link_code, linked_to, leaps_in, leapt}
+use Rattle.template_compiler_codegen.specs.Expressions.{then_code, linked_code}
+use Rattle.template_compiler_emission.proofs.Pieces.{two_pieces, one_more, one_longer}
+use Rattle.template_compiler_folding.specs.Folding.{comparison_folded}
+use Rattle.template_compiler_expression_codegen.specs.Chains.{constant_behind, is_false, left_behind, link_code, linked_to, leaps_in, leapt}
 
 -- all leaps lead to the end of the chain
 pub linked_is : (links : Links) (p : ℕ) → linked_code links p ≡ linked_to (p + length (linked_code links p)) links p
@@ -58,3 +72,64 @@ linked_whole links xs ys zs p q =
     ap (λ (l : List Code). leapt (n + length (linked_code links n)) (leaps_in links n) l) p ∙
     leaps_lead links (n + length (linked_code links n)) xs ∙
     ap (λ (l : List Code). xs ++ l) (sym (linked_is links n))
+
+-- one comparison more, behind its leap
+pub link_more : (op : CompareOpKind) (e : Expression) (rest : Links) (xs ys zs : List Code) → ys ≡ xs ++ jump_if_false_or_pop 0 ∷ []
+    → zs ≡ ys ++ link_code op e (length ys) → zs ++ linked_to 0 rest (length zs) ≡ xs ++ linked_to 0 (links_more op e rest) (length xs)
+link_more op e rest xs ys zs p q =
+    let piece = then_code (link_code op e) (linked_to 0 rest) in
+    one_more xs ys (zs ++ linked_to 0 rest (length zs)) (piece (suc (length xs))) (jump_if_false_or_pop 0) p
+    (two_pieces (link_code op e) (linked_to 0 rest) ys zs (zs ++ linked_to 0 rest (length zs)) q refl ∙
+    ap (λ (m : ℕ). ys ++ piece m) (one_longer xs ys (jump_if_false_or_pop 0) p))
+
+-- and the place of its leap
+pub place_more : (op : CompareOpKind) (e : Expression) (rest : Links) (xs ys zs : List Code) (leaps : List ℕ) → ys ≡ xs ++ jump_if_false_or_pop 0 ∷ []
+    → zs ≡ ys ++ link_code op e (length ys)
+    → (leaps ++ length xs ∷ []) ++ leaps_in rest (length zs) ≡ leaps ++ leaps_in (links_more op e rest) (length xs)
+place_more op e rest xs ys zs leaps p q =
+    let piece = link_code op e in
+    let long : length zs ≡ suc (length xs) + length (piece (suc (length xs))) =
+    ap length q ∙ length-append ys (piece (length ys)) ∙
+    ap (λ (m : ℕ). m + length (piece m)) (one_longer xs ys (jump_if_false_or_pop 0) p) in
+    append_assoc leaps (length xs ∷ []) (leaps_in rest (length zs)) ∙
+    ap (λ (m : ℕ). leaps ++ length xs ∷ leaps_in rest m) long
+
+-- the comparisons from a place on
+pub links_at : (ls : List CompareOp) (i : ℕ) (x : CompareOp) → i < length ls → x ≡ get_or ls i x
+    → links_in (drop i ls) ≡ links_more x.op (expression_of x.expr) (links_in (drop (i + 1) ls))
+links_at ls i x within read =
+    ap (λ (l : List CompareOp). links_in l) (drop_more ls i x within) ∙
+    ap (λ (y : CompareOp). links_more y.op (expression_of y.expr) (links_in (drop (i + 1) ls))) (sym read)
+
+pub link_runnable : (ls : List CompareOp) (i : ℕ) (x : CompareOp) → AreRunnableLinks (links_in ls) → i < length ls → x ≡ get_or ls i x
+    → IsRunnable (expression_of x.expr)
+link_runnable [] i x h within read = absurd (omega (arith, within))
+link_runnable (l ∷ ls) 0 x h within read = subst (λ (y : CompareOp). IsRunnable (expression_of y.expr)) (sym read) h.0
+link_runnable (l ∷ ls) (suc i) x h within read = link_runnable ls i x h.1 (omega (arith, within)) read
+
+-- what is known behind one comparison more
+made_behind : (o : Option Val) (w : Val) (rest : Links)
+    → option_and_then (λ h. chain_decided h rest (chain_constant w rest)) o ≡ constant_behind o (left_behind o (Some w)) rest
+made_behind None w rest = refl
+made_behind (Some h) w rest = refl
+
+right_behind : (op : CompareOpKind) (v : Val) (right : Option Val) (rest : Links)
+    → option_and_then (λ w. option_and_then (λ h. chain_decided h rest (chain_constant w rest)) (made (compared nothing_known op v w))) right
+    ≡ constant_behind (comparison_folded op (Some v) right) (left_behind (comparison_folded op (Some v) right) right) rest
+right_behind op v None rest = refl
+right_behind op v (Some w) rest = made_behind (made (compared nothing_known op v w)) w rest
+
+-- at the first comparison
+pub first_known : (op : CompareOpKind) (e : Expression) (rest : Links) (left holds behind : Option Val) → holds ≡ comparison_folded op left (constant_of e)
+    → behind ≡ left_behind holds (constant_of e)
+    → constant_behind holds behind rest ≡ option_and_then (λ v. chain_constant v (links_more op e rest)) left
+first_known op e rest left holds behind h b =
+    ap (λ (o : Option Val). constant_behind holds o rest) b ∙
+    ap (λ (o : Option Val). constant_behind o (left_behind o (constant_of e)) rest) h ∙
+    sym (from_left op e rest left)
+  where
+    from_left : (op : CompareOpKind) (e : Expression) (rest : Links) (left : Option Val)
+        → option_and_then (λ v. chain_constant v (links_more op e rest)) left
+        ≡ constant_behind (comparison_folded op left (constant_of e)) (left_behind (comparison_folded op left (constant_of e)) (constant_of e)) rest
+    from_left op e rest None = refl
+    from_left op e rest (Some v) = right_behind op v (constant_of e) rest
