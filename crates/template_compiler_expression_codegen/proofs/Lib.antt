@@ -1,5 +1,7 @@
 pub mod Along
+pub mod Entries
 pub mod Items
 pub mod Linked
 pub mod Own
 pub mod Putting
+pub mod Trees

@@ -1,5 +1,5 @@
 -- The comparisons of a chain behind the first one, whose leaps are told their target at the end of the chain.
-use Rattle.std.proofs.Common.{◌≡◌, ℕ, ◌+◌, ◌<◌, suc, false, List, [], ◌∷◌, ◌++◌, length, get_or, drop, Option, None, Some, refl, sym, ap, subst, ◌∙◌, append_assoc, length-append, arith}
+use Rattle.std.proofs.Common.{◌≡◌, ℕ, ◌+◌, ◌<◌, suc, Bool, true, false, not, cond, List, [], ◌∷◌, ◌++◌, length, get_or, drop, Option, None, Some, refl, sym, ap, subst, ◌∙◌, append_assoc, length-append, arith}
 use Rattle.std.proofs.Math.ListN.{set}
 use Rattle.std.proofs.Math.Seq.{set-append_seam}
 use Rattle.std.proofs.lemmas.List.{drop_more, drop_all, length-set}
@@ -108,6 +108,14 @@ link_runnable (l ∷ ls) 0 x h within read = subst (λ (y : CompareOp). IsRunnab
 link_runnable (l ∷ ls) (suc i) x h within read = link_runnable ls i x h.1 (omega (arith, within)) read
 
 -- what is known behind one comparison more
+not_false : (b : Bool) → not b ≡ false → b ≡ true
+not_false true h = refl
+not_false false h = cc
+
+not_true : (b : Bool) → not b ≡ true → b ≡ false
+not_true true h = cc
+not_true false h = refl
+
 made_behind : (o : Option Val) (w : Val) (rest : Links)
     → option_and_then (λ h. chain_decided h rest (chain_constant w rest)) o ≡ constant_behind o (left_behind o (Some w)) rest
 made_behind None w rest = refl
@@ -119,17 +127,47 @@ right_behind : (op : CompareOpKind) (v : Val) (right : Option Val) (rest : Links
 right_behind op v None rest = refl
 right_behind op v (Some w) rest = made_behind (made (compared nothing_known op v w)) w rest
 
--- at the first comparison
-pub first_known : (op : CompareOpKind) (e : Expression) (rest : Links) (left holds behind : Option Val) → holds ≡ comparison_folded op left (constant_of e)
+left_known : (op : CompareOpKind) (e : Expression) (rest : Links) (left : Option Val)
+    → option_and_then (λ v. chain_constant v (links_more op e rest)) left
+    ≡ constant_behind (comparison_folded op left (constant_of e)) (left_behind (comparison_folded op left (constant_of e)) (constant_of e)) rest
+left_known op e rest None = refl
+left_known op e rest (Some v) = right_behind op v (constant_of e) rest
+
+-- at a comparison behind a left side
+pub link_known : (op : CompareOpKind) (e : Expression) (rest : Links) (left holds behind : Option Val) → holds ≡ comparison_folded op left (constant_of e)
     → behind ≡ left_behind holds (constant_of e)
     → constant_behind holds behind rest ≡ option_and_then (λ v. chain_constant v (links_more op e rest)) left
-first_known op e rest left holds behind h b =
+link_known op e rest left holds behind h b =
     ap (λ (o : Option Val). constant_behind holds o rest) b ∙
     ap (λ (o : Option Val). constant_behind o (left_behind o (constant_of e)) rest) h ∙
-    sym (from_left op e rest left)
-  where
-    from_left : (op : CompareOpKind) (e : Expression) (rest : Links) (left : Option Val)
-        → option_and_then (λ v. chain_constant v (links_more op e rest)) left
-        ≡ constant_behind (comparison_folded op left (constant_of e)) (left_behind (comparison_folded op left (constant_of e)) (constant_of e)) rest
-    from_left op e rest None = refl
-    from_left op e rest (Some v) = right_behind op v (constant_of e) rest
+    sym (left_known op e rest left)
+
+-- a chain goes on, unless it is known to be false
+known_on : (holds left : Option Val) (op : CompareOpKind) (e : Expression) (rest : Links) → is_false holds ≡ false → (holds ≡ None → left ≡ None)
+    → option_and_then (λ v. chain_constant v (links_more op e rest)) left ≡ constant_behind holds left (links_more op e rest)
+known_on None left op e rest goes stays = ap (λ (o : Option Val). option_and_then (λ v. chain_constant v (links_more op e rest)) o) (stays refl)
+known_on (Some h) left op e rest goes stays =
+    let holds_true : is_true h ≡ true = not_false (is_true h) goes in
+    sym (ap (λ (b : Bool). cond b (option_and_then (λ v. chain_constant v (links_more op e rest)) left) (Some h)) holds_true)
+
+-- where it is known to be false, it ends
+pub known_false : (holds left : Option Val) (op : CompareOpKind) (e : Expression) (rest : Links) → is_false holds ≡ true
+    → holds ≡ constant_behind holds left (links_more op e rest)
+known_false None left op e rest ends = cc
+known_false (Some h) left op e rest ends =
+    let holds_false : is_true h ≡ false = not_true (is_true h) ends in
+    sym (ap (λ (b : Bool). cond b (option_and_then (λ v. chain_constant v (links_more op e rest)) left) (Some h)) holds_false)
+
+pub known_end : (holds left : Option Val) → constant_behind holds left no_links ≡ holds
+known_end None left = refl
+known_end (Some h) left = refl
+
+-- from one comparison to the next
+pub link_goes : (op : CompareOpKind) (e : Expression) (rest : Links) (holds left later behind : Option Val) → is_false holds ≡ false
+    → (holds ≡ None → left ≡ None) → later ≡ comparison_folded op left (constant_of e) → behind ≡ left_behind later (constant_of e)
+    → constant_behind later behind rest ≡ constant_behind holds left (links_more op e rest)
+link_goes op e rest holds left later behind goes stays h b =
+    link_known op e rest left later behind h b ∙ known_on holds left op e rest goes stays
+
+pub behind_none : (holds left right : Option Val) → left ≡ left_behind holds right → holds ≡ None → left ≡ None
+behind_none holds left right is none = is ∙ ap (λ (o : Option Val). left_behind o right) none
