@@ -4,4 +4,5 @@ pub mod Items
 pub mod Linked
 pub mod Own
 pub mod Putting
+pub mod Sizes
 pub mod Trees

@@ -2,7 +2,7 @@
 use Rattle.std.proofs.Common.{◌≡◌, ℕ, ◌+◌, ◌<◌, suc, Bool, true, false, not, cond, List, [], ◌∷◌, ◌++◌, length, get_or, drop, Option, None, Some, refl, sym, ap, subst, ◌∙◌, append_assoc, length-append, arith}
 use Rattle.std.proofs.Math.ListN.{set}
 use Rattle.std.proofs.Math.Seq.{set-append_seam}
-use Rattle.std.proofs.lemmas.List.{drop_more, drop_all, length-set}
+use Rattle.std.proofs.lemmas.List.{drop_more}
 use Rattle.std.specs.Prelude.{option_and_then}
 use Rattle.template_values_model.specs.Fault.{Fault}
 use Rattle.template_values_model.specs.Val.{Val}
@@ -171,3 +171,14 @@ link_goes op e rest holds left later behind goes stays h b =
 
 pub behind_none : (holds left right : Option Val) → left ≡ left_behind holds right → holds ≡ None → left ≡ None
 behind_none holds left right is none = is ∙ ap (λ (o : Option Val). left_behind o right) none
+
+leapt-append : (to : ℕ) (ps qs : List ℕ) (code : List Code) → leapt to (ps ++ qs) code ≡ leapt to ps (leapt to qs code)
+leapt-append to [] qs code = refl
+leapt-append to (p ∷ ps) qs code = ap (λ (l : List Code). set l p (jump_if_false_or_pop to)) (leapt-append to ps qs code)
+
+-- the last of the leaps that are left is told where it leads
+pub one_leapt : (to place : ℕ) (left rest : List ℕ) (now new : List Code) → left ≡ rest ++ place ∷ [] → length now ≡ to
+    → new ≡ set now place (jump_if_false_or_pop (length now)) → leapt to rest new ≡ leapt to left now
+one_leapt to place left rest now new split long landed =
+    ap (λ (l : List Code). leapt to rest l) (landed ∙ ap (λ (m : ℕ). set now place (jump_if_false_or_pop m)) long) ∙
+    sym (leapt-append to rest (place ∷ []) now) ∙ ap (λ (ps : List ℕ). leapt to ps now) (sym split)

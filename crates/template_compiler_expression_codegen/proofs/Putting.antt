@@ -1,14 +1,17 @@
 -- What was put behind instructions of trees whose constant is held back.
 use Rattle.std.proofs.Common.{◌≡◌, ◌∷◌, [], ◌++◌, ℕ, List, length, take, Option, sym, ap, subst, ◌∙◌, append-nil, append_assoc, refl}
+use Rattle.std.proofs.Math.ListN.{set}
 use Rattle.std.proofs.lemmas.List.{take_at}
 use Rattle.template_values_model.specs.Val.{Val}
 use Rattle.template_tree.specs.declared.operators.CompareOpKind.{CompareOpKind}
-use Rattle.template_tree.specs.Tree.{Expression, Links, links_more}
+use Rattle.template_tree.specs.Tree.{Expression, Links, Optional, links_more}
 use Rattle.template_walk.specs.Constants.{constant_of}
 use Rattle.template_code.specs.Code.{Code, swap, discard_top}
 use Rattle.template_code.specs.Listing.{code_in, IsSameTemplate}
 use Rattle.template_code.specs.declared.listing.Instructions.{Instructions}
-use Rattle.template_compiler_codegen.specs.Expressions.{Coded, one, nothing, expression_code, linked_code, chain_code}
+use Rattle.template_compiler_codegen.specs.Expressions.{Coded, one, nothing, expression_code, optional_code, linked_code, chain_code}
+use Rattle.template_compiler_emission.specs.declared.leaps.Leap.{Leap}
+use Rattle.template_compiler_emission.specs.Leaps.{leap_code}
 use Rattle.template_compiler_emission.specs.Puts.{Puts, unless, held, behind}
 use Rattle.template_compiler_emission.proofs.Putting.{same_itself, same_then, puts_then}
 use Rattle.template_compiler_expression_codegen.specs.Chains.{Grows, link_code, linked_to, leaps_in, leapt}
@@ -58,3 +61,10 @@ puts_chain op e links leaps {a} {b} {c} {d} {x} {y} first more places told same 
       same = same_then more.same same;
     } in
     puts_then first (puts_then linked (puts_then swapped discarded))
+
+pub puts_optional : {m n : Val} (o : Optional) {a b : Instructions} → m ≡ n → Puts (optional_code m o) a b → Puts (optional_code n o) a b
+puts_optional {m} {n} o {a} {b} same p = subst (λ (v : Val). Puts (optional_code v o) a b) same p
+
+pub landed_at : (leap : Leap) (place : ℕ) {a b c : Instructions} → place ≡ length (code_in a) → code_in c ≡ set (code_in b) place (leap_code leap (length (code_in b)))
+    → code_in c ≡ set (code_in b) (length (code_in a)) (leap_code leap (length (code_in b)))
+landed_at leap place {a} {b} {c} at landed = landed ∙ ap (λ (m : ℕ). set (code_in b) m (leap_code leap (length (code_in b)))) at

@@ -25,10 +25,7 @@ fn literal<'a, 'source>(expr: &'a Expr<'source>) -> Option<&'a Value>
 }
 
 // The values of expressions, where each one is a literal.
-fn literals<'source>(
-    alloc: Global,
-    exprs: &[Expr<'source>],
-) -> Result<Option<Vec<Value>>, Error>
+fn literals<'source>(alloc: Global, exprs: &[Expr<'source>]) -> Result<Option<Vec<Value>>, Error>
     ensures literals { IfOk result (λ o. option_map (λ values. values.items) o ≡ literals_of (expressions_in exprs.now)) }
     ensures refused { IfErr result NoMemory }
 {
