@@ -1,5 +1,5 @@
 -- The items of a container, one behind the other.
-use Rattle.std.proofs.Common.{◌≡◌, ℕ, ◌+◌, ◌<◌, ◌≤◌, suc, List, [], ◌∷◌, ◌++◌, length, take, get_or, refl, sym, ap, subst, ◌∙◌, append-nil, append_assoc, length-append, arith}
+use Rattle.std.proofs.Common.{◌≡◌, ℕ, ◌+◌, ◌<◌, ◌≤◌, zero, suc, List, [], ◌∷◌, ◌++◌, length, take, get_or, refl, sym, ap, subst, ◌∙◌, append-nil, append_assoc, length-append, arith}
 use Rattle.std.proofs.lemmas.List.{take_more, take_all}
 use Rattle.template_tree.specs.Tree.{no_expressions, expressions_more}
 use Rattle.template_tree.specs.View.{expression_of, expressions_in}
@@ -13,7 +13,7 @@ use Rattle.template_compiler_codegen.specs.Expressions.{Coded, then_code, expres
 use Rattle.template_compiler_emission.specs.Puts.{Puts}
 use Rattle.template_compiler_emission.proofs.Putting.{puts_then}
 
-then_assoc : (f g h : Coded) (p : ℕ) → then_code f (then_code g h) p ≡ then_code (then_code f g) h p
+pub then_assoc : (f g h : Coded) (p : ℕ) → then_code f (then_code g h) p ≡ then_code (then_code f g) h p
 then_assoc f g h p =
     let xs = f p in
     let ys = g (p + length xs) in
@@ -55,5 +55,5 @@ number_is (e ∷ es) = ap suc (number_is es)
 pub item_runnable : (es : List Expr) (i : ℕ) (e : Expr) → AreRunnable (expressions_in es) → i < length es → e ≡ get_or es i e
     → IsRunnable (expression_of e)
 item_runnable [] i e h within read = absurd (omega (arith, within))
-item_runnable (x ∷ es) 0 e h within read = subst (λ (y : Expr). IsRunnable (expression_of y)) (sym read) h.0
+item_runnable (x ∷ es) zero e h within read = subst (λ (y : Expr). IsRunnable (expression_of y)) (sym read) h.0
 item_runnable (x ∷ es) (suc i) e h within read = item_runnable es i e h.1 (omega (arith, within)) read

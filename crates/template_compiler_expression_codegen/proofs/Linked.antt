@@ -1,5 +1,5 @@
 -- The comparisons of a chain behind the first one, whose leaps are told their target at the end of the chain.
-use Rattle.std.proofs.Common.{◌≡◌, ℕ, ◌+◌, ◌<◌, suc, Bool, true, false, not, cond, List, [], ◌∷◌, ◌++◌, length, get_or, drop, Option, None, Some, refl, sym, ap, subst, ◌∙◌, append_assoc, length-append, arith}
+use Rattle.std.proofs.Common.{◌≡◌, ℕ, ◌+◌, ◌<◌, zero, suc, Bool, true, false, not, cond, List, [], ◌∷◌, ◌++◌, length, get_or, drop, Option, None, Some, refl, sym, ap, subst, ◌∙◌, append_assoc, length-append, arith}
 use Rattle.std.proofs.Math.ListN.{set}
 use Rattle.std.proofs.Math.Seq.{set-append_seam}
 use Rattle.std.proofs.lemmas.List.{drop_more}
@@ -104,7 +104,7 @@ links_at ls i x within read =
 pub link_runnable : (ls : List CompareOp) (i : ℕ) (x : CompareOp) → AreRunnableLinks (links_in ls) → i < length ls → x ≡ get_or ls i x
     → IsRunnable (expression_of x.expr)
 link_runnable [] i x h within read = absurd (omega (arith, within))
-link_runnable (l ∷ ls) 0 x h within read = subst (λ (y : CompareOp). IsRunnable (expression_of y.expr)) (sym read) h.0
+link_runnable (l ∷ ls) zero x h within read = subst (λ (y : CompareOp). IsRunnable (expression_of y.expr)) (sym read) h.0
 link_runnable (l ∷ ls) (suc i) x h within read = link_runnable ls i x h.1 (omega (arith, within)) read
 
 -- what is known behind one comparison more

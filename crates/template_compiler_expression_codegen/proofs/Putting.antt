@@ -65,6 +65,7 @@ puts_chain op e links leaps {a} {b} {c} {d} {x} {y} first more places told same 
 pub puts_optional : {m n : Val} (o : Optional) {a b : Instructions} → m ≡ n → Puts (optional_code m o) a b → Puts (optional_code n o) a b
 puts_optional {m} {n} o {a} {b} same p = subst (λ (v : Val). Puts (optional_code v o) a b) same p
 
-pub landed_at : (leap : Leap) (place : ℕ) {a b c : Instructions} → place ≡ length (code_in a) → code_in c ≡ set (code_in b) place (leap_code leap (length (code_in b)))
-    → code_in c ≡ set (code_in b) (length (code_in a)) (leap_code leap (length (code_in b)))
-landed_at leap place {a} {b} {c} at landed = landed ∙ ap (λ (m : ℕ). set (code_in b) m (leap_code leap (length (code_in b)))) at
+-- a jump whose place is known was told its target
+pub landed_at : (leap : Leap) (place : ℕ) (xs ys zs : List Code) → place ≡ length xs → zs ≡ set ys place (leap_code leap (length ys))
+    → zs ≡ set ys (length xs) (leap_code leap (length ys))
+landed_at leap place xs ys zs at landed = landed ∙ ap (λ (m : ℕ). set ys m (leap_code leap (length ys))) at

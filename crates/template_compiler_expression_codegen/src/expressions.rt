@@ -443,12 +443,14 @@ fn fold_map_literal<'source>(
 }
 
 // What is constant of a comparison: its truth, and behind it the left side of the next one.
+#[derive(Drop)]
 struct Link {
     holds: Option<Value>,
     left: Option<Value>,
 }
 
 // What is constant of a chain, and the places of its leaps.
+#[derive(Drop)]
 struct Linked {
     holds: Option<Value>,
     leaps: Vec<u32>,
