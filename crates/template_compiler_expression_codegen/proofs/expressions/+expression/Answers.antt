@@ -102,8 +102,8 @@ compile_chain-returns-in_ok-put-in-None-holds-2-clause-put t c = λ _.
     ap (λ (l : List CompareOp). links_in l) c.in-Some.ensures.cases.0 in
     let none : c.in_ok-holds.field-0.holds ≡ None = cc in
     let leaps : c.in_ok-holds.leaps.items ≡ leaps_in (links_in later) (length (code_in c.compile_link.new.code)) =
-    rw c.in_ok-holds.leaps-is (c.in_ok-holds.ensures.leaps none) in
-    rw split (puts_chain first.op (expression_of first.expr) (links_in later) c.in_ok-holds.leaps.items c.in_ok-link.ensures.put
+    rw (← c.in_ok-holds.leaps-is) (c.in_ok-holds.ensures.leaps none) in
+    rw split (puts_chain first.op (expression_of first.expr) (links_in later) c.in_ok-holds.leaps.items {d = c.tell_leaps.new.code} c.in_ok-link.ensures.put
     (c.in_ok-holds.ensures.put none) leaps c.tell_leaps.ensures.told c.tell_leaps.ensures.same
     c.in_ok-put-in-None-holds.ensures.put c.in_ok-put-in-None-holds-2.ensures.put)
 
@@ -254,7 +254,7 @@ fold_node-fold_map_literal-requires t c =
     let second = c.deref-in-Map-4.ensures.value ∙ ap (λ (m : MapNode). m.values.items) c.deref-in-Map-3.ensures in
     let tree = map_is e n keys values c.in-Map.is first second in
     let runs : IsRunnable (map_literal (expressions_in keys) (expressions_in values)) = subst (λ (x : Expression). IsRunnable x) tree c.requires in
-    (omega (arith, keys_deep e n keys c.in-Map.is first, values_deep e n values c.in-Map.is second, c.decreases), runs.0, runs.1)
+    (omega (arith, keys_deep e n keys c.in-Map.is first, values_deep e n values c.in-Map.is second, c.decreases), (runs.0, runs.1))
 
 pub fold_node-returns-in-Map-clause-constant : goal.fold_node-returns-in-Map-clause-constant
 fold_node-returns-in-Map-clause-constant t c =
