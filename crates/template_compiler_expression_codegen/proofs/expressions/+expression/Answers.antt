@@ -15,10 +15,10 @@ use Rattle.template_walk.specs.Constants.{chain_constant, constant_of}
 use Rattle.template_walk.specs.Runnable.{IsRunnable}
 use Rattle.template_code.specs.Code.{Code, build_list, build_tuple}
 use Rattle.template_code.specs.Listing.{code_in}
-use Rattle.template_compiler_codegen.specs.Expressions.{expression_code}
+use Rattle.template_compiler_codegen.specs.Expressions.{chain_code, expression_code}
 use Rattle.template_compiler_emission.specs.declared.leaps.Leap.TheVariants.{Always, IfFalse}
 use Rattle.template_compiler_emission.specs.Leaps.{leap_code}
-use Rattle.template_compiler_emission.specs.Puts.{unless}
+use Rattle.template_compiler_emission.specs.Puts.{Puts, unless}
 use Rattle.template_compiler_emission.proofs.Putting.{same_then, puts_then, puts_skipped, puts_either}
 use Rattle.template_compiler_expression_codegen.specs.Chains.{constant_behind, is_false, leaps_in, linked_to}
 use Rattle.template_compiler_expression_codegen.proofs.Along.{runnable_at, depth_at, one_node, so_far}
@@ -101,15 +101,15 @@ compile_chain-returns-in_ok-put-in-None-holds-2-clause-put t c = λ _.
     let split : links_in c.args.links.now ≡ links_more first.op (expression_of first.expr) (links_in later) =
     ap (λ (l : List CompareOp). links_in l) c.in-Some.ensures.cases.0 in
     let none : c.in_ok-holds.field-0.holds ≡ None = cc in
-    let leaps : c.in_ok-holds.leaps.items ≡ leaps_in (links_in later) (length (code_in c.compile_link.new.code)) =
-    rw (← c.in_ok-holds.leaps-is) (c.in_ok-holds.ensures.leaps none) in
-    rw split (puts_chain first.op (expression_of first.expr) (links_in later) c.in_ok-holds.leaps.items {d = c.tell_leaps.new.code} c.in_ok-link.ensures.put
-    (c.in_ok-holds.ensures.put none) leaps c.tell_leaps.ensures.told c.tell_leaps.ensures.same
+    rw split (puts_chain first.op (expression_of first.expr) (links_in later) c.in_ok-holds.field-0.leaps.items {d = c.tell_leaps.new.code}
+    c.in_ok-link.ensures.put (c.in_ok-holds.ensures.put none) (c.in_ok-holds.ensures.leaps none) c.tell_leaps.ensures.told c.tell_leaps.ensures.same
     c.in_ok-put-in-None-holds.ensures.put c.in_ok-put-in-None-holds-2.ensures.put)
 
 pub compile_chain-returns-in_ok-put-in-None-holds-2-clause-grown : goal.compile_chain-returns-in_ok-put-in-None-holds-2-clause-grown
 compile_chain-returns-in_ok-put-in-None-holds-2-clause-grown t c =
-    grows_by (compile_chain-returns-in_ok-put-in-None-holds-2-clause-put t c refl)
+    let put : Puts (chain_code (links_in c.args.links.now)) c.args.code.now c.put-in-None-holds.new.code =
+    compile_chain-returns-in_ok-put-in-None-holds-2-clause-put t c refl in
+    grows_by put
 
 pub compile_choice-returns-clause-put : goal.compile_choice-returns-clause-put
 compile_choice-returns-clause-put t c =
