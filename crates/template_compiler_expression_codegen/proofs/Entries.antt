@@ -7,7 +7,7 @@ use Rattle.template_tree.specs.declared.expressions.Expr.{Expr}
 use Rattle.template_code.specs.Code.{Code}
 use Rattle.template_code.specs.Listing.{code_in}
 use Rattle.template_code.specs.declared.listing.Instructions.{Instructions}
-use Rattle.template_compiler_codegen.specs.Expressions.{Coded, nothing, then_code, expression_code, entries_code, codes_of, entry_count}
+use Rattle.template_compiler_codegen.specs.Expressions.{Coded, then_code, expression_code, entries_code, codes_of, entry_count}
 use Rattle.template_compiler_emission.specs.Puts.{Puts}
 use Rattle.template_compiler_emission.proofs.Pieces.{two_pieces}
 use Rattle.template_compiler_emission.proofs.Putting.{puts_then}

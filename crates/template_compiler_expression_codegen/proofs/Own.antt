@@ -7,12 +7,11 @@ use Rattle.template_tree.specs.declared.operators.BinOpKind.TheVariants.{ScAnd, 
 use Rattle.template_tree.specs.Tree.{Expression, variable, constant, unary, binary, chain, conditional, filtered, tested, attribute, item, call, list_literal, tuple_literal, map_literal}
 use Rattle.template_tree.specs.Tree as tree
 use Rattle.template_tree_spines.specs.Spine.{left_of, before}
-use Rattle.template_walk.specs.Constants.{constant_of, unary_constant, binary_constant, chain_constant}
+use Rattle.template_walk.specs.Constants.{constant_of, binary_constant, chain_constant}
 use Rattle.template_walk.specs.Runnable.{IsRunnable}
 use Rattle.template_walk.specs.Statements.{number_of}
-use Rattle.template_code.specs.Code.{Code, load_const, get_attr, get_item, slice, build_list, build_tuple, build_map, operate, unsupported}
-use Rattle.template_compiler_codegen.specs.Expressions.{Coded, one, nothing, then_code, loaded, unary_code, binary_code, expression_code, optional_code, expressions_code, entries_code, entry_count, codes_of, chain_code}
-use Rattle.template_compiler_folding.specs.Folding.{binary_folded}
+use Rattle.template_code.specs.Code.{Code, load_const, get_attr, get_item, slice, build_list, build_tuple, build_map, unsupported}
+use Rattle.template_compiler_codegen.specs.Expressions.{Coded, one, then_code, loaded, unary_code, binary_code, expression_code, optional_code, expressions_code, entries_code, entry_count, codes_of, chain_code}
 use Rattle.template_compiler_emission.specs.Puts.{unless, held, behind}
 use Rattle.template_compiler_expression_codegen.specs.Own.{own_constant, own_code, operator_code}
 

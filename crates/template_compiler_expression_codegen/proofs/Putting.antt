@@ -1,5 +1,5 @@
 -- What was put behind instructions of trees whose constant is held back.
-use Rattle.std.proofs.Common.{◌≡◌, ◌∷◌, [], ◌++◌, ℕ, List, length, take, Option, sym, ap, subst, ◌∙◌, append-nil, append_assoc, refl}
+use Rattle.std.proofs.Common.{◌≡◌, [], ◌++◌, ℕ, List, length, take, Option, sym, ap, subst, ◌∙◌, append-nil, append_assoc, refl}
 use Rattle.std.proofs.Math.ListN.{set}
 use Rattle.std.proofs.lemmas.List.{take_at}
 use Rattle.template_values_model.specs.Val.{Val}

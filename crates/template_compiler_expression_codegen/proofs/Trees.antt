@@ -1,6 +1,6 @@
 -- The trees of nodes, from the parts that a node holds.
 use Rattle.std.proofs.Common.{◌≡◌, ℕ, ◌<◌, List as Items, length, get_or, Box, Global, rules, sym, ap, ◌∙◌}
-use Rattle.template_tree.specs.Tree.{Links, chain, conditional, list_literal, map_literal, slice, tuple_literal}
+use Rattle.template_tree.specs.Tree.{chain, conditional, list_literal, map_literal, slice, tuple_literal}
 use Rattle.template_tree.specs.View.{chain_of, expression_of, expressions_in, links_in, optional_in}
 use Rattle.template_tree.specs.declared.span.Spanned.{Spanned}
 use Rattle.template_tree.specs.declared.expressions.Compare.{Compare, Compare' as compared, out-Compare}

@@ -6,9 +6,9 @@ use Rattle.template_tree.specs.Tree.{Expression, variable, constant, unary, bina
 use Rattle.template_tree.specs.Tree as tree
 use Rattle.template_walk.specs.Constants.{constant_of, chain_constant}
 use Rattle.template_walk.specs.Statements.{number_of}
-use Rattle.template_code.specs.Code.{lookup, get_attr, get_item, slice, build_map, build_list, build_tuple, operate}
+use Rattle.template_code.specs.Code.{get_attr, get_item, slice, build_map, build_list, build_tuple, operate}
 use Rattle.template_compiler_folding.specs.Folding.{binary_folded}
-use Rattle.template_compiler_codegen.specs.Expressions.{Coded, one, nothing, then_code, skipped, unary_code, expression_code, optional_code, expressions_code, entries_code, codes_of, entry_count, chain_code}
+use Rattle.template_compiler_codegen.specs.Expressions.{Coded, one, then_code, skipped, unary_code, expression_code, optional_code, expressions_code, entries_code, codes_of, entry_count, chain_code}
 use Rattle.template_compiler_emission.specs.Puts.{behind}
 use Rattle.template_compiler_emission.specs.Leaps.{leap_code, leap_of}
 use Rattle.template_compiler_emission.specs.declared.leaps.Leap.{Leap}

@@ -13,7 +13,7 @@ use Rattle.template_tree.specs.declared.expressions.Tuple.{Tuple as TupleNode}
 use Rattle.template_tree_spines.proofs.Walks.{walked}
 use Rattle.template_walk.specs.Constants.{chain_constant, constant_of}
 use Rattle.template_walk.specs.Runnable.{IsRunnable}
-use Rattle.template_code.specs.Code.{Code, build_list, build_tuple}
+use Rattle.template_code.specs.Code.{build_list, build_tuple}
 use Rattle.template_code.specs.Listing.{code_in}
 use Rattle.template_compiler_codegen.specs.Expressions.{chain_code, expression_code}
 use Rattle.template_compiler_emission.specs.declared.leaps.Leap.TheVariants.{Always, IfFalse}
