@@ -1,2 +1,2 @@
 pub mod Assignments
-pub mod Targets
+pub mod Unpacking

@@ -11,7 +11,7 @@ use Rattle.template_compiler_expression_codegen.proofs.Items.{number_is}
 use Rattle.template_compiler_expression_codegen.proofs.Putting.{puts_as}
 use Rattle.template_compiler_expression_codegen.proofs.Sizes.{item_deep}
 use Rattle.template_compiler_expression_codegen.proofs.Trees.{list_deep, list_is}
-use Rattle.template_compiler_statement_codegen.proofs.Targets.{puts_target, puts_targets, target_at}
+use Rattle.template_compiler_statement_codegen.proofs.Unpacking.{puts_target, puts_targets, target_at}
 use Rattle.template_compiler_statement_codegen.proofs.targets.+target.Goals as goal
 
 pub compile_assignment-compile_targets-requires : goal.compile_assignment-compile_targets-requires
