@@ -1,0 +1,72 @@
+-- Along a left chain: each node is runnable, and adds its own to what stands.
+use Rattle.std.proofs.Common.{◌≡◌, ℕ, ◌+◌, ◌<◌, ◌≤◌, zero, suc, List, [], ◌∷◌, ◌++◌, length, map, take, get_or, Option, Bor, sym, ap, subst, ◌∙◌, arith}
+use Rattle.std.specs.List.{All, fold}
+use Rattle.std.proofs.lemmas.List.{take_more}
+use Rattle.std.proofs.lemmas.List.Sums.{fold_push}
+use Rattle.std.proofs.lemmas.List.Elements.{All-nil, All-head, All-tail, All-same, All-push, All-get_or}
+use Rattle.template_values_model.specs.Val.{Val}
+use Rattle.template_tree.specs.Tree.{Expression, slice, binary, chain, filtered, tested, attribute, item, call}
+use Rattle.template_tree.specs.View.{expression_of}
+use Rattle.template_tree.specs.declared.expressions.Expr.{Expr, size-Expr}
+use Rattle.template_tree_spines.specs.Spine.{spine_of}
+use Rattle.template_walk.specs.Runnable.{IsRunnable}
+use Rattle.template_code.specs.Code.{Code}
+use Rattle.template_compiler_emission.specs.Puts.{unless}
+use Rattle.template_compiler_expression_codegen.specs.Own.{own_constant, own_code}
+use Rattle.template_compiler_expression_codegen.proofs.Own.{add_own, with_own, no_left, own_runnable, added}
+
+runnable_along : (e : Expression) → IsRunnable e → All IsRunnable (spine_of e)
+runnable_along (slice e start stop by) h = All-push IsRunnable (spine_of e) (slice e start stop by) (runnable_along e h.0) h
+runnable_along (binary op l r) h = All-push IsRunnable (spine_of l) (binary op l r) (runnable_along l h.0) h
+runnable_along (chain e links) h = All-push IsRunnable (spine_of e) (chain e links) (runnable_along e h.0) h
+runnable_along (filtered name value args) h = absurd h
+runnable_along (tested name e args) h = absurd h
+runnable_along (call e args) h = absurd h
+runnable_along (attribute e name) h = All-push IsRunnable (spine_of e) (attribute e name) (runnable_along e h) h
+runnable_along (item e key) h = All-push IsRunnable (spine_of e) (item e key) (runnable_along e h.0) h
+runnable_along e h = All-push IsRunnable [] e (All-nil IsRunnable) h
+
+at_place : (ns : List (Bor Expr)) (i : ℕ) (n : Bor Expr) → All IsRunnable (map (λ (m : Bor Expr). expression_of m.now) ns) → i < length ns
+    → IsRunnable (expression_of (get_or ns i n).now)
+at_place [] i n all h = absurd (omega arith)
+at_place (m ∷ ms) zero n all h = All-head IsRunnable (expression_of m.now) (map (λ (m : Bor Expr). expression_of m.now) ms) all
+at_place (m ∷ ms) (suc i) n all h =
+    at_place ms i n (All-tail IsRunnable (expression_of m.now) (map (λ (m : Bor Expr). expression_of m.now) ms) all) (omega arith)
+
+-- the nodes of the left chain of a runnable tree are runnable
+pub runnable_at : (e : Expression) (ns : List (Bor Expr)) → IsRunnable e → map (λ (n : Bor Expr). expression_of n.now) ns ≡ spine_of e
+    → (i : ℕ) (n : Bor Expr) → i < length ns → n ≡ get_or ns i n → IsRunnable (expression_of n.now)
+runnable_at e ns h nodes i n within read =
+    let all = All-same IsRunnable (map (λ (m : Bor Expr). expression_of m.now) ns) (spine_of e) nodes (runnable_along e h) in
+    subst (λ (m : Bor Expr). IsRunnable (expression_of m.now)) (sym read) (at_place ns i n all within)
+
+-- and no deeper than the tree
+pub depth_at : (m : ℕ) (ns : List (Bor Expr)) → All (λ (n : Bor Expr). size-Expr n.now ≤ m) ns
+    → (i : ℕ) (n : Bor Expr) → i < length ns → n ≡ get_or ns i n → size-Expr n.now ≤ m
+depth_at m ns all i n within read =
+    subst (λ (x : Bor Expr). size-Expr x.now ≤ m) (sym read) (All-get_or (λ (x : Bor Expr). size-Expr x.now ≤ m) ns i n within all)
+
+abbrev pub so_far : ℕ → List (Bor Expr) → Option Val × List Code
+so_far p ns = fold (λ a (n : Bor Expr). add_own p a (expression_of n.now)) no_left ns
+
+-- one node more
+pub one_node : (ns : List (Bor Expr)) (i : ℕ) (n : Bor Expr) (begun old new : List Code) (k o : Option Val) → i < length ns → n ≡ get_or ns i n
+    → IsRunnable (expression_of n.now)
+    → k ≡ (so_far (length begun) (take i ns)).0 → old ≡ begun ++ (so_far (length begun) (take i ns)).1
+    → o ≡ own_constant k (expression_of n.now) → new ≡ old ++ unless o (own_code k (expression_of n.now)) (length old)
+    → (o ≡ (so_far (length begun) (take (i + 1) ns)).0) × (new ≡ begun ++ (so_far (length begun) (take (i + 1) ns)).1)
+one_node ns i n begun old new k o within read runnable known_is old_is own_is new_is =
+    let p = length begun in
+    let t = expression_of n.now in
+    let s = so_far p (take i ns) in
+    let f = λ (a : Option Val × List Code) (m : Bor Expr). add_own p a (expression_of m.now) in
+    let more : so_far p (take (i + 1) ns) ≡ with_own p s t =
+    ap (λ (l : List (Bor Expr)). fold f no_left l) (take_more ns i n within) ∙ fold_push f no_left (take i ns) (get_or ns i n) ∙
+    ap (λ (m : Bor Expr). f s m) (sym read) ∙ own_runnable p s t runnable in
+    let o_is : o ≡ own_constant s.0 t = own_is ∙ ap (λ (x : Option Val). own_constant x t) known_is in (
+      o_is ∙ sym (ap (λ (a : Option Val × List Code). a.0) more),
+      added begun s.1 old new (unless o (own_code k t)) old_is new_is ∙
+          ap (λ (x : Option Val). begun ++ (s.1 ++ unless x (own_code k t) (p + length s.1))) o_is ∙
+          ap (λ (x : Option Val). begun ++ (s.1 ++ unless (own_constant s.0 t) (own_code x t) (p + length s.1))) known_is ∙
+          ap (λ (a : Option Val × List Code). begun ++ a.1) (sym more),
+    )

@@ -1,0 +1,293 @@
+use Rattle.std.proofs.Common.{◌≡◌, ℕ, ◌+◌, ◌<◌, ◌++◌, ◌∷◌, [], List, length, take, drop, false, Option, None, ap, sym, subst, ◌∙◌, arith, refl}
+use Rattle.std.proofs.Math.ListN.{set}
+use Rattle.std.specs.Prelude.{option_and_then}
+use Rattle.template_values_model.specs.Val.{Val}
+use Rattle.template_tree.specs.Tree.{Expression, Links, chain, links_more, list_literal, map_literal, tuple_literal}
+use Rattle.template_tree.specs.View.{expression_of, expressions_in, links_in, optional_in}
+use Rattle.template_tree.specs.declared.expressions.Compare.{Compare, out-Compare}
+use Rattle.template_tree.specs.declared.expressions.CompareOp.{CompareOp}
+use Rattle.template_tree.specs.declared.expressions.Expr.{size-Expr}
+use Rattle.template_tree.specs.declared.expressions.List.{List as ListNode}
+use Rattle.template_tree.specs.declared.expressions.Map.{Map as MapNode}
+use Rattle.template_tree.specs.declared.expressions.Tuple.{Tuple as TupleNode}
+use Rattle.template_tree_spines.proofs.Walks.{walked}
+use Rattle.template_walk.specs.Constants.{chain_constant, constant_of}
+use Rattle.template_walk.specs.Runnable.{IsRunnable}
+use Rattle.template_code.specs.Code.{build_list, build_tuple}
+use Rattle.template_code.specs.Listing.{code_in}
+use Rattle.template_compiler_codegen.specs.Expressions.{chain_code, expression_code}
+use Rattle.template_compiler_emission.specs.declared.leaps.Leap.TheVariants.{Always, IfFalse}
+use Rattle.template_compiler_emission.specs.Leaps.{leap_code}
+use Rattle.template_compiler_emission.specs.Puts.{Puts, unless}
+use Rattle.template_compiler_emission.proofs.Putting.{same_then, puts_then, puts_skipped, puts_either}
+use Rattle.template_compiler_expression_codegen.specs.Chains.{constant_behind, is_false, leaps_in, linked_to}
+use Rattle.template_compiler_expression_codegen.proofs.Along.{runnable_at, depth_at, one_node, so_far}
+use Rattle.template_compiler_expression_codegen.proofs.Items.{item_runnable, number_is, puts_item}
+use Rattle.template_compiler_expression_codegen.proofs.Linked.{behind_none, link_goes, link_known, link_more, link_runnable, links_at, place_more}
+use Rattle.template_compiler_expression_codegen.proofs.Own.{known, add_own, no_left, own_step}
+use Rattle.template_compiler_expression_codegen.proofs.Putting.{grows_by, grows_then, landed_at, puts_as, puts_behind, puts_chain, puts_optional, puts_whole}
+use Rattle.template_compiler_expression_codegen.proofs.Sizes.{item_deep, link_deep}
+use Rattle.template_compiler_expression_codegen.proofs.Trees.{chain_deep, chain_is, keys_deep, list_deep, list_is, map_is, tuple_deep, tuple_is, values_deep}
+use Rattle.template_compiler_expression_codegen.proofs.expressions.+expression.Goals as goal
+
+pub fold_choice-returns-clause-put : goal.fold_choice-returns-clause-put
+fold_choice-returns-clause-put t c =
+    let whole = puts_whole (expression_of c.args.right.now) c.in_ok-constant.ensures.constant c.in_ok-constant.ensures.put c.in_ok-load-in-None.ensures.put in
+    let landed = c.land.ensures.landed ∙
+    ap (λ m. set (code_in c.load.new.code) m (leap_code c.args.leap (length (code_in c.load.new.code)))) c.in_ok-jump.ensures.place in
+    puts_behind c.args.left c.in_ok-load_copy.ensures.put (puts_skipped c.args.leap c.in_ok-jump.ensures.put whole landed c.land.ensures.same)
+
+pub fold_expr-loop-i-preserved : goal.fold_expr-loop-i-preserved
+fold_expr-loop-i-preserved t c =
+    let ns = c.in_ok-nodes.nodes.items in
+    let within : c.loop-i.i < length ns = omega arith in
+    let more = one_node ns c.loop-i.i c.index.result.now (code_in c.args.code.now) (code_in c.loop-i.code) (code_in c.fold_node.new.code)
+    c.loop-i.constant c.in_ok-constant.constant within c.index.ensures
+    (runnable_at (expression_of c.args.expr.now) ns c.requires c.in_ok-nodes.ensures.nodes c.loop-i.i c.index.result.now within c.index.ensures)
+    c.loop-i.invariant.constant c.loop-i.invariant.code c.in_ok-constant.ensures.constant c.in_ok-constant.ensures.put.code in
+    record { constant = more.0; code = more.1; same = same_then c.loop-i.invariant.same c.in_ok-constant.ensures.put.same }
+
+pub fold_expr-returns-clause-constant : goal.fold_expr-returns-clause-constant
+fold_expr-returns-clause-constant t c =
+    let ns = c.in_ok-nodes.nodes.items in
+    let p = length (code_in c.args.code.now) in
+    let e = expression_of c.args.expr.now in
+    let all = walked (known p) (add_own p) no_left (own_step p) ns e c.loop-i.i (so_far p (take c.loop-i.i ns)) c.in_ok-nodes.ensures.nodes (omega arith) refl in
+    c.loop-i.invariant.constant ∙ ap (λ a. a.0) all
+
+pub fold_expr-fold_node-requires : goal.fold_expr-fold_node-requires
+fold_expr-fold_node-requires t c =
+    let ns = c.in_ok-nodes.nodes.items in
+    let within : c.loop-i.i < length ns = omega arith in
+    let deep = depth_at (size-Expr c.args.expr.now) ns c.in_ok-nodes.ensures.depth c.loop-i.i c.index.result.now within c.index.ensures in (
+      omega (arith, deep, c.decreases),
+      runnable_at (expression_of c.args.expr.now) ns c.requires c.in_ok-nodes.ensures.nodes c.loop-i.i c.index.result.now within c.index.ensures,
+    )
+
+pub fold_expr-returns-clause-put : goal.fold_expr-returns-clause-put
+fold_expr-returns-clause-put t c =
+    let ns = c.in_ok-nodes.nodes.items in
+    let p = length (code_in c.args.code.now) in
+    let e = expression_of c.args.expr.now in
+    let all = walked (known p) (add_own p) no_left (own_step p) ns e c.loop-i.i (so_far p (take c.loop-i.i ns)) c.in_ok-nodes.ensures.nodes (omega arith) refl in
+    let constant = c.loop-i.invariant.constant ∙ ap (λ a. a.0) all in
+    record {
+      code = c.loop-i.invariant.code ∙ ap (λ a. code_in c.args.code.now ++ a.1) all ∙
+          ap (λ (o : Option Val). code_in c.args.code.now ++ unless o (expression_code e) p) (sym constant);
+      same = c.loop-i.invariant.same;
+    }
+
+pub fold_operator-returns-clause-put : goal.fold_operator-returns-clause-put
+fold_operator-returns-clause-put t c =
+    let whole = puts_whole (expression_of c.args.right.now) c.in_ok-constant.ensures.constant c.in_ok-constant.ensures.put c.in_ok-load-in-None.ensures.put in
+    puts_behind c.args.left c.in_ok-load_copy.ensures.put (puts_then whole (puts_as c.operator_instruction.ensures c.in_ok-put-in-None.ensures.put))
+
+pub compile_chain-returns-in_ok-put-in-None-holds-2-clause-constant : goal.compile_chain-returns-in_ok-put-in-None-holds-2-clause-constant
+compile_chain-returns-in_ok-put-in-None-holds-2-clause-constant t c =
+    let first = c.in-Some.parts.0.now in
+    let later = c.in-Some.parts.1.now in
+    let split : links_in c.args.links.now ≡ links_more first.op (expression_of first.expr) (links_in later) =
+    ap (λ (l : List CompareOp). links_in l) c.in-Some.ensures.cases.0 in
+    let none : c.in_ok-holds.field-0.holds ≡ None = cc in
+    sym none ∙ c.in_ok-holds.ensures.constant ∙
+    link_known first.op (expression_of first.expr) (links_in later) c.args.left.now c.in_ok-link.link.holds c.in_ok-link.link.left
+    c.in_ok-link.ensures.holds c.in_ok-link.ensures.left ∙
+    ap (λ (l : Links). option_and_then (λ v. chain_constant v l) c.args.left.now) (sym split)
+
+pub compile_chain-returns-in_ok-put-in-None-holds-2-clause-put : goal.compile_chain-returns-in_ok-put-in-None-holds-2-clause-put
+compile_chain-returns-in_ok-put-in-None-holds-2-clause-put t c = λ _.
+    let first = c.in-Some.parts.0.now in
+    let later = c.in-Some.parts.1.now in
+    let split : links_in c.args.links.now ≡ links_more first.op (expression_of first.expr) (links_in later) =
+    ap (λ (l : List CompareOp). links_in l) c.in-Some.ensures.cases.0 in
+    let none : c.in_ok-holds.field-0.holds ≡ None = cc in
+    rw split (puts_chain first.op (expression_of first.expr) (links_in later) c.in_ok-holds.field-0.leaps.items {d = c.tell_leaps.new.code}
+    c.in_ok-link.ensures.put (c.in_ok-holds.ensures.put none) (c.in_ok-holds.ensures.leaps none) c.tell_leaps.ensures.told c.tell_leaps.ensures.same
+    c.in_ok-put-in-None-holds.ensures.put c.in_ok-put-in-None-holds-2.ensures.put)
+
+pub compile_chain-returns-in_ok-put-in-None-holds-2-clause-grown : goal.compile_chain-returns-in_ok-put-in-None-holds-2-clause-grown
+compile_chain-returns-in_ok-put-in-None-holds-2-clause-grown t c =
+    let put : Puts (chain_code (links_in c.args.links.now)) c.args.code.now c.put-in-None-holds.new.code =
+    compile_chain-returns-in_ok-put-in-None-holds-2-clause-put t c refl in
+    grows_by put
+
+pub compile_choice-returns-clause-put : goal.compile_choice-returns-clause-put
+compile_choice-returns-clause-put t c =
+    let second = landed_at IfFalse c.in_ok-second.second (code_in c.compile_expr.new.code) (code_in c.reserve-2.new.code) (code_in c.land.new.code)
+    c.in_ok-second.ensures.place c.land.ensures.landed in
+    let end = landed_at Always c.in_ok-end.end (code_in c.compile_expr-2.new.code) (code_in c.compile_optional.new.code) (code_in c.land-2.new.code)
+    c.in_ok-end.ensures.place c.land-2.ensures.landed in
+    puts_then c.in_ok-compile_expr.ensures.put (puts_either c.in_ok-second.ensures.put c.in_ok-compile_expr-2.ensures.put c.in_ok-end.ensures.put
+    second c.land.ensures.same (puts_optional (optional_in c.args.otherwise.now) c.silent_undefined.ensures c.in_ok-compile_optional.ensures.put)
+    end c.land-2.ensures.same)
+
+pub compile_entries-compile_expr-requires : goal.compile_entries-compile_expr-requires
+compile_entries-compile_expr-requires t c =
+    let ks = c.args.keys.now in
+    let within : c.loop-i.i < length ks = omega arith in (
+      omega (arith, item_deep ks c.loop-i.i c.index-keys-i.result within c.index-keys-i.is, c.decreases),
+      item_runnable ks c.loop-i.i c.index-keys-i.result c.requires.keys within c.index-keys-i.is,
+    )
+
+pub compile_entries-compile_expr-requires-in-loop-i : goal.compile_entries-compile_expr-requires-in-loop-i
+compile_entries-compile_expr-requires-in-loop-i t c =
+    let vs = c.args.values.now in
+    let within : c.loop-i.i < length vs = omega arith in (
+      omega (arith, item_deep vs c.loop-i.i c.index-values-i.result within c.index-values-i.is, c.decreases),
+      item_runnable vs c.loop-i.i c.index-values-i.result c.requires.values within c.index-values-i.is,
+    )
+
+pub compile_items-compile_expr-requires : goal.compile_items-compile_expr-requires
+compile_items-compile_expr-requires t c =
+    let es = c.args.items.now in
+    let within : c.loop-item.item-index < length es = omega arith in (
+      omega (arith, item_deep es c.loop-item.item-index c.item-item.result within c.item-item.is, c.decreases),
+      item_runnable es c.loop-item.item-index c.item-item.result c.requires within c.item-item.is,
+    )
+
+pub compile_items-loop-item-preserved : goal.compile_items-loop-item-preserved
+compile_items-loop-item-preserved t c =
+    let es = c.args.items.now in
+    let within : c.loop-item.item-index < length es = omega arith in
+    puts_item es c.loop-item.item-index c.item-item.result within c.item-item.is c.loop-item.invariant c.in_ok-compile_expr.ensures.put
+
+pub compile_link-returns-in-Some-clause-put : goal.compile_link-returns-in-Some-clause-put
+compile_link-returns-in-Some-clause-put t c =
+    puts_then (puts_whole (expression_of c.args.link.now.expr) c.in_ok-right.ensures.constant c.in_ok-right.ensures.put c.in_ok-load_copy.ensures.put)
+    (puts_as c.comparison_instruction.ensures c.in_ok-put.ensures.put)
+
+pub compile_link-returns-in-None-clause-put : goal.compile_link-returns-in-None-clause-put
+compile_link-returns-in-None-clause-put t c =
+    puts_then (puts_whole (expression_of c.args.link.now.expr) c.in_ok-right.ensures.constant c.in_ok-right.ensures.put c.in_ok-load_copy.ensures.put)
+    (puts_as c.comparison_instruction.ensures c.in_ok-put.ensures.put)
+
+pub compile_links-compile_link-requires : goal.compile_links-compile_link-requires
+compile_links-compile_link-requires t c =
+    let ls = c.args.links.now in
+    let within : c.loop-next.next-index < length ls = omega arith in (
+      omega (arith, link_deep ls c.loop-next.next-index c.next-item.result within c.next-item.is, c.decreases),
+      link_runnable ls c.loop-next.next-index c.next-item.result c.requires.links within c.next-item.is,
+    )
+
+pub compile_links-loop-next-preserved : goal.compile_links-loop-next-preserved
+compile_links-loop-next-preserved t c =
+    let ls = c.args.links.now in
+    let i = c.loop-next.next-index in
+    let x = c.next-item.result in
+    let e = expression_of x.expr in
+    let rest = links_in (drop (i + 1) ls) in
+    let within : i < length ls = omega arith in
+    let at = links_at ls i x within c.next-item.is in
+    let holds = c.loop-next.link.holds in
+    let left = c.loop-next.link.left in
+    let later = c.in_ok-link.link.holds in
+    let behind = c.in_ok-link.link.left in
+    let goes : is_false holds ≡ false = sym c.is_false.ensures ∙ c.if-is_false.false in
+    let before = code_in c.loop-next.code in
+    let leapt = code_in c.reserve.new.code in
+    let after = code_in c.compile_link.new.code in
+    let places = c.loop-next.leaps.items in
+    record {
+      stays = behind_none later behind (constant_of e) c.in_ok-link.ensures.left;
+      constant = link_goes x.op e rest holds left later behind goes c.loop-next.invariant.stays c.in_ok-link.ensures.holds c.in_ok-link.ensures.left ∙
+          ap (λ (l : Links). constant_behind holds left l) (sym at) ∙ c.loop-next.invariant.constant;
+      leaps = ap (λ (qs : List ℕ). qs ++ leaps_in rest (length after)) c.in_ok-push.ensures.items ∙
+          ap (λ (m : ℕ). (places ++ m ∷ []) ++ leaps_in rest (length after)) c.in_ok-reserve.ensures.place ∙
+          place_more x.op e rest before leapt after places c.in_ok-reserve.ensures.put.code c.in_ok-link.ensures.put.code ∙
+          ap (λ (l : Links). places ++ leaps_in l (length before)) (sym at) ∙ c.loop-next.invariant.leaps;
+      code = link_more x.op e rest before leapt after c.in_ok-reserve.ensures.put.code c.in_ok-link.ensures.put.code ∙
+          ap (λ (l : Links). before ++ linked_to 0 l (length before)) (sym at) ∙ c.loop-next.invariant.code;
+      grown = grows_then c.loop-next.invariant.grown (grows_then (grows_by c.in_ok-reserve.ensures.put) (grows_by c.in_ok-link.ensures.put));
+    }
+
+pub fold_list_literal-returns-in_ok-put-in-None-clause-put : goal.fold_list_literal-returns-in_ok-put-in-None-clause-put
+fold_list_literal-returns-in_ok-put-in-None-clause-put t c =
+    puts_then c.in_ok-compile_items-in-None.ensures.put
+    (puts_as (ap build_list (sym (number_is c.args.items.now))) c.in_ok-put-in-None.ensures.put)
+
+pub fold_tuple_literal-returns-in_ok-put-in-None-clause-put : goal.fold_tuple_literal-returns-in_ok-put-in-None-clause-put
+fold_tuple_literal-returns-in_ok-put-in-None-clause-put t c =
+    puts_then c.in_ok-compile_items-in-None.ensures.put
+    (puts_as (ap build_tuple (sym (number_is c.args.items.now))) c.in_ok-put-in-None.ensures.put)
+
+pub fold_node-fold_list_literal-requires : goal.fold_node-fold_list_literal-requires
+fold_node-fold_list_literal-requires t c =
+    let read = c.deref-in-List-2.ensures.value ∙ ap (λ (l : ListNode). l.items.items) c.deref-in-List.ensures in
+    let tree = list_is c.args.expr.now c.in-List.n c.deref-in-List-2.result.now c.in-List.is read in
+    let runs : IsRunnable (list_literal (expressions_in c.deref-in-List-2.result.now)) = subst (λ (x : Expression). IsRunnable x) tree c.requires in
+    (omega (arith, list_deep c.args.expr.now c.in-List.n c.deref-in-List-2.result.now c.in-List.is read, c.decreases), runs)
+
+pub fold_node-returns-in-List-clause-constant : goal.fold_node-returns-in-List-clause-constant
+fold_node-returns-in-List-clause-constant t c =
+    let tree = list_is c.args.expr.now c.in-List.n c.deref-in-List-2.result.now c.in-List.is (c.deref-in-List-2.ensures.value ∙ ap (λ (l : ListNode). l.items.items) c.deref-in-List.ensures) in
+    rw tree c.fold_list_literal.ensures.constant
+
+pub fold_node-returns-in-List-clause-put : goal.fold_node-returns-in-List-clause-put
+fold_node-returns-in-List-clause-put t c =
+    let tree = list_is c.args.expr.now c.in-List.n c.deref-in-List-2.result.now c.in-List.is (c.deref-in-List-2.ensures.value ∙ ap (λ (l : ListNode). l.items.items) c.deref-in-List.ensures) in
+    rw tree c.fold_list_literal.ensures.put
+
+pub fold_node-fold_tuple_literal-requires : goal.fold_node-fold_tuple_literal-requires
+fold_node-fold_tuple_literal-requires t c =
+    let read = c.deref-in-Tuple-2.ensures.value ∙ ap (λ (l : TupleNode). l.items.items) c.deref-in-Tuple.ensures in
+    let tree = tuple_is c.args.expr.now c.in-Tuple.n c.deref-in-Tuple-2.result.now c.in-Tuple.is read in
+    let runs : IsRunnable (tuple_literal (expressions_in c.deref-in-Tuple-2.result.now)) = subst (λ (x : Expression). IsRunnable x) tree c.requires in
+    (omega (arith, tuple_deep c.args.expr.now c.in-Tuple.n c.deref-in-Tuple-2.result.now c.in-Tuple.is read, c.decreases), runs)
+
+pub fold_node-returns-in-Tuple-clause-constant : goal.fold_node-returns-in-Tuple-clause-constant
+fold_node-returns-in-Tuple-clause-constant t c =
+    let tree = tuple_is c.args.expr.now c.in-Tuple.n c.deref-in-Tuple-2.result.now c.in-Tuple.is (c.deref-in-Tuple-2.ensures.value ∙ ap (λ (l : TupleNode). l.items.items) c.deref-in-Tuple.ensures) in
+    rw tree c.fold_tuple_literal.ensures.constant
+
+pub fold_node-returns-in-Tuple-clause-put : goal.fold_node-returns-in-Tuple-clause-put
+fold_node-returns-in-Tuple-clause-put t c =
+    let tree = tuple_is c.args.expr.now c.in-Tuple.n c.deref-in-Tuple-2.result.now c.in-Tuple.is (c.deref-in-Tuple-2.ensures.value ∙ ap (λ (l : TupleNode). l.items.items) c.deref-in-Tuple.ensures) in
+    rw tree c.fold_tuple_literal.ensures.put
+
+pub fold_node-fold_map_literal-requires : goal.fold_node-fold_map_literal-requires
+fold_node-fold_map_literal-requires t c =
+    let e = c.args.expr.now in
+    let n = c.in-Map.n in
+    let keys = c.deref-in-Map-2.result.now in
+    let values = c.deref-in-Map-4.result.now in
+    let first = c.deref-in-Map-2.ensures.value ∙ ap (λ (m : MapNode). m.keys.items) c.deref-in-Map.ensures in
+    let second = c.deref-in-Map-4.ensures.value ∙ ap (λ (m : MapNode). m.values.items) c.deref-in-Map-3.ensures in
+    let tree = map_is e n keys values c.in-Map.is first second in
+    let runs : IsRunnable (map_literal (expressions_in keys) (expressions_in values)) = subst (λ (x : Expression). IsRunnable x) tree c.requires in
+    (omega (arith, keys_deep e n keys c.in-Map.is first, values_deep e n values c.in-Map.is second, c.decreases), (runs.0, runs.1))
+
+pub fold_node-returns-in-Map-clause-constant : goal.fold_node-returns-in-Map-clause-constant
+fold_node-returns-in-Map-clause-constant t c =
+    let first = c.deref-in-Map-2.ensures.value ∙ ap (λ (m : MapNode). m.keys.items) c.deref-in-Map.ensures in
+    let second = c.deref-in-Map-4.ensures.value ∙ ap (λ (m : MapNode). m.values.items) c.deref-in-Map-3.ensures in
+    let tree = map_is c.args.expr.now c.in-Map.n c.deref-in-Map-2.result.now c.deref-in-Map-4.result.now c.in-Map.is first second in
+    rw tree c.fold_map_literal.ensures.constant
+
+pub fold_node-returns-in-Map-clause-put : goal.fold_node-returns-in-Map-clause-put
+fold_node-returns-in-Map-clause-put t c =
+    let first = c.deref-in-Map-2.ensures.value ∙ ap (λ (m : MapNode). m.keys.items) c.deref-in-Map.ensures in
+    let second = c.deref-in-Map-4.ensures.value ∙ ap (λ (m : MapNode). m.values.items) c.deref-in-Map-3.ensures in
+    let tree = map_is c.args.expr.now c.in-Map.n c.deref-in-Map-2.result.now c.deref-in-Map-4.result.now c.in-Map.is first second in
+    rw tree c.fold_map_literal.ensures.put
+
+pub fold_node-fold_chain-requires : goal.fold_node-fold_chain-requires
+fold_node-fold_chain-requires t c =
+    let e = c.args.expr.now in
+    let n = c.in-Compare.n in
+    let links = c.deref-in-Compare-2.result.now in
+    let read = c.deref-in-Compare-2.ensures.value ∙ ap (λ (x : Compare). (out-Compare x).ops.items) c.deref-in-Compare.ensures in
+    let tree = chain_is e n links c.in-Compare.is read in
+    let runs : IsRunnable (chain (expression_of (out-Compare n.node.value).expr) (links_in links)) = subst (λ (x : Expression). IsRunnable x) tree c.requires in
+    (omega (arith, chain_deep e n links c.in-Compare.is read, c.decreases), runs.1)
+
+pub fold_node-returns-in-Compare-clause-constant : goal.fold_node-returns-in-Compare-clause-constant
+fold_node-returns-in-Compare-clause-constant t c =
+    let read = c.deref-in-Compare-2.ensures.value ∙ ap (λ (x : Compare). (out-Compare x).ops.items) c.deref-in-Compare.ensures in
+    let tree = chain_is c.args.expr.now c.in-Compare.n c.deref-in-Compare-2.result.now c.in-Compare.is read in
+    rw tree c.fold_chain.ensures.constant
+
+pub fold_node-returns-in-Compare-clause-put : goal.fold_node-returns-in-Compare-clause-put
+fold_node-returns-in-Compare-clause-put t c =
+    let read = c.deref-in-Compare-2.ensures.value ∙ ap (λ (x : Compare). (out-Compare x).ops.items) c.deref-in-Compare.ensures in
+    let tree = chain_is c.args.expr.now c.in-Compare.n c.deref-in-Compare-2.result.now c.in-Compare.is read in
+    rw tree c.fold_chain.ensures.put

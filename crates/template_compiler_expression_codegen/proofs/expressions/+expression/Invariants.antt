@@ -1,0 +1,107 @@
+-- A node is gone to once it is reached along the left chain; other parts are smaller than the node.
+use Rattle.std.proofs.Common.{◌≡◌, ◌+◌, ◌-◌, ◌*◌, ◌≤◌, ◌++◌, None, length, max, take, drop}
+use Rattle.template_tree.specs.View.{expressions_in, links_in}
+use Rattle.template_tree.specs.declared.expressions.Expr.{size-Expr}
+use Rattle.template_code.specs.Listing.{code_in, IsSameTemplate}
+use Rattle.template_compiler_codegen.specs.Expressions.{codes_of, entry_count, expressions_code}
+use Rattle.template_compiler_emission.specs.Puts.{Puts}
+use Rattle.template_compiler_expression_codegen.specs.Chains.{Grows, constant_behind, leaps_in, linked_to}
+use Rattle.template_compiler_expression_codegen.proofs.Along.{so_far}
+use Rattle.template_compiler_expression_codegen.proofs.Entries.{count_from, entries_from}
+use Rattle.template_compiler_expression_codegen.proofs.Sizes.{items_deep, links_deep, optional_deep}
+use Rattle.template_compiler_expression_codegen.proofs.expressions.+expression.Given as goal
+
+abbrev pub decreases-fold_expr : goal.decreases-fold_expr
+decreases-fold_expr l = 16 * size-Expr l.expr.now + 1
+
+abbrev pub decreases-compile_expr : goal.decreases-compile_expr
+decreases-compile_expr l = 16 * size-Expr l.expr.now + 2
+
+abbrev pub decreases-fold_node : goal.decreases-fold_node
+decreases-fold_node l = 16 * size-Expr l.expr.now
+
+abbrev pub decreases-fold_unary_operator : goal.decreases-fold_unary_operator
+decreases-fold_unary_operator l = 16 * size-Expr l.operand.now + 3
+
+abbrev pub decreases-fold_choice : goal.decreases-fold_choice
+decreases-fold_choice l = 16 * size-Expr l.right.now + 3
+
+abbrev pub decreases-fold_operator : goal.decreases-fold_operator
+decreases-fold_operator l = 16 * size-Expr l.right.now + 3
+
+abbrev pub decreases-compile_optional : goal.decreases-compile_optional
+decreases-compile_optional l = 16 * optional_deep l.expr.now + 3
+
+abbrev pub decreases-compile_choice : goal.decreases-compile_choice
+decreases-compile_choice l = 16 * max (size-Expr l.test.now) (max (size-Expr l.branch.now) (optional_deep l.otherwise.now)) + 4
+
+abbrev pub decreases-compile_item : goal.decreases-compile_item
+decreases-compile_item l = 16 * size-Expr l.key.now + 3
+
+abbrev pub decreases-compile_slice : goal.decreases-compile_slice
+decreases-compile_slice l = 16 * max (optional_deep l.start.now) (max (optional_deep l.stop.now) (optional_deep l.step.now)) + 4
+
+abbrev pub decreases-compile_items : goal.decreases-compile_items
+decreases-compile_items l = 16 * items_deep l.items.now + 4
+
+abbrev pub decreases-compile_entries : goal.decreases-compile_entries
+decreases-compile_entries l = 16 * max (items_deep l.keys.now) (items_deep l.values.now) + 4
+
+abbrev pub decreases-fold_list_literal : goal.decreases-fold_list_literal
+decreases-fold_list_literal l = 16 * items_deep l.items.now + 5
+
+abbrev pub decreases-fold_tuple_literal : goal.decreases-fold_tuple_literal
+decreases-fold_tuple_literal l = 16 * items_deep l.items.now + 5
+
+abbrev pub decreases-fold_map_literal : goal.decreases-fold_map_literal
+decreases-fold_map_literal l = 16 * max (items_deep l.keys.now) (items_deep l.values.now) + 5
+
+abbrev pub decreases-compile_link : goal.decreases-compile_link
+decreases-compile_link l = 16 * size-Expr l.link.now.expr + 4
+
+abbrev pub decreases-compile_links : goal.decreases-compile_links
+decreases-compile_links l = 16 * links_deep l.links.now + 5
+
+abbrev pub decreases-compile_chain : goal.decreases-compile_chain
+decreases-compile_chain l = 16 * links_deep l.links.now + 6
+
+abbrev pub decreases-fold_chain : goal.decreases-fold_chain
+decreases-fold_chain l = 16 * links_deep l.links.now + 7
+
+abbrev pub decreases-fold_expr-loop-i : goal.decreases-fold_expr-loop-i
+decreases-fold_expr-loop-i l = length l.nodes.items - l.i
+
+-- the constant and the code of the nodes so far
+abbrev pub invariant-fold_expr-loop-i : goal.invariant-fold_expr-loop-i
+invariant-fold_expr-loop-i l = record {
+  constant : l.constant ≡ (so_far (length (code_in l.initial.code)) (take l.i l.nodes.items)).0;
+  code : code_in l.code ≡ code_in l.initial.code ++ (so_far (length (code_in l.initial.code)) (take l.i l.nodes.items)).1;
+  same : IsSameTemplate l.initial.code l.code;
+}
+
+-- the items so far
+abbrev pub invariant-compile_items-loop-item : goal.invariant-compile_items-loop-item
+invariant-compile_items-loop-item l = Puts (expressions_code (expressions_in (take l.item-index l.items))) l.initial.code l.code
+
+-- the code of the entries that are left makes that of all
+abbrev pub invariant-compile_entries-loop-i : goal.invariant-compile_entries-loop-i
+invariant-compile_entries-loop-i l = record {
+  within : l.i ≤ length l.keys;
+  count : l.i + count_from l.keys l.values l.i ≡ entry_count (expressions_in l.keys) (codes_of (expressions_in l.values));
+  code : code_in l.code ++ entries_from l.keys l.values l.i (length (code_in l.code))
+      ≡ code_in l.initial.code ++ entries_from l.keys l.values 0 (length (code_in l.initial.code));
+  same : IsSameTemplate l.initial.code l.code;
+}
+
+-- the comparisons that are left make the whole chain
+abbrev pub invariant-compile_links-loop-next : goal.invariant-compile_links-loop-next
+invariant-compile_links-loop-next l = record {
+  stays : l.link.holds ≡ None → l.link.left ≡ None;
+  constant : constant_behind l.link.holds l.link.left (links_in (drop l.next-index l.links))
+      ≡ constant_behind l.fn.first.holds l.fn.first.left (links_in l.links);
+  leaps : l.leaps.items ++ leaps_in (links_in (drop l.next-index l.links)) (length (code_in l.code))
+      ≡ leaps_in (links_in l.links) (length (code_in l.initial.code));
+  code : code_in l.code ++ linked_to 0 (links_in (drop l.next-index l.links)) (length (code_in l.code))
+      ≡ code_in l.initial.code ++ linked_to 0 (links_in l.links) (length (code_in l.initial.code));
+  grown : Grows l.initial.code l.code;
+}

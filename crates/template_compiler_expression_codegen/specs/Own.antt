@@ -1,0 +1,45 @@
+-- What a node of an expression adds to its left part: its constant, and its own code.
+use Rattle.std.specs.Prelude.{Option, None, Some, option_and_then}
+use Rattle.template_values_model.specs.Val.{Val, none}
+use Rattle.template_tree.specs.declared.operators.BinOpKind.{BinOpKind}
+use Rattle.template_tree.specs.Tree.{Expression, variable, constant, unary, binary, chain, conditional, attribute, item, list_literal, tuple_literal, map_literal}
+use Rattle.template_tree.specs.Tree as tree
+use Rattle.template_walk.specs.Constants.{constant_of, chain_constant}
+use Rattle.template_walk.specs.Statements.{number_of}
+use Rattle.template_code.specs.Code.{get_attr, get_item, slice, build_map, build_list, build_tuple, operate}
+use Rattle.template_compiler_folding.specs.Folding.{binary_folded}
+use Rattle.template_compiler_codegen.specs.Expressions.{Coded, one, then_code, skipped, unary_code, expression_code, optional_code, expressions_code, entries_code, codes_of, entry_count, chain_code}
+use Rattle.template_compiler_emission.specs.Puts.{behind}
+use Rattle.template_compiler_emission.specs.Leaps.{leap_code, leap_of}
+use Rattle.template_compiler_emission.specs.declared.leaps.Leap.{Leap}
+
+-- the value of a constant tree, of which the left part has the value or none
+abbrev pub own_constant : Option Val → Expression → Option Val
+own_constant left (binary op l right) = binary_folded op left (constant_of right)
+own_constant left (chain first links) = option_and_then (λ v. chain_constant v links) left
+own_constant left (attribute e name) = None
+own_constant left (item e key) = None
+own_constant left (tree.slice e start stop by) = None
+own_constant left e = constant_of e
+
+-- an operator behind its left side
+abbrev pub operator_with : Option Leap → BinOpKind → Coded → Coded
+operator_with (Some leap) op right = skipped (leap_code leap) right
+operator_with None op right = then_code right (one (operate op))
+
+abbrev pub operator_code : BinOpKind → Coded → Coded
+operator_code op right = operator_with (leap_of op) op right
+
+-- the code of a tree behind that of its left part; of one without a left part, its code where it is no constant
+abbrev pub own_code : Option Val → Expression → Coded
+own_code left (unary op e) = then_code (expression_code e) (one (unary_code op))
+own_code left (binary op l right) = behind left (operator_code op (expression_code right))
+own_code left (chain first links) = behind left (chain_code links)
+own_code left (attribute e name) = behind left (one (get_attr name))
+own_code left (item e key) = behind left (then_code (expression_code key) (one get_item))
+own_code left (tree.slice e start stop by) =
+    behind left (then_code (optional_code none start) (then_code (optional_code none stop) (then_code (optional_code none by) (one slice))))
+own_code left (list_literal es) = then_code (expressions_code es) (one (build_list (number_of es)))
+own_code left (tuple_literal es) = then_code (expressions_code es) (one (build_tuple (number_of es)))
+own_code left (map_literal ks vs) = then_code (entries_code ks (codes_of vs)) (one (build_map (entry_count ks (codes_of vs))))
+own_code left e = expression_code e

@@ -1,0 +1,572 @@
+//! Expressions. A tree is gone along its left parts in a loop; its other parts nest at most 150 deep.
+ghost use Rattle.std.specs.Prelude.{◌≡◌, IsNone, None, OnOk, IfOk, IfErr, length, option_and_then};
+ghost use Rattle.template_values_model.specs.Val.{none, silent_undefined};
+ghost use Rattle.template_tree.specs.Tree.{list_literal, tuple_literal, map_literal};
+ghost use Rattle.template_tree.specs.View.{expression_of, optional_in, expressions_in, links_in};
+ghost use Rattle.template_walk.specs.Constants.{constant_of, chain_constant};
+ghost use Rattle.template_walk.specs.Runnable.{IsRunnable, IsRunnableIfGiven, AreRunnable, IsRunnableChain, AreRunnableLinks};
+ghost use Rattle.template_walk.specs.Statements.{number_of};
+ghost use Rattle.template_code.specs.Code.{build_list, build_map, build_tuple, get_item, operate, slice};
+ghost use Rattle.template_code.specs.Listing.{code_in};
+ghost use Rattle.template_compiler_codegen.specs.Expressions.{one, then_code, skipped, either_code, unary_code, expression_code, optional_code, expressions_code, entries_code, codes_of, entry_count, chain_code};
+ghost use Rattle.template_compiler_folding.specs.Folding.{unary_folded, binary_folded, comparison_folded};
+ghost use Rattle.template_compiler_emission.specs.Leaps.{leap_code, leap_of};
+ghost use Rattle.template_compiler_emission.specs.Puts.{Puts, NoRoom, unless, behind};
+ghost use Rattle.template_compiler_expression_codegen.specs.Chains.{Grows, constant_behind, leaps_in, left_behind, link_code, linked_to};
+ghost use Rattle.template_compiler_expression_codegen.specs.Own.{own_constant, own_code};
+
+use crate::chains::{is_false, tell_leaps};
+use std::alloc::Global;
+use std::borrow::CowStr;
+use template_code::{Instruction, Instructions};
+use template_compiler_emission::{
+    Leap, comparison_instruction, land, leap_of, load, load_copy, operator_instruction, put,
+    reserve, unary_instruction,
+};
+use template_compiler_folding::{
+    fold_binary, fold_comparison, fold_list, fold_map, fold_tuple, fold_unary,
+};
+use template_tree::{BinOpKind, CompareOp, Expr, UnaryOpKind};
+use template_tree_spines::spine;
+use template_values_core::Value;
+use template_values_errors::Error;
+
+/// The value of an expression that is a constant tree, for which nothing is put; else its code is put
+/// behind the instructions. Linear in the expression, besides what its operators cost.
+///
+/// # Errors
+///
+/// Those of [`Instructions::add`].
+#[cycle(expression)]
+pub fn fold_expr<'source>(
+    alloc: Global,
+    code: &mut Instructions<'source>,
+    expr: &Expr<'source>,
+) -> Result<Option<Value>, Error>
+    requires { IsRunnable (expression_of expr.now) }
+    ensures constant { IfOk result (λ o. o ≡ constant_of (expression_of expr.now)) }
+    ensures put { IfOk result (λ o. Puts (unless o (expression_code (expression_of expr.now))) code.old code.new) }
+    ensures refused { IfErr result NoRoom }
+{
+    let nodes = spine(alloc, expr)?;
+    let mut constant = None;
+    let mut i = 0;
+    while i < nodes.len() {
+        constant = fold_node(alloc, code, nodes[i], constant)?;
+        i += 1;
+    }
+    Ok(constant)
+}
+
+/// Puts the code of an expression behind the instructions. Linear in the expression, besides what the
+/// operators of constant trees cost.
+///
+/// # Errors
+///
+/// Those of [`Instructions::add`].
+#[cycle(expression)]
+pub fn compile_expr<'source>(
+    alloc: Global,
+    code: &mut Instructions<'source>,
+    expr: &Expr<'source>,
+) -> Result<(), Error>
+    requires { IsRunnable (expression_of expr.now) }
+    ensures put { OnOk result (Puts (expression_code (expression_of expr.now)) code.old code.new) }
+    ensures refused { IfErr result NoRoom }
+{
+    let constant = fold_expr(alloc, code, expr)?;
+    load(code, constant)?;
+    Ok(())
+}
+
+// A node behind its left part, whose value is given where it was held back.
+#[cycle(expression)]
+fn fold_node<'source>(
+    alloc: Global,
+    code: &mut Instructions<'source>,
+    expr: &Expr<'source>,
+    left: Option<Value>,
+) -> Result<Option<Value>, Error>
+    requires { IsRunnable (expression_of expr.now) }
+    ensures constant { IfOk result (λ o. o ≡ own_constant left (expression_of expr.now)) }
+    ensures put { IfOk result (λ o. Puts (unless o (own_code left (expression_of expr.now))) code.old code.new) }
+    ensures refused { IfErr result NoRoom }
+{
+    match expr {
+        Expr::Var(n) => {
+            put(code, Instruction::Lookup(CowStr::Borrowed(n.node.id)))?;
+            Ok(None)
+        }
+        Expr::Const(n) => {
+            let value = n.node.value.copy()?;
+            Ok(Some(value))
+        }
+        Expr::UnaryOp(n) => fold_unary_operator(alloc, code, n.node.op, &n.node.expr),
+        Expr::BinOp(n) => match leap_of(n.node.op) {
+            Some(leap) => fold_choice(alloc, code, n.node.op, leap, left, &n.node.right),
+            None => fold_operator(alloc, code, n.node.op, left, &n.node.right),
+        },
+        Expr::IfExpr(n) => {
+            let node = &n.node;
+            compile_choice(
+                alloc,
+                code,
+                &node.test_expr,
+                &node.true_expr,
+                &node.false_expr,
+            )?;
+            Ok(None)
+        }
+        Expr::GetAttr(n) => {
+            load(code, left)?;
+            put(code, Instruction::GetAttr(CowStr::Borrowed(n.node.name)))?;
+            Ok(None)
+        }
+        Expr::GetItem(n) => {
+            compile_item(alloc, code, left, &n.node.subscript_expr)?;
+            Ok(None)
+        }
+        Expr::Filter(_) => unreachable!(),
+        Expr::Test(_) => unreachable!(),
+        Expr::Call(_) => unreachable!(),
+        Expr::Slice(n) => {
+            compile_slice(alloc, code, left, &n.node.start, &n.node.stop, &n.node.step)?;
+            Ok(None)
+        }
+        Expr::Compare(n) => fold_chain(alloc, code, left, &n.node.ops),
+        Expr::List(n) => fold_list_literal(alloc, code, &n.node.items),
+        Expr::Tuple(n) => fold_tuple_literal(alloc, code, &n.node.items),
+        Expr::Map(n) => fold_map_literal(alloc, code, &n.node.keys, &n.node.values),
+    }
+}
+
+// An operator before its operand.
+#[cycle(expression)]
+fn fold_unary_operator<'source>(
+    alloc: Global,
+    code: &mut Instructions<'source>,
+    op: UnaryOpKind,
+    operand: &Expr<'source>,
+) -> Result<Option<Value>, Error>
+    requires { IsRunnable (expression_of operand.now) }
+    ensures constant { IfOk result (λ o. o ≡ unary_folded op (constant_of (expression_of operand.now))) }
+    ensures put { IfOk result
+        (λ o. Puts (unless o (then_code (expression_code (expression_of operand.now)) (one (unary_code op)))) code.old code.new) }
+    ensures refused { IfErr result NoRoom }
+{
+    let begins = code.len();
+    let constant = fold_expr(alloc, code, operand)?;
+    match fold_unary(op, &constant)? {
+        Some(value) => {
+            code.truncate(begins);
+            Ok(Some(value))
+        }
+        None => {
+            load(code, constant)?;
+            put(code, unary_instruction(op))?;
+            Ok(None)
+        }
+    }
+}
+
+// `and` or `or` behind its left side, which is loaded before the right one, and dropped again where both
+// are constant.
+#[cycle(expression)]
+fn fold_choice<'source>(
+    alloc: Global,
+    code: &mut Instructions<'source>,
+    op: BinOpKind,
+    leap: Leap,
+    left: Option<Value>,
+    right: &Expr<'source>,
+) -> Result<Option<Value>, Error>
+    requires { IsRunnable (expression_of right.now) }
+    ensures constant { IfOk result (λ o. o ≡ binary_folded op left (constant_of (expression_of right.now))) }
+    ensures put { IfOk result
+        (λ o. Puts (unless o (behind left (skipped (leap_code leap) (expression_code (expression_of right.now))))) code.old code.new) }
+    ensures refused { IfErr result NoRoom }
+{
+    let begins = code.len();
+    load_copy(code, &left)?;
+    let jump = reserve(code, leap)?;
+    let constant = fold_expr(alloc, code, right)?;
+    match fold_binary(alloc, op, &left, &constant)? {
+        Some(value) => {
+            code.truncate(begins);
+            Ok(Some(value))
+        }
+        None => {
+            load(code, constant)?;
+            land(code, jump, leap);
+            Ok(None)
+        }
+    }
+}
+
+// Another operator behind its left side, which is loaded before the right one, and dropped again where
+// both are constant.
+#[cycle(expression)]
+fn fold_operator<'source>(
+    alloc: Global,
+    code: &mut Instructions<'source>,
+    op: BinOpKind,
+    left: Option<Value>,
+    right: &Expr<'source>,
+) -> Result<Option<Value>, Error>
+    requires right { IsRunnable (expression_of right.now) }
+    requires op { IsNone (leap_of op) }
+    ensures constant { IfOk result (λ o. o ≡ binary_folded op left (constant_of (expression_of right.now))) }
+    ensures put { IfOk result
+        (λ o. Puts (unless o (behind left (then_code (expression_code (expression_of right.now)) (one (operate op))))) code.old code.new) }
+    ensures refused { IfErr result NoRoom }
+{
+    let begins = code.len();
+    load_copy(code, &left)?;
+    let constant = fold_expr(alloc, code, right)?;
+    match fold_binary(alloc, op, &left, &constant)? {
+        Some(value) => {
+            code.truncate(begins);
+            Ok(Some(value))
+        }
+        None => {
+            load(code, constant)?;
+            put(code, operator_instruction(op))?;
+            Ok(None)
+        }
+    }
+}
+
+// An expression that may be left out, for which a constant stands then.
+#[cycle(expression)]
+fn compile_optional<'source>(
+    alloc: Global,
+    code: &mut Instructions<'source>,
+    expr: &Option<Expr<'source>>,
+    missing: Value,
+) -> Result<(), Error>
+    requires { IsRunnableIfGiven (optional_in expr.now) }
+    ensures put { OnOk result (Puts (optional_code missing (optional_in expr.now)) code.old code.new) }
+    ensures refused { IfErr result NoRoom }
+{
+    match expr {
+        Some(expr) => compile_expr(alloc, code, expr),
+        None => put(code, Instruction::LoadConst(missing)),
+    }
+}
+
+// A test, and one of two values; the other one is undefined where it is left out.
+#[cycle(expression)]
+fn compile_choice<'source>(
+    alloc: Global,
+    code: &mut Instructions<'source>,
+    test: &Expr<'source>,
+    branch: &Expr<'source>,
+    otherwise: &Option<Expr<'source>>,
+) -> Result<(), Error>
+    requires test { IsRunnable (expression_of test.now) }
+    requires branch { IsRunnable (expression_of branch.now) }
+    requires otherwise { IsRunnableIfGiven (optional_in otherwise.now) }
+    ensures put { OnOk result
+        (Puts (then_code (expression_code (expression_of test.now))
+        (either_code (expression_code (expression_of branch.now)) (optional_code silent_undefined (optional_in otherwise.now))))
+        code.old code.new) }
+    ensures refused { IfErr result NoRoom }
+{
+    compile_expr(alloc, code, test)?;
+    let second = reserve(code, Leap::IfFalse)?;
+    compile_expr(alloc, code, branch)?;
+    let end = reserve(code, Leap::Always)?;
+    land(code, second, Leap::IfFalse);
+    compile_optional(alloc, code, otherwise, Value::silent_undefined())?;
+    land(code, end, Leap::Always);
+    Ok(())
+}
+
+// An item of the left part.
+#[cycle(expression)]
+fn compile_item<'source>(
+    alloc: Global,
+    code: &mut Instructions<'source>,
+    left: Option<Value>,
+    key: &Expr<'source>,
+) -> Result<(), Error>
+    requires { IsRunnable (expression_of key.now) }
+    ensures put { OnOk result
+        (Puts (behind left (then_code (expression_code (expression_of key.now)) (one get_item))) code.old code.new) }
+    ensures refused { IfErr result NoRoom }
+{
+    load(code, left)?;
+    compile_expr(alloc, code, key)?;
+    put(code, Instruction::GetItem)
+}
+
+// A slice of the left part; a bound that is left out is none.
+#[cycle(expression)]
+fn compile_slice<'source>(
+    alloc: Global,
+    code: &mut Instructions<'source>,
+    left: Option<Value>,
+    start: &Option<Expr<'source>>,
+    stop: &Option<Expr<'source>>,
+    step: &Option<Expr<'source>>,
+) -> Result<(), Error>
+    requires start { IsRunnableIfGiven (optional_in start.now) }
+    requires stop { IsRunnableIfGiven (optional_in stop.now) }
+    requires step { IsRunnableIfGiven (optional_in step.now) }
+    ensures put { OnOk result
+        (Puts (behind left (then_code (optional_code none (optional_in start.now)) (then_code (optional_code none (optional_in stop.now))
+        (then_code (optional_code none (optional_in step.now)) (one slice))))) code.old code.new) }
+    ensures refused { IfErr result NoRoom }
+{
+    load(code, left)?;
+    compile_optional(alloc, code, start, Value::none())?;
+    compile_optional(alloc, code, stop, Value::none())?;
+    compile_optional(alloc, code, step, Value::none())?;
+    put(code, Instruction::Slice)
+}
+
+// The expressions, from the first to the last.
+#[cycle(expression)]
+fn compile_items<'source>(
+    alloc: Global,
+    code: &mut Instructions<'source>,
+    items: &[Expr<'source>],
+) -> Result<(), Error>
+    requires { AreRunnable (expressions_in items.now) }
+    ensures put { OnOk result (Puts (expressions_code (expressions_in items.now)) code.old code.new) }
+    ensures refused { IfErr result NoRoom }
+{
+    for item in items {
+        compile_expr(alloc, code, item)?;
+    }
+    Ok(())
+}
+
+// The keys, each before the value at its place.
+#[cycle(expression)]
+fn compile_entries<'source>(
+    alloc: Global,
+    code: &mut Instructions<'source>,
+    keys: &[Expr<'source>],
+    values: &[Expr<'source>],
+) -> Result<usize, Error>
+    requires keys { AreRunnable (expressions_in keys.now) }
+    requires values { AreRunnable (expressions_in values.now) }
+    ensures count { IfOk result (λ count. count ≡ entry_count (expressions_in keys.now) (codes_of (expressions_in values.now))) }
+    ensures put { OnOk result
+        (Puts (entries_code (expressions_in keys.now) (codes_of (expressions_in values.now))) code.old code.new) }
+    ensures refused { IfErr result NoRoom }
+{
+    for (i, key) in keys.iter().enumerate() {
+        if values.len() <= i {
+            return Ok(i);
+        }
+        compile_expr(alloc, code, key)?;
+        compile_expr(alloc, code, &values[i])?;
+    }
+    Ok(keys.len())
+}
+
+// A list of literals is a constant.
+#[cycle(expression)]
+fn fold_list_literal<'source>(
+    alloc: Global,
+    code: &mut Instructions<'source>,
+    items: &[Expr<'source>],
+) -> Result<Option<Value>, Error>
+    requires { AreRunnable (expressions_in items.now) }
+    ensures constant { IfOk result (λ o. o ≡ constant_of (list_literal (expressions_in items.now))) }
+    ensures put { IfOk result (λ o. Puts (unless o
+        (then_code (expressions_code (expressions_in items.now)) (one (build_list (number_of (expressions_in items.now))))))
+        code.old code.new) }
+    ensures refused { IfErr result NoRoom }
+{
+    match fold_list(alloc, items)? {
+        Some(value) => Ok(Some(value)),
+        None => {
+            compile_items(alloc, code, items)?;
+            put(code, Instruction::BuildList(Some(items.len())))?;
+            Ok(None)
+        }
+    }
+}
+
+// A tuple of literals is a constant.
+#[cycle(expression)]
+fn fold_tuple_literal<'source>(
+    alloc: Global,
+    code: &mut Instructions<'source>,
+    items: &[Expr<'source>],
+) -> Result<Option<Value>, Error>
+    requires { AreRunnable (expressions_in items.now) }
+    ensures constant { IfOk result (λ o. o ≡ constant_of (tuple_literal (expressions_in items.now))) }
+    ensures put { IfOk result (λ o. Puts (unless o
+        (then_code (expressions_code (expressions_in items.now)) (one (build_tuple (number_of (expressions_in items.now))))))
+        code.old code.new) }
+    ensures refused { IfErr result NoRoom }
+{
+    match fold_tuple(alloc, items)? {
+        Some(value) => Ok(Some(value)),
+        None => {
+            compile_items(alloc, code, items)?;
+            put(code, Instruction::BuildTuple(Some(items.len())))?;
+            Ok(None)
+        }
+    }
+}
+
+// A map of literals is a constant.
+#[cycle(expression)]
+fn fold_map_literal<'source>(
+    alloc: Global,
+    code: &mut Instructions<'source>,
+    keys: &[Expr<'source>],
+    values: &[Expr<'source>],
+) -> Result<Option<Value>, Error>
+    requires keys { AreRunnable (expressions_in keys.now) }
+    requires values { AreRunnable (expressions_in values.now) }
+    ensures constant { IfOk result (λ o. o ≡ constant_of (map_literal (expressions_in keys.now) (expressions_in values.now))) }
+    ensures put { IfOk result (λ o. Puts (unless o
+        (then_code (entries_code (expressions_in keys.now) (codes_of (expressions_in values.now)))
+        (one (build_map (entry_count (expressions_in keys.now) (codes_of (expressions_in values.now)))))))
+        code.old code.new) }
+    ensures refused { IfErr result NoRoom }
+{
+    match fold_map(alloc, keys, values)? {
+        Some(value) => Ok(Some(value)),
+        None => {
+            let count = compile_entries(alloc, code, keys, values)?;
+            put(code, Instruction::BuildMap(count))?;
+            Ok(None)
+        }
+    }
+}
+
+// What is constant of a comparison: its truth, and behind it the left side of the next one.
+#[derive(Drop)]
+struct Link {
+    holds: Option<Value>,
+    left: Option<Value>,
+}
+
+// What is constant of a chain, and the places of its leaps.
+#[derive(Drop)]
+struct Linked {
+    holds: Option<Value>,
+    leaps: Vec<u32>,
+}
+
+// A comparison behind the value at its left; it is put, be it constant or not.
+#[cycle(expression)]
+fn compile_link<'source>(
+    alloc: Global,
+    code: &mut Instructions<'source>,
+    left: &Option<Value>,
+    link: &CompareOp<'source>,
+) -> Result<Link, Error>
+    requires { IsRunnable (expression_of link.now.expr) }
+    ensures holds { IfOk result (λ l. l.holds ≡ comparison_folded link.now.op left.now (constant_of (expression_of link.now.expr))) }
+    ensures left { IfOk result (λ l. l.left ≡ left_behind l.holds (constant_of (expression_of link.now.expr))) }
+    ensures put { OnOk result (Puts (link_code link.now.op (expression_of link.now.expr)) code.old code.new) }
+    ensures refused { IfErr result NoRoom }
+{
+    let right = fold_expr(alloc, code, &link.expr)?;
+    load_copy(code, &right)?;
+    put(code, comparison_instruction(link.op))?;
+    match fold_comparison(link.op, left, &right)? {
+        Some(holds) => Ok(Link {
+            holds: Some(holds),
+            left: right,
+        }),
+        None => Ok(Link {
+            holds: None,
+            left: None,
+        }),
+    }
+}
+
+// The comparisons behind the first one, each behind a leap whose target is told later, up to one that is
+// constant and false.
+#[cycle(expression)]
+fn compile_links<'source>(
+    alloc: Global,
+    code: &mut Instructions<'source>,
+    first: Link,
+    links: &[CompareOp<'source>],
+) -> Result<Linked, Error>
+    requires links { AreRunnableLinks (links_in links.now) }
+    requires first { first.holds ≡ None → first.left ≡ None }
+    ensures constant { IfOk result (λ l. l.holds ≡ constant_behind first.holds first.left (links_in links.now)) }
+    ensures leaps { IfOk result (λ l. l.holds ≡ None → l.leaps.items ≡ leaps_in (links_in links.now) (length (code_in code.old))) }
+    ensures put { IfOk result (λ l. l.holds ≡ None → Puts (linked_to 0 (links_in links.now)) code.old code.new) }
+    ensures grown { OnOk result (Grows code.old code.new) }
+    ensures refused { IfErr result NoRoom }
+{
+    let mut link = first;
+    let mut leaps = Vec::new(alloc);
+    for next in links {
+        if is_false(&link.holds) {
+            let Link { holds, .. } = link;
+            return Ok(Linked { holds, leaps });
+        }
+        leaps.push(reserve(code, Leap::IfFalseOrPop)?)?;
+        link = compile_link(alloc, code, &link.left, next)?;
+    }
+    let Link { holds, .. } = link;
+    Ok(Linked { holds, leaps })
+}
+
+// The comparisons behind the first operand. Where they are constant, what is put is to be dropped again.
+#[cycle(expression)]
+fn compile_chain<'source>(
+    alloc: Global,
+    code: &mut Instructions<'source>,
+    left: &Option<Value>,
+    links: &[CompareOp<'source>],
+) -> Result<Option<Value>, Error>
+    requires { IsRunnableChain (links_in links.now) }
+    ensures constant { IfOk result (λ o. o ≡ option_and_then (λ v. chain_constant v (links_in links.now)) left.now) }
+    ensures put { IfOk result (λ o. o ≡ None → Puts (chain_code (links_in links.now)) code.old code.new) }
+    ensures grown { OnOk result (Grows code.old code.new) }
+    ensures refused { IfErr result NoRoom }
+{
+    let (first, later) = match links.split_first() {
+        Some(parts) => parts,
+        None => unreachable!(),
+    };
+    let link = compile_link(alloc, code, left, first)?;
+    let Linked { holds, leaps } = compile_links(alloc, code, link, later)?;
+    match holds {
+        Some(holds) => Ok(Some(holds)),
+        None => {
+            tell_leaps(code, leaps);
+            put(code, Instruction::Swap)?;
+            put(code, Instruction::DiscardTop)?;
+            Ok(None)
+        }
+    }
+}
+
+// The comparisons behind the first operand, which are dropped again where they are constant.
+#[cycle(expression)]
+fn fold_chain<'source>(
+    alloc: Global,
+    code: &mut Instructions<'source>,
+    left: Option<Value>,
+    links: &[CompareOp<'source>],
+) -> Result<Option<Value>, Error>
+    requires { IsRunnableChain (links_in links.now) }
+    ensures constant { IfOk result (λ o. o ≡ option_and_then (λ v. chain_constant v (links_in links.now)) left) }
+    ensures put { IfOk result (λ o. Puts (unless o (behind left (chain_code (links_in links.now)))) code.old code.new) }
+    ensures refused { IfErr result NoRoom }
+{
+    let begins = code.len();
+    load_copy(code, &left)?;
+    match compile_chain(alloc, code, &left, links)? {
+        Some(holds) => {
+            code.truncate(begins);
+            Ok(Some(holds))
+        }
+        None => Ok(None),
+    }
+}

@@ -1,0 +1,8 @@
+//! What is known of a tree before a render runs, from what is known of its parts.
+#![tactic(auto)]
+
+mod containers;
+mod operators;
+
+pub use containers::{fold_list, fold_map, fold_tuple};
+pub use operators::{fold_binary, fold_comparison, fold_unary};

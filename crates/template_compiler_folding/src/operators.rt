@@ -1,0 +1,116 @@
+//! What operators give for operands that are known before a render runs.
+ghost use Rattle.std.specs.Prelude.{◌≡◌, Result, IfOk, IfErr};
+ghost use Rattle.template_values_errors.specs.Memory.{NoMemory};
+ghost use Rattle.template_values_model.specs.Fault.{Fault};
+ghost use Rattle.template_values_model.specs.Gives.{Gives};
+ghost use Rattle.template_values_model.specs.Val.{Val};
+ghost use Rattle.template_walk.specs.Constants.{binary_constant, made};
+ghost use Rattle.template_compiler_folding.specs.Folding.{unary_folded, binary_folded, comparison_folded};
+
+use std::alloc::Global;
+use template_tree::{BinOpKind, CompareOpKind, UnaryOpKind};
+use template_values_core::Value;
+use template_values_errors::{Error, ErrorKind};
+use template_values_operations::{NoRecords, compare, invert, negate, operate};
+
+// The value that an operator gave; where it refused its operands there is none.
+pub(crate) fn settled(outcome: Result<Value, Error>) -> Result<Option<Value>, Error>
+    ensures settled { (answer : Result Val Fault) → Gives outcome answer → IfOk result (λ o. o ≡ made answer) }
+    ensures refused { IfErr result NoMemory }
+{
+    match outcome {
+        Ok(value) => Ok(Some(value)),
+        Err(error) => match error.kind() {
+            ErrorKind::OutOfMemory => Err(Error::new(ErrorKind::OutOfMemory)),
+            _ => Ok(None),
+        },
+    }
+}
+
+/// The value of an operator before an operand whose value is known, where it gives one.
+///
+/// # Errors
+///
+/// [`ErrorKind::OutOfMemory`].
+pub fn fold_unary(op: UnaryOpKind, operand: &Option<Value>) -> Result<Option<Value>, Error>
+    ensures folded { IfOk result (λ o. o ≡ unary_folded op operand.now) }
+    ensures refused { IfErr result NoMemory }
+{
+    match operand {
+        Some(value) => match op {
+            UnaryOpKind::Not => settled(invert(value, &NoRecords)),
+            UnaryOpKind::Neg => settled(negate(value)),
+        },
+        None => Ok(None),
+    }
+}
+
+/// The value of an operator between operands whose values are known, where it gives one.
+///
+/// # Errors
+///
+/// [`ErrorKind::OutOfMemory`].
+pub fn fold_binary(
+    alloc: Global,
+    op: BinOpKind,
+    left: &Option<Value>,
+    right: &Option<Value>,
+) -> Result<Option<Value>, Error>
+    ensures folded { IfOk result (λ o. o ≡ binary_folded op left.now right.now) }
+    ensures refused { IfErr result NoMemory }
+{
+    match left {
+        Some(left) => match right {
+            Some(right) => fold_values(alloc, op, left, right),
+            None => Ok(None),
+        },
+        None => Ok(None),
+    }
+}
+
+// `and` and `or` give one of their sides.
+fn fold_values(
+    alloc: Global,
+    op: BinOpKind,
+    left: &Value,
+    right: &Value,
+) -> Result<Option<Value>, Error>
+    ensures folded { IfOk result (λ o. o ≡ binary_constant op left.now right.now) }
+    ensures refused { IfErr result NoMemory }
+{
+    match op {
+        BinOpKind::ScAnd => {
+            let side = if left.is_true() { right } else { left };
+            let value = side.copy()?;
+            Ok(Some(value))
+        }
+        BinOpKind::ScOr => {
+            let side = if left.is_true() { left } else { right };
+            let value = side.copy()?;
+            Ok(Some(value))
+        }
+        _ => settled(operate(alloc, op, left, right, &NoRecords)),
+    }
+}
+
+/// The value of a comparison of a chain between operands whose values are known, where it gives one.
+///
+/// # Errors
+///
+/// [`ErrorKind::OutOfMemory`].
+pub fn fold_comparison(
+    op: CompareOpKind,
+    left: &Option<Value>,
+    right: &Option<Value>,
+) -> Result<Option<Value>, Error>
+    ensures folded { IfOk result (λ o. o ≡ comparison_folded op left.now right.now) }
+    ensures refused { IfErr result NoMemory }
+{
+    match left {
+        Some(left) => match right {
+            Some(right) => settled(compare(op, left, right, &NoRecords)),
+            None => Ok(None),
+        },
+        None => Ok(None),
+    }
+}
