@@ -1,5 +1,0 @@
-//! Cases of the parser of expressions: tests alone.
-#![tactic(auto)]
-
-#[cfg(test)]
-mod expressions;
