@@ -1,7 +1,14 @@
 -- A source's tree, by what is read of its tokens.
-use Rattle.std.proofs.Common.{◌≡◌, List, [], ◌∷◌, ℕ, inl, inr, Result, Ok, Err, refl, sym, ap, subst, ◌∙◌}
+use Rattle.std.proofs.Common.{◌≡◌, Bool, true, false, if◌then◌else◌, List, [], ◌∷◌, ℕ, inl, inr, Result, Ok, Err, refl, sym, ap, subst, ◌∙◌}
+use Rattle.template_values_errors.specs.declared.ErrorKind.{ErrorKind}
 use Rattle.template_tree.specs.Tree.{Expression, Statement, template, Statements}
-use Rattle.template_compiler_tokens.specs.Token.{Token, TokenFault}
+use Rattle.template_tree.specs.StatementView.{statement_of}
+use Rattle.template_tree.specs.declared.statements.Stmt.{Stmt}
+use Rattle.template_compiler_stream.specs.Refusals.{fault_of}
+use Rattle.template_compiler_stream.specs.declared.refusal.Refusal.{Refusal}
+use Rattle.template_compiler_stream.specs.declared.refusal.Refusal.TheVariants as refusals
+use Rattle.template_compiler_source_tokens.specs.Kinds.{refused_kind}
+use Rattle.template_compiler_tokens.specs.Token.{Token, TokenFault, bad_syntax}
 use Rattle.template_compiler_reading.specs.Blame.{Blamed}
 use Rattle.template_compiler_reading.specs.Steps.{Read, fault}
 use Rattle.template_compiler_reading.proofs.Readings.{Kept, Reads, fault_blamed}
@@ -14,12 +21,14 @@ use Rattle.template_compiler_source_tokens.proofs.Spelling.{one_spelled}
 use Rattle.template_compiler_syntax.specs.Syntax.{Syntax, IsUsable}
 use Rattle.template_compiler_segments.specs.Flat.{IsTokens}
 use Rattle.template_compiler_segments.proofs.Theorems.{one_tokens}
-use Rattle.template_compiler_statements.specs.Grammar.{IsTemplate}
-use Rattle.template_compiler_statements.specs.Reader.{template_of}
+use Rattle.template_compiler_statements.specs.Grammar.{Around, nothing_around, IsTemplate}
+use Rattle.template_compiler_statements.specs.Reader.{statements_at, template_behind, whole, template_of}
+use Rattle.template_compiler_statements.specs.Trees.{are_distinct, blocks_among}
+use Rattle.template_compiler_stream.specs.Tags.{is_done}
 use Rattle.template_compiler_statement_laws.proofs.Complete.{template_complete}
 use Rattle.template_compiler_statement_laws.proofs.Sound.{template_sound, template_blamed}
-use Rattle.template_compiler_sources.specs.Source.{IsSource, source_of, IsFaulty, IsExpressionSource, expression_source, IsFaultyExpression}
-use Rattle.template_compiler_sources.specs.Wholes.{nothing_behind, expression_alone}
+use Rattle.template_compiler_sources.specs.Source.{IsSource, source_of, IsFaulty, IsExpressionSource, expression_source, IsFaultyExpression, RefusesSource, RefusesExpression}
+use Rattle.template_compiler_sources.specs.Wholes.{nothing_behind, expression_alone, ParsedTemplate, ParsedExpression}
 
 -- a template's source
 pub found_source : (x : Syntax) (source : List ℕ) (tokens : List Token) (body : Statements) → IsTokens x source tokens →
@@ -80,3 +89,30 @@ faulty_expression source tokens f h e = record {
   blamed = alone_blamed tokens (expression_at 150 tokens) f (expression_sound 150 tokens) e;
   treeless = no_expression source tokens f h e;
 }
+
+-- what is answered of a source, by what is read of its tokens
+pub found_whole : (x : Syntax) (source : List ℕ) (tokens left : List Token) (tree : Stmt) → IsTokens x source left → tokens ≡ left →
+    ParsedTemplate (template_of tokens) (Ok tree) → IsSource x source (statement_of tree)
+found_whole x source tokens left tree h e (body, is, read) =
+    subst (λ t. IsSource x source t) (sym is) (found_source x source tokens body (subst (λ ts. IsTokens x source ts) (sym e) h) read)
+
+pub refused_whole : (x : Syntax) (source : List ℕ) (tokens left : List Token) (e : Refusal) (kinds : List ErrorKind) → IsUsable x →
+    IsTokens x source left → tokens ≡ left → ParsedTemplate (template_of tokens) (Err e) → kinds ≡ refused_kind e ∷ [] → RefusesSource x source kinds
+refused_whole x source tokens left (refusals.Token f) kinds u h e read is =
+    subst (λ k. RefusesSource x source k) (sym is)
+    (inr (inr (fault_of f, refl, faulty_source x source tokens (fault_of f) u (subst (λ ts. IsTokens x source ts) (sym e) h) read)))
+refused_whole x source tokens left refusals.OutOfMemory kinds u h e read is = inl is
+
+pub refused_alone : (source : List ℕ) (tokens : List Token) (e : Refusal) (kinds : List ErrorKind) → IsSpelled source tokens →
+    ParsedExpression (expression_alone tokens) (Err e) → kinds ≡ refused_kind e ∷ [] → RefusesExpression source kinds
+refused_alone source tokens (refusals.Token f) kinds h read is =
+    subst (λ k. RefusesExpression source k) (sym is) (inr (inr (fault_of f, refl, faulty_expression source tokens (fault_of f) h read)))
+refused_alone source tokens refusals.OutOfMemory kinds h read is = inl is
+
+-- a template's statements with nothing behind them, where a block's name stands twice
+pub whole_twice : (ts us : List Token) (ss : Statements) (names : List (List ℕ)) (p : Around) → statements_at 150 p ts ≡ Ok (ss, us) →
+    p ≡ nothing_around → is_done us ≡ true → names ≡ blocks_among ss → are_distinct names ≡ false → template_of ts ≡ Err bad_syntax
+unfolding template_of template_behind
+whole_twice ts [] ss names p e around d n h =
+    ap (λ p. whole (statements_at 150 p ts)) (sym around) ∙ ap (λ r. whole r) e ∙ ap (λ b. if b then Ok ss else Err bad_syntax) (ap (λ ns. are_distinct ns) (sym n) ∙ h)
+whole_twice ts (t ∷ us) ss names p e around d n h = cc

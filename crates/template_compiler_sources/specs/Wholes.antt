@@ -1,5 +1,6 @@
 -- What the reading of all tokens answers.
 use Rattle.std.specs.Prelude.{◌≡◌, List, [], ◌∷◌, Result, Ok, Err}
+use Rattle.std.specs.Global.{Vec}
 use Rattle.template_tree.specs.Tree.{Expression, Statement, template, Statements}
 use Rattle.template_tree.specs.View.{expression_of}
 use Rattle.template_tree.specs.StatementView.{statement_of}
@@ -14,8 +15,8 @@ use Rattle.template_compiler_stream.specs.declared.refusal.Refusal.TheVariants a
 use Rattle.template_compiler_statement_makers.specs.Listed.{statements_in}
 
 -- the reader's statements or its fault; or no memory
-abbrev pub ParsedWhole : Result Statements TokenFault → Result (List Stmt) Refusal → Type 0
-ParsedWhole r (Ok body) = r ≡ Ok (statements_in body)
+abbrev pub ParsedWhole : Result Statements TokenFault → Result (Vec Stmt) Refusal → Type 0
+ParsedWhole r (Ok body) = r ≡ Ok (statements_in body.items)
 ParsedWhole r (Err (refusals.Token f)) = r ≡ Err (fault_of f)
 ParsedWhole r (Err refusals.OutOfMemory) = Unit {0}
 

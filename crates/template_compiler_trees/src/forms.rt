@@ -1,0 +1,90 @@
+//! What all forms are made of: a head with its parts in parentheses, a list in brackets, words and texts.
+ghost use Rattle.std.specs.Prelude.{◌≡◌, suc, IfOk};
+
+use std::alloc::AllocError;
+use template_tree::{BinOpKind, CompareOpKind, UnaryOpKind};
+use template_values_errors::{Error, ErrorKind};
+
+/// What is left out.
+pub(crate) const ABSENT: &str = "-";
+
+pub(crate) fn unary_word(op: UnaryOpKind) -> &'static str {
+    match op {
+        UnaryOpKind::Not => "not",
+        UnaryOpKind::Neg => "neg",
+    }
+}
+
+pub(crate) fn binary_word(op: BinOpKind) -> &'static str {
+    match op {
+        BinOpKind::Eq => "==",
+        BinOpKind::Ne => "!=",
+        BinOpKind::Lt => "<",
+        BinOpKind::Lte => "<=",
+        BinOpKind::Gt => ">",
+        BinOpKind::Gte => ">=",
+        BinOpKind::ScAnd => "and",
+        BinOpKind::ScOr => "or",
+        BinOpKind::Add => "+",
+        BinOpKind::Sub => "-",
+        BinOpKind::Mul => "*",
+        BinOpKind::Div => "/",
+        BinOpKind::FloorDiv => "//",
+        BinOpKind::Rem => "%",
+        BinOpKind::Pow => "**",
+        BinOpKind::Concat => "~",
+        BinOpKind::In => "in",
+    }
+}
+
+pub(crate) fn comparison_word(op: CompareOpKind) -> &'static str {
+    match op {
+        CompareOpKind::Eq => "==",
+        CompareOpKind::Ne => "!=",
+        CompareOpKind::Lt => "<",
+        CompareOpKind::Lte => "<=",
+        CompareOpKind::Gt => ">",
+        CompareOpKind::Gte => ">=",
+        CompareOpKind::In => "in",
+        CompareOpKind::NotIn => "not-in",
+    }
+}
+
+/// `(head`, before its parts.
+pub(crate) fn open(head: &str, out: &mut String) -> Result<(), AllocError> {
+    out.push('(')?;
+    out.push_str(head)
+}
+
+/// A word behind what stands there.
+pub(crate) fn word(word: &str, out: &mut String) -> Result<(), AllocError> {
+    out.push(' ')?;
+    out.push_str(word)
+}
+
+/// A text in double quotes; quotes, backslashes and newlines are escaped.
+pub(crate) fn quoted(text: &str, out: &mut String) -> Result<(), AllocError> {
+    out.push('"')?;
+    for c in text.chars() {
+        match c {
+            '"' => out.push_str("\\\"")?,
+            '\\' => out.push_str("\\\\")?,
+            '\n' => out.push_str("\\n")?,
+            '\r' => out.push_str("\\r")?,
+            '\t' => out.push_str("\\t")?,
+            c => out.push(c)?,
+        }
+    }
+    out.push('"')
+}
+
+// One level less; `TooLarge` where none is left.
+pub(crate) fn deeper(left: u32) -> Result<u32, Error>
+    ensures { IfOk result (λ next. left ≡ suc next) }
+{
+    if left == 0 {
+        Err(Error::new(ErrorKind::TooLarge))
+    } else {
+        Ok(left - 1)
+    }
+}
