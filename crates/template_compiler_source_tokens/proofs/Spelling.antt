@@ -44,7 +44,7 @@ pub token_front : (text rest black behind : List ℕ) (taken : List (Token × Sp
     (ts : List spec.Token) → IsSpelled behind ts → IsSpelled text (map (λ t. token_of t.0) (taken ++ (t, span) ∷ []) ++ ts)
 token_front text rest black behind taken t span n all trimmed some begins e ts h =
     let here : IsSpelled black (token_of t ∷ ts) =
-        spelled_token n some (black_front rest black trimmed some) begins (not_bad t) (subst (λ r. IsSpelled r ts) e h) in
+    spelled_token n some (black_front rest black trimmed some) begins (not_bad t) (subst (λ r. IsSpelled r ts) e h) in
     let whole = all (token_of t ∷ ts) (behind_blanks rest black (token_of t ∷ ts) trimmed here) in
     subst (λ l. IsSpelled text l) (pushed taken t span ts) whole
 
@@ -63,7 +63,7 @@ pub bad_front : (text rest black : List ℕ) (taken : List (Token × Span)) (kin
 bad_front text rest black taken kind f all trimmed some (inl (g, e, begins)) h =
     let same : g ≡ f = one_fault g f (sym e ∙ h) in
     all (bad f ∷ []) (behind_blanks rest black (bad f ∷ []) trimmed
-        (spelled_bad some (black_front rest black trimmed some) (subst (λ g. Begins black (bad g) 0) same begins)))
+    (spelled_bad some (black_front rest black trimmed some) (subst (λ g. Begins black (bad g) 0) same begins)))
 bad_front text rest black taken kind f all trimmed some (inr (e, k)) h = absurd (wanted f kind (ap (λ k. k ∷ []) e) h)
 
 -- a text is spelled in one way
