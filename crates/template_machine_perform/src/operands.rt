@@ -1,18 +1,21 @@
 //! Instructions that only take and give operands.
 ghost use Rattle.std.specs.Prelude.{◌≡◌, ℕ, List, Option};
-ghost use Rattle.template_code.specs.View.{code_of, comparison_of};
+ghost use Rattle.template_values_modes.specs.declared.UndefinedBehavior.{UndefinedBehavior};
+ghost use Rattle.template_code.specs.Code.{build_list, build_tuple};
+ghost use Rattle.template_code.specs.View.{code_of, comparison_of, counted_code};
 ghost use Rattle.template_machine_meaning.specs.World.{World};
 ghost use Rattle.template_machine_meaning.specs.Surroundings.{Program};
 ghost use Rattle.template_machine_operands.specs.Operands.{operands_in};
-ghost use Rattle.template_machine_steps.specs.Performs.{Leads, ruled};
-ghost use Rattle.template_machine_perform.specs.Performs.{straight, IsOfOperands};
+ghost use Rattle.template_machine_steps.specs.Performs.{Leads, Performs, ruled};
+ghost use Rattle.template_machine_perform.specs.Performs.{straight, operator_in, IsOfOperands};
 
 use std::alloc::Global;
 use template_code::{CompareOp, Instruction};
 use template_machine_operands::Operands;
 use template_machine_steps::{
-    Way, compare_and_preserve, discard_top, dup_top, get_attr, get_item, invert, jump, jump_if_false,
-    jump_if_false_or_pop, jump_if_true_or_pop, load_const, negate, operate, slice, swap,
+    Way, build_list, build_map, build_tuple, compare_and_preserve, discard_top, dup_top, get_attr,
+    get_item, invert, jump, jump_if_false, jump_if_false_or_pop, jump_if_true_or_pop, load_const, negate,
+    operate, slice, swap, unpack_list,
 };
 use template_tree::{BinOpKind, CompareOpKind};
 use template_values_errors::{Error, ErrorKind};
@@ -43,7 +46,62 @@ fn comparison_of(op: CompareOp) -> CompareOpKind
     }
 }
 
-// Does what an instruction does that only takes and gives operands.
+// The operator of an instruction that has one.
+fn operator_of(instruction: &Instruction<'_>) -> Option<BinOpKind>
+    ensures { result ≡ operator_in (code_of instruction.now) }
+{
+    match instruction {
+        Instruction::Add => Some(BinOpKind::Add),
+        Instruction::Sub => Some(BinOpKind::Sub),
+        Instruction::Mul => Some(BinOpKind::Mul),
+        Instruction::Div => Some(BinOpKind::Div),
+        Instruction::IntDiv => Some(BinOpKind::FloorDiv),
+        Instruction::Rem => Some(BinOpKind::Rem),
+        Instruction::Pow => Some(BinOpKind::Pow),
+        Instruction::Eq => Some(BinOpKind::Eq),
+        Instruction::Ne => Some(BinOpKind::Ne),
+        Instruction::Gt => Some(BinOpKind::Gt),
+        Instruction::Gte => Some(BinOpKind::Gte),
+        Instruction::Lt => Some(BinOpKind::Lt),
+        Instruction::Lte => Some(BinOpKind::Lte),
+        Instruction::StringConcat => Some(BinOpKind::Concat),
+        Instruction::In => Some(BinOpKind::In),
+        _ => None,
+    }
+}
+
+// Builds a list; a counted run of values is not there yet.
+fn build_list_of(
+    alloc: Global,
+    count: Option<usize>,
+    operands: &mut Operands,
+) -> Result<(), Error>
+    ensures { (program : ℕ → List ℕ → Option Program) (limit : ℕ) (mode : UndefinedBehavior) (w : World) →
+        Performs (ruled program limit mode) (counted_code build_list count) (operands_in operands.old) w result (operands_in operands.new) w }
+{
+    match count {
+        Some(count) => build_list(alloc, count, operands),
+        None => Err(Error::new(ErrorKind::BadStream)),
+    }
+}
+
+// Builds a tuple; a counted run of values is not there yet.
+fn build_tuple_of(
+    alloc: Global,
+    count: Option<usize>,
+    operands: &mut Operands,
+) -> Result<(), Error>
+    ensures { (program : ℕ → List ℕ → Option Program) (limit : ℕ) (mode : UndefinedBehavior) (w : World) →
+        Performs (ruled program limit mode) (counted_code build_tuple count) (operands_in operands.old) w result (operands_in operands.new) w }
+{
+    match count {
+        Some(count) => build_tuple(alloc, count, operands),
+        None => Err(Error::new(ErrorKind::BadStream)),
+    }
+}
+
+// Does what an instruction does that only takes and gives operands. One of a construct that is not there yet is
+// refused.
 pub(crate) fn perform_on_operands(
     alloc: Global,
     mode: UndefinedBehavior,
@@ -55,6 +113,9 @@ pub(crate) fn perform_on_operands(
         Leads (ruled program limit mode) (code_of instruction.now) (operands_in operands.old) w
         result (operands_in operands.new) w }
 {
+    if let Some(op) = operator_of(instruction) {
+        return straight(operate(alloc, mode, op, operands));
+    }
     match instruction {
         Instruction::LoadConst(value) => straight(load_const(operands, value)),
         Instruction::Swap => straight(swap(operands)),
@@ -63,21 +124,10 @@ pub(crate) fn perform_on_operands(
         Instruction::GetAttr(name) => straight(get_attr(alloc, mode, name.as_str(), operands)),
         Instruction::GetItem => straight(get_item(alloc, mode, operands)),
         Instruction::Slice => straight(slice(alloc, mode, operands)),
-        Instruction::Add => straight(operate(alloc, mode, BinOpKind::Add, operands)),
-        Instruction::Sub => straight(operate(alloc, mode, BinOpKind::Sub, operands)),
-        Instruction::Mul => straight(operate(alloc, mode, BinOpKind::Mul, operands)),
-        Instruction::Div => straight(operate(alloc, mode, BinOpKind::Div, operands)),
-        Instruction::IntDiv => straight(operate(alloc, mode, BinOpKind::FloorDiv, operands)),
-        Instruction::Rem => straight(operate(alloc, mode, BinOpKind::Rem, operands)),
-        Instruction::Pow => straight(operate(alloc, mode, BinOpKind::Pow, operands)),
-        Instruction::Eq => straight(operate(alloc, mode, BinOpKind::Eq, operands)),
-        Instruction::Ne => straight(operate(alloc, mode, BinOpKind::Ne, operands)),
-        Instruction::Gt => straight(operate(alloc, mode, BinOpKind::Gt, operands)),
-        Instruction::Gte => straight(operate(alloc, mode, BinOpKind::Gte, operands)),
-        Instruction::Lt => straight(operate(alloc, mode, BinOpKind::Lt, operands)),
-        Instruction::Lte => straight(operate(alloc, mode, BinOpKind::Lte, operands)),
-        Instruction::StringConcat => straight(operate(alloc, mode, BinOpKind::Concat, operands)),
-        Instruction::In => straight(operate(alloc, mode, BinOpKind::In, operands)),
+        Instruction::BuildList(count) => straight(build_list_of(alloc, *count, operands)),
+        Instruction::BuildTuple(count) => straight(build_tuple_of(alloc, *count, operands)),
+        Instruction::BuildMap(count) => straight(build_map(alloc, *count, operands)),
+        Instruction::UnpackList(count) => straight(unpack_list(*count, operands)),
         Instruction::Neg => straight(negate(operands)),
         Instruction::Not => straight(invert(mode, operands)),
         Instruction::CompareAndPreserve(op) => {
@@ -87,6 +137,6 @@ pub(crate) fn perform_on_operands(
         Instruction::JumpIfFalse(to) => jump_if_false(mode, *to, operands),
         Instruction::JumpIfFalseOrPop(to) => jump_if_false_or_pop(mode, *to, operands),
         Instruction::JumpIfTrueOrPop(to) => jump_if_true_or_pop(mode, *to, operands),
-        _ => Err(Error::new(ErrorKind::OutOfMemory)),
+        _ => Err(Error::new(ErrorKind::BadStream)),
     }
 }
