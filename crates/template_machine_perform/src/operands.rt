@@ -1,5 +1,5 @@
 //! Instructions that only take and give operands.
-ghost use Rattle.std.specs.Prelude.{◌≡◌, ℕ, List, Option};
+ghost use Rattle.std.specs.Prelude.{◌≡◌, ℕ, List, Option, None};
 ghost use Rattle.template_values_modes.specs.declared.UndefinedBehavior.{UndefinedBehavior};
 ghost use Rattle.template_code.specs.Code.{build_list, build_tuple};
 ghost use Rattle.template_code.specs.View.{code_of, comparison_of, counted_code};
@@ -113,9 +113,25 @@ pub(crate) fn perform_on_operands(
         Leads (ruled program limit mode) (code_of instruction.now) (operands_in operands.old) w
         result (operands_in operands.new) w }
 {
-    if let Some(op) = operator_of(instruction) {
-        return straight(operate(alloc, mode, op, operands));
+    match operator_of(instruction) {
+        Some(op) => straight(operate(alloc, mode, op, operands)),
+        None => perform_without_operator(alloc, mode, instruction, operands),
     }
+}
+
+// The same where the instruction has no operator.
+fn perform_without_operator(
+    alloc: Global,
+    mode: UndefinedBehavior,
+    instruction: &Instruction<'_>,
+    operands: &mut Operands,
+) -> Result<Way, Error>
+    requires operands { IsOfOperands (code_of instruction.now) }
+    requires no_operator { None ≡ operator_in (code_of instruction.now) }
+    ensures { (program : ℕ → List ℕ → Option Program) (limit : ℕ) (w : World) →
+        Leads (ruled program limit mode) (code_of instruction.now) (operands_in operands.old) w
+        result (operands_in operands.new) w }
+{
     match instruction {
         Instruction::LoadConst(value) => straight(load_const(operands, value)),
         Instruction::Swap => straight(swap(operands)),

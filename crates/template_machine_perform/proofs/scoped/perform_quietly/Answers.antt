@@ -11,6 +11,7 @@ use Rattle.template_machine_steps.specs.Performs.{spot, ruled}
 use Rattle.template_machine_steps.proofs.Stepping.{lost_one, want_out}
 use Rattle.template_machine_perform.proofs.Texts.{raw_out, print_out}
 use Rattle.template_machine_perform.proofs.Lifting.{straight_leads, straight_writes, leads_at, steps_write}
+use Rattle.template_machine_perform.proofs.Left.{operands_left}
 use Rattle.template_machine_perform.proofs.scoped.perform_quietly.Goals as goal
 
 pub returns-in-Lookup : goal.returns-in-Lookup
@@ -52,3 +53,8 @@ returns-in-PushAutoEscape c program =
 pub returns-in-PopAutoEscape : goal.returns-in-PopAutoEscape
 returns-in-PopAutoEscape c program =
     straight_leads _ codes.pop_auto_escape _ _ _ _ _ _ _ (ap code_of c.in-PopAutoEscape.is) c.straight-in-PopAutoEscape.ensures (c.pop_auto_escape.ensures (ruled program c.args.rules.limit c.args.rules.undefined) _)
+
+pub perform_on_operands-requires : goal.perform_on_operands-requires
+perform_on_operands-requires c =
+    let h = c.in_default in
+    operands_left c.args.instruction.now c.requires h.not-Lookup h.not-StoreLocal h.not-PushWith h.not-PopFrame h.not-PushLoop h.not-Iterate h.not-PushDidNotIterate h.not-PopLoopFrame h.not-PushAutoEscape h.not-PopAutoEscape
