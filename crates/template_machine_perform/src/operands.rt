@@ -14,8 +14,8 @@ use template_code::{CompareOp, Instruction};
 use template_machine_operands::Operands;
 use template_machine_steps::{
     Way, build_list, build_map, build_tuple, compare_and_preserve, discard_top, dup_top, get_attr,
-    get_item, invert, jump, jump_if_false, jump_if_false_or_pop, jump_if_true_or_pop, load_const, negate,
-    operate, slice, swap, unpack_list,
+    get_item, invert, jump, jump_if_false, jump_if_false_or_pop, jump_if_true_or_pop, load_const,
+    negate, operate, slice, swap, unpack_list,
 };
 use template_tree::{BinOpKind, CompareOpKind};
 use template_values_errors::{Error, ErrorKind};
@@ -71,11 +71,7 @@ fn operator_of(instruction: &Instruction<'_>) -> Option<BinOpKind>
 }
 
 // Builds a list; a counted run of values is not there yet.
-fn build_list_of(
-    alloc: Global,
-    count: Option<usize>,
-    operands: &mut Operands,
-) -> Result<(), Error>
+fn build_list_of(alloc: Global, count: Option<usize>, operands: &mut Operands) -> Result<(), Error>
     ensures { (program : ℕ → List ℕ → Option Program) (limit : ℕ) (mode : UndefinedBehavior) (w : World) →
         Performs (ruled program limit mode) (counted_code build_list count) (operands_in operands.old) w result (operands_in operands.new) w }
 {
@@ -86,11 +82,7 @@ fn build_list_of(
 }
 
 // Builds a tuple; a counted run of values is not there yet.
-fn build_tuple_of(
-    alloc: Global,
-    count: Option<usize>,
-    operands: &mut Operands,
-) -> Result<(), Error>
+fn build_tuple_of(alloc: Global, count: Option<usize>, operands: &mut Operands) -> Result<(), Error>
     ensures { (program : ℕ → List ℕ → Option Program) (limit : ℕ) (mode : UndefinedBehavior) (w : World) →
         Performs (ruled program limit mode) (counted_code build_tuple count) (operands_in operands.old) w result (operands_in operands.new) w }
 {
