@@ -1,1 +1,4 @@
-pub mod Running
+pub mod Advancing
+pub mod Standing
+pub mod Within
+pub mod Choosing
