@@ -1,4 +1,4 @@
-use Rattle.std.proofs.Common.{◌≡◌, suc, sym, arith}
+use Rattle.std.proofs.Common.{sym, arith}
 use Rattle.template_machine_loop.proofs.Choosing.{nameless, stands, passes}
 use Rattle.template_machine_loop.proofs.includes.first_standing.Goals as goal
 
