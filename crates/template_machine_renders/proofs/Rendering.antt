@@ -17,22 +17,20 @@ use Rattle.template_compiler_codegen.specs.Statements.{template_code}
 use Rattle.template_machine_output.specs.Writes.{AppendsBeginning}
 use Rattle.template_machine_output.proofs.Beginnings.{beginning_longer}
 use Rattle.template_machine_meaning.specs.World.{World}
-use Rattle.template_machine_meaning.specs.Surroundings.{Programs, Program, answer}
+use Rattle.template_machine_meaning.specs.Surroundings.{answer}
 use Rattle.template_machine_meaning.specs.Meaning as meanings
 use Rattle.template_machine_meaning.specs.Meaning.{Setting, meaning}
 use Rattle.template_machine_codes.specs.Codes.{coded, codes_of}
-use Rattle.template_machine_codes.specs.Laws.{CodeMeansTree}
 use Rattle.template_machine_going.specs.Spots.{Spot, run_at}
 use Rattle.template_machine_going.specs.Paying.{Paid, IsSpent}
-use Rattle.template_machine_going.specs.Laws.{FaultsFrom, RunsOutFrom, WantsFrom}
 use Rattle.template_machine_going.proofs.Paths.{behind-behind}
-use Rattle.template_machine_outcomes.specs.Strays.{StraysFrom, IsLost}
+use Rattle.template_machine_outcomes.specs.Strays.{IsLost}
 use Rattle.template_machine_outcomes.specs.Outcomes.{Stops, faults as stops_faulting, runs_out, wants, strays, IsWanting}
 use Rattle.template_machine_bounds.proofs.Staying.{uncut_stays, beginnings_stay}
 use Rattle.template_machine_steps.specs.Performs.{spot}
 use Rattle.template_machine_loop.specs.Programs.{Standing, program_of, programs_of}
-use Rattle.template_machine_loop.specs.Runs.{EndsWith, Runs}
-use Rattle.template_machine_renders.specs.Renders.{IsItsEnd, Ends, EndsFaulting, BreaksOff, Renders}
+use Rattle.template_machine_loop.specs.Runs.{Runs}
+use Rattle.template_machine_renders.specs.Renders.{Ends, EndsFaulting, BreaksOff, Renders}
 use Rattle.template_machine_renders.specs.Laws.{coded_standing, AreCoded, CodeRenders}
 use Rattle.template_machine_codes.proofs.Alike.{code_means_tree}
 
@@ -109,7 +107,7 @@ runs_out_so : (r q : Run World) (items : List Item) (wraps kinds : List ErrorKin
     → EndsFaulting (under left r) kinds left taken rest written
 runs_out_so r q items wraps kinds left rest taken written is are pays spent text =
     let same : under left r ≡ record { items = items; end = faults (wraps ++ OutOfFuel ∷ []); after = q.after } =
-        ap (under left) is ∙ cut_spent left rest items wraps q pays spent in
+    ap (under left) is ∙ cut_spent left rest items wraps q pays spent in
     subst (λ (p : Run World). EndsFaulting p kinds left taken rest written) (sym same) (record { end = ap (λ ks. faults ks) (sym are); pays = pays; text = text })
 
 wants_so : (r q : Run World) (items : List Item) (kinds : List ErrorKind) (left rest : Option ℕ) (taken written : Option (List ℕ))
@@ -165,7 +163,7 @@ module _ (setting : Setting) (tree : Statements) (w : World) (n : ℕ) (finished
   begun j from items rest is =
       let m : ℕ = least + from + j in
       let more : (q : Run World) × (from_first m m ≡ behind items q) =
-          beginnings_stay World (answer (codes_of setting)) (template_code tree) m j m first items (rest m) (omega arith) (is m (omega arith)) in
+      beginnings_stay World (answer (codes_of setting)) (template_code tree) m j m first items (rest m) (omega arith) (is m (omega arith)) in
       (more.0, sym (means m (omega arith)) ∙ more.1)
 
   stops_so : (kinds : List ErrorKind) (after : World) (rest : Option ℕ) (written : Option (List ℕ))
@@ -176,7 +174,7 @@ module _ (setting : Setting) (tree : Statements) (w : World) (n : ℕ) (finished
       (fixed h.0 h.1.least (behind h.1.items (ended (faults kinds) h.1.world)) tt h.1.is) h.1.pays h.1.text)
   stops_so kinds after rest written (runs_out h) =
       let there : (q : Run World) × (meaning setting n tree w ≡ behind (h.1.items ++ paid h.1.wraps ∷ []) q) =
-          begun h.0 h.1.least (h.1.items ++ paid h.1.wraps ∷ []) h.1.rest (λ m le. h.1.is m le ∙ behind-behind h.1.items (paid h.1.wraps ∷ []) (h.1.rest m)) in
+      begun h.0 h.1.least (h.1.items ++ paid h.1.wraps ∷ []) h.1.rest (λ m le. h.1.is m le ∙ behind-behind h.1.items (paid h.1.wraps ∷ []) (h.1.rest m)) in
       inl (runs_out_so (meaning setting n tree w) there.0 h.1.items h.1.wraps kinds left rest taken written
       (there.1 ∙ sym (behind-behind h.1.items (paid h.1.wraps ∷ []) there.0)) h.1.kinds_are h.1.pays h.1.spent h.1.text)
   stops_so kinds after rest written (wants why h) =
