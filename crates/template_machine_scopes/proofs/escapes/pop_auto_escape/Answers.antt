@@ -33,6 +33,7 @@ returns-then-not-has_escape c s operands =
 
 pub returns : goal.returns
 returns c s operands = record {
+  spares = tt;
   out = λ place left taken. subst (λ t. Acts (answer s) codes.pop_auto_escape (spot place operands c.args.state.now left taken) (spot (suc place) operands t left taken)) (sym c.close_escape.ensures.rest)
       (close_escape_acts s (spot place operands c.args.state.now left taken) _ _ c.close_escape.ensures.escape);
 }

@@ -33,6 +33,7 @@ returns-then-not-has_frame c s operands =
 
 pub returns : goal.returns
 returns c s operands = record {
+  spares = tt;
   out = λ place left taken. subst (λ t. Acts (answer s) codes.pop_frame (spot place operands c.args.state.now left taken) (spot (suc place) operands t left taken)) (sym c.close_frame.ensures)
       (closed_acts s (spot place operands c.args.state.now left taken) (c.has_frame.ensures.0 c.if-not-has_frame.false));
 }

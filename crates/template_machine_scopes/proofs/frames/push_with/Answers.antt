@@ -23,10 +23,10 @@ use Rattle.template_machine_acts.proofs.Framing.{open_frame_acts, open_loop_acts
 use Rattle.template_machine_steps.specs.Performs.{spot, ruled}
 use Rattle.template_machine_steps.proofs.Stepping.{lost_one, want_out, pushed_out, told_ok, given_acts}
 use Rattle.template_machine_scopes.proofs.Straying.{none_there, no_loop, store_astray, close_frame_astray, next_item_astray, gave_none_astray, close_loop_astray, close_escape_astray, astray_out}
-use Rattle.template_machine_scopes.proofs.Scoping.{changed_out, became_out, refusal_at, loop_opened_out, loop_refused_out, there_is, stored_acts, closed_acts, loop_closed_acts, gave_none_acts, given_item_acts, no_item_given_acts, at_loop}
+use Rattle.template_machine_scopes.proofs.Scoping.{pushed_spares, changed_out, became_out, refusal_at, loop_opened_out, loop_refused_out, there_is, stored_acts, closed_acts, loop_closed_acts, gave_none_acts, given_item_acts, no_item_given_acts, at_loop}
 use Rattle.template_machine_scopes.proofs.frames.push_with.Goals as goal
 
 pub returns : goal.returns
 returns c program mode operands =
     became_out (ruled program c.args.limit mode) codes.push_with operands c.args.state.now _ operands _ (pushed c.args.limit c.args.state.now empty_frame)
-    (λ place left taken. open_frame_acts (ruled program c.args.limit mode) (spot place operands c.args.state.now left taken)) c.open_frame.ensures
+    (λ place left taken. open_frame_acts (ruled program c.args.limit mode) (spot place operands c.args.state.now left taken)) (pushed_spares c.args.limit c.args.state.now empty_frame) c.open_frame.ensures
