@@ -19,13 +19,12 @@ closed_push [] c = refl
 closed_push (x ∷ cs) c = ap (λ (l : List Code). l ++ closing_code x ∷ []) (closed_push cs c)
 
 -- one is closed, and those outside of it are left
-pub closes_one : (cs : List Closing) (i : ℕ) (c : Closing) (xs ys : List Code) → i < length cs → c ≡ get_or cs i c → ys ≡ xs ++ closing_code c ∷ []
+pub closes_one : (cs : List Closing) (i : ℕ) (d : Closing) (xs ys : List Code) → i < length cs → ys ≡ xs ++ closing_code (get_or cs i d) ∷ []
     → ys ++ closed_by (take i cs) ≡ xs ++ closed_by (take (i + 1) cs)
-closes_one cs i c xs ys within read put =
-    ap (λ (l : List Code). l ++ closed_by (take i cs)) put ∙ append_assoc xs (closing_code c ∷ []) (closed_by (take i cs)) ∙
+closes_one cs i d xs ys within put =
+    ap (λ (l : List Code). l ++ closed_by (take i cs)) put ∙ append_assoc xs (closing_code (get_or cs i d) ∷ []) (closed_by (take i cs)) ∙
     ap (λ (l : List Code). xs ++ l)
-    (sym (closed_push (take i cs) c) ∙ ap (λ (x : Closing). closed_by (take i cs ++ x ∷ [])) read ∙
-    ap (λ (l : List Closing). closed_by l) (sym (take_more cs i c within)))
+    (sym (closed_push (take i cs) (get_or cs i d)) ∙ ap (λ (l : List Closing). closed_by l) (sym (take_more cs i d within)))
 
 -- nothing is open any more
 pub all_closed : (cs : List Closing) (xs : List Code) → xs ++ closed_by (take 0 cs) ≡ xs

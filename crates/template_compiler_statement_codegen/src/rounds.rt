@@ -66,7 +66,7 @@ fn close_all<'source>(
     let mut left = closings.len();
     while left > 0 {
         left -= 1;
-        let closing = &closings[left];
+        let closing = closings[left];
         put(code, closing.instruction())?;
     }
     Ok(())

@@ -340,16 +340,15 @@ fn compile_condition<'source>(
     ensures refused { IfErr result NoRoom }
 {
     let mut ends = Vec::new(alloc);
-    let mut at = condition;
-    loop {
+    let mut left = Some(condition);
+    while let Some(at) = left {
         let end = compile_branch(alloc, code, round, at)?;
         keep(&mut ends, end)?;
-        at = match elif(&at.false_body) {
-            Some(later) => later,
-            None => break,
-        };
+        left = elif(&at.false_body);
+        if left.is_none() {
+            compile_body(alloc, code, round, &at.false_body)?;
+        }
     }
-    compile_body(alloc, code, round, &at.false_body)?;
     tell_breaks(code, ends);
     Ok(())
 }

@@ -1,7 +1,8 @@
-use Rattle.std.proofs.Common.{◌≡◌, ◌+◌, ◌-◌, ◌<◌, ◌++◌, length, take, ap, ◌∙◌, arith}
+use Rattle.std.proofs.Common.{◌≡◌, ◌+◌, ◌-◌, ◌<◌, [], ◌∷◌, ◌++◌, length, take, ap, ◌∙◌, arith}
 use Rattle.template_code.specs.Listing.{code_in}
 use Rattle.template_compiler_emission.proofs.Putting.{same_then}
 use Rattle.template_compiler_statement_codegen.specs.Rounds.{closed_by}
+use Rattle.template_compiler_statement_codegen.specs.declared.rounds.Closing.TheVariants.{Frame}
 use Rattle.template_compiler_statement_codegen.proofs.Closings.{closes_one}
 use Rattle.template_compiler_statement_codegen.proofs.rounds.close_all.Goals as goal
 
@@ -12,7 +13,8 @@ loop-left-preserved c =
     let more : i + 1 ≡ c.loop-left.left = omega arith in
     record {
       within = omega arith;
-      code = closes_one cs i c.index-closings-left.result (code_in c.loop-left.code) (code_in c.put.new.code) (omega arith) c.index-closings-left.is
-          c.in_ok-put.ensures.put.code ∙ ap (λ n. code_in c.loop-left.code ++ closed_by (take n cs)) more ∙ c.loop-left.invariant.code;
+      code = closes_one cs i Frame (code_in c.loop-left.code) (code_in c.put.new.code) (omega arith)
+          (c.in_ok-put.ensures.put.code ∙ ap (λ x. code_in c.loop-left.code ++ x ∷ []) c.instruction.ensures) ∙
+          ap (λ n. code_in c.loop-left.code ++ closed_by (take n cs)) more ∙ c.loop-left.invariant.code;
       same = same_then c.loop-left.invariant.same c.in_ok-put.ensures.put.same;
     }
