@@ -1,5 +1,6 @@
 -- The statements of a body, one behind the other.
-use Rattle.std.proofs.Common.{◌≡◌, ℕ, ◌+◌, ◌<◌, ◌≤◌, zero, suc, true, max, List, [], ◌∷◌, length, get_or, drop, sym, ap, subst, ◌∙◌, arith}
+use Rattle.std.proofs.Common.{◌≡◌, ℕ, ◌+◌, ◌<◌, ◌≤◌, zero, suc, Bool, true, false, ◌==◌, refl, max, List, [], ◌∷◌, length, get_or, drop, sym, ap, subst, ◌∙◌, arith}
+use Rattle.std.proofs.lemmas.Bool.Decides.{nat_tests}
 use Rattle.std.proofs.lemmas.List.{drop_more, drop_all}
 use Rattle.template_tree.specs.Tree.{Statements, statements_more}
 use Rattle.template_tree.specs.StatementView.{statement_of}
@@ -71,3 +72,22 @@ body_below [] m h all = h
 body_below (s ∷ ss) m h all =
     let rest : body_deep ss < m = body_below ss m h (λ i d within. all (suc i) d (omega (arith, within))) in
     omega (arith, all zero s (omega arith), rest)
+
+-- whether there is a statement
+is_zero : (n : ℕ) (none : Bool) → none ≡ (n == 0) → none ≡ true → n ≡ 0
+is_zero n none tested holds = grind (arith, nat_tests)
+
+not_zero : (n : ℕ) (none : Bool) → none ≡ (n == 0) → none ≡ false → 0 < n
+not_zero n none tested holds = grind (arith, nat_tests)
+
+without : (ss : List Stmt) → length ss ≡ 0 → ss ≡ []
+without [] none = refl
+without (s ∷ ss) none = absurd (omega (arith, none))
+
+pub no_items : (ss : List Stmt) (n : ℕ) (none : Bool) → n ≡ length ss → none ≡ (n == 0) → none ≡ true → ss ≡ []
+no_items ss n none long tested holds = without ss (sym long ∙ is_zero n none tested holds)
+
+pub some_items : (ss : List Stmt) (n : ℕ) (none : Bool) → n ≡ length ss → none ≡ (n == 0) → none ≡ false → ss ≡ [] → ⊥
+some_items ss n none long tested holds is =
+    let same : length ss ≡ 0 = ap (λ (l : List Stmt). length l) is in
+    let more : 0 < n = not_zero n none tested holds in absurd (omega (arith, same, more, long))

@@ -31,11 +31,11 @@ pub all_closed : (cs : List Closing) (xs : List Code) → xs ++ closed_by (take 
 all_closed cs xs = append-nil xs
 
 -- a body inside of what is opened before it and closed behind it
-pub lowers_closed : (c : Closing) (ss : Statements) {a b d : Instructions} (r s t u : Round) → s.closings.items ≡ r.closings.items ++ c ∷ [] → s.asks ≡ r.asks
-    → s.breaks.items ≡ r.breaks.items → LowersBody ss a b s t → u.closings.items ≡ take (length r.closings.items) t.closings.items → u.asks ≡ t.asks
-    → u.breaks.items ≡ t.breaks.items → Puts (one (closing_code c)) b d
+pub lowers_closed : (c : Closing) (ss : Statements) {a b d : Instructions} (r s t u : Round) (depth : ℕ) → s.closings.items ≡ r.closings.items ++ c ∷ [] → s.asks ≡ r.asks
+    → s.breaks.items ≡ r.breaks.items → LowersBody ss a b s t → depth ≡ length r.closings.items → u.closings.items ≡ take depth t.closings.items
+    → u.asks ≡ t.asks → u.breaks.items ≡ t.breaks.items → Puts (one (closing_code c)) b d
     → Lowers (closed_code (closing_code c) (ways_of r) ss) (closed_places (closing_code c) (ways_of r) ss) a d r u
-lowers_closed c ss {a} {b} {d} r s t u opened asks breaks body closed asks_then breaks_then put =
+lowers_closed c ss {a} {b} {d} r s t u depth opened asks breaks body long closed asks_then breaks_then put =
     let inside : ways_of s ≡ closing_with (closing_code c) (ways_of r) =
     ap (λ (cs : List Closing). ways_with cs s.asks) opened ∙ ap (λ (n : ℕ). ways_with (r.closings.items ++ c ∷ []) n) asks ∙
     ap (λ (l : List Code). ways_at l r.asks) (closed_push r.closings.items c) in
@@ -47,6 +47,7 @@ lowers_closed c ss {a} {b} {d} r s t u opened asks breaks body closed asks_then 
       breaks = breaks_then ∙ whole.breaks ∙
           ap (λ (l : List ℕ). l ++ closed_places (closing_code c) (ways_of r) ss (length (code_in a))) breaks;
       asks = asks_then ∙ body.asks ∙ asks;
-      closings = closed ∙ ap (λ (cs : List Closing). take (length r.closings.items) cs) (body.closings ∙ opened) ∙
+      closings = closed ∙ ap (λ (n : ℕ). take n t.closings.items) long ∙
+          ap (λ (cs : List Closing). take (length r.closings.items) cs) (body.closings ∙ opened) ∙
           take_at r.closings.items (c ∷ []) (length r.closings.items) refl;
     }

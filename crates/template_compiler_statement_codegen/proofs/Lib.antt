@@ -6,3 +6,4 @@ pub mod Looping
 pub mod Lowering
 pub mod Nodes
 pub mod Unpacking
+pub mod Wholes

@@ -1,8 +1,9 @@
 -- The trees of nodes, from the parts that a node holds, and how deep those are.
-use Rattle.std.proofs.Common.{◌≡◌, ℕ, ◌<◌, ◌≤◌, true, false, List, length, get_or, Box, Global, rules, refl, sym, ap, ◌∙◌, arith, [], ◌∷◌}
+use Rattle.std.proofs.Common.{◌≡◌, ℕ, ◌<◌, Bool, true, false, List, length, get_or, Box, Global, rules, refl, sym, ap, subst, ◌∙◌, arith, [], ◌∷◌}
 use Rattle.template_tree.specs.Tree.{Expression, Optional, Statement, Statements, absent, given, template, for_loop, with_block, auto_escape, no_statements, statements_more}
 use Rattle.template_tree.specs.StatementView.{assignments_in, statement_of, statements_of}
 use Rattle.template_tree.specs.View.{expression_of, optional_in}
+use Rattle.template_tree.specs.declared.expressions.Expr.{Expr}
 use Rattle.template_tree.specs.declared.span.Spanned.{Spanned}
 use Rattle.template_tree.specs.declared.statements.AutoEscape.{AutoEscape as AutoEscapeNode}
 use Rattle.template_tree.specs.declared.statements.CallBlock.{CallBlock as CallBlockNode, CallBlock' as called}
@@ -139,3 +140,46 @@ elif_smaller ss s n c one read node value =
     ap (λ (l : List Stmt). body_deep l) (alone_as ss s s one read) ∙ ap (λ (x : Stmt). body_deep (x ∷ [])) node in
     let same : condition_deep c ≡ condition_deep n.node.value = ap (λ (x : IfCondNode). condition_deep x) value in
     omega (arith, condition_smaller n, whole, same)
+
+-- a condition, a loop, a body in a frame, a body with an escape: their trees from what a node holds
+pub condition_is : (s : Stmt) (n : Spanned (Box IfCondNode Global)) (c : IfCondNode) → s ≡ IfCond n → c ≡ n.node.value → statement_of s ≡ condition_of c
+condition_is s n c node read =
+    ap (λ (x : Stmt). statement_of x) node ∙ condition_tree n ∙ ap (λ (x : IfCondNode). condition_of x) (sym read)
+
+pub condition_within : (s : Stmt) (n : Spanned (Box IfCondNode Global)) (c : IfCondNode) → s ≡ IfCond n → c ≡ n.node.value → condition_deep c < size-Stmt s
+condition_within s n c node read = rw (node, read) (condition_smaller n)
+
+-- a loop that runs has neither a filter nor a call of itself
+loop_plain : (target e : Expression) (filter : Optional) (recursive : Bool) (body otherwise : Statements)
+    → IsRunnableStatement true (for_loop target e filter recursive body otherwise)
+    → for_loop target e filter recursive body otherwise ≡ for_loop target e absent false body otherwise
+loop_plain target e absent false body otherwise h = refl
+loop_plain target e absent true body otherwise h = absurd h
+loop_plain target e (given f) recursive body otherwise h = absurd h
+
+pub loop_is : (s : Stmt) (n : Spanned (Box ForLoopNode Global)) (target e : Expr) (body otherwise : List Stmt) → IsRunnableStatement true (statement_of s)
+    → s ≡ ForLoop n → target ≡ n.node.value.target → e ≡ n.node.value.iter → body ≡ n.node.value.body.items → otherwise ≡ n.node.value.else_body.items
+    → statement_of s ≡ for_loop (expression_of target) (expression_of e) absent false (statements_in body) (statements_in otherwise)
+loop_is s n target e body otherwise h node t i b o =
+    let l = n.node.value in
+    let tree : statement_of s ≡ for_loop (expression_of l.target) (expression_of l.iter) (optional_in l.filter_expr) l.recursive (statements_in l.body.items)
+        (statements_in l.else_body.items) = ap (λ (x : Stmt). statement_of x) node ∙ loop_tree n in
+    tree ∙
+    loop_plain (expression_of l.target) (expression_of l.iter) (optional_in l.filter_expr) l.recursive (statements_in l.body.items)
+    (statements_in l.else_body.items) (subst (λ (x : Statement). IsRunnableStatement true x) tree h) ∙
+    rw (t, i, b, o) refl
+
+pub with_is : (s : Stmt) (n : Spanned (Box WithBlockNode Global)) (pairs : List (Expr × Expr)) (body : List Stmt) → s ≡ WithBlock n
+    → pairs ≡ n.node.value.assignments.items → body ≡ n.node.value.body.items
+    → statement_of s ≡ with_block (assignments_in pairs) (statements_in body)
+with_is s n pairs body node p b =
+    ap (λ (x : Stmt). statement_of x) node ∙ with_tree n ∙
+    ap (λ (x : List (Expr × Expr)). with_block (assignments_in x) (statements_in n.node.value.body.items)) (sym p) ∙
+    ap (λ (x : List Stmt). with_block (assignments_in pairs) (statements_in x)) (sym b)
+
+pub escape_is : (s : Stmt) (n : Spanned (Box AutoEscapeNode Global)) (enabled : Expr) (body : List Stmt) → s ≡ AutoEscape n
+    → enabled ≡ n.node.value.enabled → body ≡ n.node.value.body.items → statement_of s ≡ auto_escape (expression_of enabled) (statements_in body)
+escape_is s n enabled body node e b =
+    ap (λ (x : Stmt). statement_of x) node ∙ escape_tree n ∙
+    ap (λ (x : Expr). auto_escape (expression_of x) (statements_in n.node.value.body.items)) (sym e) ∙
+    ap (λ (x : List Stmt). auto_escape (expression_of enabled) (statements_in x)) (sym b)

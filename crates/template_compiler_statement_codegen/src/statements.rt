@@ -40,7 +40,8 @@ pub fn compile_template<'source>(
     ensures refused { IfErr result NoRoom }
 {
     let mut round = Round::new(alloc, 0);
-    compile_body(alloc, code, &mut round, children(tree))
+    compile_body(alloc, code, &mut round, children(tree))?;
+    Ok(())
 }
 
 // The statements of a whole template.
@@ -206,7 +207,8 @@ fn compile_closed<'source>(
     round.closings.push(closing)?;
     compile_body(alloc, code, round, body)?;
     round.closings.truncate(open);
-    put(code, closing.instruction())
+    put(code, closing.instruction())?;
+    Ok(())
 }
 
 // A frame with assignments, around a body.

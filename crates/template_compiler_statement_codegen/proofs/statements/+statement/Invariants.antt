@@ -1,8 +1,9 @@
 -- What is left of a body; a chain of `elif` goes on to smaller conditions. Bodies are smaller than their statement.
-use Rattle.std.proofs.Common.{◌+◌, ◌*◌, max}
+use Rattle.std.proofs.Common.{◌+◌, ◌*◌, ◌≤◌, max}
 use Rattle.template_tree.specs.declared.statements.Stmt.{size-Stmt}
 use Rattle.template_compiler_statement_codegen.specs.Listed.{body_deep, condition_deep}
 use Rattle.template_compiler_statement_codegen.proofs.Bodies.{RemainsFrom}
+use Rattle.template_compiler_statement_codegen.proofs.Elifs.{LeftRuns, RemainsOf, left_deep}
 use Rattle.template_compiler_statement_codegen.proofs.statements.+statement.Given as goal
 
 abbrev pub decreases-compile_body : goal.decreases-compile_body
@@ -37,3 +38,14 @@ decreases-compile_branch l = 8 * condition_deep l.condition.now + 3
 
 abbrev pub invariant-compile_body-loop-statement : goal.invariant-compile_body-loop-statement
 invariant-compile_body-loop-statement l = RemainsFrom l.body l.statement-index l.initial.code l.code l.initial.round l.round
+
+-- what is left of a chain
+abbrev pub decreases-compile_condition-loop-left : goal.decreases-compile_condition-loop-left
+decreases-compile_condition-loop-left l = left_deep l.left
+
+abbrev pub invariant-compile_condition-loop-left : goal.invariant-compile_condition-loop-left
+invariant-compile_condition-loop-left l = record {
+  chain : RemainsOf l.fn.condition l.left l.ends.items l.initial.code l.code l.initial.round l.round;
+  runs : LeftRuns l.left;
+  deep : left_deep l.left ≤ condition_deep l.fn.condition + 1;
+}
