@@ -144,7 +144,7 @@ compile_statement-compile_loop-requires t c =
     let runs : IsRunnableStatement true (for_loop (expression_of target) (expression_of e) absent false (statements_in body) (statements_in other)) =
     subst (λ (x : Statement). IsRunnableStatement true x) tree c.requires in (
       omega (arith, loop_deep s n body c.in-ForLoop.is body_is, loop_other_deep s n other c.in-ForLoop.is other_is, c.decreases),
-      (runs.0, runs.1, runs.2, runs.3),
+      (runs.0, (runs.1, (runs.2, runs.3))),
     )
 
 pub compile_statement-returns-in-ForLoop-clause-lowered : goal.compile_statement-returns-in-ForLoop-clause-lowered
