@@ -13,7 +13,7 @@ use template_compiler_emission::{Leap, put, reserve};
 use template_values_errors::Error;
 
 // What stands open around statements inside a loop.
-#[derive(Clone, Copy, Debug, PartialEq, Eq)]
+#[derive(Clone, Copy)]
 pub(crate) enum Closing {
     Frame,
     AutoEscape,

@@ -3,7 +3,7 @@
 
 ghost use Rattle.template_machine_acts.specs.Answers.{ConstantActs, DiscardActs, DoubleActs, JumpActs, LookupActs, SwapActs};
 ghost use Rattle.template_machine_acts.specs.Events.{BreaksAstray, EventsAct, EventsFault, PassesActs, StuckAstray};
-ghost use Rattle.template_machine_acts.specs.Includes.{IncludeActs, IncludeFaults, IncludeRunsOut, IncludeWants};
+ghost use Rattle.template_machine_acts.specs.Includes.{IncludeActs, IncludeFaults, IncludeRunsOut, IncludeStrays, IncludeWants};
 ghost use Rattle.template_machine_acts.specs.Refusals.{ChoiceRefused, IncludeRefused, MissingActs, RoomRefused};
 ghost use Rattle.template_machine_acts.specs.Scopes.{CloseEscapeActs, CloseFrameActs, CloseLoopActs, DidNotIterateActs, NextItemActs, NoItemActs, OpenEscapeActs, OpenFrameActs, OpenLoopActs, StoreActs};
 ghost use Rattle.template_machine_acts.specs.Values.{BuildListActs, BuildMapActs, BuildTupleActs, CompareActs, GetAttributeActs, GetItemActs, InvertActs, JumpIfFalseActs, JumpIfFalseOrPopActs, JumpIfTrueOrPopActs, NegateActs, OperateActs, SliceActs, UnpackActs};
@@ -88,12 +88,13 @@ pub fn writings_act()
 {}
 
 /// An include comes to what the first template that stands among its choices comes to: it goes on where that
-/// ends, and faults, runs out of fuel or stops where that does.
+/// ends, and faults, runs out of fuel, stops or is lost where that does.
 pub fn includes_act()
     ensures acts { IncludeActs }
     ensures faults { IncludeFaults }
     ensures runs_out { IncludeRunsOut }
     ensures wants { IncludeWants }
+    ensures strays { IncludeStrays }
 {}
 
 /// An include is refused that names no templates, reaches a choice that is no text, or has no room; and where

@@ -1,2 +1,3 @@
 pub mod Performing
 pub mod Stepping
+pub mod Gathering

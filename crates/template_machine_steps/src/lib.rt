@@ -1,12 +1,14 @@
 //! What a machine does at instructions that only take and give operands, and where its run goes on.
 #![tactic(auto)]
 
+mod containers;
 mod operands;
 mod operators;
 mod parts;
 mod truths;
 mod ways;
 
+pub use containers::{build_list, build_map, build_tuple, unpack_list};
 pub use operands::{discard_top, dup_top, load_const, swap};
 pub use operators::{compare_and_preserve, invert, negate, operate};
 pub use parts::{get_attr, get_item, slice};

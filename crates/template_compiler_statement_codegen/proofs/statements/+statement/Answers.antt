@@ -1,4 +1,4 @@
-use Rattle.std.proofs.Common.{◌≡◌, ◌+◌, ◌<◌, ◌≤◌, length, true, false, Option, Bor, ap, sym, subst, ◌∙◌, arith, refl}
+use Rattle.std.proofs.Common.{◌≡◌, ◌+◌, ◌<◌, length, true, false, Option, Bor, ap, subst, ◌∙◌, arith, refl}
 use Rattle.template_tree.specs.StatementView.{assignments_in, statement_of}
 use Rattle.template_tree.specs.Tree.{Statement, absent, auto_escape, for_loop, with_block}
 use Rattle.template_tree.specs.declared.statements.AutoEscape.{AutoEscape as AutoEscapeNode}
@@ -9,12 +9,12 @@ use Rattle.template_tree.specs.declared.statements.WithBlock.{WithBlock as WithB
 use Rattle.template_tree.specs.View.{expression_of}
 use Rattle.template_walk.specs.Runnable.{IsRunnableStatement}
 use Rattle.template_code.specs.Listing.{code_in}
-use Rattle.template_compiler_codegen.specs.Statements.{statements_code, target_code}
-use Rattle.template_compiler_emission.specs.declared.leaps.Leap.TheVariants.{Always, IfFalse, Iterate}
+use Rattle.template_compiler_codegen.specs.Statements.{target_code}
+use Rattle.template_compiler_emission.specs.declared.leaps.Leap.TheVariants.{IfFalse}
 use Rattle.template_compiler_expression_codegen.proofs.Putting.{landed_at, puts_as}
-use Rattle.template_compiler_lowering.specs.Breaks.{breaks_in}
-use Rattle.template_compiler_statement_codegen.specs.Listed.{condition_deep, condition_of, statements_in}
-use Rattle.template_compiler_statement_codegen.specs.Rounds.{LowersBody, LowersStatement, closing_code, places_in, ways_of}
+use Rattle.template_tree_parts.specs.Listed.{statements_in}
+use Rattle.template_compiler_statement_codegen.specs.Listed.{condition_deep, condition_of}
+use Rattle.template_compiler_statement_codegen.specs.Rounds.{LowersBody, places_in, ways_of}
 use Rattle.template_compiler_statement_codegen.specs.declared.rounds.Round.{Round}
 use Rattle.template_compiler_statement_codegen.proofs.Bodies.{no_items, some_items, statement_deep, statement_runnable}
 use Rattle.template_compiler_statement_codegen.proofs.Closings.{lowers_closed}

@@ -1,0 +1,99 @@
+-- A statement runs if its parts do.
+use Rattle.std.proofs.Common.{◌≡◌, ℕ, ◌≤◌, ◌<◌, Bool, true, false, ◌&&◌, List, [], ◌∷◌, length, get_or, Option, None, Some, Box, Global, refl, sym, ap, subst, ◌∙◌, arith, rules}
+use Rattle.std.specs.Bool.{Decides}
+use Rattle.std.proofs.lemmas.Bool.Decides.{Decides-at}
+use Rattle.std.specs.Prelude.{is_some}
+use Rattle.template_tree.specs.Tree.{Statement}
+use Rattle.template_tree.specs.View.{expression_of}
+use Rattle.template_tree.specs.StatementView.{assignments_in, statement_of}
+use Rattle.template_tree.specs.declared.span.Spanned.{Spanned}
+use Rattle.template_tree.specs.declared.statements.AutoEscape.{AutoEscape as AutoEscapeNode}
+use Rattle.template_tree.specs.declared.statements.CallBlock.{CallBlock, CallBlock' as called}
+use Rattle.template_tree.specs.declared.statements.ForLoop.{ForLoop as ForLoopNode}
+use Rattle.template_tree.specs.declared.statements.IfCond.{IfCond as IfCondNode}
+use Rattle.template_tree.specs.declared.statements.Template.{Template as TemplateNode}
+use Rattle.template_tree.specs.declared.statements.WithBlock.{WithBlock as WithBlockNode}
+use Rattle.template_tree.specs.declared.statements.Stmt.{Stmt, size-Stmt, Template, ForLoop, IfCond, WithBlock, AutoEscape, CallBlock as calls, the_lemmas}
+use Rattle.template_tree_parts.specs.Listed.{statements_in}
+use Rattle.template_tree_parts.proofs.Trees.{for_tree, if_tree, with_tree, escape_tree, whole_tree}
+use Rattle.template_compiler_runnable.specs.Running.{runs, is_target, assignments_run, statement_runs, statements_run}
+use Rattle.template_compiler_runnable.specs.Runs.{RunsWhole}
+use Rattle.template_compiler_runnable.proofs.Decided.{Decides-statements_run}
+
+none_of : {A : Type 0} (o : Option A) → is_some o ≡ false → o ≡ None
+none_of None h = refl
+none_of (Some x) h = cc
+
+pub for_runs : (looping : Bool) (s : Stmt) (n : Spanned (Box ForLoopNode Global)) → s ≡ ForLoop n →
+    is_some n.node.value.filter_expr ≡ false → n.node.value.recursive ≡ false → statement_runs looping (statement_of s)
+    ≡ (is_target (expression_of n.node.value.target) && (runs (expression_of n.node.value.iter) &&
+    (statements_run true (statements_in n.node.value.body.items) && statements_run looping (statements_in n.node.value.else_body.items))))
+for_runs looping s n node filter recursive =
+    let none = none_of n.node.value.filter_expr filter in
+    ap (λ (x : Stmt). statement_runs looping (statement_of x)) node ∙
+    ap (λ (t : Statement). statement_runs looping t) (for_tree n) ∙ rw (none, recursive) refl
+
+pub if_runs : (looping : Bool) (s : Stmt) (n : Spanned (Box IfCondNode Global)) → s ≡ IfCond n → statement_runs looping (statement_of s)
+    ≡ (runs (expression_of n.node.value.expr) && (statements_run looping (statements_in n.node.value.true_body.items)
+    && statements_run looping (statements_in n.node.value.false_body.items)))
+if_runs looping s n node =
+    ap (λ (x : Stmt). statement_runs looping (statement_of x)) node ∙ ap (λ (t : Statement). statement_runs looping t) (if_tree n)
+
+pub with_runs : (looping : Bool) (s : Stmt) (n : Spanned (Box WithBlockNode Global)) → s ≡ WithBlock n → statement_runs looping (statement_of s)
+    ≡ (assignments_run (assignments_in n.node.value.assignments.items) && statements_run looping (statements_in n.node.value.body.items))
+with_runs looping s n node =
+    ap (λ (x : Stmt). statement_runs looping (statement_of x)) node ∙ ap (λ (t : Statement). statement_runs looping t) (with_tree n)
+
+pub escape_runs : (looping : Bool) (s : Stmt) (n : Spanned (Box AutoEscapeNode Global)) → s ≡ AutoEscape n → statement_runs looping (statement_of s)
+    ≡ (runs (expression_of n.node.value.enabled) && statements_run looping (statements_in n.node.value.body.items))
+escape_runs looping s n node =
+    ap (λ (x : Stmt). statement_runs looping (statement_of x)) node ∙ ap (λ (t : Statement). statement_runs looping t) (escape_tree n)
+
+-- no block of a call runs
+with_value : Spanned (Box CallBlock Global) → CallBlock → Spanned (Box CallBlock Global)
+with_value n v = record { node = record { ptr = n.node.ptr; alloc = n.node.alloc; value = v }; span = n.span }
+
+call_by : (looping : Bool) (n : Spanned (Box CallBlock Global)) (v : CallBlock) → false ≡ statement_runs looping (statement_of (calls (with_value n v)))
+unfolding with_value
+call_by looping n (called call q name args defaults shape body inner) = refl
+
+pub no_call : (looping : Bool) (s : Stmt) (n : Spanned (Box CallBlock Global)) → s ≡ calls n → false ≡ statement_runs looping (statement_of s)
+unfolding with_value
+no_call looping s n node = call_by looping n n.node.value ∙ ap (λ (x : Stmt). statement_runs looping (statement_of x)) (sym node)
+
+-- a body of one statement
+and_true : (b : Bool) → (b && true) ≡ b
+and_true true = refl
+and_true false = refl
+
+pub only_runs : (looping : Bool) (ss : List Stmt) (s : Stmt) → length ss ≡ 1 → s ≡ get_or ss 0 s →
+    statements_run looping (statements_in ss) ≡ statement_runs looping (statement_of s)
+only_runs looping [] s one read = absurd (omega (arith, one))
+only_runs looping (x ∷ []) s one read =
+    and_true (statement_runs looping (statement_of x)) ∙ ap (λ (y : Stmt). statement_runs looping (statement_of y)) (sym read)
+only_runs looping (x ∷ y ∷ ss) s one read = absurd (omega (arith, one))
+
+else_below : (n : Spanned (Box IfCondNode Global)) (i : ℕ) (d : Stmt) → i < length n.node.value.false_body.items
+    → size-Stmt (get_or n.node.value.false_body.items i d) < size-Stmt (IfCond n)
+else_below n i d within = search (rules, the_lemmas)
+
+pub else_smaller : (s : Stmt) (n : Spanned (Box IfCondNode Global)) (i : ℕ) (d : Stmt) → s ≡ IfCond n → i < length n.node.value.false_body.items
+    → size-Stmt (get_or n.node.value.false_body.items i d) ≤ size-Stmt s
+else_smaller s n i d node within = rw node (let less = else_below n i d within in omega (arith, less))
+
+-- a whole template
+pub whole_runs : (s : Stmt) (n : Spanned TemplateNode) (r : Bool) → s ≡ Template n → r ≡ statements_run false (statements_in n.node.children.items) →
+    Decides r (RunsWhole (statement_of s))
+whole_runs s n r node is =
+    let tree = ap (λ (x : Stmt). statement_of x) node ∙ whole_tree n in
+    subst (λ (t : Statement). Decides r (RunsWhole t)) (sym tree)
+    (Decides-at r (statements_run false (statements_in n.node.children.items)) is (Decides-statements_run false (statements_in n.node.children.items)))
+
+whole_call_by : (n : Spanned (Box CallBlock Global)) (v : CallBlock) → RunsWhole (statement_of (calls (with_value n v))) → ⊥
+unfolding with_value
+whole_call_by n (called call q name args defaults shape body inner) h = h
+
+pub no_whole_call : (s : Stmt) (n : Spanned (Box CallBlock Global)) → s ≡ calls n → Decides false (RunsWhole (statement_of s))
+unfolding with_value
+no_whole_call s n node =
+    (λ h. cc, λ h. absurd (whole_call_by n n.node.value (subst (λ (x : Stmt). RunsWhole (statement_of x)) node h)))

@@ -1,0 +1,99 @@
+-- Whether a tree is runnable, as tests: what stands beside a left chain, and all of it.
+use Rattle.std.specs.Prelude.{ℕ, ◌+◌, Bool, true, false, ◌&&◌, Option, None, Some}
+use Rattle.std.specs.Borrow.{Bor}
+use Rattle.template_tree.specs.View.{expression_of}
+use Rattle.template_tree.specs.declared.expressions.Expr.{Expr, size-Expr}
+use Rattle.template_tree.specs.Tree.{Expression, Optional, Expressions, Links, variable, constant, slice, unary, binary, chain, conditional, attribute, item, list_literal, tuple_literal, map_literal, absent, given, no_expressions, expressions_more, no_links, links_more, Statement, Statements, Assignments, raw, print, for_loop, if_condition, with_block, set, auto_escape, include, continue_loop, break_loop, no_statements, statements_more, no_assignments, assignments_more}
+
+abbrev mutual
+  pub runs : Expression → Bool
+  runs (variable name) = true
+  runs (constant v) = true
+  runs (slice e start stop by) = runs e && (runs_if_given start && (runs_if_given stop && runs_if_given by))
+  runs (unary op e) = runs e
+  runs (binary op left right) = runs left && runs right
+  runs (chain first links) = runs first && chain_runs links
+  runs (conditional test branch otherwise) = runs test && (runs branch && runs_if_given otherwise)
+  runs (attribute e name) = runs e
+  runs (item e key) = runs e && runs key
+  runs (list_literal es) = all_run es
+  runs (tuple_literal es) = all_run es
+  runs (map_literal ks vs) = all_run ks && all_run vs
+  runs _ = false
+
+  pub runs_if_given : Optional → Bool
+  runs_if_given absent = true
+  runs_if_given (given e) = runs e
+
+  pub all_run : Expressions → Bool
+  all_run no_expressions = true
+  all_run (expressions_more e es) = runs e && all_run es
+
+  -- one comparison at least
+  pub chain_runs : Links → Bool
+  chain_runs no_links = false
+  chain_runs (links_more op e links) = runs e && links_run links
+
+  pub links_run : Links → Bool
+  links_run no_links = true
+  links_run (links_more op e links) = runs e && links_run links
+
+-- what an expression holds beside its left part
+abbrev pub runs_beside : Expression → Bool
+runs_beside (variable name) = true
+runs_beside (constant v) = true
+runs_beside (slice e start stop by) = runs_if_given start && (runs_if_given stop && runs_if_given by)
+runs_beside (unary op e) = runs e
+runs_beside (binary op left right) = runs right
+runs_beside (chain first links) = chain_runs links
+runs_beside (conditional test branch otherwise) = runs test && (runs branch && runs_if_given otherwise)
+runs_beside (attribute e name) = true
+runs_beside (item e key) = runs key
+runs_beside (list_literal es) = all_run es
+runs_beside (tuple_literal es) = all_run es
+runs_beside (map_literal ks vs) = all_run ks && all_run vs
+runs_beside _ = false
+
+-- what is left of a left chain
+abbrev pub left_runs : Option (Bor Expr) → Bool
+left_runs None = true
+left_runs (Some part) = runs (expression_of part.now)
+
+abbrev pub left_deep : Option (Bor Expr) → ℕ
+left_deep None = 0
+left_deep (Some part) = size-Expr part.now + 1
+
+abbrev mutual
+  pub is_target : Expression → Bool
+  is_target (variable name) = true
+  is_target (list_literal targets) = are_targets targets
+  is_target _ = false
+
+  pub are_targets : Expressions → Bool
+  are_targets no_expressions = true
+  are_targets (expressions_more target targets) = is_target target && are_targets targets
+
+abbrev pub assignments_run : Assignments → Bool
+assignments_run no_assignments = true
+assignments_run (assignments_more target e more) = is_target target && (runs e && assignments_run more)
+
+abbrev mutual
+  -- in a loop, or not
+  pub statement_runs : Bool → Statement → Bool
+  statement_runs looping (raw text) = true
+  statement_runs looping (print e) = runs e
+  statement_runs looping (for_loop target e absent false body otherwise) =
+      is_target target && (runs e && (statements_run true body && statements_run looping otherwise))
+  statement_runs looping (if_condition e body otherwise) =
+      runs e && (statements_run looping body && statements_run looping otherwise)
+  statement_runs looping (with_block assignments body) = assignments_run assignments && statements_run looping body
+  statement_runs looping (set target e) = is_target target && runs e
+  statement_runs looping (auto_escape e body) = runs e && statements_run looping body
+  statement_runs looping (include e ignore_missing) = runs e
+  statement_runs looping continue_loop = looping
+  statement_runs looping break_loop = looping
+  statement_runs looping _ = false
+
+  pub statements_run : Bool → Statements → Bool
+  statements_run looping no_statements = true
+  statements_run looping (statements_more s ss) = statement_runs looping s && statements_run looping ss

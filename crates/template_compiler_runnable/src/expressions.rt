@@ -1,0 +1,105 @@
+//! Expressions. A tree is gone along its left parts in a loop; its other parts nest at most 150 deep.
+ghost use Rattle.std.specs.Prelude.{◌≡◌};
+ghost use Rattle.template_tree.specs.View.{expression_of, expressions_in, links_in, optional_in};
+ghost use Rattle.template_compiler_runnable.specs.Running.{runs, runs_beside, runs_if_given, all_run, chain_runs, links_run};
+
+use template_tree::{CompareOp, Expr};
+use template_tree_spines::left;
+
+// Whether an expression runs.
+#[cycle(expression)]
+pub(crate) fn expression_runs(expr: &Expr<'_>) -> bool
+    ensures { result ≡ runs (expression_of expr.now) }
+{
+    let mut left_part = Some(expr);
+    while let Some(part) = left_part {
+        if !others_run(part) {
+            return false;
+        }
+        left_part = left(part);
+    }
+    true
+}
+
+// Whether an expression has a walk, and all runs that it holds beside its left part.
+#[cycle(expression)]
+fn others_run(expr: &Expr<'_>) -> bool
+    ensures { result ≡ runs_beside (expression_of expr.now) }
+{
+    match expr {
+        Expr::Var(_) => true,
+        Expr::Const(_) => true,
+        Expr::Slice(n) => {
+            let node = &n.node;
+            if !optional_runs(&node.start) {
+                return false;
+            }
+            if !optional_runs(&node.stop) {
+                return false;
+            }
+            optional_runs(&node.step)
+        }
+        Expr::UnaryOp(n) => expression_runs(&n.node.expr),
+        Expr::BinOp(n) => expression_runs(&n.node.right),
+        Expr::Compare(n) => chain_runs(&n.node.ops),
+        Expr::IfExpr(n) => {
+            let node = &n.node;
+            expression_runs(&node.test_expr)
+                && expression_runs(&node.true_expr)
+                && optional_runs(&node.false_expr)
+        }
+        Expr::GetAttr(_) => true,
+        Expr::GetItem(n) => expression_runs(&n.node.subscript_expr),
+        Expr::Filter(_) => false,
+        Expr::Test(_) => false,
+        Expr::Call(_) => false,
+        Expr::List(n) => items_run(&n.node.items),
+        Expr::Tuple(n) => items_run(&n.node.items),
+        Expr::Map(n) => {
+            if !items_run(&n.node.keys) {
+                return false;
+            }
+            items_run(&n.node.values)
+        }
+    }
+}
+
+// Whether an expression runs, where it is given.
+#[cycle(expression)]
+fn optional_runs(expr: &Option<Expr<'_>>) -> bool
+    ensures { result ≡ runs_if_given (optional_in expr.now) }
+{
+    match expr {
+        Some(expr) => expression_runs(expr),
+        None => true,
+    }
+}
+
+// Whether all expressions run.
+#[cycle(expression)]
+fn items_run(items: &[Expr<'_>]) -> bool
+    ensures { result ≡ all_run (expressions_in items.now) }
+{
+    for item in items {
+        if !expression_runs(item) {
+            return false;
+        }
+    }
+    true
+}
+
+// Whether there is a comparison, and all run.
+#[cycle(expression)]
+fn chain_runs(links: &[CompareOp<'_>]) -> bool
+    ensures { result ≡ chain_runs (links_in links.now) }
+{
+    if links.is_empty() {
+        return false;
+    }
+    for link in links {
+        if !expression_runs(&link.expr) {
+            return false;
+        }
+    }
+    true
+}

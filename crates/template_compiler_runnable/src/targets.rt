@@ -1,0 +1,56 @@
+//! Targets, and what is stored in them.
+ghost use Rattle.std.specs.Prelude.{◌≡◌};
+ghost use Rattle.template_tree.specs.View.{expression_of, expressions_in};
+ghost use Rattle.template_tree.specs.StatementView.{assignments_in};
+ghost use Rattle.template_compiler_runnable.specs.Running.{is_target, are_targets, assignments_run};
+
+use crate::expressions::expression_runs;
+use template_tree::Expr;
+
+// Whether the expression is a name, or targets that a value is unpacked into.
+#[cycle(target)]
+pub(crate) fn is_target(target: &Expr<'_>) -> bool
+    ensures { result ≡ is_target (expression_of target.now) }
+{
+    match target {
+        Expr::Var(_) => true,
+        Expr::List(n) => are_targets(&n.node.items),
+        Expr::Const(_) => false,
+        Expr::Slice(_) => false,
+        Expr::UnaryOp(_) => false,
+        Expr::BinOp(_) => false,
+        Expr::Compare(_) => false,
+        Expr::IfExpr(_) => false,
+        Expr::Filter(_) => false,
+        Expr::Test(_) => false,
+        Expr::GetAttr(_) => false,
+        Expr::GetItem(_) => false,
+        Expr::Call(_) => false,
+        Expr::Tuple(_) => false,
+        Expr::Map(_) => false,
+    }
+}
+
+#[cycle(target)]
+fn are_targets(targets: &[Expr<'_>]) -> bool
+    ensures { result ≡ are_targets (expressions_in targets.now) }
+{
+    for target in targets {
+        if !is_target(target) {
+            return false;
+        }
+    }
+    true
+}
+
+// Whether all are targets with values that run.
+pub(crate) fn assignments_run(assignments: &[(Expr<'_>, Expr<'_>)]) -> bool
+    ensures { result ≡ assignments_run (assignments_in assignments.now) }
+{
+    for assignment in assignments {
+        if !is_target(&assignment.0) || !expression_runs(&assignment.1) {
+            return false;
+        }
+    }
+    true
+}

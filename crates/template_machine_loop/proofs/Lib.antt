@@ -1,0 +1,4 @@
+pub mod Advancing
+pub mod Standing
+pub mod Within
+pub mod Choosing

@@ -1,0 +1,13 @@
+use Rattle.std.proofs.Common.{refl, ap}
+use Rattle.template_code.specs.Code as codes
+use Rattle.template_code.specs.Steps.{deed}
+use Rattle.template_code.specs.View.{counted_code}
+use Rattle.template_machine_operands.specs.Operands.{operands_in}
+use Rattle.template_machine_steps.specs.Performs.{ruled}
+use Rattle.template_machine_steps.proofs.Stepping.{lost_out}
+use Rattle.template_machine_perform.proofs.operands.build_list_of.Goals as goal
+
+pub returns-in-None : goal.returns-in-None
+returns-in-None c program limit mode w =
+    lost_out (ruled program limit mode) (counted_code codes.build_list c.args.count) _ w _ _ _ _ _
+    (λ next place. ap (λ count. deed next (counted_code codes.build_list count) place (operands_in c.args.operands.now)) c.in-None.is) c.new.ensures refl

@@ -1,0 +1,11 @@
+//! What a machine does at each instruction but an include.
+#![tactic(auto)]
+
+mod operands;
+mod plain;
+mod rules;
+mod scoped;
+mod writing;
+
+pub use plain::perform;
+pub use rules::Rules;

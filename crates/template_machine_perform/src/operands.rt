@@ -1,0 +1,150 @@
+//! Instructions that only take and give operands.
+ghost use Rattle.std.specs.Prelude.{◌≡◌, ℕ, List, Option, None};
+ghost use Rattle.template_values_modes.specs.declared.UndefinedBehavior.{UndefinedBehavior};
+ghost use Rattle.template_code.specs.Code.{build_list, build_tuple};
+ghost use Rattle.template_code.specs.View.{code_of, comparison_of, counted_code};
+ghost use Rattle.template_machine_meaning.specs.World.{World};
+ghost use Rattle.template_machine_meaning.specs.Surroundings.{Program};
+ghost use Rattle.template_machine_operands.specs.Operands.{operands_in};
+ghost use Rattle.template_machine_steps.specs.Performs.{Leads, Performs, ruled};
+ghost use Rattle.template_machine_perform.specs.Performs.{straight, operator_in, IsOfOperands};
+
+use std::alloc::Global;
+use template_code::{CompareOp, Instruction};
+use template_machine_operands::Operands;
+use template_machine_steps::{
+    Way, build_list, build_map, build_tuple, compare_and_preserve, discard_top, dup_top, get_attr,
+    get_item, invert, jump, jump_if_false, jump_if_false_or_pop, jump_if_true_or_pop, load_const,
+    negate, operate, slice, swap, unpack_list,
+};
+use template_tree::{BinOpKind, CompareOpKind};
+use template_values_errors::{Error, ErrorKind};
+use template_values_modes::UndefinedBehavior;
+
+// Behind the instruction, where it was performed.
+pub(crate) fn straight(done: Result<(), Error>) -> Result<Way, Error>
+    ensures { result ≡ straight done }
+{
+    match done {
+        Ok(()) => Ok(Way::Behind),
+        Err(error) => Err(error),
+    }
+}
+
+fn comparison_of(op: CompareOp) -> CompareOpKind
+    ensures { result ≡ comparison_of op }
+{
+    match op {
+        CompareOp::Eq => CompareOpKind::Eq,
+        CompareOp::Ne => CompareOpKind::Ne,
+        CompareOp::Lt => CompareOpKind::Lt,
+        CompareOp::Lte => CompareOpKind::Lte,
+        CompareOp::Gt => CompareOpKind::Gt,
+        CompareOp::Gte => CompareOpKind::Gte,
+        CompareOp::In => CompareOpKind::In,
+        CompareOp::NotIn => CompareOpKind::NotIn,
+    }
+}
+
+// The operator of an instruction that has one.
+fn operator_of(instruction: &Instruction<'_>) -> Option<BinOpKind>
+    ensures { result ≡ operator_in (code_of instruction.now) }
+{
+    match instruction {
+        Instruction::Add => Some(BinOpKind::Add),
+        Instruction::Sub => Some(BinOpKind::Sub),
+        Instruction::Mul => Some(BinOpKind::Mul),
+        Instruction::Div => Some(BinOpKind::Div),
+        Instruction::IntDiv => Some(BinOpKind::FloorDiv),
+        Instruction::Rem => Some(BinOpKind::Rem),
+        Instruction::Pow => Some(BinOpKind::Pow),
+        Instruction::Eq => Some(BinOpKind::Eq),
+        Instruction::Ne => Some(BinOpKind::Ne),
+        Instruction::Gt => Some(BinOpKind::Gt),
+        Instruction::Gte => Some(BinOpKind::Gte),
+        Instruction::Lt => Some(BinOpKind::Lt),
+        Instruction::Lte => Some(BinOpKind::Lte),
+        Instruction::StringConcat => Some(BinOpKind::Concat),
+        Instruction::In => Some(BinOpKind::In),
+        _ => None,
+    }
+}
+
+// Builds a list; a counted run of values is not there yet.
+fn build_list_of(alloc: Global, count: Option<usize>, operands: &mut Operands) -> Result<(), Error>
+    ensures { (program : ℕ → List ℕ → Option Program) (limit : ℕ) (mode : UndefinedBehavior) (w : World) →
+        Performs (ruled program limit mode) (counted_code build_list count) (operands_in operands.old) w result (operands_in operands.new) w }
+{
+    match count {
+        Some(count) => build_list(alloc, count, operands),
+        None => Err(Error::new(ErrorKind::BadStream)),
+    }
+}
+
+// Builds a tuple; a counted run of values is not there yet.
+fn build_tuple_of(alloc: Global, count: Option<usize>, operands: &mut Operands) -> Result<(), Error>
+    ensures { (program : ℕ → List ℕ → Option Program) (limit : ℕ) (mode : UndefinedBehavior) (w : World) →
+        Performs (ruled program limit mode) (counted_code build_tuple count) (operands_in operands.old) w result (operands_in operands.new) w }
+{
+    match count {
+        Some(count) => build_tuple(alloc, count, operands),
+        None => Err(Error::new(ErrorKind::BadStream)),
+    }
+}
+
+// Does what an instruction does that only takes and gives operands. One of a construct that is not there yet is
+// refused.
+pub(crate) fn perform_on_operands(
+    alloc: Global,
+    mode: UndefinedBehavior,
+    instruction: &Instruction<'_>,
+    operands: &mut Operands,
+) -> Result<Way, Error>
+    requires { IsOfOperands (code_of instruction.now) }
+    ensures { (program : ℕ → List ℕ → Option Program) (limit : ℕ) (w : World) →
+        Leads (ruled program limit mode) (code_of instruction.now) (operands_in operands.old) w
+        result (operands_in operands.new) w }
+{
+    match operator_of(instruction) {
+        Some(op) => straight(operate(alloc, mode, op, operands)),
+        None => perform_without_operator(alloc, mode, instruction, operands),
+    }
+}
+
+// The same where the instruction has no operator.
+fn perform_without_operator(
+    alloc: Global,
+    mode: UndefinedBehavior,
+    instruction: &Instruction<'_>,
+    operands: &mut Operands,
+) -> Result<Way, Error>
+    requires operands { IsOfOperands (code_of instruction.now) }
+    requires no_operator { None ≡ operator_in (code_of instruction.now) }
+    ensures { (program : ℕ → List ℕ → Option Program) (limit : ℕ) (w : World) →
+        Leads (ruled program limit mode) (code_of instruction.now) (operands_in operands.old) w
+        result (operands_in operands.new) w }
+{
+    match instruction {
+        Instruction::LoadConst(value) => straight(load_const(operands, value)),
+        Instruction::Swap => straight(swap(operands)),
+        Instruction::DupTop => straight(dup_top(operands)),
+        Instruction::DiscardTop => straight(discard_top(operands)),
+        Instruction::GetAttr(name) => straight(get_attr(alloc, mode, name.as_str(), operands)),
+        Instruction::GetItem => straight(get_item(alloc, mode, operands)),
+        Instruction::Slice => straight(slice(alloc, mode, operands)),
+        Instruction::BuildList(count) => straight(build_list_of(alloc, *count, operands)),
+        Instruction::BuildTuple(count) => straight(build_tuple_of(alloc, *count, operands)),
+        Instruction::BuildMap(count) => straight(build_map(alloc, *count, operands)),
+        Instruction::UnpackList(count) => straight(unpack_list(*count, operands)),
+        Instruction::Neg => straight(negate(operands)),
+        Instruction::Not => straight(invert(mode, operands)),
+        Instruction::CompareAndPreserve(op) => {
+            straight(compare_and_preserve(mode, comparison_of(*op), operands))
+        }
+        Instruction::Jump(to) => Ok(jump(*to)),
+        Instruction::JumpIfFalse(to) => jump_if_false(mode, *to, operands),
+        Instruction::JumpIfFalseOrPop(to) => jump_if_false_or_pop(mode, *to, operands),
+        Instruction::JumpIfTrueOrPop(to) => jump_if_true_or_pop(mode, *to, operands),
+        _ => Err(Error::new(ErrorKind::BadStream)),
+    }
+}

@@ -1,0 +1,41 @@
+//! Instructions that write.
+ghost use Rattle.std.specs.Prelude.{ℕ, suc, List, Option};
+ghost use Rattle.template_code.specs.Code.{Operand, emit_raw, emit};
+ghost use Rattle.template_machine_meaning.specs.Surroundings.{Program, Programs};
+ghost use Rattle.template_machine_meaning.specs.World.{World};
+ghost use Rattle.template_machine_operands.specs.Operands.{operands_in};
+ghost use Rattle.template_machine_steps.specs.Performs.{ruled};
+ghost use Rattle.template_machine_perform.specs.Performs.{StepsWriting};
+
+use template_machine_operands::Operands;
+use template_machine_operations as values;
+use template_machine_output::Sink;
+use template_machine_state::State;
+use template_values_errors::Error;
+use template_values_modes::UndefinedBehavior;
+use template_values_text::NoRecords;
+
+// Writes a text of the template.
+pub(crate) fn emit_raw<S: Sink>(text: &str, sink: &mut S) -> Result<(), Error>
+    ensures { (s : Programs) (operands : List Operand) (w : World) →
+        StepsWriting s (emit_raw text.now) operands w (S.taken sink.old) result suc operands w (S.taken sink.new) }
+{
+    values::write(text, sink)
+}
+
+// Takes a value, and prints it under the escape in force.
+pub(crate) fn emit<S: Sink>(
+    mode: UndefinedBehavior,
+    state: &State<'_>,
+    operands: &mut Operands,
+    scratch: &mut String,
+    sink: &mut S,
+) -> Result<(), Error>
+    ensures { (program : ℕ → List ℕ → Option Program) (limit : ℕ) →
+        StepsWriting (ruled program limit mode) emit (operands_in operands.old) state.now (S.taken sink.old)
+        result suc (operands_in operands.new) state.now (S.taken sink.new) }
+{
+    let value = operands.take()?;
+    let escape = state.auto_escape();
+    values::print(mode, escape, &value, &NoRecords, scratch, sink)
+}

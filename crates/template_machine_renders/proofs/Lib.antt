@@ -1,0 +1,3 @@
+pub mod Fuels
+pub mod Meanings
+pub mod Coming

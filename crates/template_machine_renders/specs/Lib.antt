@@ -1,0 +1,2 @@
+pub mod Renders
+pub mod Laws

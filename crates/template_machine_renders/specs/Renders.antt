@@ -1,0 +1,56 @@
+-- How a render comes out.
+use Rattle.std.specs.Prelude.{◌≡◌, ℕ, ◌≤◌, List, [], Option, Result, Ok, Err, IsErrAnd}
+use Rattle.std.specs.Io.KnownBytes.{Appends}
+use Rattle.std.specs.Option.{option_map}
+use Rattle.template_values_errors.specs.declared.ErrorKind.{ErrorKind}
+use Rattle.template_values_model.specs.Val.{Val}
+use Rattle.template_process.specs.Drive.{End, ends, faults}
+use Rattle.template_process.specs.Fuel.{remaining, under}
+use Rattle.template_process.specs.Trace.{Item, Run, behind, ended, text_of, price_of}
+use Rattle.template_code.specs.Code.{Code}
+use Rattle.template_machine_output.specs.Writes.{AppendsBeginning}
+use Rattle.template_machine_meaning.specs.World.{World}
+use Rattle.template_machine_going.specs.Spots.{Spot, Answering, run_at}
+use Rattle.template_machine_going.specs.Paying.{Paid}
+use Rattle.template_machine_outcomes.specs.Outcomes.{IsWanting}
+
+-- where the machine stands at the start of a run
+abbrev pub at_start : World → Option ℕ → Option (List ℕ) → Spot World
+at_start w fuel taken = record { place = 0; operands = []; world = w; left = fuel; taken = taken }
+
+-- The code comes to its end from the spot on, and leaves the world; what it costs is paid, and its text written.
+pub record EndsWith {S : Type 0} (answers : Answering S) (code : List Code) (x : Spot S) (after : S) (left : Option ℕ) (taken : Option (List ℕ)) : Type 0 where
+  pub items : List Item
+  pub least : ℕ
+  pub bound : ℕ
+  pub operands : List Val
+  pub is : (n : ℕ) → least ≤ n → run_at answers code n bound x ≡ behind items (ended (ends operands) after)
+  pub pays : Paid (price_of items) x.left left
+  pub text : Appends x.taken taken (text_of items)
+
+-- it came to its end by itself
+abbrev pub IsOver : End → Type 0
+IsOver (ends operands) = Unit {0}
+IsOver _ = ⊥
+
+-- a call answers as the run ends: `Ok` where that is over, else its fault
+abbrev pub EndsAs : {X S : Type 0} → Result X (List ErrorKind) → Run S → Type 0
+EndsAs (Ok _) r = IsOver r.end
+EndsAs (Err kinds) r = r.end ≡ faults kinds
+
+-- The call answers as the run ends, and its sink took the text. Or a growth was refused, or the sink failed, and it took a
+-- beginning of the text.
+pub data Renders {X S : Type 0} (result : Result X (List ErrorKind)) (before after : Option (List ℕ)) (r : Run S) : Type 0 where
+  whole : EndsAs result r → Appends before after (text_of r.items) → Renders result before after r
+  broken : IsErrAnd result IsWanting → AppendsBeginning before after (text_of r.items) → Renders result before after r
+
+-- what a run leaves of a fuel, if one is set
+abbrev pub leaves : {S : Type 0} → Option ℕ → Run S → Option ℕ
+leaves fuel r = option_map (λ n. remaining n r) fuel
+
+-- the run is over, whose fuel lasts; it left the world and so much of the fuel, and its text is written
+pub record IsDone (fuel : Option ℕ) (r : Run World) (after : World) (left : Option ℕ) (before taken : Option (List ℕ)) : Type 0 where
+  pub over : IsOver (under fuel r).end
+  pub text : Appends before taken (text_of (under fuel r).items)
+  pub world : (under fuel r).after ≡ after
+  pub left_is : left ≡ leaves fuel r

@@ -1,0 +1,15 @@
+//! How a render comes out, and the laws that lead there from a run of its code.
+#![tactic(auto)]
+
+ghost use Rattle.template_machine_renders.specs.Laws.{EndsRender, StopsRender};
+
+/// A run of a template's code that came to its end is the template's render: its text, its price and its world.
+pub fn ends_render()
+    ensures { EndsRender }
+{}
+
+/// A run of a template's code that stopped is the template's render up to there: it ended with the render's fault, or its
+/// fuel ran out where the render's does, or memory or the sink stopped it.
+pub fn stops_render<X>()
+    ensures { StopsRender X }
+{}

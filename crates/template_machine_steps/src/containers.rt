@@ -1,0 +1,88 @@
+//! Containers that are built of operands, and items that are unpacked.
+ghost use Rattle.std.specs.Prelude.{◌≡◌, ◌++◌, ℕ, List, Option, map, OnOk, IfErr};
+ghost use Rattle.template_values_errors.specs.Memory.{NoMemory};
+ghost use Rattle.template_values_modes.specs.declared.UndefinedBehavior.{UndefinedBehavior};
+ghost use Rattle.template_code.specs.Code.{single, build_list, build_tuple, build_map, unpack_list};
+ghost use Rattle.template_machine_meaning.specs.Surroundings.{Program};
+ghost use Rattle.template_machine_meaning.specs.World.{World};
+ghost use Rattle.template_machine_operands.specs.Operands.{operands_in};
+ghost use Rattle.template_machine_steps.specs.Performs.{Performs, ruled};
+
+use std::alloc::Global;
+use template_machine_items::Items;
+use template_machine_operands::Operands;
+use template_machine_operations as values;
+use template_values_errors::{Error, ErrorKind};
+
+/// Takes so many values, and gives their list. Linear in their number.
+///
+/// # Errors
+///
+/// Those of [`values::build_list`], and [`ErrorKind::BadStream`] where operands are missing, which no verified
+/// code meets.
+pub fn build_list(alloc: Global, count: usize, operands: &mut Operands) -> Result<(), Error>
+    ensures { (program : ℕ → List ℕ → Option Program) (limit : ℕ) (mode : UndefinedBehavior) (w : World) →
+        Performs (ruled program limit mode) (build_list count) (operands_in operands.old) w result (operands_in operands.new) w }
+{
+    let items = operands.take_many(count)?;
+    let list = values::build_list(alloc, items)?;
+    operands.push(list)
+}
+
+/// Takes so many values, and gives their tuple. Linear in their number.
+///
+/// # Errors
+///
+/// Those of [`values::build_tuple`], and as [`build_list`].
+pub fn build_tuple(alloc: Global, count: usize, operands: &mut Operands) -> Result<(), Error>
+    ensures { (program : ℕ → List ℕ → Option Program) (limit : ℕ) (mode : UndefinedBehavior) (w : World) →
+        Performs (ruled program limit mode) (build_tuple count) (operands_in operands.old) w result (operands_in operands.new) w }
+{
+    let items = operands.take_many(count)?;
+    let tuple = values::build_tuple(alloc, items)?;
+    operands.push(tuple)
+}
+
+/// Takes so many keys, each with its value above it, and gives their map. As dear as [`values::build_map`].
+///
+/// # Errors
+///
+/// Those of [`values::build_map`], and as [`build_list`].
+pub fn build_map(alloc: Global, count: usize, operands: &mut Operands) -> Result<(), Error>
+    ensures { (program : ℕ → List ℕ → Option Program) (limit : ℕ) (mode : UndefinedBehavior) (w : World) →
+        Performs (ruled program limit mode) (build_map count) (operands_in operands.old) w result (operands_in operands.new) w }
+{
+    let entries = operands.take_pairs(alloc, count)?;
+    let built = values::build_map(alloc, entries)?;
+    operands.push(built)
+}
+
+/// Takes a value, and gives its so many items, the first one on top. Linear in their number.
+///
+/// # Errors
+///
+/// Those of [`values::unpack`], [`ErrorKind::OutOfMemory`], and as [`build_list`].
+pub fn unpack_list(count: usize, operands: &mut Operands) -> Result<(), Error>
+    ensures { (program : ℕ → List ℕ → Option Program) (limit : ℕ) (mode : UndefinedBehavior) (w : World) →
+        Performs (ruled program limit mode) (unpack_list count) (operands_in operands.old) w result (operands_in operands.new) w }
+{
+    let value = operands.take()?;
+    let items = values::unpack(count, value)?;
+    push_items(&items, operands)
+}
+
+// Items go on top, the first one uppermost.
+fn push_items(items: &Items, operands: &mut Operands) -> Result<(), Error>
+    ensures pushed { OnOk result (operands_in operands.new ≡ map single items.now ++ operands_in operands.old) }
+    ensures refused { IfErr result NoMemory }
+{
+    let count = items.len();
+    for passed in 0..count {
+        let item = match items.get(count - 1 - passed) {
+            Some(item) => item.copy()?,
+            None => return Err(Error::new(ErrorKind::OutOfMemory)),
+        };
+        operands.push(item)?;
+    }
+    Ok(())
+}

@@ -1,0 +1,2 @@
+//! Definitions and laws: the trees of nodes, from the parts that they hold.
+#![tactic(auto)]
