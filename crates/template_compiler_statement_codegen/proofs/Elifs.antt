@@ -65,7 +65,7 @@ branched : (c at : IfCond) (ends more all : List ℕ) {a b d : Instructions} {r 
 branched c at ends more all {a} {b} {d} {r} {s} {t} same p q =
     let other = statements_in at.false_body.items in
     let here : Remains (statement_code (ways_of r) (condition_of at)) (breaks_of (ways_of r) (condition_of at)) (statements_code (ways_of r) other)
-        (breaks_in (ways_of r) other) more b d s t =
+    (breaks_in (ways_of r) other) more b d s t =
     subst (λ (w : Ways). Remains (statement_code w (condition_of at)) (breaks_of w (condition_of at)) (statements_code w other) (breaks_in w other) more b d s t)
     (same_ways r s p.asks p.closings) q in
     subst (λ (l : List ℕ). RemainsOther c at l a d r t) (sym same) (remains_trans p here)

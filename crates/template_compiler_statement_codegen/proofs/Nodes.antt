@@ -51,8 +51,11 @@ condition_positive n = search (rules, the_lemmas)
 
 pub condition_smaller : (n : Spanned (Box IfCondNode Global)) → condition_deep n.node.value < size-Stmt (IfCond n)
 condition_smaller n =
-    omega (arith, body_below n.node.value.true_body.items (size-Stmt (IfCond n)) (condition_positive n) (true_body_smaller n),
-    body_below n.node.value.false_body.items (size-Stmt (IfCond n)) (condition_positive n) (false_body_smaller n))
+    omega (
+      arith,
+      body_below n.node.value.true_body.items (size-Stmt (IfCond n)) (condition_positive n) (true_body_smaller n),
+      body_below n.node.value.false_body.items (size-Stmt (IfCond n)) (condition_positive n) (false_body_smaller n),
+    )
 
 loop_body_smaller : (n : Spanned (Box ForLoopNode Global)) (i : ℕ) (d : Stmt) → i < length n.node.value.body.items
     → size-Stmt (get_or n.node.value.body.items i d) < size-Stmt (ForLoop n)
@@ -141,7 +144,7 @@ pub loop_is : (s : Stmt) (n : Spanned (Box ForLoopNode Global)) (target e : Expr
 loop_is s n target e body otherwise h node t i b o =
     let l = n.node.value in
     let tree : statement_of s ≡ for_loop (expression_of l.target) (expression_of l.iter) (optional_in l.filter_expr) l.recursive (statements_in l.body.items)
-        (statements_in l.else_body.items) = ap (λ (x : Stmt). statement_of x) node ∙ for_tree n in
+    (statements_in l.else_body.items) = ap (λ (x : Stmt). statement_of x) node ∙ for_tree n in
     tree ∙
     loop_plain (expression_of l.target) (expression_of l.iter) (optional_in l.filter_expr) l.recursive (statements_in l.body.items)
     (statements_in l.else_body.items) (subst (λ (x : Statement). IsRunnableStatement true x) tree h) ∙

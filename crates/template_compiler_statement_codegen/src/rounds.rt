@@ -56,10 +56,7 @@ impl Round {
 }
 
 // Puts what closes all that is open, the innermost first.
-fn close_all<'source>(
-    code: &mut Instructions<'source>,
-    closings: &[Closing],
-) -> Result<(), Error>
+fn close_all<'source>(code: &mut Instructions<'source>, closings: &[Closing]) -> Result<(), Error>
     ensures put { OnOk result (Puts (λ place. closed_by closings.now) code.old code.new) }
     ensures refused { IfErr result NoRoom }
 {
