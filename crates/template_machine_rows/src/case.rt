@@ -50,8 +50,8 @@ fn unreadable<T: Drop>() -> Result<T, Error> {
 fn are_known(entries: &Map<String, Json>) -> bool {
     for (name, _) in entries {
         match name.as_str() {
-            "templates" | "main" | "context" | "fuel" | "limit" | "undefined" | "names"
-            | "skip" => {}
+            "templates" | "main" | "context" | "fuel" | "limit" | "undefined" | "names" | "skip" =>
+                {}
             _ => return false,
         }
     }
@@ -59,10 +59,7 @@ fn are_known(entries: &Map<String, Json>) -> bool {
 }
 
 // The name that is told, else the first one of the steps; of steps that add nothing it is empty.
-fn main_of<'line>(
-    name: Option<&'line Json>,
-    steps: &[Step<'line>],
-) -> Result<&'line str, Error> {
+fn main_of<'line>(name: Option<&'line Json>, steps: &[Step<'line>]) -> Result<&'line str, Error> {
     match name {
         None => Ok(first_name(steps).unwrap_or("")),
         Some(Json::String(name)) => Ok(name.as_str()),
