@@ -1,5 +1,5 @@
 //! Environments.
-ghost use Rattle.std.specs.Prelude.{◌≡◌, ◌+◌, ◌≢◌, ◌≤◌, ◌∷◌, [], ℕ, List, None, Some, Option, IfOk, IfErr, OnOk, OnErr, bytes_eq, min, if◌then◌else◌};
+ghost use Rattle.std.specs.Prelude.{◌≡◌, ◌+◌, ◌≢◌, ◌∷◌, [], ℕ, List, None, Some, Option, IfOk, IfErr, OnOk, OnErr, bytes_eq, min, if◌then◌else◌};
 ghost use Rattle.template_compiler_syntax.specs.Syntax.{default_syntax};
 ghost use Rattle.template_compiled.specs.Sources.{IsAccepted, IsRefusedWith};
 ghost use Rattle.template_environment.specs.Standing.{greatest_limit};
@@ -27,7 +27,6 @@ pub struct Environment<'source> {
     fuel: Option<u64>,
     recursion_limit: usize,
     undefined_behavior: UndefinedBehavior,
-    ghost limited: { recursion_limit ≤ 500 },
 }
 
 impl<'source> Templates for Environment<'source> {
@@ -156,8 +155,7 @@ impl<'source> Environment<'source> {
 
     /// How deep a render may be.
     pub fn recursion_limit(&self) -> usize
-        ensures limit { result ≡ (settings_of self.now).limit }
-        ensures bound { result ≤ greatest_limit }
+        ensures { result ≡ (settings_of self.now).limit }
     {
         self.recursion_limit
     }

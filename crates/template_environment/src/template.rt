@@ -86,8 +86,10 @@ impl<'env, 'source> Template<'env, 'source> {
     {
         let id = ids.next()?;
         let environment = self.environment;
+        let compiled = self.compiled;
+        let code = compiled.instructions();
         let alloc = environment.allocator();
-        let mut state = State::new(alloc, self.compiled.initial_auto_escape(), context)?;
+        let mut state = State::new(alloc, compiled.initial_auto_escape(), context)?;
         let fuel = environment.fuel();
         let mut left = fuel;
         let mut scratch = String::new(alloc);
@@ -95,7 +97,7 @@ impl<'env, 'source> Template<'env, 'source> {
             alloc,
             environment.rules(),
             environment,
-            self.compiled.instructions(),
+            code,
             &mut state,
             &mut left,
             &mut scratch,
