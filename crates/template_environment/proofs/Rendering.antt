@@ -1,5 +1,5 @@
 -- From the run of a template's code to what its render means.
-use Rattle.std.proofs.Common.{◌≡◌, ℕ, false, true, List, [], ◌∷◌, Option, None, Some, Result, Ok, Err, refl, sym, subst, ◌∙◌}
+use Rattle.std.proofs.Common.{◌≡◌, ℕ, false, true, List, Option, None, Some, Ok, Err, refl, subst, ◌∙◌}
 use Rattle.std.specs.Option.{option_map}
 use Rattle.template_values_errors.specs.declared.ErrorKind.{ErrorKind}
 use Rattle.template_values_modes.specs.declared.UndefinedBehavior.{UndefinedBehavior}
@@ -11,7 +11,7 @@ use Rattle.template_code.specs.Code.{Code}
 use Rattle.template_compiler_runnable.specs.Running.{statements_run}
 use Rattle.template_compiler_runnable.proofs.Decided.{Decides-statements_run}
 use Rattle.template_machine_meaning.specs.World.{World, first_world}
-use Rattle.template_machine_meaning.specs.Surroundings.{Program, Programs, answer}
+use Rattle.template_machine_meaning.specs.Surroundings.{Programs, answer}
 use Rattle.template_machine_meaning.specs.Meaning.{Standing}
 use Rattle.template_machine_meaning.specs.Laws.{AreAllRunnable}
 use Rattle.template_machine_meaning.proofs.Ends.{every_run_ends}
