@@ -9,7 +9,8 @@ use template_values_core::Value;
 use template_values_errors::Error;
 use template_values_json::context_from_json;
 
-const PAGE: &str = "{% include 'head.html' %}{% for item in items %}<p>{{ item }}</p>{% else %}<p>-</p>{% endfor %}";
+const PAGE: &str =
+    "{% include 'head.html' %}{% for item in items %}<p>{{ item }}</p>{% else %}<p>-</p>{% endfor %}";
 
 fn main(rt: HostRuntime) -> anyhow::Result<()> {
     let alloc = rt.alloc();

@@ -12,8 +12,11 @@ pub returns-then-not-is_runnable-clause-refused : goal.returns-then-not-is_runna
 returns-then-not-is_runnable-clause-refused c =
     let shared : c.in_ok-clone.field-0 ≡ c.args.syntax.now = search rules in
     let is = subst (λ (x : Syntax). IsSource x c.args.source.now (statement_of c.in_ok-tree.tree)) shared c.in_ok-tree.ensures.found in
-    inr (inl (c.new.ensures, unsupported (record { text = c.args.source.now; syntax = c.args.syntax.now }) (statement_of c.in_ok-tree.tree) is
-    (λ h. let yes = c.is_runnable.ensures.1 h in let no = c.if-not-is_runnable.true in cc)))
+    inr (inl (
+      c.new.ensures,
+      unsupported (record { text = c.args.source.now; syntax = c.args.syntax.now }) (statement_of c.in_ok-tree.tree) is
+          (λ h. let yes = c.is_runnable.ensures.1 h in let no = c.if-not-is_runnable.true in cc),
+    ))
 
 pub invariant_of-result : goal.invariant_of-result
 invariant_of-result c =
