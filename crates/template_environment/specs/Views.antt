@@ -1,5 +1,6 @@
 -- What contracts see of a template to be rendered, and of what a render leaves.
 use Rattle.std.specs.Prelude.{ℕ, List, Option}
+use Rattle.template_values_modes.specs.declared.AutoEscape.{AutoEscape}
 use Rattle.template_values_model.specs.Val.{Val}
 use Rattle.template_process.specs.Trace.{Run}
 use Rattle.template_machine_meaning.specs.World.{World}
@@ -18,6 +19,10 @@ name_of t = t.compiled.now.name
 
 abbrev pub source_of : Template → Source
 source_of t = t.compiled.now.source
+
+-- the escape that it runs under
+abbrev pub escape_of : Template → AutoEscape
+escape_of t = t.compiled.now.escape
 
 -- the fuel that each of its renders is given
 abbrev pub fuel_of : Template → Option ℕ

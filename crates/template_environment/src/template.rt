@@ -35,7 +35,7 @@ pub struct Captured<'env> {
 }
 
 impl<'env, 'source> Template<'env, 'source> {
-    ghost use Rattle.template_environment.specs.Views.{fuel_left, fuel_of, fuel_set, id_of, name_of, render_of, source_of, world_of};
+    ghost use Rattle.template_environment.specs.Views.{escape_of, fuel_left, fuel_of, fuel_set, id_of, name_of, render_of, source_of, world_of};
 
     /// The template's name.
     pub fn name(&self) -> &'source str
@@ -53,7 +53,8 @@ impl<'env, 'source> Template<'env, 'source> {
 
     /// The escape of the template's name.
     pub fn initial_auto_escape(&self) -> AutoEscape
-        ensures { IsRuleOf (name_of self.now) result }
+        ensures rule { IsRuleOf (name_of self.now) result }
+        ensures escape { result ≡ escape_of self.now }
     {
         self.compiled.initial_auto_escape()
     }
