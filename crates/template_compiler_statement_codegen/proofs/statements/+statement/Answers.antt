@@ -1,0 +1,199 @@
+use Rattle.std.proofs.Common.{◌≡◌, ◌+◌, ◌<◌, ◌≤◌, length, true, false, Option, Bor, ap, sym, subst, ◌∙◌, arith, refl}
+use Rattle.template_tree.specs.StatementView.{assignments_in, statement_of}
+use Rattle.template_tree.specs.Tree.{Statement, absent, auto_escape, for_loop, with_block}
+use Rattle.template_tree.specs.declared.statements.AutoEscape.{AutoEscape as AutoEscapeNode}
+use Rattle.template_tree.specs.declared.statements.ForLoop.{ForLoop as ForLoopNode}
+use Rattle.template_tree.specs.declared.statements.IfCond.{IfCond as IfCondNode}
+use Rattle.template_tree.specs.declared.statements.Stmt.{Stmt}
+use Rattle.template_tree.specs.declared.statements.WithBlock.{WithBlock as WithBlockNode}
+use Rattle.template_tree.specs.View.{expression_of}
+use Rattle.template_walk.specs.Runnable.{IsRunnableStatement}
+use Rattle.template_code.specs.Listing.{code_in}
+use Rattle.template_compiler_codegen.specs.Statements.{statements_code, target_code}
+use Rattle.template_compiler_emission.specs.declared.leaps.Leap.TheVariants.{Always, IfFalse, Iterate}
+use Rattle.template_compiler_expression_codegen.proofs.Putting.{landed_at, puts_as}
+use Rattle.template_compiler_lowering.specs.Breaks.{breaks_in}
+use Rattle.template_compiler_statement_codegen.specs.Listed.{condition_deep, condition_of, statements_in}
+use Rattle.template_compiler_statement_codegen.specs.Rounds.{LowersBody, LowersStatement, closing_code, places_in, ways_of}
+use Rattle.template_compiler_statement_codegen.specs.declared.rounds.Round.{Round}
+use Rattle.template_compiler_statement_codegen.proofs.Bodies.{no_items, some_items, statement_deep, statement_runnable}
+use Rattle.template_compiler_statement_codegen.proofs.Closings.{lowers_closed}
+use Rattle.template_compiler_statement_codegen.proofs.Elifs.{alone, at_left, before_other, chain_on, chain_stops, left_runs, left_smaller, LeftRuns, left_deep}
+use Rattle.template_compiler_statement_codegen.proofs.Looping.{ends_otherwise, puts_rounds}
+use Rattle.template_compiler_statement_codegen.proofs.Nodes.{call_no_statement, condition_is, condition_within, escape_deep, escape_is, loop_deep, loop_is, loop_other_deep, with_deep, with_is}
+use Rattle.template_compiler_statement_codegen.proofs.statements.+statement.Goals as goal
+
+pub compile_body-compile_statement-requires : goal.compile_body-compile_statement-requires
+compile_body-compile_statement-requires t c =
+    let ss = c.args.body.now in
+    let i = c.loop-statement.statement-index in
+    let within : i < length ss = omega arith in (
+      omega (arith, statement_deep ss i c.statement-item.result within c.statement-item.is, c.decreases),
+      statement_runnable ss i c.statement-item.result c.requires within c.statement-item.is,
+    )
+
+pub compile_branch-returns-then-is_empty-clause-lowered : goal.compile_branch-returns-then-is_empty-clause-lowered
+compile_branch-returns-then-is_empty-clause-lowered t c =
+    let other = c.args.condition.now.false_body in
+    let none = no_items other.items other.len c.is_empty.result (omega (arith, other.ok.0)) c.is_empty.ensures c.if-is_empty.true in
+    let landed = landed_at IfFalse c.in_ok-next.next (code_in c.compile_expr.new.code) (code_in c.compile_body.new.code) (code_in c.land.new.code)
+    c.in_ok-next.ensures.place c.land.ensures.landed in
+    alone other.items (ways_of c.args.round.now) none c.in_ok-compile_expr.ensures.put c.in_ok-next.ensures.put
+    (subst (λ ss. LowersBody (statements_in ss) c.reserve.new.code c.compile_body.new.code c.args.round.now c.compile_body.new.round)
+    c.deref.ensures.value c.in_ok-compile_body.ensures.lowered) landed c.land.ensures.same
+
+pub compile_branch-returns-clause-lowered : goal.compile_branch-returns-clause-lowered
+compile_branch-returns-clause-lowered t c =
+    let other = c.args.condition.now.false_body in
+    let some = some_items other.items other.len c.is_empty.result (omega (arith, other.ok.0)) c.is_empty.ensures c.if-is_empty.false in
+    let landed = landed_at IfFalse c.in_ok-next.next (code_in c.compile_expr.new.code) (code_in c.reserve-2.new.code) (code_in c.land-2.new.code)
+    c.in_ok-next.ensures.place c.land-2.ensures.landed in
+    before_other other.items (ways_of c.args.round.now) c.in_ok-end.end some c.in_ok-end.ensures.place c.in_ok-compile_expr.ensures.put c.in_ok-next.ensures.put
+    (subst (λ ss. LowersBody (statements_in ss) c.reserve.new.code c.compile_body.new.code c.args.round.now c.compile_body.new.round)
+    c.deref.ensures.value c.in_ok-compile_body.ensures.lowered) c.in_ok-end.ensures.put landed c.land-2.ensures.same
+
+pub compile_closed-returns-clause-lowered : goal.compile_closed-returns-clause-lowered
+compile_closed-returns-clause-lowered t c =
+    let r = c.args.round.now in
+    let inside : Round = record { asks = r.asks; closings = c.push.new.self; breaks = r.breaks } in
+    let behind = c.compile_body.new.round in
+    let last : Round = record { asks = behind.asks; closings = c.truncate.new.self; breaks = behind.breaks } in
+    let long : c.len-open.result ≡ length r.closings.items = omega (arith, c.len-open.ensures, r.closings.ok.0) in
+    lowers_closed c.args.closing (statements_in c.args.body.now) r inside behind last c.len-open.result c.in_ok-push.ensures.items refl refl
+    c.in_ok-compile_body.ensures.lowered long c.truncate.ensures.items refl refl (puts_as c.instruction.ensures c.in_ok-put.ensures.put)
+
+pub compile_condition-loop-left-preserved-in-Continue-branch-3 : goal.compile_condition-loop-left-preserved-in-Continue-branch-3
+compile_condition-loop-left-preserved-in-Continue-branch-3 t c =
+    let at = c.in-Some.at in
+    let ends = c.loop-left.ends.items in
+    let here = at_left c.loop-left.left at c.args.condition.now ends c.in-Some.is c.loop-left.invariant.chain in
+    let runs : IsRunnableStatement true (condition_of at.now) = subst (λ (o : Option (Bor IfCondNode)). LeftRuns o) c.in-Some.is c.loop-left.invariant.runs in
+    let bound : left_deep c.loop-left.left ≡ condition_deep at.now + 1 = ap (λ (o : Option (Bor IfCondNode)). left_deep o) c.in-Some.is in
+    record {
+      chain = chain_stops c.elif-left.result c.is_none.result c.args.condition.now at.now c.deref-then-is_none.result.now ends (places_in c.in_ok-end.end)
+          c.keep.new.places.items c.is_none.ensures c.if-is_none.true c.deref-then-is_none.ensures.value c.in_ok-keep.ensures here
+          c.in_ok-end.ensures.lowered c.in_ok-compile_body.ensures.lowered;
+      runs = left_runs c.elif-left.result at.now c.deref.result.now c.deref.ensures.value c.elif-left.ensures.alone runs;
+      deep = omega (arith, left_smaller c.elif-left.result at.now c.deref.result.now c.deref.ensures.value c.elif-left.ensures.smaller,
+      c.loop-left.invariant.deep, bound);
+    }
+
+pub compile_condition-loop-left-preserved : goal.compile_condition-loop-left-preserved
+compile_condition-loop-left-preserved t c =
+    let at = c.in-Some.at in
+    let ends = c.loop-left.ends.items in
+    let here = at_left c.loop-left.left at c.args.condition.now ends c.in-Some.is c.loop-left.invariant.chain in
+    let runs : IsRunnableStatement true (condition_of at.now) = subst (λ (o : Option (Bor IfCondNode)). LeftRuns o) c.in-Some.is c.loop-left.invariant.runs in
+    let bound : left_deep c.loop-left.left ≡ condition_deep at.now + 1 = ap (λ (o : Option (Bor IfCondNode)). left_deep o) c.in-Some.is in
+    record {
+      chain = chain_on c.elif-left.result c.is_none.result c.args.condition.now at.now c.deref.result.now ends (places_in c.in_ok-end.end)
+          c.keep.new.places.items c.is_none.ensures c.if-is_none.false c.deref.ensures.value c.elif-left.ensures.alone c.in_ok-keep.ensures here
+          c.in_ok-end.ensures.lowered;
+      runs = left_runs c.elif-left.result at.now c.deref.result.now c.deref.ensures.value c.elif-left.ensures.alone runs;
+      deep = omega (arith, left_smaller c.elif-left.result at.now c.deref.result.now c.deref.ensures.value c.elif-left.ensures.smaller,
+      c.loop-left.invariant.deep, bound);
+    }
+
+pub compile_loop_end-returns-clause-lowered : goal.compile_loop_end-returns-clause-lowered
+compile_loop_end-returns-clause-lowered t c =
+    let ss = c.args.otherwise.now in
+    let some = some_items ss (length ss) c.is_empty.result refl c.is_empty.ensures c.if-is_empty.false in
+    let landed = landed_at IfFalse c.in_ok-end.end (code_in c.put-3.new.code) (code_in c.compile_body.new.code) (code_in c.land.new.code)
+    c.in_ok-end.ensures.place c.land.ensures.landed in
+    ends_otherwise ss some c.in_ok-put.ensures.put c.in_ok-put-2.ensures.put c.in_ok-end.ensures.put c.in_ok-compile_body.ensures.lowered landed
+    c.land.ensures.same
+
+pub compile_rounds-returns-clause-put : goal.compile_rounds-returns-clause-put
+compile_rounds-returns-clause-put t c =
+    puts_rounds (target_code (expression_of c.args.target.now)) (statements_in c.args.body.now) c.in_ok-asks.asks c.new-round.result c.compile_body.new.round
+    c.in_ok-asks.ensures.place c.new-round.ensures.asks c.new-round.ensures.closings c.new-round.ensures.breaks c.in_ok-asks.ensures.put
+    c.in_ok-compile_assignment.ensures.put c.in_ok-compile_body.ensures.lowered c.in_ok-put.ensures.put c.land.ensures.landed c.land.ensures.same
+    c.tell_breaks.ensures.told c.tell_breaks.ensures.same
+
+pub compile_statement-unreachable-requires-in-CallBlock : goal.compile_statement-unreachable-requires-in-CallBlock
+compile_statement-unreachable-requires-in-CallBlock t c =
+    call_no_statement c.in-CallBlock.field-0 (subst (λ (s : Stmt). IsRunnableStatement true (statement_of s)) c.in-CallBlock.is c.requires)
+
+pub compile_statement-compile_condition-requires : goal.compile_statement-compile_condition-requires
+compile_statement-compile_condition-requires t c =
+    let s = c.args.statement.now in
+    let n = c.in-IfCond.n in
+    let node = c.deref-in-IfCond.result.now in
+    let tree = condition_is s n node c.in-IfCond.is c.deref-in-IfCond.ensures in (
+      omega (arith, condition_within s n node c.in-IfCond.is c.deref-in-IfCond.ensures, c.decreases),
+      subst (λ (x : Statement). IsRunnableStatement true x) tree c.requires,
+    )
+
+pub compile_statement-returns-in-IfCond-clause-lowered : goal.compile_statement-returns-in-IfCond-clause-lowered
+compile_statement-returns-in-IfCond-clause-lowered t c =
+    let tree = condition_is c.args.statement.now c.in-IfCond.n c.deref-in-IfCond.result.now c.in-IfCond.is c.deref-in-IfCond.ensures in
+    rw tree c.compile_condition.ensures.lowered
+
+pub compile_statement-compile_loop-requires : goal.compile_statement-compile_loop-requires
+compile_statement-compile_loop-requires t c =
+    let s = c.args.statement.now in
+    let n = c.in-ForLoop.n in
+    let target = c.deref-in-ForLoop.result.now.target in
+    let e = c.deref-in-ForLoop-2.result.now.iter in
+    let body = c.deref-in-ForLoop-4.result.now in
+    let other = c.deref-in-ForLoop-6.result.now in
+    let body_is = c.deref-in-ForLoop-4.ensures.value ∙ ap (λ (l : ForLoopNode). l.body.items) c.deref-in-ForLoop-3.ensures in
+    let other_is = c.deref-in-ForLoop-6.ensures.value ∙ ap (λ (l : ForLoopNode). l.else_body.items) c.deref-in-ForLoop-5.ensures in
+    let tree = loop_is s n target e body other c.requires c.in-ForLoop.is (ap (λ (l : ForLoopNode). l.target) c.deref-in-ForLoop.ensures)
+        (ap (λ (l : ForLoopNode). l.iter) c.deref-in-ForLoop-2.ensures) body_is other_is in
+    let runs : IsRunnableStatement true (for_loop (expression_of target) (expression_of e) absent false (statements_in body) (statements_in other)) =
+    subst (λ (x : Statement). IsRunnableStatement true x) tree c.requires in (
+      omega (arith, loop_deep s n body c.in-ForLoop.is body_is, loop_other_deep s n other c.in-ForLoop.is other_is, c.decreases),
+      (runs.0, (runs.1, (runs.2, runs.3))),
+    )
+
+pub compile_statement-returns-in-ForLoop-clause-lowered : goal.compile_statement-returns-in-ForLoop-clause-lowered
+compile_statement-returns-in-ForLoop-clause-lowered t c =
+    let tree = loop_is c.args.statement.now c.in-ForLoop.n c.deref-in-ForLoop.result.now.target c.deref-in-ForLoop-2.result.now.iter
+        c.deref-in-ForLoop-4.result.now c.deref-in-ForLoop-6.result.now c.requires c.in-ForLoop.is
+        (ap (λ (l : ForLoopNode). l.target) c.deref-in-ForLoop.ensures) (ap (λ (l : ForLoopNode). l.iter) c.deref-in-ForLoop-2.ensures)
+        (c.deref-in-ForLoop-4.ensures.value ∙ ap (λ (l : ForLoopNode). l.body.items) c.deref-in-ForLoop-3.ensures)
+        (c.deref-in-ForLoop-6.ensures.value ∙ ap (λ (l : ForLoopNode). l.else_body.items) c.deref-in-ForLoop-5.ensures) in
+    rw tree c.compile_loop.ensures.lowered
+
+pub compile_statement-compile_with-requires : goal.compile_statement-compile_with-requires
+compile_statement-compile_with-requires t c =
+    let s = c.args.statement.now in
+    let n = c.in-WithBlock.n in
+    let pairs = c.deref-in-WithBlock-2.result.now in
+    let body = c.deref-in-WithBlock-4.result.now in
+    let pairs_are = c.deref-in-WithBlock-2.ensures.value ∙ ap (λ (w : WithBlockNode). w.assignments.items) c.deref-in-WithBlock.ensures in
+    let body_is = c.deref-in-WithBlock-4.ensures.value ∙ ap (λ (w : WithBlockNode). w.body.items) c.deref-in-WithBlock-3.ensures in
+    let runs : IsRunnableStatement true (with_block (assignments_in pairs) (statements_in body)) =
+    subst (λ (x : Statement). IsRunnableStatement true x) (with_is s n pairs body c.in-WithBlock.is pairs_are body_is) c.requires in (
+      omega (arith, with_deep s n body c.in-WithBlock.is body_is, c.decreases),
+      (runs.0, runs.1),
+    )
+
+pub compile_statement-returns-in-WithBlock-clause-lowered : goal.compile_statement-returns-in-WithBlock-clause-lowered
+compile_statement-returns-in-WithBlock-clause-lowered t c =
+    let tree = with_is c.args.statement.now c.in-WithBlock.n c.deref-in-WithBlock-2.result.now c.deref-in-WithBlock-4.result.now c.in-WithBlock.is
+        (c.deref-in-WithBlock-2.ensures.value ∙ ap (λ (w : WithBlockNode). w.assignments.items) c.deref-in-WithBlock.ensures)
+        (c.deref-in-WithBlock-4.ensures.value ∙ ap (λ (w : WithBlockNode). w.body.items) c.deref-in-WithBlock-3.ensures) in
+    rw tree c.compile_with.ensures.lowered
+
+pub compile_statement-compile_auto_escape-requires : goal.compile_statement-compile_auto_escape-requires
+compile_statement-compile_auto_escape-requires t c =
+    let s = c.args.statement.now in
+    let n = c.in-AutoEscape.n in
+    let enabled = c.deref-in-AutoEscape.result.now.enabled in
+    let body = c.deref-in-AutoEscape-3.result.now in
+    let body_is = c.deref-in-AutoEscape-3.ensures.value ∙ ap (λ (a : AutoEscapeNode). a.body.items) c.deref-in-AutoEscape-2.ensures in
+    let runs : IsRunnableStatement true (auto_escape (expression_of enabled) (statements_in body)) =
+    subst (λ (x : Statement). IsRunnableStatement true x)
+    (escape_is s n enabled body c.in-AutoEscape.is (ap (λ (a : AutoEscapeNode). a.enabled) c.deref-in-AutoEscape.ensures) body_is) c.requires in (
+      omega (arith, escape_deep s n body c.in-AutoEscape.is body_is, c.decreases),
+      (runs.0, runs.1),
+    )
+
+pub compile_statement-returns-in-AutoEscape-clause-lowered : goal.compile_statement-returns-in-AutoEscape-clause-lowered
+compile_statement-returns-in-AutoEscape-clause-lowered t c =
+    let tree = escape_is c.args.statement.now c.in-AutoEscape.n c.deref-in-AutoEscape.result.now.enabled c.deref-in-AutoEscape-3.result.now c.in-AutoEscape.is
+        (ap (λ (a : AutoEscapeNode). a.enabled) c.deref-in-AutoEscape.ensures)
+        (c.deref-in-AutoEscape-3.ensures.value ∙ ap (λ (a : AutoEscapeNode). a.body.items) c.deref-in-AutoEscape-2.ensures) in
+    rw tree c.compile_auto_escape.ensures.lowered

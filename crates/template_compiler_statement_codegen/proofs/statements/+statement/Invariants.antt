@@ -1,0 +1,51 @@
+-- What is left of a body; a chain of `elif` goes on to smaller conditions. Bodies are smaller than their statement.
+use Rattle.std.proofs.Common.{◌+◌, ◌*◌, ◌≤◌, max}
+use Rattle.template_tree.specs.declared.statements.Stmt.{size-Stmt}
+use Rattle.template_compiler_statement_codegen.specs.Listed.{body_deep, condition_deep}
+use Rattle.template_compiler_statement_codegen.proofs.Bodies.{RemainsFrom}
+use Rattle.template_compiler_statement_codegen.proofs.Elifs.{LeftRuns, RemainsOf, left_deep}
+use Rattle.template_compiler_statement_codegen.proofs.statements.+statement.Given as goal
+
+abbrev pub decreases-compile_body : goal.decreases-compile_body
+decreases-compile_body l = 8 * body_deep l.body.now + 2
+
+abbrev pub decreases-compile_statement : goal.decreases-compile_statement
+decreases-compile_statement l = 8 * size-Stmt l.statement.now + 1
+
+abbrev pub decreases-compile_closed : goal.decreases-compile_closed
+decreases-compile_closed l = 8 * body_deep l.body.now + 3
+
+abbrev pub decreases-compile_with : goal.decreases-compile_with
+decreases-compile_with l = 8 * body_deep l.body.now + 4
+
+abbrev pub decreases-compile_auto_escape : goal.decreases-compile_auto_escape
+decreases-compile_auto_escape l = 8 * body_deep l.body.now + 4
+
+abbrev pub decreases-compile_loop : goal.decreases-compile_loop
+decreases-compile_loop l = 8 * max (body_deep l.body.now) (body_deep l.otherwise.now) + 4
+
+abbrev pub decreases-compile_rounds : goal.decreases-compile_rounds
+decreases-compile_rounds l = 8 * body_deep l.body.now + 3
+
+abbrev pub decreases-compile_loop_end : goal.decreases-compile_loop_end
+decreases-compile_loop_end l = 8 * body_deep l.otherwise.now + 3
+
+abbrev pub decreases-compile_condition : goal.decreases-compile_condition
+decreases-compile_condition l = 8 * condition_deep l.condition.now + 4
+
+abbrev pub decreases-compile_branch : goal.decreases-compile_branch
+decreases-compile_branch l = 8 * condition_deep l.condition.now + 3
+
+abbrev pub invariant-compile_body-loop-statement : goal.invariant-compile_body-loop-statement
+invariant-compile_body-loop-statement l = RemainsFrom l.body l.statement-index l.initial.code l.code l.initial.round l.round
+
+-- what is left of a chain
+abbrev pub decreases-compile_condition-loop-left : goal.decreases-compile_condition-loop-left
+decreases-compile_condition-loop-left l = left_deep l.left
+
+abbrev pub invariant-compile_condition-loop-left : goal.invariant-compile_condition-loop-left
+invariant-compile_condition-loop-left l = record {
+  chain : RemainsOf l.fn.condition l.left l.ends.items l.initial.code l.code l.initial.round l.round;
+  runs : LeftRuns l.left;
+  deep : left_deep l.left ≤ condition_deep l.fn.condition + 1;
+}

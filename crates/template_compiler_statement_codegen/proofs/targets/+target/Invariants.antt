@@ -1,0 +1,22 @@
+-- The targets so far, behind the instruction that unpacks. Targets in a list are smaller than the list.
+use Rattle.std.proofs.Common.{◌+◌, ◌*◌, take}
+use Rattle.template_tree.specs.View.{expressions_in}
+use Rattle.template_tree.specs.declared.expressions.Expr.{size-Expr}
+use Rattle.template_walk.specs.Statements.{number_of}
+use Rattle.template_code.specs.Code.{unpack_list}
+use Rattle.template_compiler_codegen.specs.Expressions.{one, then_code}
+use Rattle.template_compiler_codegen.specs.Statements.{targets_code}
+use Rattle.template_compiler_emission.specs.Puts.{Puts}
+use Rattle.template_compiler_expression_codegen.proofs.Sizes.{items_deep}
+use Rattle.template_compiler_statement_codegen.proofs.targets.+target.Given as goal
+
+abbrev pub decreases-compile_assignment : goal.decreases-compile_assignment
+decreases-compile_assignment l = 2 * size-Expr l.target.now + 1
+
+abbrev pub decreases-compile_targets : goal.decreases-compile_targets
+decreases-compile_targets l = 2 * items_deep l.targets.now + 2
+
+abbrev pub invariant-compile_targets-loop-target : goal.invariant-compile_targets-loop-target
+invariant-compile_targets-loop-target l =
+    Puts (then_code (one (unpack_list (number_of (expressions_in l.targets)))) (targets_code (expressions_in (take l.target-index l.targets))))
+    l.fn.code l.code

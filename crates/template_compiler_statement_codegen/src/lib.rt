@@ -1,0 +1,9 @@
+//! From statements to the instructions that do what they do.
+#![tactic(auto)]
+
+mod rounds;
+mod statements;
+mod targets;
+
+pub use statements::compile_template;
+pub use targets::{compile_assignment, compile_assignments};

@@ -1,0 +1,100 @@
+//! The loop around statements, whose ways out are told while their code is put.
+ghost use Rattle.std.specs.Prelude.{◌≡◌, [], ◌∷◌, OnOk, IfErr};
+ghost use Rattle.template_tree.specs.Tree.{break_loop, continue_loop};
+ghost use Rattle.template_code.specs.View.{code_of};
+ghost use Rattle.template_compiler_codegen.specs.Statements.{statement_code};
+ghost use Rattle.template_compiler_emission.specs.Puts.{Puts, NoRoom};
+ghost use Rattle.template_compiler_lowering.specs.Breaks.{breaks_of};
+ghost use Rattle.template_compiler_statement_codegen.specs.Rounds.{Lowers, closed_by, closing_code, ways_of};
+
+use std::alloc::Global;
+use template_code::{Instruction, Instructions};
+use template_compiler_emission::{Leap, put, reserve};
+use template_values_errors::Error;
+
+// What stands open around statements inside a loop.
+#[derive(Clone, Copy, Debug, PartialEq, Eq)]
+pub(crate) enum Closing {
+    Frame,
+    AutoEscape,
+}
+
+impl Closing {
+    // What closes it.
+    pub(crate) fn instruction<'source>(self) -> Instruction<'source>
+        ensures { code_of result ≡ closing_code self }
+    {
+        match self {
+            Closing::Frame => Instruction::PopFrame,
+            Closing::AutoEscape => Instruction::PopAutoEscape,
+        }
+    }
+}
+
+// The loop around statements: the place where it asks for its next item, what stands open inside it, the
+// outermost first, and the places of the jumps of its breaks. Outside of loops nothing leads to any of them.
+#[derive(Drop)]
+pub(crate) struct Round {
+    pub asks: u32,
+    pub closings: Vec<Closing>,
+    pub breaks: Vec<u32>,
+}
+
+impl Round {
+    // Nothing is open yet.
+    pub(crate) fn new(alloc: Global, asks: u32) -> Round
+        ensures asks { result.asks ≡ asks }
+        ensures closings { result.closings.items ≡ [] }
+        ensures breaks { result.breaks.items ≡ [] }
+    {
+        Round {
+            asks,
+            closings: Vec::new(alloc),
+            breaks: Vec::new(alloc),
+        }
+    }
+}
+
+// Puts what closes all that is open, the innermost first.
+fn close_all<'source>(
+    code: &mut Instructions<'source>,
+    closings: &[Closing],
+) -> Result<(), Error>
+    ensures put { OnOk result (Puts (λ place. closed_by closings.now) code.old code.new) }
+    ensures refused { IfErr result NoRoom }
+{
+    let mut left = closings.len();
+    while left > 0 {
+        left -= 1;
+        let closing = closings[left];
+        put(code, closing.instruction())?;
+    }
+    Ok(())
+}
+
+// Puts what leaves the loop: its jump is told later where the loop ends.
+pub(crate) fn put_break<'source>(
+    code: &mut Instructions<'source>,
+    round: &mut Round,
+) -> Result<(), Error>
+    ensures lowered { OnOk result (Lowers (statement_code (ways_of round.old) break_loop) (breaks_of (ways_of round.old) break_loop)
+        code.old code.new round.old round.new) }
+    ensures refused { IfErr result NoRoom }
+{
+    close_all(code, &round.closings)?;
+    let place = reserve(code, Leap::Always)?;
+    round.breaks.push(place)?;
+    Ok(())
+}
+
+// Puts what goes on with the loop's next item.
+pub(crate) fn put_continue<'source>(
+    code: &mut Instructions<'source>,
+    round: &Round,
+) -> Result<(), Error>
+    ensures put { OnOk result (Puts (statement_code (ways_of round.now) continue_loop) code.old code.new) }
+    ensures refused { IfErr result NoRoom }
+{
+    close_all(code, &round.closings)?;
+    put(code, Instruction::Jump(round.asks))
+}

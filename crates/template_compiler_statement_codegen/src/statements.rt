@@ -1,0 +1,423 @@
+//! Statements. Bodies nest at most 150 deep; a chain of `elif`, which may be as long as the source, is gone
+//! along in a loop.
+ghost use Rattle.std.specs.Prelude.{◌≡◌, ◌<◌, ◌++◌, true, false, OnOk, IfOk, IfErr, IfSome};
+ghost use Rattle.template_tree.specs.Tree.{absent, auto_escape, for_loop, no_statements, statements_more, with_block};
+ghost use Rattle.template_tree.specs.StatementView.{statement_of, assignments_in};
+ghost use Rattle.template_tree.specs.View.{expression_of};
+ghost use Rattle.template_walk.specs.Runnable.{IsRunnable, IsTarget, AreAssignments, IsRunnableStatement, AreRunnableStatements};
+ghost use Rattle.template_code.specs.Code.{emit, include};
+ghost use Rattle.template_compiler_codegen.specs.Expressions.{then_code, one, expression_code};
+ghost use Rattle.template_compiler_codegen.specs.Statements.{loop_end_code, no_ways, own_ways, rounds_code, statements_code, target_code};
+ghost use Rattle.template_compiler_emission.specs.Puts.{Puts, NoRoom};
+ghost use Rattle.template_compiler_lowering.specs.Breaks.{breaks_in, loop_end_places};
+ghost use Rattle.template_compiler_statement_codegen.specs.Listed.{IsRunnableTree, body_deep, body_in, condition_deep, condition_of, statements_in};
+ghost use Rattle.template_compiler_statement_codegen.specs.Rounds.{Lowers, LowersBody, LowersStatement, LowersBranch, closed_code, closed_places, closing_code, places_in, ways_of};
+
+use crate::rounds::{Closing, Round, put_break, put_continue};
+use crate::targets::{compile_assignment, compile_assignments};
+use std::alloc::{AllocError, Global};
+use std::borrow::CowStr;
+use template_code::{Instruction, Instructions, LOOP_FLAG_WITH_LOOP_VAR};
+use template_compiler_emission::{Leap, land, put, reserve};
+use template_compiler_expression_codegen::compile_expr;
+use template_compiler_lowering::tell_breaks;
+use template_tree::{Expr, IfCond, Stmt};
+use template_values_errors::Error;
+
+/// Puts the code of a whole template behind the instructions. Linear in the template, besides what the
+/// operators of constant trees cost.
+///
+/// # Errors
+///
+/// Those of [`Instructions::add`].
+pub fn compile_template<'source>(
+    alloc: Global,
+    code: &mut Instructions<'source>,
+    tree: &Stmt<'source>,
+) -> Result<(), Error>
+    requires { IsRunnableTree (statement_of tree.now) }
+    ensures put { OnOk result (Puts (statements_code no_ways (body_in (statement_of tree.now))) code.old code.new) }
+    ensures refused { IfErr result NoRoom }
+{
+    let mut round = Round::new(alloc, 0);
+    compile_body(alloc, code, &mut round, children(tree))?;
+    Ok(())
+}
+
+// The statements of a whole template.
+fn children<'ast, 'source>(tree: &'ast Stmt<'source>) -> &'ast [Stmt<'source>]
+    requires { IsRunnableTree (statement_of tree.now) }
+    ensures { statements_in result.now ≡ body_in (statement_of tree.now) }
+{
+    match tree {
+        Stmt::Template(n) => return &n.node.children,
+        Stmt::EmitExpr(_) => unreachable!(),
+        Stmt::EmitRaw(_) => unreachable!(),
+        Stmt::ForLoop(_) => unreachable!(),
+        Stmt::IfCond(_) => unreachable!(),
+        Stmt::WithBlock(_) => unreachable!(),
+        Stmt::Set(_) => unreachable!(),
+        Stmt::SetBlock(_) => unreachable!(),
+        Stmt::AutoEscape(_) => unreachable!(),
+        Stmt::FilterBlock(_) => unreachable!(),
+        Stmt::Block(_) => unreachable!(),
+        Stmt::Import(_) => unreachable!(),
+        Stmt::FromImport(_) => unreachable!(),
+        Stmt::Extends(_) => unreachable!(),
+        Stmt::Include(_) => unreachable!(),
+        Stmt::Macro(_) => unreachable!(),
+        Stmt::CallBlock(_) => unreachable!(),
+        Stmt::Continue(_) => unreachable!(),
+        Stmt::Break(_) => unreachable!(),
+        Stmt::Do(_) => unreachable!(),
+    }
+}
+
+// The statements of a body, from the first to the last.
+#[cycle(statement)]
+fn compile_body<'source>(
+    alloc: Global,
+    code: &mut Instructions<'source>,
+    round: &mut Round,
+    body: &[Stmt<'source>],
+) -> Result<(), Error>
+    requires { AreRunnableStatements true (statements_in body.now) }
+    ensures lowered { OnOk result (LowersBody (statements_in body.now) code.old code.new round.old round.new) }
+    ensures refused { IfErr result NoRoom }
+{
+    for statement in body {
+        compile_statement(alloc, code, round, statement)?;
+    }
+    Ok(())
+}
+
+#[cycle(statement)]
+fn compile_statement<'source>(
+    alloc: Global,
+    code: &mut Instructions<'source>,
+    round: &mut Round,
+    statement: &Stmt<'source>,
+) -> Result<(), Error>
+    requires { IsRunnableStatement true (statement_of statement.now) }
+    ensures lowered { OnOk result (LowersStatement (statement_of statement.now) code.old code.new round.old round.new) }
+    ensures refused { IfErr result NoRoom }
+{
+    match statement {
+        Stmt::EmitRaw(n) => put(code, Instruction::EmitRaw(CowStr::Borrowed(n.node.raw))),
+        Stmt::EmitExpr(n) => compile_print(alloc, code, &n.node.expr),
+        Stmt::Set(n) => compile_set(alloc, code, &n.node.target, &n.node.expr),
+        Stmt::Include(n) => compile_include(alloc, code, &n.node.name, n.node.ignore_missing),
+        Stmt::IfCond(n) => compile_condition(alloc, code, round, &n.node),
+        Stmt::ForLoop(n) => {
+            let node = &n.node;
+            compile_loop(
+                alloc,
+                code,
+                round,
+                &node.target,
+                &node.iter,
+                &node.body,
+                &node.else_body,
+            )
+        }
+        Stmt::WithBlock(n) => {
+            compile_with(alloc, code, round, &n.node.assignments, &n.node.body)
+        }
+        Stmt::AutoEscape(n) => {
+            compile_auto_escape(alloc, code, round, &n.node.enabled, &n.node.body)
+        }
+        Stmt::Continue(_) => put_continue(code, &*round),
+        Stmt::Break(_) => put_break(code, round),
+        Stmt::Template(_) => unreachable!(),
+        Stmt::SetBlock(_) => unreachable!(),
+        Stmt::FilterBlock(_) => unreachable!(),
+        Stmt::Block(_) => unreachable!(),
+        Stmt::Import(_) => unreachable!(),
+        Stmt::FromImport(_) => unreachable!(),
+        Stmt::Extends(_) => unreachable!(),
+        Stmt::Macro(_) => unreachable!(),
+        Stmt::CallBlock(_) => unreachable!(),
+        Stmt::Do(_) => unreachable!(),
+    }
+}
+
+// A value that is printed.
+fn compile_print<'source>(
+    alloc: Global,
+    code: &mut Instructions<'source>,
+    expr: &Expr<'source>,
+) -> Result<(), Error>
+    requires { IsRunnable (expression_of expr.now) }
+    ensures put { OnOk result (Puts (then_code (expression_code (expression_of expr.now)) (one emit)) code.old code.new) }
+    ensures refused { IfErr result NoRoom }
+{
+    compile_expr(alloc, code, expr)?;
+    put(code, Instruction::Emit)
+}
+
+// A value that is stored in a target.
+fn compile_set<'source>(
+    alloc: Global,
+    code: &mut Instructions<'source>,
+    target: &Expr<'source>,
+    expr: &Expr<'source>,
+) -> Result<(), Error>
+    requires target { IsTarget (expression_of target.now) }
+    requires expr { IsRunnable (expression_of expr.now) }
+    ensures put { OnOk result
+        (Puts (then_code (expression_code (expression_of expr.now)) (target_code (expression_of target.now))) code.old code.new) }
+    ensures refused { IfErr result NoRoom }
+{
+    compile_expr(alloc, code, expr)?;
+    compile_assignment(code, target)
+}
+
+// A template that is run here.
+fn compile_include<'source>(
+    alloc: Global,
+    code: &mut Instructions<'source>,
+    name: &Expr<'source>,
+    ignore_missing: bool,
+) -> Result<(), Error>
+    requires { IsRunnable (expression_of name.now) }
+    ensures put { OnOk result
+        (Puts (then_code (expression_code (expression_of name.now)) (one (include ignore_missing))) code.old code.new) }
+    ensures refused { IfErr result NoRoom }
+{
+    compile_expr(alloc, code, name)?;
+    put(code, Instruction::Include(ignore_missing))
+}
+
+// A body inside of what is closed behind it.
+#[cycle(statement)]
+fn compile_closed<'source>(
+    alloc: Global,
+    code: &mut Instructions<'source>,
+    round: &mut Round,
+    closing: Closing,
+    body: &[Stmt<'source>],
+) -> Result<(), Error>
+    requires { AreRunnableStatements true (statements_in body.now) }
+    ensures lowered { OnOk result
+        (Lowers (closed_code (closing_code closing) (ways_of round.old) (statements_in body.now))
+        (closed_places (closing_code closing) (ways_of round.old) (statements_in body.now)) code.old code.new round.old round.new) }
+    ensures refused { IfErr result NoRoom }
+{
+    let open = round.closings.len();
+    round.closings.push(closing)?;
+    compile_body(alloc, code, round, body)?;
+    round.closings.truncate(open);
+    put(code, closing.instruction())?;
+    Ok(())
+}
+
+// A frame with assignments, around a body.
+#[cycle(statement)]
+fn compile_with<'source>(
+    alloc: Global,
+    code: &mut Instructions<'source>,
+    round: &mut Round,
+    assignments: &[(Expr<'source>, Expr<'source>)],
+    body: &[Stmt<'source>],
+) -> Result<(), Error>
+    requires assignments { AreAssignments (assignments_in assignments.now) }
+    requires body { AreRunnableStatements true (statements_in body.now) }
+    ensures lowered { OnOk result
+        (LowersStatement (with_block (assignments_in assignments.now) (statements_in body.now)) code.old code.new round.old round.new) }
+    ensures refused { IfErr result NoRoom }
+{
+    put(code, Instruction::PushWith)?;
+    compile_assignments(alloc, code, assignments)?;
+    compile_closed(alloc, code, round, Closing::Frame, body)
+}
+
+// Another escape, around a body.
+#[cycle(statement)]
+fn compile_auto_escape<'source>(
+    alloc: Global,
+    code: &mut Instructions<'source>,
+    round: &mut Round,
+    enabled: &Expr<'source>,
+    body: &[Stmt<'source>],
+) -> Result<(), Error>
+    requires enabled { IsRunnable (expression_of enabled.now) }
+    requires body { AreRunnableStatements true (statements_in body.now) }
+    ensures lowered { OnOk result
+        (LowersStatement (auto_escape (expression_of enabled.now) (statements_in body.now)) code.old code.new round.old round.new) }
+    ensures refused { IfErr result NoRoom }
+{
+    compile_expr(alloc, code, enabled)?;
+    put(code, Instruction::PushAutoEscape)?;
+    compile_closed(alloc, code, round, Closing::AutoEscape, body)
+}
+
+// A loop: its items, its rounds, and what runs where no item was given.
+#[cycle(statement)]
+fn compile_loop<'source>(
+    alloc: Global,
+    code: &mut Instructions<'source>,
+    round: &mut Round,
+    target: &Expr<'source>,
+    items: &Expr<'source>,
+    body: &[Stmt<'source>],
+    otherwise: &[Stmt<'source>],
+) -> Result<(), Error>
+    requires target { IsTarget (expression_of target.now) }
+    requires items { IsRunnable (expression_of items.now) }
+    requires body { AreRunnableStatements true (statements_in body.now) }
+    requires otherwise { AreRunnableStatements true (statements_in otherwise.now) }
+    ensures lowered { OnOk result
+        (LowersStatement (for_loop (expression_of target.now) (expression_of items.now) absent false (statements_in body.now) (statements_in otherwise.now))
+        code.old code.new round.old round.new) }
+    ensures refused { IfErr result NoRoom }
+{
+    compile_expr(alloc, code, items)?;
+    put(code, Instruction::PushLoop(LOOP_FLAG_WITH_LOOP_VAR))?;
+    compile_rounds(alloc, code, target, body)?;
+    compile_loop_end(alloc, code, round, otherwise)
+}
+
+// The rounds of a loop, whose ways out are its own.
+#[cycle(statement)]
+fn compile_rounds<'source>(
+    alloc: Global,
+    code: &mut Instructions<'source>,
+    target: &Expr<'source>,
+    body: &[Stmt<'source>],
+) -> Result<(), Error>
+    requires target { IsTarget (expression_of target.now) }
+    requires body { AreRunnableStatements true (statements_in body.now) }
+    ensures put { OnOk result
+        (Puts (rounds_code (target_code (expression_of target.now)) (λ break_to continue_to. statements_code (own_ways break_to continue_to) (statements_in body.now)))
+        code.old code.new) }
+    ensures refused { IfErr result NoRoom }
+{
+    let asks = reserve(code, Leap::Iterate)?;
+    compile_assignment(code, target)?;
+    let mut round = Round::new(alloc, asks);
+    compile_body(alloc, code, &mut round, body)?;
+    put(code, Instruction::Jump(asks))?;
+    land(code, asks, Leap::Iterate);
+    let Round { breaks, .. } = round;
+    tell_breaks(code, breaks);
+    Ok(())
+}
+
+// What stands behind the rounds of a loop.
+#[cycle(statement)]
+fn compile_loop_end<'source>(
+    alloc: Global,
+    code: &mut Instructions<'source>,
+    round: &mut Round,
+    otherwise: &[Stmt<'source>],
+) -> Result<(), Error>
+    requires { AreRunnableStatements true (statements_in otherwise.now) }
+    ensures lowered { OnOk result
+        (Lowers (loop_end_code (statements_in otherwise.now) (statements_code (ways_of round.old) (statements_in otherwise.now)))
+        (loop_end_places (statements_in otherwise.now) (breaks_in (ways_of round.old) (statements_in otherwise.now)))
+        code.old code.new round.old round.new) }
+    ensures refused { IfErr result NoRoom }
+{
+    if otherwise.is_empty() {
+        return put(code, Instruction::PopLoopFrame);
+    }
+    put(code, Instruction::PushDidNotIterate)?;
+    put(code, Instruction::PopLoopFrame)?;
+    let end = reserve(code, Leap::IfFalse)?;
+    compile_body(alloc, code, round, otherwise)?;
+    land(code, end, Leap::IfFalse);
+    Ok(())
+}
+
+// A condition, with the chain of `elif` behind it: each jump behind a branch leads to the end of the chain.
+#[cycle(statement)]
+fn compile_condition<'source>(
+    alloc: Global,
+    code: &mut Instructions<'source>,
+    round: &mut Round,
+    condition: &IfCond<'source>,
+) -> Result<(), Error>
+    requires { IsRunnableStatement true (condition_of condition.now) }
+    ensures lowered { OnOk result (LowersStatement (condition_of condition.now) code.old code.new round.old round.new) }
+    ensures refused { IfErr result NoRoom }
+{
+    let mut ends = Vec::new(alloc);
+    let mut left = Some(condition);
+    while let Some(at) = left {
+        let end = compile_branch(alloc, code, round, at)?;
+        keep(&mut ends, end)?;
+        left = elif(&at.false_body);
+        if left.is_none() {
+            compile_body(alloc, code, round, &at.false_body)?;
+        }
+    }
+    tell_breaks(code, ends);
+    Ok(())
+}
+
+// A test, and the branch that runs where it holds. Where an else part follows, a jump leads past it, whose
+// target is told later, and whose place is answered.
+#[cycle(statement)]
+fn compile_branch<'source>(
+    alloc: Global,
+    code: &mut Instructions<'source>,
+    round: &mut Round,
+    condition: &IfCond<'source>,
+) -> Result<Option<u32>, Error>
+    requires { IsRunnableStatement true (condition_of condition.now) }
+    ensures lowered { IfOk result (λ end. LowersBranch condition.now (places_in end) code.old code.new round.old round.new) }
+    ensures refused { IfErr result NoRoom }
+{
+    compile_expr(alloc, code, &condition.expr)?;
+    let next = reserve(code, Leap::IfFalse)?;
+    compile_body(alloc, code, round, &condition.true_body)?;
+    if condition.false_body.is_empty() {
+        land(code, next, Leap::IfFalse);
+        return Ok(None);
+    }
+    let end = reserve(code, Leap::Always)?;
+    land(code, next, Leap::IfFalse);
+    Ok(Some(end))
+}
+
+// Keeps a place, where there is one.
+fn keep(places: &mut Vec<u32>, place: Option<u32>) -> Result<(), AllocError>
+    ensures { OnOk result (places.new.items ≡ places.old.items ++ places_in place) }
+{
+    if let Some(place) = place {
+        places.push(place)?;
+    }
+    Ok(())
+}
+
+// The condition that an else part is, where it is one alone.
+fn elif<'ast, 'source>(otherwise: &'ast [Stmt<'source>]) -> Option<&'ast IfCond<'source>>
+    ensures alone { IfSome result (λ later. statements_in otherwise.now ≡ statements_more (condition_of later.now) no_statements) }
+    ensures smaller { IfSome result (λ later. condition_deep later.now < body_deep otherwise.now) }
+{
+    if otherwise.len() != 1 {
+        return None;
+    }
+    match &otherwise[0] {
+        Stmt::IfCond(n) => return Some(&n.node),
+        Stmt::Template(_) => return None,
+        Stmt::EmitExpr(_) => return None,
+        Stmt::EmitRaw(_) => return None,
+        Stmt::ForLoop(_) => return None,
+        Stmt::WithBlock(_) => return None,
+        Stmt::Set(_) => return None,
+        Stmt::SetBlock(_) => return None,
+        Stmt::AutoEscape(_) => return None,
+        Stmt::FilterBlock(_) => return None,
+        Stmt::Block(_) => return None,
+        Stmt::Import(_) => return None,
+        Stmt::FromImport(_) => return None,
+        Stmt::Extends(_) => return None,
+        Stmt::Include(_) => return None,
+        Stmt::Macro(_) => return None,
+        Stmt::CallBlock(_) => return None,
+        Stmt::Continue(_) => return None,
+        Stmt::Break(_) => return None,
+        Stmt::Do(_) => return None,
+    }
+}

@@ -1,0 +1,89 @@
+//! Targets: names that a value is stored under, and lists of targets that it is unpacked into.
+ghost use Rattle.std.specs.Prelude.{OnOk, IfErr};
+ghost use Rattle.template_tree.specs.Tree.{list_literal};
+ghost use Rattle.template_tree.specs.StatementView.{assignments_in};
+ghost use Rattle.template_tree.specs.View.{expression_of, expressions_in};
+ghost use Rattle.template_walk.specs.Runnable.{IsTarget, AreTargets, AreAssignments};
+ghost use Rattle.template_compiler_codegen.specs.Statements.{assignments_code, target_code};
+ghost use Rattle.template_compiler_emission.specs.Puts.{Puts, NoRoom};
+
+use std::alloc::Global;
+use std::borrow::CowStr;
+use template_code::{Instruction, Instructions};
+use template_compiler_emission::put;
+use template_compiler_expression_codegen::compile_expr;
+use template_tree::Expr;
+use template_values_errors::Error;
+
+/// Puts the code that stores the value on top in a target behind the instructions: under a name, or
+/// unpacked in a list of targets. Linear in the target.
+///
+/// # Errors
+///
+/// Those of [`Instructions::add`].
+#[cycle(target)]
+pub fn compile_assignment<'source>(
+    code: &mut Instructions<'source>,
+    target: &Expr<'source>,
+) -> Result<(), Error>
+    requires { IsTarget (expression_of target.now) }
+    ensures put { OnOk result (Puts (target_code (expression_of target.now)) code.old code.new) }
+    ensures refused { IfErr result NoRoom }
+{
+    match target {
+        Expr::Var(n) => put(code, Instruction::StoreLocal(CowStr::Borrowed(n.node.id))),
+        Expr::List(n) => compile_targets(code, &n.node.items),
+        Expr::Const(_) => unreachable!(),
+        Expr::Slice(_) => unreachable!(),
+        Expr::UnaryOp(_) => unreachable!(),
+        Expr::BinOp(_) => unreachable!(),
+        Expr::Compare(_) => unreachable!(),
+        Expr::IfExpr(_) => unreachable!(),
+        Expr::Filter(_) => unreachable!(),
+        Expr::Test(_) => unreachable!(),
+        Expr::GetAttr(_) => unreachable!(),
+        Expr::GetItem(_) => unreachable!(),
+        Expr::Call(_) => unreachable!(),
+        Expr::Tuple(_) => unreachable!(),
+        Expr::Map(_) => unreachable!(),
+    }
+}
+
+// The targets that the items of the value on top go to, from the first to the last.
+#[cycle(target)]
+fn compile_targets<'source>(
+    code: &mut Instructions<'source>,
+    targets: &[Expr<'source>],
+) -> Result<(), Error>
+    requires { AreTargets (expressions_in targets.now) }
+    ensures put { OnOk result (Puts (target_code (list_literal (expressions_in targets.now))) code.old code.new) }
+    ensures refused { IfErr result NoRoom }
+{
+    put(code, Instruction::UnpackList(targets.len()))?;
+    for target in targets {
+        compile_assignment(code, target)?;
+    }
+    Ok(())
+}
+
+/// Puts the code of targets with their values behind the instructions, from the first to the last: each
+/// value, and then what stores it. Linear in them, besides what the operators of constant trees cost.
+///
+/// # Errors
+///
+/// Those of [`Instructions::add`].
+pub fn compile_assignments<'source>(
+    alloc: Global,
+    code: &mut Instructions<'source>,
+    assignments: &[(Expr<'source>, Expr<'source>)],
+) -> Result<(), Error>
+    requires { AreAssignments (assignments_in assignments.now) }
+    ensures put { OnOk result (Puts (assignments_code (assignments_in assignments.now)) code.old code.new) }
+    ensures refused { IfErr result NoRoom }
+{
+    for (target, value) in assignments {
+        compile_expr(alloc, code, value)?;
+        compile_assignment(code, target)?;
+    }
+    Ok(())
+}
