@@ -78,7 +78,7 @@ stops_render X setting tree w fuel before y kinds (runs_out f) n finished =
     let means = begun_means setting tree (at_start w fuel before) n o.least f.0 (o.items ++ paid o.wraps ∷ []) o.rest refl refl finished
     (λ m le. o.is m le ∙ behind-behind o.items (paid o.wraps ∷ []) (o.rest m)) in
     let r : Run World = record { items = o.items; end = drives.faults (o.wraps ++ OutOfFuel ∷ []); after = means.0.after } in
-    let same = ap (under fuel) (means.1 ∙ sym (behind-behind o.items (paid o.wraps ∷ []) means.0)) ∙ ends_spent fuel o.later o.items o.wraps means.0 o.pays o.spent
+    let same = ap (under fuel) (means.1 ∙ sym (behind-behind o.items (paid o.wraps ∷ []) means.0)) ∙ ends_spent fuel y.left o.items o.wraps means.0 o.pays o.spent
     ∙ ended_there o.items (drives.faults (o.wraps ++ OutOfFuel ∷ [])) means.0.after in
     subst (Renders {X = X} (Err kinds) before y.taken) (sym same) (whole (ap (λ ks. drives.faults ks) (sym o.kinds_are)) o.text)
 stops_render X setting tree w fuel before y kinds (wants why f) n finished =

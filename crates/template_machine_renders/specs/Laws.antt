@@ -11,7 +11,8 @@ use Rattle.template_machine_meaning.specs.Meaning.{Setting, meaning}
 use Rattle.template_machine_codes.specs.Codes.{codes_of}
 use Rattle.template_machine_going.specs.Spots.{Spot}
 use Rattle.template_machine_outcomes.specs.Outcomes.{Stops}
-use Rattle.template_machine_renders.specs.Renders.{at_start, EndsWith, IsDone, Renders}
+use Rattle.template_machine_loop.specs.Runs.{EndsWith}
+use Rattle.template_machine_renders.specs.Renders.{at_start, IsDone, Renders}
 
 -- A run of a template's code that came to its end is what its tree means.
 abbrev pub EndsRender : Type 0

@@ -3,30 +3,18 @@ use Rattle.std.specs.Prelude.{◌≡◌, ℕ, ◌≤◌, List, [], Option, Resul
 use Rattle.std.specs.Io.KnownBytes.{Appends}
 use Rattle.std.specs.Option.{option_map}
 use Rattle.template_values_errors.specs.declared.ErrorKind.{ErrorKind}
-use Rattle.template_values_model.specs.Val.{Val}
 use Rattle.template_process.specs.Drive.{End, ends, faults}
 use Rattle.template_process.specs.Fuel.{remaining, under}
-use Rattle.template_process.specs.Trace.{Item, Run, behind, ended, text_of, price_of}
-use Rattle.template_code.specs.Code.{Code}
+use Rattle.template_process.specs.Trace.{Run, text_of}
 use Rattle.template_machine_output.specs.Writes.{AppendsBeginning}
 use Rattle.template_machine_meaning.specs.World.{World}
-use Rattle.template_machine_going.specs.Spots.{Spot, Answering, run_at}
-use Rattle.template_machine_going.specs.Paying.{Paid}
+use Rattle.template_machine_going.specs.Spots.{Spot}
 use Rattle.template_machine_outcomes.specs.Outcomes.{IsWanting}
+use Rattle.template_machine_steps.specs.Performs.{spot}
 
 -- where the machine stands at the start of a run
 abbrev pub at_start : World → Option ℕ → Option (List ℕ) → Spot World
-at_start w fuel taken = record { place = 0; operands = []; world = w; left = fuel; taken = taken }
-
--- The code comes to its end from the spot on, and leaves the world; what it costs is paid, and its text written.
-pub record EndsWith {S : Type 0} (answers : Answering S) (code : List Code) (x : Spot S) (after : S) (left : Option ℕ) (taken : Option (List ℕ)) : Type 0 where
-  pub items : List Item
-  pub least : ℕ
-  pub bound : ℕ
-  pub operands : List Val
-  pub is : (n : ℕ) → least ≤ n → run_at answers code n bound x ≡ behind items (ended (ends operands) after)
-  pub pays : Paid (price_of items) x.left left
-  pub text : Appends x.taken taken (text_of items)
+at_start w fuel taken = spot 0 [] w fuel taken
 
 -- it came to its end by itself
 abbrev pub IsOver : End → Type 0

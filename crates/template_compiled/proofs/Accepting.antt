@@ -1,0 +1,52 @@
+-- What is compiled is faithful to its source.
+use Rattle.std.proofs.Common.{◌≡◌, ℕ, List, [], ◌∷◌, ◌++◌, length, inl, inr, refl, sym, ap, subst, ◌∙◌}
+use Rattle.template_values_errors.specs.declared.ErrorKind.{ErrorKind}
+use Rattle.template_values_modes.specs.declared.AutoEscape.{AutoEscape}
+use Rattle.template_tree.specs.Tree.{Statement, Statements, template}
+use Rattle.template_walk.specs.Runnable.{IsRunnableTemplate}
+use Rattle.template_code.specs.Code.{Code}
+use Rattle.template_compiler_codegen.specs.Statements.{no_ways, statements_code, template_code}
+use Rattle.template_compiler_runnable.specs.Runs.{RunsWhole}
+use Rattle.template_compiler_statement_codegen.specs.Listed.{IsRunnableTree, body_in}
+use Rattle.template_compiler_syntax.specs.Syntax.{Syntax, IsUsable}
+use Rattle.template_compiler_sources.specs.Source.{IsSource, source_of}
+use Rattle.template_machine_escape.specs.Rule.{IsRuleOf}
+use Rattle.template_compiled.specs.Compiled.{Compiled, IsFaithful}
+use Rattle.template_compiled.specs.Sources.{Source, HasTree, IsUnsupported, tree_in}
+use Rattle.template_compiled.proofs.Trees.{one_tree}
+
+-- a source's tree is a whole template
+pub source_body : (source : Source) (s : Statement) → IsSource source.syntax source.text s → s ≡ template (body_in s)
+source_body source s (source_of spelled is) = refl
+
+pub runs_tree : (source : Source) (s : Statement) → IsSource source.syntax source.text s → RunsWhole s → IsRunnableTree s
+runs_tree source s (source_of spelled is) runs = runs
+
+pub runs_body : (source : Source) (s : Statement) → IsSource source.syntax source.text s → RunsWhole s → IsRunnableTemplate (body_in s)
+runs_body source s (source_of spelled is) runs = runs
+
+pub unsupported : (source : Source) (s : Statement) → IsSource source.syntax source.text s → ¬ RunsWhole s → IsUnsupported source
+unsupported source s (source_of {body = body} spelled is) refuses = (body, source_of spelled is, refuses)
+
+pub tree_is : (source : Source) (s : Statement) → IsUsable source.syntax → IsSource source.syntax source.text s → tree_in source ≡ body_in s
+tree_is source s usable (source_of {body = body} spelled is) = one_tree source body usable (source_of spelled is)
+
+pub faithful : (name : List ℕ) (source : Source) (escape : AutoEscape) (s : Statement) → IsUsable source.syntax → IsSource source.syntax source.text s → RunsWhole s
+    → IsRuleOf name escape → IsFaithful (record { name = name; source = source; escape = escape })
+faithful name source escape s usable is runs rule = record {
+  usable = usable;
+  has_tree = subst (HasTree source) (sym (tree_is source s usable is))
+      (subst (IsSource source.syntax source.text) (source_body source s is) is, runs_body source s is runs);
+  is_rule = rule;
+}
+
+-- what is kept of it
+pub kept : (name own : List ℕ) (text copied : List ℕ) (x y : Syntax) (escape : AutoEscape) (code : List Code) (s : Statement) → own ≡ name → copied ≡ text → y ≡ x
+    → IsUsable x → IsSource x text s → RunsWhole s → IsRuleOf name escape → code ≡ template_code (body_in s)
+    → IsFaithful (record { name = own; source = record { text = copied; syntax = y }; escape = escape }) × (code ≡ template_code (tree_in (record { text = copied; syntax = y })))
+kept name own text copied x y escape code s named same shared usable is runs rule is_code =
+    let source : Source = record { text = text; syntax = x } in
+    let path : record { name = name; source = source; escape = escape } ≡ record { name = own; source = record { text = copied; syntax = y }; escape = escape } =
+    λ i. record { name = sym named i; source = record { text = sym same i; syntax = sym shared i }; escape = escape } in
+    subst (λ (c : Compiled). IsFaithful c × (code ≡ template_code (tree_in c.source))) path
+    (faithful name source escape s usable is runs rule, is_code ∙ ap template_code (sym (tree_is source s usable is)))

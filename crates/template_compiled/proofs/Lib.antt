@@ -1,0 +1,3 @@
+pub mod Trees
+pub mod Accepting
+pub mod Updates

@@ -1,0 +1,32 @@
+-- What contracts see of a compiled template.
+use Rattle.std.specs.Prelude.{◌≡◌, ℕ, Bool, false, List}
+use Rattle.template_values_modes.specs.declared.AutoEscape.{AutoEscape}
+use Rattle.template_code.specs.Code.{Code}
+use Rattle.template_compiler_codegen.specs.Statements.{template_code}
+use Rattle.template_compiler_runnable.specs.Running.{statements_run}
+use Rattle.template_compiler_syntax.specs.Syntax.{IsUsable}
+use Rattle.template_machine_escape.specs.Rule.{IsRuleOf}
+use Rattle.template_machine_meaning.specs.Meaning.{Standing}
+use Rattle.template_compiled.specs.Sources.{Source, HasTree, tree_in}
+
+pub record Compiled : Type 0 where
+  pub name : List ℕ
+  pub source : Source
+  pub escape : AutoEscape
+
+-- its source has a tree that runs, and its escape is that of its name
+pub record IsFaithful (c : Compiled) : Type 0 where
+  pub usable : IsUsable c.source.syntax
+  pub has_tree : HasTree c.source (tree_in c.source)
+  pub is_rule : IsRuleOf c.name c.escape
+
+-- what it stands for
+abbrev pub standing_of : Compiled → Standing
+standing_of c = record { tree = tree_in c.source; escape = c.escape }
+
+abbrev pub code_for : Compiled → List Code
+code_for c = template_code (tree_in c.source)
+
+-- all constructs of its tree run
+abbrev pub runs : Compiled → Bool
+runs c = statements_run false (tree_in c.source)

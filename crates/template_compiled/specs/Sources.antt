@@ -1,0 +1,42 @@
+-- Sources of templates, and what they stand for.
+use Rattle.std.specs.Prelude.{◌≡◌, ℕ, ◌⊎◌, List, [], ◌∷◌, Result, Ok, Err}
+use Rattle.template_values_errors.specs.declared.ErrorKind.{ErrorKind}
+use Rattle.template_values_errors.specs.declared.ErrorKind.TheVariants.{SyntaxError}
+use Rattle.template_tree.specs.Tree.{Statements, no_statements, template}
+use Rattle.template_walk.specs.Runnable.{IsRunnableTemplate}
+use Rattle.template_compiler_tokens.specs.Token.{TokenFault}
+use Rattle.template_compiler_syntax.specs.Syntax.{Syntax}
+use Rattle.template_compiler_segments.proofs.Theorems.{some_tokens}
+use Rattle.template_compiler_statements.specs.Reader.{template_of}
+use Rattle.template_compiler_sources.specs.Source.{IsSource, RefusesSource}
+use Rattle.template_compiler_emission.specs.Puts.{NoRoom}
+
+-- a text, and the syntax that it is read under
+pub record Source : Type 0 where
+  pub text : List ℕ
+  pub syntax : Syntax
+
+-- the source's tree is made of these statements, and all its constructs run
+abbrev pub HasTree : Source → Statements → Type 0
+HasTree source tree = IsSource source.syntax source.text (template tree) × IsRunnableTemplate tree
+
+abbrev pub IsAccepted : Source → Type 0
+IsAccepted source = (tree : Statements) × HasTree source tree
+
+-- what was read, and nothing where that is none
+abbrev pub read : Result Statements TokenFault → Statements
+read (Ok tree) = tree
+read (Err fault) = no_statements
+
+-- the tree of a source, whose tokens are read from the first to the last; nothing where it has none
+unfoldable pub tree_in : Source → Statements
+tree_in source = read (template_of (some_tokens source.syntax source.text).0)
+
+-- the source has a tree, of which a construct does not run yet
+abbrev pub IsUnsupported : Source → Type 0
+IsUnsupported source = (tree : Statements) × IsSource source.syntax source.text (template tree) × ¬ IsRunnableTemplate tree
+
+-- why a source is refused: it has no tree or is too large; or a construct does not run yet; or there is no room for its code
+abbrev pub IsRefusedWith : Source → List ErrorKind → Type 0
+IsRefusedWith source kinds =
+    RefusesSource source.syntax source.text kinds ⊎ (((kinds ≡ SyntaxError ∷ []) × IsUnsupported source) ⊎ NoRoom kinds)

@@ -1,0 +1,135 @@
+//! Compiled templates.
+ghost use Rattle.std.specs.Prelude.{◌≡◌, IfOk, IfErr};
+ghost use Rattle.template_tree.specs.Tree.{Statements, template};
+ghost use Rattle.template_code.specs.Listing.{code_in};
+ghost use Rattle.template_compiler_syntax.specs.Syntax.{IsUsable};
+ghost use Rattle.template_compiler_sources.specs.Source.{IsSource};
+ghost use Rattle.template_machine_escape.specs.Rule.{IsRuleOf};
+ghost use Rattle.template_compiled.specs.Compiled.{IsFaithful, code_for};
+ghost use Rattle.template_compiled.specs.Sources.{IsRefusedWith, Source, tree_in};
+
+use std::alloc::Global;
+use std::marker::Model;
+use template_code::Instructions;
+use template_compiler_runnable::is_runnable;
+use template_compiler_sources::parse;
+use template_compiler_statement_codegen::compile_template;
+use template_compiler_syntax::SyntaxConfig;
+use template_machine_escape::default_auto_escape_callback;
+use template_values_errors::{Error, ErrorKind};
+use template_values_modes::AutoEscape;
+
+/// A template whose source was accepted: its code, and the escape of its name. A contract sees both, with the name,
+/// the source and the syntax that it was read under.
+#[derive(Drop)]
+pub struct CompiledTemplate<'source> {
+    instructions: Instructions<'source>,
+    syntax: SyntaxConfig,
+    initial_auto_escape: AutoEscape,
+}
+
+impl<'source> Model for CompiledTemplate<'source> {
+    ghost use Rattle.std.specs.Prelude.{◌≡◌};
+    ghost use Rattle.template_code.specs.Listing.{code_in, name_in, source_in};
+    ghost use Rattle.template_compiler_codegen.specs.Statements.{template_code};
+    ghost use Rattle.template_compiled.specs.Compiled.{Compiled, IsFaithful};
+    ghost use Rattle.template_compiled.specs.Sources.{tree_in};
+
+    ghost Value = { Compiled };
+
+    ghost view = { λ t. record {
+      name = name_in t.instructions;
+      source = record { text = source_in t.instructions; syntax = t.syntax };
+      escape = t.initial_auto_escape;
+    } };
+
+    ghost invariant = { λ t. IsFaithful (record {
+      name = name_in t.instructions;
+      source = record { text = source_in t.instructions; syntax = t.syntax };
+      escape = t.initial_auto_escape;
+    }) × (code_in t.instructions ≡ template_code (tree_in (record { text = source_in t.instructions; syntax = t.syntax }))) };
+}
+
+impl<'source> CompiledTemplate<'source> {
+    /// Compiles a source that is read under a syntax, in time linear in its length, besides what the operators of
+    /// constant trees cost.
+    ///
+    /// # Errors
+    ///
+    /// Those of [`parse`]; [`ErrorKind::SyntaxError`] for a construct that does not run yet;
+    /// [`ErrorKind::TooLarge`] for 2^32 instructions or more; [`ErrorKind::OutOfMemory`].
+    pub fn new(
+        alloc: Global,
+        name: &'source str,
+        source: &'source str,
+        syntax: &SyntaxConfig,
+    ) -> Result<CompiledTemplate<'source>, Error>
+        ensures name { IfOk result (λ t. t.name ≡ name.now) }
+        ensures source { IfOk result (λ t. t.source ≡ record { text = source.now; syntax = syntax.now }) }
+        ensures faithful { IfOk result IsFaithful }
+        ensures refused { IfErr result (IsRefusedWith (record { text = source.now; syntax = syntax.now })) }
+    {
+        usable(syntax);
+        let tree = parse(alloc, source, name, syntax.clone()?)?;
+        if !is_runnable(&tree) {
+            return Err(Error::new(ErrorKind::SyntaxError));
+        }
+        let mut instructions = Instructions::new(alloc, name, source);
+        compile_template(alloc, &mut instructions, &tree)?;
+        Ok(CompiledTemplate {
+            instructions,
+            syntax: syntax.clone()?,
+            initial_auto_escape: default_auto_escape_callback(name),
+        })
+    }
+
+    /// The template's name.
+    pub fn name(&self) -> &'source str
+        ensures { result.now ≡ self.now.name }
+    {
+        self.instructions.name()
+    }
+
+    /// The template's source.
+    pub fn source(&self) -> &'source str
+        ensures { result.now ≡ self.now.source.text }
+    {
+        self.instructions.source()
+    }
+
+    /// The syntax that the source was read under.
+    pub fn syntax(&self) -> &SyntaxConfig
+        ensures { result.now ≡ self.now.source.syntax }
+    {
+        &self.syntax
+    }
+
+    /// The escape of the template's name.
+    pub fn initial_auto_escape(&self) -> AutoEscape
+        ensures escape { result ≡ self.now.escape }
+        ensures rule { IsRuleOf self.now.name result }
+    {
+        self.initial_auto_escape
+    }
+
+    /// The template's code.
+    pub fn instructions(&self) -> &Instructions<'source>
+        ensures code { code_in result.now ≡ code_for self.now }
+        ensures faithful { IsFaithful self.now }
+    {
+        &self.instructions
+    }
+}
+
+// No syntax has delimiters that cannot be told apart, as its accessors say.
+fn usable(syntax: &SyntaxConfig)
+    ensures { IsUsable syntax.now }
+{
+    let _delimiters = syntax.block_delimiters();
+}
+
+/// A law, as the contract of a function that does nothing: the tree that a source has is the one that it is read to.
+pub fn one_tree()
+    ensures { (source : Source) (tree : Statements) → IsUsable source.syntax
+        → IsSource source.syntax source.text (template tree) → tree_in source ≡ tree }
+{}

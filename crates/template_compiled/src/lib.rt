@@ -1,0 +1,8 @@
+//! Templates that were accepted: their code, which is that of the tree of their source.
+#![tactic(auto)]
+
+mod compiled;
+mod templates;
+
+pub use compiled::{CompiledTemplate, one_tree};
+pub use templates::CompiledTemplates;

@@ -1,0 +1,82 @@
+//! Compiled templates by their names.
+ghost use Rattle.std.specs.Prelude.{◌≡◌, ℕ, List, true, false, None, Some, OnOk, OnErr, IfErr, bytes_eq, if◌then◌else◌, option_copied};
+ghost use Rattle.std.specs.BTreeMap.{get_by_text};
+ghost use Rattle.std.specs.Option.{ForSome};
+ghost use Rattle.template_values_errors.specs.Memory.{NoMemory};
+ghost use Rattle.template_compiler_runnable.specs.Running.{statements_run};
+ghost use Rattle.template_compiled.specs.Sources.{tree_in};
+
+use crate::compiled::CompiledTemplate;
+use std::alloc::Global;
+use std::collections::BTreeMap;
+use template_values_errors::{Error, ErrorKind};
+
+/// Compiled templates, each under its own name.
+#[derive(Drop)]
+pub struct CompiledTemplates<'source> {
+    by_name: BTreeMap<String, CompiledTemplate<'source>>,
+    // Each stands under its own name, and all its constructs run.
+    ghost named: { (name : List ℕ) → ForSome (get_by_text by_name name) (λ t. t.name ≡ name) },
+    ghost running: { (name : List ℕ) → ForSome (get_by_text by_name name) (λ t. statements_run false (tree_in t.source) ≡ true) },
+}
+
+impl<'source> CompiledTemplates<'source> {
+    ghost use Rattle.template_compiled.specs.Compiled.{IsFaithful};
+    ghost use Rattle.template_compiled.specs.Standing.{compiled_at};
+
+    /// No templates.
+    pub fn new(alloc: Global) -> CompiledTemplates<'source>
+        ensures { (name : List ℕ) → compiled_at result name ≡ None }
+    {
+        CompiledTemplates {
+            by_name: BTreeMap::new(alloc),
+        }
+    }
+
+    /// The template goes in the place of one that stands under its name. Takes a look-up among the names.
+    ///
+    /// # Errors
+    ///
+    /// [`ErrorKind::OutOfMemory`]; the templates are then as they were.
+    pub fn insert(
+        &mut self,
+        alloc: Global,
+        template: CompiledTemplate<'source>,
+    ) -> Result<(), Error>
+        requires { IsFaithful template }
+        ensures stands { OnOk result ((name : List ℕ)
+            → compiled_at self.new name ≡ (if bytes_eq template.entry.name name then Some template.entry else compiled_at self.old name)) }
+        ensures refused { IfErr result NoMemory }
+        ensures unchanged { OnErr result ((name : List ℕ) → compiled_at self.new name ≡ compiled_at self.old name) }
+    {
+        let name = String::from_str(alloc, template.name()).map_err(|_refused| Error::new(
+            ErrorKind::OutOfMemory,
+        ))?;
+        match self.by_name.insert(name, template) {
+            Ok(_replaced) => Ok(()),
+            Err(_refused) => Err(Error::new(ErrorKind::OutOfMemory)),
+        }
+    }
+
+    /// No template stands under the name any more. Takes a look-up among the names.
+    pub fn remove(&mut self, name: &str)
+        ensures { (other : List ℕ)
+            → compiled_at self.new other ≡ (if bytes_eq name.now other then None else compiled_at self.old other) }
+    {
+        let _removed = self.by_name.remove(name);
+    }
+
+    /// No template stands any more.
+    pub fn clear(&mut self)
+        ensures { (name : List ℕ) → compiled_at self.new name ≡ None }
+    {
+        self.by_name.clear();
+    }
+
+    /// The template that stands under a name, if one does. Takes a look-up among the names.
+    pub fn get(&self, name: &str) -> Option<&CompiledTemplate<'source>>
+        ensures found { option_copied result ≡ compiled_at self.now name.now }
+    {
+        self.by_name.get(name)
+    }
+}
