@@ -1,0 +1,60 @@
+//! What is done with the templates before a render.
+use serde_json::Value as Json;
+use std::alloc::Global;
+use template_values_errors::{Error, ErrorKind};
+
+/// A change of the templates that stand.
+#[derive(Clone, Copy)]
+pub(crate) enum Step<'line> {
+    Add {
+        name: &'line str,
+        source: &'line str,
+    },
+    Remove {
+        name: &'line str,
+    },
+    Clear,
+}
+
+/// The steps that an array lists; SyntaxError where it lists something else.
+pub(crate) fn steps_of(alloc: Global, steps: Option<&Json>) -> Result<Vec<Step<'_>>, Error> {
+    let Some(Json::Array(steps)) = steps else {
+        return Err(Error::new(ErrorKind::SyntaxError));
+    };
+    let mut listed = Vec::with_capacity(alloc, steps.len())?;
+    for step in steps {
+        listed.push(step_of(step)?)?;
+    }
+    Ok(listed)
+}
+
+fn step_of(step: &Json) -> Result<Step<'_>, Error> {
+    match step {
+        Json::Null => Ok(Step::Clear),
+        Json::Array(pair) => pair_step(pair.as_slice()),
+        _ => Err(Error::new(ErrorKind::SyntaxError)),
+    }
+}
+
+fn pair_step(pair: &[Json]) -> Result<Step<'_>, Error> {
+    match pair {
+        [Json::String(name), Json::String(source)] => Ok(Step::Add {
+            name: name.as_str(),
+            source: source.as_str(),
+        }),
+        [Json::String(name), Json::Null] => Ok(Step::Remove {
+            name: name.as_str(),
+        }),
+        _ => Err(Error::new(ErrorKind::SyntaxError)),
+    }
+}
+
+/// The name of the first template that the steps add.
+pub(crate) fn first_name<'line>(steps: &[Step<'line>]) -> Option<&'line str> {
+    for step in steps {
+        if let Step::Add { name, .. } = *step {
+            return Some(name);
+        }
+    }
+    None
+}
