@@ -198,7 +198,8 @@ impl<'source> Instruction<'source> {
         ensures { result ≡ price_of (code_of self.now) }
     {
         match self {
-            Instruction::BeginCapture(_)
+            Instruction::LoadConst(_)
+            | Instruction::BeginCapture(_)
             | Instruction::PushLoop(_)
             | Instruction::PushDidNotIterate
             | Instruction::PushWith

@@ -38,13 +38,13 @@ asks_at code place c piece h k operands rest e go is below =
 
 -- a constant is loaded
 loads_at : (code : List Code) (place : ℕ) (v : Val) (piece : List Code) → StandsAt code place (load_const v ∷ piece) → (k : ℕ) (operands : List Operand) (p : Process)
-    → Below p (exec code k (suc place) (single v ∷ operands)) → Below (step p) (exec code (suc k) place operands)
+    → Below p (exec code k (suc place) (single v ∷ operands)) → Below p (exec code (suc k) place operands)
 loads_at code place v piece h k operands p below =
-    below_at code place (load_const v) (instruction_at code place (load_const v) piece h) k operands (step p) (below-step _ _ below)
+    below_at code place (load_const v) (instruction_at code place (load_const v) piece h) k operands p below
 
-pub performs_load : (v : Val) → Performs (one (load_const v)) (λ go. step (go v))
+pub performs_load : (v : Val) → Performs (one (load_const v)) (λ go. go v)
 performs_load v code place h =
-    gives_to code (λ go. step (go v)) place (suc place) (place + length (one (load_const v) place)) (behind_single place (load_const v))
+    gives_to code (λ go. go v) place (suc place) (place + length (one (load_const v) place)) (behind_single place (load_const v))
     (λ k. (suc k, λ operands go below. loads_at code place v [] h k operands (go v) (below v)))
 
 pub performs_loaded : (o : Option Val) (piece : Coded) (walk : (Val → Process) → Process) → Performs piece walk → Performs (loaded o piece) (λ go. folded o go (walk go))

@@ -1,9 +1,10 @@
 -- The tests decide the definitions.
 use Rattle.std.proofs.Common.{◌≡◌, Bool, true, false, ◌&&◌, refl}
+use Rattle.std.specs.Prelude.{not}
 use Rattle.std.specs.Bool.{Decides}
 use Rattle.std.proofs.lemmas.Bool.Decides.{Decides-and}
 use Rattle.template_tree.specs.Tree.{Expression, Optional, Expressions, Links, variable, constant, slice, unary, binary, chain, conditional, filtered, tested, attribute, item, call, list_literal, tuple_literal, map_literal, absent, given, no_expressions, expressions_more, no_links, links_more, Statement, Statements, Assignments, template, raw, print, for_loop, if_condition, with_block, set, set_block, auto_escape, filter_block, block, import, from_import, extends, include, macro, call_block, continue_loop, break_loop, do_call, no_statements, statements_more, no_assignments, assignments_more}
-use Rattle.template_walk.specs.Runnable.{IsRunnable, IsRunnableIfGiven, AreRunnable, IsRunnableChain, AreRunnableLinks, IsTarget, AreTargets, AreAssignments, IsRunnableStatement, AreRunnableStatements}
+use Rattle.template_walk.specs.Runnable.{is_kept_back, IsRunnable, IsRunnableIfGiven, AreRunnable, IsRunnableChain, AreRunnableLinks, IsTarget, AreTargets, AreAssignments, IsRunnableStatement, AreRunnableStatements}
 use Rattle.template_compiler_runnable.specs.Running.{runs, runs_if_given, all_run, chain_runs, links_run, is_target, are_targets, assignments_run, statement_runs, statements_run}
 
 yes : Decides true (Unit {0})
@@ -14,6 +15,10 @@ no = (λ h. cc, λ h. absurd h)
 
 same : (b : Bool) → Decides b (b ≡ true)
 same b = (λ h. h, λ h. h)
+
+other : (b : Bool) → Decides (not b) (b ≡ false)
+other true = (λ h. cc, λ h. cc)
+other false = (λ h. refl, λ h. refl)
 
 both : {P Q : Type 0} (x y : Bool) → Decides x P → Decides y Q → Decides (x && y) (P × Q)
 both x y = Decides-and x y
@@ -31,7 +36,7 @@ four x y z w p q r s =
 
 mutual
   pub Decides-runs : (e : Expression) → Decides (runs e) (IsRunnable e)
-  Decides-runs (variable name) = yes
+  Decides-runs (variable name) = other (is_kept_back name)
   Decides-runs (constant v) = yes
   Decides-runs (slice e start stop by) =
       four (runs e) (runs_if_given start) (runs_if_given stop) (runs_if_given by)

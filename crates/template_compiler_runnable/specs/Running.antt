@@ -1,13 +1,14 @@
 -- Whether a tree is runnable, as tests: what stands beside a left chain, and all of it.
-use Rattle.std.specs.Prelude.{ℕ, ◌+◌, Bool, true, false, ◌&&◌, Option, None, Some}
+use Rattle.std.specs.Prelude.{ℕ, ◌+◌, Bool, true, false, not, ◌&&◌, Option, None, Some}
 use Rattle.std.specs.Borrow.{Bor}
 use Rattle.template_tree.specs.View.{expression_of}
 use Rattle.template_tree.specs.declared.expressions.Expr.{Expr, size-Expr}
 use Rattle.template_tree.specs.Tree.{Expression, Optional, Expressions, Links, variable, constant, slice, unary, binary, chain, conditional, attribute, item, list_literal, tuple_literal, map_literal, absent, given, no_expressions, expressions_more, no_links, links_more, Statement, Statements, Assignments, raw, print, for_loop, if_condition, with_block, set, auto_escape, include, continue_loop, break_loop, no_statements, statements_more, no_assignments, assignments_more}
+use Rattle.template_walk.specs.Runnable.{is_kept_back}
 
 abbrev mutual
   pub runs : Expression → Bool
-  runs (variable name) = true
+  runs (variable name) = not (is_kept_back name)
   runs (constant v) = true
   runs (slice e start stop by) = runs e && (runs_if_given start && (runs_if_given stop && runs_if_given by))
   runs (unary op e) = runs e
@@ -40,7 +41,7 @@ abbrev mutual
 
 -- what an expression holds beside its left part
 abbrev pub runs_beside : Expression → Bool
-runs_beside (variable name) = true
+runs_beside (variable name) = not (is_kept_back name)
 runs_beside (constant v) = true
 runs_beside (slice e start stop by) = runs_if_given start && (runs_if_given stop && runs_if_given by)
 runs_beside (unary op e) = runs e

@@ -1,10 +1,18 @@
 //! Expressions. A tree is gone along its left parts in a loop; its other parts nest at most 150 deep.
 ghost use Rattle.std.specs.Prelude.{◌≡◌};
 ghost use Rattle.template_tree.specs.View.{expression_of, expressions_in, links_in, optional_in};
+ghost use Rattle.template_walk.specs.Runnable.{is_kept_back};
 ghost use Rattle.template_compiler_runnable.specs.Running.{runs, runs_beside, runs_if_given, all_run, chain_runs, links_run};
 
 use template_tree::{CompareOp, Expr};
 use template_tree_spines::left;
+
+// Whether the engine gives the name, in places, a value that is not there yet.
+fn is_kept_back(name: &str) -> bool
+    ensures { result ≡ is_kept_back name.now }
+{
+    name == "loop" || name == "caller" || name == "self" || name == "super"
+}
 
 // Whether an expression runs.
 #[cycle(expression)]
@@ -27,7 +35,7 @@ fn others_run(expr: &Expr<'_>) -> bool
     ensures { result ≡ runs_beside (expression_of expr.now) }
 {
     match expr {
-        Expr::Var(_) => true,
+        Expr::Var(n) => !is_kept_back(n.node.id),
         Expr::Const(_) => true,
         Expr::Slice(n) => {
             let node = &n.node;

@@ -1,5 +1,5 @@
 -- The statements of a body, one behind the other.
-use Rattle.std.proofs.Common.{◌≡◌, ℕ, ◌+◌, ◌<◌, ◌≤◌, zero, suc, Bool, true, false, ◌==◌, refl, max, List, [], ◌∷◌, length, get_or, drop, sym, ap, subst, ◌∙◌, arith}
+use Rattle.std.proofs.Common.{◌≡◌, ℕ, ◌+◌, ◌<◌, ◌≤◌, zero, suc, Bool, true, false, ◌==◌, refl, List, [], ◌∷◌, length, get_or, drop, sym, ap, subst, ◌∙◌, arith}
 use Rattle.std.proofs.lemmas.Bool.Decides.{nat_tests}
 use Rattle.std.proofs.lemmas.List.{drop_more, drop_all}
 use Rattle.template_tree.specs.Tree.{Statements, statements_more}
@@ -7,10 +7,10 @@ use Rattle.template_tree.specs.StatementView.{statement_of}
 use Rattle.template_tree.specs.declared.statements.Stmt.{Stmt, size-Stmt}
 use Rattle.template_walk.specs.Runnable.{IsRunnableStatement, AreRunnableStatements}
 use Rattle.template_code.specs.declared.listing.Instructions.{Instructions}
-use Rattle.template_compiler_codegen.specs.Expressions.{Coded}
 use Rattle.template_compiler_codegen.specs.Statements.{Ways, statement_code, statements_code}
-use Rattle.template_compiler_lowering.specs.Breaks.{Places, breaks_of, breaks_in}
-use Rattle.template_compiler_statement_codegen.specs.Listed.{body_deep, statements_in}
+use Rattle.template_compiler_lowering.specs.Breaks.{breaks_of, breaks_in}
+use Rattle.template_tree_parts.specs.Listed.{statements_in}
+use Rattle.template_compiler_statement_codegen.specs.Listed.{body_deep}
 use Rattle.template_compiler_statement_codegen.specs.Rounds.{Lowers, LowersBody, LowersStatement, Remains, ways_of}
 use Rattle.template_compiler_statement_codegen.specs.declared.rounds.Round.{Round}
 use Rattle.template_compiler_statement_codegen.proofs.Lowering.{remains_none, remains_then, same_ways}

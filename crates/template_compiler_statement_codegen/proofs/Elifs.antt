@@ -2,24 +2,23 @@
 use Rattle.std.proofs.Common.{◌≡◌, ◌+◌, ◌<◌, ◌≤◌, Bor, Option, Some, None, IfSome, Bool, false, not, arith, ℕ, true, List, [], ◌∷◌, ◌++◌, length, refl, sym, ap, subst, ◌∙◌}
 use Rattle.std.proofs.Math.ListN.{set}
 use Rattle.std.specs.Option.{is_some}
-use Rattle.template_tree.specs.Tree.{Statement, Statements, no_statements, statements_more}
-use Rattle.template_tree.specs.View.{expression_of}
+use Rattle.template_tree.specs.Tree.{Statements, no_statements, statements_more}
 use Rattle.template_tree.specs.declared.statements.IfCond.{IfCond}
 use Rattle.template_tree.specs.declared.statements.Stmt.{Stmt}
 use Rattle.template_walk.specs.Runnable.{AreRunnableStatements, IsRunnableStatement}
-use Rattle.template_code.specs.Code.{Code, jump_if_false}
 use Rattle.template_code.specs.Listing.{code_in, IsSameTemplate}
 use Rattle.template_code.specs.declared.listing.Instructions.{Instructions}
-use Rattle.template_compiler_codegen.specs.Expressions.{Coded, one, nothing, then_code, expression_code}
+use Rattle.template_compiler_codegen.specs.Expressions.{Coded, one, nothing, then_code}
 use Rattle.template_compiler_codegen.specs.Statements.{Ways, branches_code, statement_code, statements_code}
 use Rattle.template_compiler_emission.specs.declared.leaps.Leap.TheVariants.{Always, IfFalse}
 use Rattle.template_compiler_emission.specs.Leaps.{leap_code}
 use Rattle.template_compiler_emission.specs.Puts.{Puts}
-use Rattle.template_compiler_lowering.specs.Breaks.{Places, no_places, then_places, branches_places, breaks_of, breaks_in, led}
-use Rattle.template_compiler_statement_codegen.specs.Listed.{body_deep, condition_deep, condition_of, statements_in}
-use Rattle.template_compiler_statement_codegen.specs.Rounds.{Lowers, LowersBody, LowersBranch, LowersStatement, Remains, ways_of}
+use Rattle.template_compiler_lowering.specs.Breaks.{Places, no_places, then_places, branches_places, breaks_of, breaks_in}
+use Rattle.template_tree_parts.specs.Listed.{statements_in}
+use Rattle.template_compiler_statement_codegen.specs.Listed.{body_deep, condition_deep, condition_of}
+use Rattle.template_compiler_statement_codegen.specs.Rounds.{Lowers, LowersBody, LowersBranch, Remains, ways_of}
 use Rattle.template_compiler_statement_codegen.specs.declared.rounds.Round.{Round}
-use Rattle.template_compiler_statement_codegen.proofs.Lowering.{branch_alone, branch_before, remains_all, remains_last, remains_one, remains_told, remains_trans, same_ways}
+use Rattle.template_compiler_statement_codegen.proofs.Lowering.{branch_alone, branch_before, remains_all, remains_last, remains_one, remains_trans, same_ways}
 
 -- a branch without an else part
 pub alone : {e : Coded} {f : Coded} {ps : Places} (ss : List Stmt) (w : Ways) {b x y z d : Instructions} {s t : Round} → ss ≡ []
@@ -66,7 +65,7 @@ branched : (c at : IfCond) (ends more all : List ℕ) {a b d : Instructions} {r 
 branched c at ends more all {a} {b} {d} {r} {s} {t} same p q =
     let other = statements_in at.false_body.items in
     let here : Remains (statement_code (ways_of r) (condition_of at)) (breaks_of (ways_of r) (condition_of at)) (statements_code (ways_of r) other)
-        (breaks_in (ways_of r) other) more b d s t =
+    (breaks_in (ways_of r) other) more b d s t =
     subst (λ (w : Ways). Remains (statement_code w (condition_of at)) (breaks_of w (condition_of at)) (statements_code w other) (breaks_in w other) more b d s t)
     (same_ways r s p.asks p.closings) q in
     subst (λ (l : List ℕ). RemainsOther c at l a d r t) (sym same) (remains_trans p here)

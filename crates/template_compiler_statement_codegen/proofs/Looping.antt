@@ -1,21 +1,21 @@
 -- The rounds of a loop, and what stands behind them.
-use Rattle.std.proofs.Common.{◌≡◌, ℕ, ◌+◌, suc, true, false, List, [], ◌∷◌, ◌++◌, length, refl, sym, ap, subst, ◌∙◌}
+use Rattle.std.proofs.Common.{◌≡◌, ℕ, List, [], ◌∷◌, ◌++◌, length, refl, ap, ◌∙◌}
 use Rattle.std.proofs.Math.ListN.{set}
-use Rattle.template_tree.specs.Tree.{Expression, Statements, Optional, absent, given, for_loop}
+use Rattle.template_tree.specs.Tree.{Statements}
 use Rattle.template_tree.specs.declared.statements.Stmt.{Stmt}
-use Rattle.template_code.specs.Code.{Code, jump, iterate, jump_if_false, pop_loop_frame, push_did_not_iterate, push_loop}
+use Rattle.template_code.specs.Code.{jump, iterate, pop_loop_frame, push_did_not_iterate}
 use Rattle.template_code.specs.Listing.{code_in, IsSameTemplate}
 use Rattle.template_code.specs.declared.listing.Instructions.{Instructions}
-use Rattle.template_compiler_codegen.specs.Expressions.{Coded, one, then_code, skipped, expression_code}
-use Rattle.template_compiler_codegen.specs.Statements.{Ways, loop_end_code, loop_flags, own_ways, rounds_code, statements_code, target_code}
+use Rattle.template_compiler_codegen.specs.Expressions.{Coded, one}
+use Rattle.template_compiler_codegen.specs.Statements.{Ways, loop_end_code, own_ways, rounds_code, statements_code}
 use Rattle.template_compiler_emission.specs.declared.leaps.Leap.TheVariants.{IfFalse, Iterate}
 use Rattle.template_compiler_emission.specs.Leaps.{leap_code}
 use Rattle.template_compiler_emission.specs.Puts.{Puts}
 use Rattle.template_compiler_emission.proofs.Putting.{same_then}
 use Rattle.template_compiler_lowering.specs.Breaks.{Places, breaks_in, led, loop_end_places}
 use Rattle.template_compiler_lowering.proofs.Rounds.{rounds_told}
-use Rattle.template_compiler_statement_codegen.specs.Listed.{statements_in}
-use Rattle.template_compiler_statement_codegen.specs.Rounds.{Lowers, LowersBody, LowersStatement, ways_of}
+use Rattle.template_tree_parts.specs.Listed.{statements_in}
+use Rattle.template_compiler_statement_codegen.specs.Rounds.{Lowers, LowersBody, ways_of}
 use Rattle.template_compiler_statement_codegen.specs.declared.rounds.Closing.{Closing}
 use Rattle.template_compiler_statement_codegen.specs.declared.rounds.Round.{Round}
 use Rattle.template_compiler_statement_codegen.proofs.Lowering.{lowers_behind, lowers_put, lowers_skipped, ways_with}

@@ -1,20 +1,19 @@
 -- What was put for statements, piece by piece.
-use Rattle.std.proofs.Common.{◌≡◌, ℕ, ◌+◌, suc, List, [], ◌∷◌, ◌++◌, length, refl, sym, ap, subst, ◌∙◌, append-nil, append_assoc, length-append, arith}
+use Rattle.std.proofs.Common.{◌≡◌, ℕ, ◌+◌, suc, List, [], ◌∷◌, ◌++◌, length, refl, sym, ap, ◌∙◌, append-nil, append_assoc, length-append}
 use Rattle.std.proofs.Math.ListN.{set}
 use Rattle.std.proofs.lemmas.List.{length-set}
-use Rattle.template_tree.specs.Tree.{Statement, Statements}
 use Rattle.template_code.specs.Code.{Code, jump, jump_if_false}
 use Rattle.template_code.specs.Listing.{code_in, IsSameTemplate}
 use Rattle.template_code.specs.declared.listing.Instructions.{Instructions}
 use Rattle.template_compiler_codegen.specs.Expressions.{Coded, one, nothing, then_code, skipped, either_code}
-use Rattle.template_compiler_codegen.specs.Statements.{Ways, statement_code, statements_code}
+use Rattle.template_compiler_codegen.specs.Statements.{Ways}
 use Rattle.template_compiler_emission.specs.declared.leaps.Leap.{Leap}
 use Rattle.template_compiler_emission.specs.declared.leaps.Leap.TheVariants.{Always, IfFalse}
 use Rattle.template_compiler_emission.specs.Leaps.{leap_code}
 use Rattle.template_compiler_emission.specs.Puts.{Puts}
 use Rattle.template_compiler_emission.proofs.Pieces.{two_pieces, one_longer, either_one}
 use Rattle.template_compiler_emission.proofs.Putting.{same_itself, same_then, puts_then, puts_skipped}
-use Rattle.template_compiler_lowering.specs.Breaks.{Places, no_places, then_places, next_places, either_places, breaks_of, breaks_in, led}
+use Rattle.template_compiler_lowering.specs.Breaks.{Places, no_places, then_places, next_places, either_places, led}
 use Rattle.template_compiler_lowering.proofs.Leading.{led-append}
 use Rattle.template_compiler_statement_codegen.specs.Rounds.{Lowers, Remains, closed_by, ways_of}
 use Rattle.template_compiler_statement_codegen.specs.declared.rounds.Closing.{Closing}

@@ -1,7 +1,7 @@
 -- The trees of nodes, from the parts that a node holds, and how deep those are.
 use Rattle.std.proofs.Common.{◌≡◌, ℕ, ◌<◌, Bool, true, false, List, length, get_or, Box, Global, rules, refl, sym, ap, subst, ◌∙◌, arith, [], ◌∷◌}
-use Rattle.template_tree.specs.Tree.{Expression, Optional, Statement, Statements, absent, given, template, for_loop, with_block, auto_escape, no_statements, statements_more}
-use Rattle.template_tree.specs.StatementView.{assignments_in, statement_of, statements_of}
+use Rattle.template_tree.specs.Tree.{Expression, Optional, Statement, Statements, absent, given, for_loop, with_block, auto_escape, no_statements, statements_more}
+use Rattle.template_tree.specs.StatementView.{assignments_in, statement_of}
 use Rattle.template_tree.specs.View.{expression_of, optional_in}
 use Rattle.template_tree.specs.declared.expressions.Expr.{Expr}
 use Rattle.template_tree.specs.declared.span.Spanned.{Spanned}
@@ -9,35 +9,13 @@ use Rattle.template_tree.specs.declared.statements.AutoEscape.{AutoEscape as Aut
 use Rattle.template_tree.specs.declared.statements.CallBlock.{CallBlock as CallBlockNode, CallBlock' as called}
 use Rattle.template_tree.specs.declared.statements.ForLoop.{ForLoop as ForLoopNode}
 use Rattle.template_tree.specs.declared.statements.IfCond.{IfCond as IfCondNode}
-use Rattle.template_tree.specs.declared.statements.Template.{Template as TemplateNode}
 use Rattle.template_tree.specs.declared.statements.WithBlock.{WithBlock as WithBlockNode}
-use Rattle.template_tree.specs.declared.statements.Stmt.{Stmt, AutoEscape, CallBlock, ForLoop, IfCond, Template, WithBlock, Row_of-Stmt, end_of-Stmt, more_of-Stmt, items-the_row-Stmt, size-Stmt, the_lemmas}
+use Rattle.template_tree.specs.declared.statements.Stmt.{Stmt, AutoEscape, CallBlock, ForLoop, IfCond, WithBlock, size-Stmt, the_lemmas}
+use Rattle.template_tree_parts.proofs.Trees.{escape_tree, for_tree, if_tree, with_tree}
 use Rattle.template_walk.specs.Runnable.{IsRunnableStatement}
-use Rattle.template_compiler_statement_codegen.specs.Listed.{IsRunnableTree, body_deep, condition_deep, condition_of, statements_in}
+use Rattle.template_tree_parts.specs.Listed.{statements_in}
+use Rattle.template_compiler_statement_codegen.specs.Listed.{IsRunnableTree, body_deep, condition_deep, condition_of}
 use Rattle.template_compiler_statement_codegen.proofs.Bodies.{body_below}
-
-pub statements_row : {n : _} (k : Row_of-Stmt n) → statements_of k ≡ statements_in (items-the_row-Stmt n k)
-statements_row end_of-Stmt = refl
-statements_row (more_of-Stmt s rest) = ap (λ ss. statements_more (statement_of s) ss) (statements_row rest)
-
-pub condition_tree : (n : Spanned (Box IfCondNode Global)) → statement_of (IfCond n) ≡ condition_of n.node.value
-condition_tree n = search (rules, the_lemmas, statements_row)
-
-pub loop_tree : (n : Spanned (Box ForLoopNode Global)) → statement_of (ForLoop n)
-    ≡ for_loop (expression_of n.node.value.target) (expression_of n.node.value.iter) (optional_in n.node.value.filter_expr) n.node.value.recursive
-    (statements_in n.node.value.body.items) (statements_in n.node.value.else_body.items)
-loop_tree n = search (rules, the_lemmas, statements_row)
-
-pub with_tree : (n : Spanned (Box WithBlockNode Global)) → statement_of (WithBlock n)
-    ≡ with_block (assignments_in n.node.value.assignments.items) (statements_in n.node.value.body.items)
-with_tree n = search (rules, the_lemmas, statements_row)
-
-pub escape_tree : (n : Spanned (Box AutoEscapeNode Global)) → statement_of (AutoEscape n)
-    ≡ auto_escape (expression_of n.node.value.enabled) (statements_in n.node.value.body.items)
-escape_tree n = search (rules, the_lemmas, statements_row)
-
-pub template_tree : (n : Spanned TemplateNode) → statement_of (Template n) ≡ template (statements_in n.node.children.items)
-template_tree n = search (rules, the_lemmas, statements_row)
 
 -- a call's block is no runnable statement
 with_value : Spanned (Box CallBlockNode Global) → CallBlockNode → Spanned (Box CallBlockNode Global)
@@ -73,8 +51,11 @@ condition_positive n = search (rules, the_lemmas)
 
 pub condition_smaller : (n : Spanned (Box IfCondNode Global)) → condition_deep n.node.value < size-Stmt (IfCond n)
 condition_smaller n =
-    omega (arith, body_below n.node.value.true_body.items (size-Stmt (IfCond n)) (condition_positive n) (true_body_smaller n),
-    body_below n.node.value.false_body.items (size-Stmt (IfCond n)) (condition_positive n) (false_body_smaller n))
+    omega (
+      arith,
+      body_below n.node.value.true_body.items (size-Stmt (IfCond n)) (condition_positive n) (true_body_smaller n),
+      body_below n.node.value.false_body.items (size-Stmt (IfCond n)) (condition_positive n) (false_body_smaller n),
+    )
 
 loop_body_smaller : (n : Spanned (Box ForLoopNode Global)) (i : ℕ) (d : Stmt) → i < length n.node.value.body.items
     → size-Stmt (get_or n.node.value.body.items i d) < size-Stmt (ForLoop n)
@@ -130,7 +111,7 @@ pub elif_tree : (ss : List Stmt) (s : Stmt) (n : Spanned (Box IfCondNode Global)
 elif_tree ss s n c one read node value =
     ap (λ (l : List Stmt). statements_in l) (alone_as ss s s one read) ∙
     ap (λ (x : Stmt). statements_more (statement_of x) no_statements) node ∙
-    ap (λ (x : Statement). statements_more x no_statements) (condition_tree n) ∙
+    ap (λ (x : Statement). statements_more x no_statements) (if_tree n) ∙
     ap (λ (x : IfCondNode). statements_more (condition_of x) no_statements) (sym value)
 
 pub elif_smaller : (ss : List Stmt) (s : Stmt) (n : Spanned (Box IfCondNode Global)) (c : IfCondNode) → length ss ≡ 1 → s ≡ get_or ss 0 s → s ≡ IfCond n
@@ -144,7 +125,7 @@ elif_smaller ss s n c one read node value =
 -- a condition, a loop, a body in a frame, a body with an escape: their trees from what a node holds
 pub condition_is : (s : Stmt) (n : Spanned (Box IfCondNode Global)) (c : IfCondNode) → s ≡ IfCond n → c ≡ n.node.value → statement_of s ≡ condition_of c
 condition_is s n c node read =
-    ap (λ (x : Stmt). statement_of x) node ∙ condition_tree n ∙ ap (λ (x : IfCondNode). condition_of x) (sym read)
+    ap (λ (x : Stmt). statement_of x) node ∙ if_tree n ∙ ap (λ (x : IfCondNode). condition_of x) (sym read)
 
 pub condition_within : (s : Stmt) (n : Spanned (Box IfCondNode Global)) (c : IfCondNode) → s ≡ IfCond n → c ≡ n.node.value → condition_deep c < size-Stmt s
 condition_within s n c node read = rw (node, read) (condition_smaller n)
@@ -163,7 +144,7 @@ pub loop_is : (s : Stmt) (n : Spanned (Box ForLoopNode Global)) (target e : Expr
 loop_is s n target e body otherwise h node t i b o =
     let l = n.node.value in
     let tree : statement_of s ≡ for_loop (expression_of l.target) (expression_of l.iter) (optional_in l.filter_expr) l.recursive (statements_in l.body.items)
-        (statements_in l.else_body.items) = ap (λ (x : Stmt). statement_of x) node ∙ loop_tree n in
+    (statements_in l.else_body.items) = ap (λ (x : Stmt). statement_of x) node ∙ for_tree n in
     tree ∙
     loop_plain (expression_of l.target) (expression_of l.iter) (optional_in l.filter_expr) l.recursive (statements_in l.body.items)
     (statements_in l.else_body.items) (subst (λ (x : Statement). IsRunnableStatement true x) tree h) ∙

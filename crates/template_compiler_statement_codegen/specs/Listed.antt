@@ -1,15 +1,11 @@
--- The trees in a list of statements, and in the node of a condition.
+-- The trees in the nodes of conditions and of whole templates, and how deep bodies are.
 use Rattle.std.specs.Prelude.{ℕ, max, List, [], ◌∷◌}
-use Rattle.template_tree.specs.Tree.{Statement, Statements, no_statements, statements_more, template, if_condition}
-use Rattle.template_tree.specs.StatementView.{statement_of}
+use Rattle.template_tree.specs.Tree.{Statement, Statements, no_statements, template, if_condition}
 use Rattle.template_tree.specs.View.{expression_of}
 use Rattle.template_tree.specs.declared.statements.IfCond.{IfCond}
 use Rattle.template_tree.specs.declared.statements.Stmt.{Stmt, size-Stmt}
-use Rattle.template_walk.specs.Runnable.{AreRunnableStatements, IsRunnableTemplate}
-
-abbrev pub statements_in : List Stmt → Statements
-statements_in [] = no_statements
-statements_in (statement ∷ rest) = statements_more (statement_of statement) (statements_in rest)
+use Rattle.template_tree_parts.specs.Listed.{statements_in}
+use Rattle.template_walk.specs.Runnable.{IsRunnableTemplate}
 
 -- a condition with what belongs to it
 abbrev pub condition_of : IfCond → Statement

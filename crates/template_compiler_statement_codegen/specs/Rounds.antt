@@ -9,7 +9,8 @@ use Rattle.template_compiler_codegen.specs.Expressions.{Coded, one, then_code}
 use Rattle.template_compiler_codegen.specs.Statements.{Ways, closing_with, statement_code, statements_code}
 use Rattle.template_compiler_emission.specs.Puts.{Puts}
 use Rattle.template_compiler_lowering.specs.Breaks.{Places, no_places, then_places, breaks_of, breaks_in, led}
-use Rattle.template_compiler_statement_codegen.specs.Listed.{condition_of, statements_in}
+use Rattle.template_tree_parts.specs.Listed.{statements_in}
+use Rattle.template_compiler_statement_codegen.specs.Listed.{condition_of}
 use Rattle.template_compiler_statement_codegen.specs.declared.rounds.Closing.{Closing}
 use Rattle.template_compiler_statement_codegen.specs.declared.rounds.Closing.TheVariants.{Frame, AutoEscape}
 use Rattle.template_compiler_statement_codegen.specs.declared.rounds.Round.{Round}

@@ -13,7 +13,7 @@ use template_compiler_emission::{Leap, put, reserve};
 use template_values_errors::Error;
 
 // What stands open around statements inside a loop.
-#[derive(Clone, Copy, Debug, PartialEq, Eq)]
+#[derive(Clone, Copy)]
 pub(crate) enum Closing {
     Frame,
     AutoEscape,
@@ -56,10 +56,7 @@ impl Round {
 }
 
 // Puts what closes all that is open, the innermost first.
-fn close_all<'source>(
-    code: &mut Instructions<'source>,
-    closings: &[Closing],
-) -> Result<(), Error>
+fn close_all<'source>(code: &mut Instructions<'source>, closings: &[Closing]) -> Result<(), Error>
     ensures put { OnOk result (Puts (λ place. closed_by closings.now) code.old code.new) }
     ensures refused { IfErr result NoRoom }
 {

@@ -10,7 +10,8 @@ ghost use Rattle.template_compiler_codegen.specs.Expressions.{then_code, one, ex
 ghost use Rattle.template_compiler_codegen.specs.Statements.{loop_end_code, no_ways, own_ways, rounds_code, statements_code, target_code};
 ghost use Rattle.template_compiler_emission.specs.Puts.{Puts, NoRoom};
 ghost use Rattle.template_compiler_lowering.specs.Breaks.{breaks_in, loop_end_places};
-ghost use Rattle.template_compiler_statement_codegen.specs.Listed.{IsRunnableTree, body_deep, body_in, condition_deep, condition_of, statements_in};
+ghost use Rattle.template_tree_parts.specs.Listed.{statements_in};
+ghost use Rattle.template_compiler_statement_codegen.specs.Listed.{IsRunnableTree, body_deep, body_in, condition_deep, condition_of};
 ghost use Rattle.template_compiler_statement_codegen.specs.Rounds.{Lowers, LowersBody, LowersStatement, LowersBranch, closed_code, closed_places, closing_code, places_in, ways_of};
 
 use crate::rounds::{Closing, Round, put_break, put_continue};

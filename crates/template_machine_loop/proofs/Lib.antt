@@ -2,3 +2,4 @@ pub mod Advancing
 pub mod Standing
 pub mod Within
 pub mod Choosing
+pub mod Failing

@@ -62,7 +62,7 @@ module _ (s : Programs) (base : World) where
 
   given_folded : (o : Option Val) (w : World) → Keeps base w → (P : Walk Val) → Gives w P → Gives w (λ m go. folded o go (P m go))
   given_folded None w kept P p = p
-  given_folded (Some v) w kept P p = given_now w kept v
+  given_folded (Some v) w kept P p = settles_now s w (Kept base) v kept
 
   -- what settles from every world that keeps what the base has
   abbrev Always : Walk Val → Type 0
@@ -94,7 +94,7 @@ module _ (s : Programs) (base : World) where
   mutual
     pub settles_expression : (e : Expression) → IsRunnable e → Always (walk_of e)
     settles_expression (variable name) h w kept = given_by w kept (look_up name) (Ok (lookup name w.frames)) (λ n. refl)
-    settles_expression (constant v) h w kept = given_now w kept v
+    settles_expression (constant v) h w kept = settles_now s w (Kept base) v kept
     settles_expression (unary op e) h w kept =
         given_folded (constant_of (unary op e)) w kept (λ m go. expression_walk e (λ v. step (asks (unary_ask op v) (on_value go))))
         (given_then w (walk_of e) (λ v m go. step (asks (unary_ask op v) (on_value go))) (settles_expression e h w kept) (unary_given op))
@@ -137,7 +137,7 @@ module _ (s : Programs) (base : World) where
     settles_expression _ h w kept = absurd h
 
     settles_optional : (o : Optional) → IsRunnableIfGiven o → (missing : Val) → Always (λ m go. optional_walk missing o go)
-    settles_optional absent h missing w kept = given_now w kept missing
+    settles_optional absent h missing w kept = settles_now s w (Kept base) missing kept
     settles_optional (given e) h missing w kept = settles_expression e h w kept
 
     settles_all : (es : Expressions) → AreRunnable es → (w : World) → Keeps base w → Settles {O = List Val} s w (Kept base) (λ m go. expressions_walk es go)

@@ -49,7 +49,7 @@ loop_text : text_of loop_row.items ≡ codes "1,2,"
 unfolding printed_forms.level_limit fmt.digits
 loop_text = refl
 
-loop_price : price_of loop_row.items ≡ 14
+loop_price : price_of loop_row.items ≡ 13
 unfolding printed_forms.level_limit fmt.digits
 loop_price = refl
 
@@ -57,7 +57,7 @@ loop_price = refl
 abbrev chain_row : ℕ → Run World
 chain_row x = run_of Lenient no_statements (print (chain (number 1) (links_more Lt (variable (codes "x")) (links_more Lt (number 3) no_links))) ∷ []) (only (codes "x") (int (pos x)))
 
-chain_price : price_of (chain_row 2).items ≡ 8
+chain_price : price_of (chain_row 2).items ≡ 6
 unfolding printed_forms.level_limit fmt.digits
 chain_price = refl
 
@@ -65,7 +65,7 @@ chain_text : text_of (chain_row 2).items ≡ codes "true"
 unfolding printed_forms.level_limit fmt.digits
 chain_text = refl
 
-short_chain_price : price_of (chain_row 0).items ≡ 6
+short_chain_price : price_of (chain_row 0).items ≡ 5
 unfolding printed_forms.level_limit fmt.digits
 short_chain_price = refl
 
@@ -73,7 +73,7 @@ short_chain_price = refl
 abbrev constant_row : Run World
 constant_row = run_of Strict no_statements (print (chain (number 1) (links_more Gt (number 2) (links_more Gt (variable (codes "x")) no_links))) ∷ []) (map no_pairs)
 
-constant_price : price_of constant_row.items ≡ 2
+constant_price : price_of constant_row.items ≡ 1
 unfolding printed_forms.level_limit fmt.digits
 constant_price = refl
 
@@ -89,14 +89,14 @@ include_text : text_of include_row.items ≡ codes "x7"
 unfolding printed_forms.level_limit fmt.digits
 include_text = refl
 
--- under fuel 3 a step within the include is not paid
+-- under fuel 2 a step within the include is not paid
 abbrev short_include : Run World
 short_include = run_of Lenient (statements (raw (codes "x") ∷ [])) (tree.include (constant (text (codes "b"))) false ∷ []) (map no_pairs)
 
-short_include_end : (under (Some 3) short_include).end ≡ faults (BadInclude ∷ OutOfFuel ∷ [])
+short_include_end : (under (Some 2) short_include).end ≡ faults (BadInclude ∷ OutOfFuel ∷ [])
 unfolding printed_forms.level_limit fmt.digits
 short_include_end = refl
 
-whole_include_text : text_of (under (Some 4) short_include).items ≡ codes "x"
+whole_include_text : text_of (under (Some 3) short_include).items ≡ codes "x"
 unfolding printed_forms.level_limit fmt.digits
 whole_include_text = refl

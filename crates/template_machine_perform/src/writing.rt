@@ -4,6 +4,7 @@ ghost use Rattle.template_code.specs.Code.{Operand, emit_raw, emit};
 ghost use Rattle.template_machine_meaning.specs.Surroundings.{Program, Programs};
 ghost use Rattle.template_machine_meaning.specs.World.{World};
 ghost use Rattle.template_machine_operands.specs.Operands.{operands_in};
+ghost use Rattle.template_machine_operations.specs.Outcomes.{TellsFailures};
 ghost use Rattle.template_machine_steps.specs.Performs.{ruled};
 ghost use Rattle.template_machine_perform.specs.Performs.{StepsWriting};
 
@@ -17,8 +18,9 @@ use template_values_text::NoRecords;
 
 // Writes a text of the template.
 pub(crate) fn emit_raw<S: Sink>(text: &str, sink: &mut S) -> Result<(), Error>
-    ensures { (s : Programs) (operands : List Operand) (w : World) →
+    ensures steps { (s : Programs) (operands : List Operand) (w : World) →
         StepsWriting s (emit_raw text.now) operands w (S.taken sink.old) result suc operands w (S.taken sink.new) }
+    ensures failures { TellsFailures result (S.failures sink.old) (S.failures sink.new) }
 {
     values::write(text, sink)
 }
@@ -31,9 +33,10 @@ pub(crate) fn emit<S: Sink>(
     scratch: &mut String,
     sink: &mut S,
 ) -> Result<(), Error>
-    ensures { (program : ℕ → List ℕ → Option Program) (limit : ℕ) →
+    ensures steps { (program : ℕ → List ℕ → Option Program) (limit : ℕ) →
         StepsWriting (ruled program limit mode) emit (operands_in operands.old) state.now (S.taken sink.old)
         result suc (operands_in operands.new) state.now (S.taken sink.new) }
+    ensures failures { TellsFailures result (S.failures sink.old) (S.failures sink.new) }
 {
     let value = operands.take()?;
     let escape = state.auto_escape();

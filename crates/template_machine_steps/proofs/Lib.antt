@@ -1,3 +1,4 @@
 pub mod Performing
 pub mod Stepping
 pub mod Gathering
+pub mod Sparing

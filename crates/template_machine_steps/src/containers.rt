@@ -80,7 +80,7 @@ fn push_items(items: &Items, operands: &mut Operands) -> Result<(), Error>
     for passed in 0..count {
         let item = match items.get(count - 1 - passed) {
             Some(item) => item.copy()?,
-            None => return Err(Error::new(ErrorKind::OutOfMemory)),
+            None => return Err(Error::new(ErrorKind::BadStream)),
         };
         operands.push(item)?;
     }

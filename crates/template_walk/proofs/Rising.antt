@@ -35,7 +35,7 @@ step_done e p q h = below-step (asks e (on_done p)) (asks e (on_done q)) (below-
 
 lift_folded : (o : Option Val) (go on : Val → Process) (p q : Process) → Follows go on → Below p q → Below (folded o go p) (folded o on q)
 lift_folded None go on p q h i = i
-lift_folded (Some v) go on p q h i = below-step (go v) (on v) (h v)
+lift_folded (Some v) go on p q h i = h v
 
 lift_binary : (op : BinOpKind) (left right : (Val → Process) → Process) → Lifts left → Lifts right → Lifts (binary_walk op left right)
 lift_binary ScAnd left right f g go on h =
@@ -48,7 +48,7 @@ lift_binary op left right f g go on h =
 mutual
   pub lift : (e : Expression) → Lifts (expression_walk e)
   lift (variable name) go on h = step_value (look_up name) go on h
-  lift (constant v) go on h = below-step (go v) (on v) (h v)
+  lift (constant v) go on h = h v
   lift (unary op e) go on h =
       lift_folded (constant_of (unary op e)) go on _ _ h (lift e _ _ (λ v. step_value (unary_ask op v) go on h))
   lift (binary op left right) go on h =
@@ -68,7 +68,7 @@ mutual
   lift _ go on h = below-cut_short _
 
   lift_optional : (o : Optional) (missing : Val) → Lifts (optional_walk missing o)
-  lift_optional absent missing go on h = below-step (go missing) (on missing) (h missing)
+  lift_optional absent missing go on h = h missing
   lift_optional (given e) missing go on h = lift e go on h
 
   lift_all : (es : Expressions) (go on : List Val → Process) → ((vs : List Val) → Below (go vs) (on vs)) → Below (expressions_walk es go) (expressions_walk es on)

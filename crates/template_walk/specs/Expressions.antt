@@ -9,9 +9,9 @@ use Rattle.template_tree.specs.Tree.{Expression, Optional, Expressions, Links, v
 use Rattle.template_process.specs.Process.{Ask, look_up, negate, invert, operate, compare, get_attribute, get_item, get_slice, build_list, build_tuple, build_map, Process, step, cut_short, value_asked, truth_asked}
 use Rattle.template_walk.specs.Constants.{constant_of}
 
--- a constant costs one step and asks nothing; what is none does its own walk
+-- a constant costs nothing and asks nothing; what is none does its own walk
 abbrev pub folded : Option Val → (Val → Process) → Process → Process
-folded (Some v) go walk = step (go v)
+folded (Some v) go walk = go v
 folded None go walk = walk
 
 abbrev pub unary_ask : UnaryOpKind → Val → Ask
@@ -27,7 +27,7 @@ binary_walk op left right go = left (λ v. right (λ w. value_asked (operate op 
 abbrev mutual
   pub expression_walk : Expression → (Val → Process) → Process
   expression_walk (variable name) go = value_asked (look_up name) go
-  expression_walk (constant v) go = step (go v)
+  expression_walk (constant v) go = go v
   expression_walk (unary op e) go = folded (constant_of (unary op e)) go (expression_walk e (λ v. value_asked (unary_ask op v) go))
   expression_walk (binary op left right) go =
       folded (constant_of (binary op left right)) go (binary_walk op (expression_walk left) (expression_walk right) go)
@@ -49,7 +49,7 @@ abbrev mutual
 
   -- what is left out is a constant
   pub optional_walk : Val → Optional → (Val → Process) → Process
-  optional_walk missing absent go = step (go missing)
+  optional_walk missing absent go = go missing
   optional_walk missing (given e) go = expression_walk e go
 
   pub expressions_walk : Expressions → (List Val → Process) → Process

@@ -1,11 +1,17 @@
 -- The trees whose constructs have a walk today. What holds another construct is refused where it is added.
-use Rattle.std.specs.Prelude.{Bool, true, false, IsTrue}
+use Rattle.std.specs.Prelude.{◌≡◌, ℕ, Bool, true, false, ◌||◌, List, IsTrue, codes}
+use Rattle.std.specs.Str.{bytes_eq}
 use Rattle.template_tree.specs.Tree.{Expression, Optional, Expressions, Links, variable, constant, slice, unary, binary, chain, conditional, attribute, item, list_literal, tuple_literal, map_literal, absent, given, no_expressions, expressions_more, no_links, links_more, Statement, Statements, Assignments, raw, print, for_loop, if_condition, with_block, set, auto_escape, include, continue_loop, break_loop, no_statements, statements_more, no_assignments, assignments_more}
 
+-- the engine gives these names, in places, values that are not there yet
+abbrev pub is_kept_back : List ℕ → Bool
+is_kept_back name =
+    bytes_eq name (codes "loop") || (bytes_eq name (codes "caller") || (bytes_eq name (codes "self") || bytes_eq name (codes "super")))
+
 abbrev mutual
-  -- names, constants, operators, items, slices and containers; no calls, filters or tests
+  -- names that are not kept back, constants, operators, items, slices and containers; no calls, filters or tests
   pub IsRunnable : Expression → Type 0
-  IsRunnable (variable name) = Unit {0}
+  IsRunnable (variable name) = is_kept_back name ≡ false
   IsRunnable (constant v) = Unit {0}
   IsRunnable (slice e start stop by) = IsRunnable e × IsRunnableIfGiven start × IsRunnableIfGiven stop × IsRunnableIfGiven by
   IsRunnable (unary op e) = IsRunnable e

@@ -1,4 +1,4 @@
-use Rattle.std.proofs.Common.{◌≡◌, ◌+◌, ◌-◌, ◌<◌, [], ◌∷◌, ◌++◌, length, take, ap, ◌∙◌, arith}
+use Rattle.std.proofs.Common.{◌≡◌, ◌+◌, ◌-◌, [], ◌∷◌, ◌++◌, take, ap, ◌∙◌, arith}
 use Rattle.template_code.specs.Listing.{code_in}
 use Rattle.template_compiler_emission.proofs.Putting.{same_then}
 use Rattle.template_compiler_statement_codegen.specs.Rounds.{closed_by}

@@ -1,4 +1,4 @@
-use Rattle.std.proofs.Common.{◌≡◌, ◌+◌, ◌<◌, ◌≤◌, length, true, false, Option, Bor, ap, sym, subst, ◌∙◌, arith, refl}
+use Rattle.std.proofs.Common.{◌≡◌, ◌+◌, ◌<◌, length, true, false, Option, Bor, ap, subst, ◌∙◌, arith, refl}
 use Rattle.template_tree.specs.StatementView.{assignments_in, statement_of}
 use Rattle.template_tree.specs.Tree.{Statement, absent, auto_escape, for_loop, with_block}
 use Rattle.template_tree.specs.declared.statements.AutoEscape.{AutoEscape as AutoEscapeNode}
@@ -9,12 +9,12 @@ use Rattle.template_tree.specs.declared.statements.WithBlock.{WithBlock as WithB
 use Rattle.template_tree.specs.View.{expression_of}
 use Rattle.template_walk.specs.Runnable.{IsRunnableStatement}
 use Rattle.template_code.specs.Listing.{code_in}
-use Rattle.template_compiler_codegen.specs.Statements.{statements_code, target_code}
-use Rattle.template_compiler_emission.specs.declared.leaps.Leap.TheVariants.{Always, IfFalse, Iterate}
+use Rattle.template_compiler_codegen.specs.Statements.{target_code}
+use Rattle.template_compiler_emission.specs.declared.leaps.Leap.TheVariants.{IfFalse}
 use Rattle.template_compiler_expression_codegen.proofs.Putting.{landed_at, puts_as}
-use Rattle.template_compiler_lowering.specs.Breaks.{breaks_in}
-use Rattle.template_compiler_statement_codegen.specs.Listed.{condition_deep, condition_of, statements_in}
-use Rattle.template_compiler_statement_codegen.specs.Rounds.{LowersBody, LowersStatement, closing_code, places_in, ways_of}
+use Rattle.template_tree_parts.specs.Listed.{statements_in}
+use Rattle.template_compiler_statement_codegen.specs.Listed.{condition_deep, condition_of}
+use Rattle.template_compiler_statement_codegen.specs.Rounds.{LowersBody, places_in, ways_of}
 use Rattle.template_compiler_statement_codegen.specs.declared.rounds.Round.{Round}
 use Rattle.template_compiler_statement_codegen.proofs.Bodies.{no_items, some_items, statement_deep, statement_runnable}
 use Rattle.template_compiler_statement_codegen.proofs.Closings.{lowers_closed}
@@ -74,8 +74,12 @@ compile_condition-loop-left-preserved-in-Continue-branch-3 t c =
           c.keep.new.places.items c.is_none.ensures c.if-is_none.true c.deref-then-is_none.ensures.value c.in_ok-keep.ensures here
           c.in_ok-end.ensures.lowered c.in_ok-compile_body.ensures.lowered;
       runs = left_runs c.elif-left.result at.now c.deref.result.now c.deref.ensures.value c.elif-left.ensures.alone runs;
-      deep = omega (arith, left_smaller c.elif-left.result at.now c.deref.result.now c.deref.ensures.value c.elif-left.ensures.smaller,
-      c.loop-left.invariant.deep, bound);
+      deep = omega (
+        arith,
+        left_smaller c.elif-left.result at.now c.deref.result.now c.deref.ensures.value c.elif-left.ensures.smaller,
+        c.loop-left.invariant.deep,
+        bound,
+      );
     }
 
 pub compile_condition-loop-left-preserved : goal.compile_condition-loop-left-preserved
@@ -90,8 +94,12 @@ compile_condition-loop-left-preserved t c =
           c.keep.new.places.items c.is_none.ensures c.if-is_none.false c.deref.ensures.value c.elif-left.ensures.alone c.in_ok-keep.ensures here
           c.in_ok-end.ensures.lowered;
       runs = left_runs c.elif-left.result at.now c.deref.result.now c.deref.ensures.value c.elif-left.ensures.alone runs;
-      deep = omega (arith, left_smaller c.elif-left.result at.now c.deref.result.now c.deref.ensures.value c.elif-left.ensures.smaller,
-      c.loop-left.invariant.deep, bound);
+      deep = omega (
+        arith,
+        left_smaller c.elif-left.result at.now c.deref.result.now c.deref.ensures.value c.elif-left.ensures.smaller,
+        c.loop-left.invariant.deep,
+        bound,
+      );
     }
 
 pub compile_loop_end-returns-clause-lowered : goal.compile_loop_end-returns-clause-lowered
@@ -140,7 +148,7 @@ compile_statement-compile_loop-requires t c =
     let body_is = c.deref-in-ForLoop-4.ensures.value ∙ ap (λ (l : ForLoopNode). l.body.items) c.deref-in-ForLoop-3.ensures in
     let other_is = c.deref-in-ForLoop-6.ensures.value ∙ ap (λ (l : ForLoopNode). l.else_body.items) c.deref-in-ForLoop-5.ensures in
     let tree = loop_is s n target e body other c.requires c.in-ForLoop.is (ap (λ (l : ForLoopNode). l.target) c.deref-in-ForLoop.ensures)
-        (ap (λ (l : ForLoopNode). l.iter) c.deref-in-ForLoop-2.ensures) body_is other_is in
+    (ap (λ (l : ForLoopNode). l.iter) c.deref-in-ForLoop-2.ensures) body_is other_is in
     let runs : IsRunnableStatement true (for_loop (expression_of target) (expression_of e) absent false (statements_in body) (statements_in other)) =
     subst (λ (x : Statement). IsRunnableStatement true x) tree c.requires in (
       omega (arith, loop_deep s n body c.in-ForLoop.is body_is, loop_other_deep s n other c.in-ForLoop.is other_is, c.decreases),
@@ -150,10 +158,10 @@ compile_statement-compile_loop-requires t c =
 pub compile_statement-returns-in-ForLoop-clause-lowered : goal.compile_statement-returns-in-ForLoop-clause-lowered
 compile_statement-returns-in-ForLoop-clause-lowered t c =
     let tree = loop_is c.args.statement.now c.in-ForLoop.n c.deref-in-ForLoop.result.now.target c.deref-in-ForLoop-2.result.now.iter
-        c.deref-in-ForLoop-4.result.now c.deref-in-ForLoop-6.result.now c.requires c.in-ForLoop.is
-        (ap (λ (l : ForLoopNode). l.target) c.deref-in-ForLoop.ensures) (ap (λ (l : ForLoopNode). l.iter) c.deref-in-ForLoop-2.ensures)
-        (c.deref-in-ForLoop-4.ensures.value ∙ ap (λ (l : ForLoopNode). l.body.items) c.deref-in-ForLoop-3.ensures)
-        (c.deref-in-ForLoop-6.ensures.value ∙ ap (λ (l : ForLoopNode). l.else_body.items) c.deref-in-ForLoop-5.ensures) in
+    c.deref-in-ForLoop-4.result.now c.deref-in-ForLoop-6.result.now c.requires c.in-ForLoop.is
+    (ap (λ (l : ForLoopNode). l.target) c.deref-in-ForLoop.ensures) (ap (λ (l : ForLoopNode). l.iter) c.deref-in-ForLoop-2.ensures)
+    (c.deref-in-ForLoop-4.ensures.value ∙ ap (λ (l : ForLoopNode). l.body.items) c.deref-in-ForLoop-3.ensures)
+    (c.deref-in-ForLoop-6.ensures.value ∙ ap (λ (l : ForLoopNode). l.else_body.items) c.deref-in-ForLoop-5.ensures) in
     rw tree c.compile_loop.ensures.lowered
 
 pub compile_statement-compile_with-requires : goal.compile_statement-compile_with-requires
@@ -173,8 +181,8 @@ compile_statement-compile_with-requires t c =
 pub compile_statement-returns-in-WithBlock-clause-lowered : goal.compile_statement-returns-in-WithBlock-clause-lowered
 compile_statement-returns-in-WithBlock-clause-lowered t c =
     let tree = with_is c.args.statement.now c.in-WithBlock.n c.deref-in-WithBlock-2.result.now c.deref-in-WithBlock-4.result.now c.in-WithBlock.is
-        (c.deref-in-WithBlock-2.ensures.value ∙ ap (λ (w : WithBlockNode). w.assignments.items) c.deref-in-WithBlock.ensures)
-        (c.deref-in-WithBlock-4.ensures.value ∙ ap (λ (w : WithBlockNode). w.body.items) c.deref-in-WithBlock-3.ensures) in
+    (c.deref-in-WithBlock-2.ensures.value ∙ ap (λ (w : WithBlockNode). w.assignments.items) c.deref-in-WithBlock.ensures)
+    (c.deref-in-WithBlock-4.ensures.value ∙ ap (λ (w : WithBlockNode). w.body.items) c.deref-in-WithBlock-3.ensures) in
     rw tree c.compile_with.ensures.lowered
 
 pub compile_statement-compile_auto_escape-requires : goal.compile_statement-compile_auto_escape-requires
@@ -194,6 +202,6 @@ compile_statement-compile_auto_escape-requires t c =
 pub compile_statement-returns-in-AutoEscape-clause-lowered : goal.compile_statement-returns-in-AutoEscape-clause-lowered
 compile_statement-returns-in-AutoEscape-clause-lowered t c =
     let tree = escape_is c.args.statement.now c.in-AutoEscape.n c.deref-in-AutoEscape.result.now.enabled c.deref-in-AutoEscape-3.result.now c.in-AutoEscape.is
-        (ap (λ (a : AutoEscapeNode). a.enabled) c.deref-in-AutoEscape.ensures)
-        (c.deref-in-AutoEscape-3.ensures.value ∙ ap (λ (a : AutoEscapeNode). a.body.items) c.deref-in-AutoEscape-2.ensures) in
+    (ap (λ (a : AutoEscapeNode). a.enabled) c.deref-in-AutoEscape.ensures)
+    (c.deref-in-AutoEscape-3.ensures.value ∙ ap (λ (a : AutoEscapeNode). a.body.items) c.deref-in-AutoEscape-2.ensures) in
     rw tree c.compile_auto_escape.ensures.lowered

@@ -1,5 +1,6 @@
 use Rattle.template_tree.specs.StatementView.{statement_of}
-use Rattle.template_compiler_statement_codegen.specs.Listed.{body_in, statements_in}
+use Rattle.template_tree_parts.specs.Listed.{statements_in}
+use Rattle.template_compiler_statement_codegen.specs.Listed.{body_in}
 use Rattle.template_compiler_statement_codegen.proofs.Wholes.{puts_template, tree_runs}
 use Rattle.template_compiler_statement_codegen.proofs.statements.compile_template.Goals as goal
 

@@ -50,3 +50,6 @@ pub perform_on_operands-requires : goal.perform_on_operands-requires
 perform_on_operands-requires c =
     let h = c.in_default in
     operands_left c.args.instruction.now c.requires h.not-Lookup h.not-StoreLocal h.not-PushWith h.not-PopFrame h.not-PushLoop h.not-Iterate h.not-PushDidNotIterate h.not-PopLoopFrame h.not-PushAutoEscape h.not-PopAutoEscape
+
+pub returns-in_default : goal.returns-in_default
+returns-in_default c program = c.perform_on_operands.ensures program c.args.rules.limit c.args.state.now

@@ -9,6 +9,7 @@ use Rattle.template_machine_meaning.specs.Replies.{kinded}
 use Rattle.template_machine_acts.specs.Comings.{behind_it}
 use Rattle.template_machine_operands.specs.Operands.{operands_in}
 use Rattle.template_machine_steps.specs.Performs.{ruled}
+use Rattle.template_machine_steps.proofs.Sparing.{kinded_spares}
 use Rattle.template_machine_steps.proofs.Stepping.{given_out, refusal_out}
 use Rattle.template_machine_steps.proofs.Gathering.{many_refused, pairs_act}
 use Rattle.template_machine_steps.proofs.containers.build_map.Goals as goal
@@ -24,7 +25,7 @@ returns-in_err-built c program limit mode w =
     refusal_out (ruled program limit mode) (codes.build_map c.args.count) _ w _ _ _ _ _
     (λ x u. behind_it x (single u ∷ operands_in c.take_pairs.new.self))
     (kinded (map_made (pairs_in c.in_ok-entries.entries.items)))
-    (λ x at around. pairs_act (ruled program limit mode) x c.args.count pairs.0 _ _ (ap (λ o. taken (c.args.count * 2) o []) at ∙ pairs.1.0) pairs.1.1) c.in_err-built.ensures c.from_residual-in_err-built.ensures.1
+    (λ x at around. pairs_act (ruled program limit mode) x c.args.count pairs.0 _ _ (ap (λ o. taken (c.args.count * 2) o []) at ∙ pairs.1.0) pairs.1.1) (kinded_spares (map_made (pairs_in c.in_ok-entries.entries.items))) c.in_err-built.ensures c.from_residual-in_err-built.ensures.1
 
 pub returns : goal.returns
 returns c program limit mode w =

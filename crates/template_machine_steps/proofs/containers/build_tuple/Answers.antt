@@ -9,6 +9,7 @@ use Rattle.template_machine_acts.specs.Comings.{behind_it}
 use Rattle.template_machine_operands.specs.Operands.{operands_in}
 use Rattle.template_machine_acts.proofs.Laws.{tuple_acts}
 use Rattle.template_machine_steps.specs.Performs.{ruled}
+use Rattle.template_machine_steps.proofs.Sparing.{kinded_spares}
 use Rattle.template_machine_steps.proofs.Stepping.{given_out, refusal_out}
 use Rattle.template_machine_steps.proofs.Gathering.{many_refused}
 use Rattle.template_machine_steps.proofs.containers.build_tuple.Goals as goal
@@ -23,7 +24,7 @@ returns-in_err-tuple c program limit mode w =
     refusal_out (ruled program limit mode) (codes.build_tuple c.args.count) _ w _ _ _ _ _
     (λ x u. behind_it x (single u ∷ operands_in c.take_many.new.self))
     (kinded (tuple_made c.in_ok-items.items.items))
-    (λ x at around. tuple_acts (ruled program limit mode) x c.args.count _ _ (ap (λ o. taken c.args.count o []) at ∙ c.in_ok-items.ensures.taken)) c.in_err-tuple.ensures c.from_residual-in_err-tuple.ensures.1
+    (λ x at around. tuple_acts (ruled program limit mode) x c.args.count _ _ (ap (λ o. taken c.args.count o []) at ∙ c.in_ok-items.ensures.taken)) (kinded_spares (tuple_made c.in_ok-items.items.items)) c.in_err-tuple.ensures c.from_residual-in_err-tuple.ensures.1
 
 pub returns : goal.returns
 returns c program limit mode w =

@@ -6,6 +6,7 @@ use Rattle.template_machine_acts.specs.Comings.{behind_it}
 use Rattle.template_machine_operands.specs.Operands.{operands_in}
 use Rattle.template_machine_acts.proofs.Unpacking.{unpack_acts}
 use Rattle.template_machine_steps.specs.Performs.{ruled}
+use Rattle.template_machine_steps.proofs.Sparing.{unpacked_spares}
 use Rattle.template_machine_steps.proofs.Stepping.{lost_one, refusal_out}
 use Rattle.template_machine_steps.proofs.Gathering.{unpacked_out}
 use Rattle.template_machine_steps.proofs.containers.unpack_list.Goals as goal
@@ -19,7 +20,7 @@ returns-in_err-items c program limit mode w =
     refusal_out (ruled program limit mode) (codes.unpack_list c.args.count) _ w _ _ _ _ _
     (λ x us. behind_it x (map single us ++ operands_in c.take.new.self))
     (unpacked_into c.args.count (unpacked c.in_ok-value.value))
-    (λ x at around. unpack_acts (ruled program limit mode) x c.args.count _ _ (at ∙ c.in_ok-value.ensures.taken)) (inr (sym c.in_err-items.ensures)) c.from_residual-in_err-items.ensures.1
+    (λ x at around. unpack_acts (ruled program limit mode) x c.args.count _ _ (at ∙ c.in_ok-value.ensures.taken)) (unpacked_spares c.args.count (unpacked c.in_ok-value.value)) (inr (sym c.in_err-items.ensures)) c.from_residual-in_err-items.ensures.1
 
 pub returns : goal.returns
 returns c program limit mode w =

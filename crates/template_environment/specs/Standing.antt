@@ -1,0 +1,54 @@
+-- What stands in an environment, and what it means.
+use Rattle.std.specs.Prelude.{◌≡◌, ℕ, List, Option}
+use Rattle.std.specs.Option.{option_map}
+use Rattle.template_values_modes.specs.declared.UndefinedBehavior.{UndefinedBehavior}
+use Rattle.template_compiler_syntax.specs.Syntax.{Syntax}
+use Rattle.template_machine_meaning.specs.Meaning.{Setting}
+use Rattle.template_machine_loop.specs.Programs as units
+use Rattle.template_compiled.specs.Compiled.{Compiled, code_for, standing_of}
+use Rattle.template_compiled.specs.Sources.{Source}
+use Rattle.template_compiled.specs.Standing.{compiled_at}
+use Rattle.template_environment.specs.declared.environment.Environment.{Environment}
+
+-- the source that stands under a name
+abbrev pub source_at : Environment → List ℕ → Option Source
+source_at e name = option_map (λ c. c.source) (compiled_at e.templates name)
+
+-- a text, under the syntax in force
+abbrev pub read_under : Environment → List ℕ → Source
+read_under e text = record { text = text; syntax = e.syntax }
+
+-- the deepest that a render may be
+abbrev pub greatest_limit : ℕ
+greatest_limit = 500
+
+-- what an environment is set to beside its templates
+pub record Settings : Type 0 where
+  pub id : ℕ
+  pub syntax : Syntax
+  pub fuel : Option ℕ
+  pub limit : ℕ
+  pub undefined : UndefinedBehavior
+
+abbrev pub settings_of : Environment → Settings
+settings_of e = record { id = e.id; syntax = e.syntax; fuel = e.fuel; limit = e.recursion_limit; undefined = e.undefined_behavior }
+
+-- nothing that a caller sees has changed
+pub record IsUnchanged (old new : Environment) : Type 0 where
+  pub sources : (name : List ℕ) → source_at new name ≡ source_at old name
+  pub settings : settings_of new ≡ settings_of old
+
+-- the setting that its renders have
+abbrev pub setting_of : Environment → Setting
+setting_of e = record {
+  templates = λ name. option_map standing_of (compiled_at e.templates name);
+  limit = e.recursion_limit;
+  undefined = e.undefined_behavior;
+}
+
+-- the code of what stands, as a machine takes it
+abbrev pub unit_of : Compiled → units.Standing
+unit_of c = record { code = code_for c; escape = c.escape }
+
+abbrev pub units_of : Environment → List ℕ → Option units.Standing
+units_of e name = option_map unit_of (compiled_at e.templates name)

@@ -1,0 +1,8 @@
+//! Environments: the templates that stand, and their renders.
+#![tactic(auto)]
+
+mod environment;
+mod template;
+
+pub use environment::Environment;
+pub use template::{Captured, Template};

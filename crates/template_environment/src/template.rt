@@ -1,0 +1,150 @@
+//! Templates of an environment, and what a render leaves.
+ghost use Rattle.std.specs.Prelude.{◌≡◌, ◌≢◌, ◌+◌, ◌∷◌, [], ℕ, IfOk, Err, option_map};
+ghost use Rattle.template_process.specs.Approximants.{IsFinished};
+ghost use Rattle.template_process.specs.Fuel.{under};
+ghost use Rattle.template_machine_going.specs.Paying.{Paid};
+ghost use Rattle.template_machine_escape.specs.Rule.{IsRuleOf};
+ghost use Rattle.template_machine_renders.specs.Renders.{Renders, leaves};
+
+use crate::environment::Environment;
+use template_compiled::CompiledTemplate;
+use template_machine_ids::StateIds;
+use template_machine_loop::run_code;
+use template_machine_output::Sink;
+use template_machine_state::State;
+use template_values_core::Value;
+use template_values_errors::{Error, ErrorKind};
+use template_values_modes::AutoEscape;
+
+/// A template that stands in an environment.
+#[derive(Drop)]
+pub struct Template<'env, 'source> {
+    pub(crate) environment: &'env Environment<'source>,
+    pub(crate) compiled: &'env CompiledTemplate<'source>,
+}
+
+/// What a render leaves behind.
+#[derive(Drop)]
+pub struct Captured<'env> {
+    id: u64,
+    state: State<'env>,
+    fuel: Option<(u64, u64)>,
+}
+
+impl<'env, 'source> Template<'env, 'source> {
+    ghost use Rattle.template_environment.specs.Views.{fuel_left, fuel_of, fuel_set, id_of, name_of, render_of, source_of, world_of};
+
+    /// The template's name.
+    pub fn name(&self) -> &'source str
+        ensures { result.now ≡ name_of self.now }
+    {
+        self.compiled.name()
+    }
+
+    /// The template's source.
+    pub fn source(&self) -> &'source str
+        ensures { result.now ≡ (source_of self.now).text }
+    {
+        self.compiled.source()
+    }
+
+    /// The escape of the template's name.
+    pub fn initial_auto_escape(&self) -> AutoEscape
+        ensures { IsRuleOf (name_of self.now) result }
+    {
+        self.compiled.initial_auto_escape()
+    }
+
+    /// Renders the template over a context, under the escape of its name and the fuel of its environment, and
+    /// writes the text into a sink as it comes.
+    ///
+    /// # Errors
+    ///
+    /// The fault that the render ends with, as [`ErrorKind::OutOfFuel`]: the sink has then taken the text before
+    /// it. [`ErrorKind::OutOfMemory`] where a growth was refused and [`ErrorKind::WriteFailure`] where the sink
+    /// failed: it has then taken a beginning of the text. [`ErrorKind::InvalidOperation`] where no state id is left:
+    /// then nothing is written.
+    pub fn render_captured_to<S: Sink>(
+        &self,
+        ids: &mut StateIds,
+        context: Value,
+        sink: &mut S,
+    ) -> Result<Captured<'env>, Error>
+        // Its meaning is finished under some bound, and under each where it is, it is what the call does.
+        ensures finished { (n : ℕ) × IsFinished (render_of self.now n context.entry).end }
+        ensures renders { ids.old ≢ u64.MAX → (n : ℕ) → IsFinished (render_of self.now n context.entry).end →
+            Renders result (S.taken sink.old) (S.taken sink.new) (under (fuel_of self.now) (render_of self.now n context.entry)) }
+        ensures remains { IfOk result (λ captured. (n : ℕ) → IsFinished (render_of self.now n context.entry).end →
+            fuel_left captured ≡ leaves (fuel_of self.now) (render_of self.now n context.entry)) }
+        ensures world { IfOk result (λ captured. (n : ℕ) → IsFinished (render_of self.now n context.entry).end →
+            world_of captured ≡ (under (fuel_of self.now) (render_of self.now n context.entry)).after) }
+        ensures given { IfOk result (λ captured. fuel_set captured ≡ fuel_of self.now) }
+        ensures id { IfOk result (λ captured. id_of captured ≡ ids.old) }
+        ensures counted { ids.old ≢ u64.MAX → ids.new ≡ ids.old + 1 }
+        ensures exhausted { ids.old ≡ u64.MAX → (result ≡ Err (ErrorKind.InvalidOperation ∷ [])) × (sink.new ≡ sink.old)
+            × (ids.new ≡ ids.old) }
+    {
+        let id = ids.next()?;
+        let environment = self.environment;
+        let compiled = self.compiled;
+        let code = compiled.instructions();
+        let alloc = environment.allocator();
+        let mut state = State::new(alloc, compiled.initial_auto_escape(), context)?;
+        let fuel = environment.fuel();
+        let mut left = fuel;
+        let mut scratch = String::new(alloc);
+        run_code(
+            alloc,
+            environment.rules(),
+            environment,
+            code,
+            &mut state,
+            &mut left,
+            &mut scratch,
+            sink,
+        )?;
+        Ok(Captured {
+            id,
+            state,
+            fuel: levels(fuel, left),
+        })
+    }
+}
+
+impl<'env> Captured<'env> {
+    ghost use Rattle.template_environment.specs.Views.{fuel_left, fuel_set, id_of, world_of};
+
+    /// The state that the render left.
+    pub fn state(&self) -> &State<'env>
+        ensures { result.now ≡ world_of self.now }
+    {
+        &self.state
+    }
+
+    /// The number of the render.
+    pub fn id(&self) -> u64
+        ensures { result ≡ id_of self.now }
+    {
+        self.id
+    }
+
+    /// What was consumed of the fuel and what remains of it, where one was set.
+    pub fn fuel_levels(&self) -> Option<(u64, u64)>
+        ensures remaining { option_map (λ levels. levels.1) result ≡ fuel_left self.now }
+        ensures sum { option_map (λ levels. levels.0 + levels.1) result ≡ fuel_set self.now }
+    {
+        self.fuel
+    }
+}
+
+// What was consumed of a fuel, and what is left of it.
+fn levels(fuel: Option<u64>, left: Option<u64>) -> Option<(u64, u64)>
+    requires { (price : ℕ) × Paid price fuel left }
+    ensures remaining { option_map (λ levels. levels.1) result ≡ left }
+    ensures sum { option_map (λ levels. levels.0 + levels.1) result ≡ fuel }
+{
+    match (fuel, left) {
+        (Some(fuel), Some(left)) => Some((fuel - left, left)),
+        _ => None,
+    }
+}
