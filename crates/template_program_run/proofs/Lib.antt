@@ -1,3 +1,4 @@
 pub mod Histories
 pub mod MainStands
+pub mod Rendering
 pub mod Counting

@@ -3,6 +3,7 @@ use Rattle.std.specs.Prelude.{◌≡◌, ◌⊎◌, ℕ, List, [], ◌∷◌, ma
 use Rattle.std.specs.Io.KnownBytes.{append_known}
 use Rattle.std.specs.declared.io.Error.{Error}
 use Rattle.clap.specs.Words.{Kinds, Row}
+use Rattle.template_values_modes.specs.declared.UndefinedBehavior.TheVariants.{Lenient}
 use Rattle.template_program_words.specs.Reading.{Reads, parts_of}
 use Rattle.template_program_words.specs.Refusals.{Refuses}
 use Rattle.template_program_words.specs.declared.faults.WordsFault.{WordsFault}
@@ -43,12 +44,16 @@ IsNamed main paths request additions =
     (names_in additions ≡ template_names paths)
     × (string_bytes request.main ≡ unwrap_or main (first_name (names_in additions)))
 
+-- a render may be as deep as any, and undefined values are lenient
+abbrev pub HasDefaults : Request → Type 0
+HasDefaults request = (request.limit ≡ 500) × (request.undefined ≡ Lenient)
+
 -- the request is what the words ask for
 abbrev pub IsAsked : Words → Request → List (List ℕ × List ℕ) → Type 0
-IsAsked (asks.Render read) request additions = (request.command ≡ asked.Render) × (request.fuel ≡ read.fuel)
+IsAsked (asks.Render read) request additions = (request.command ≡ asked.Render) × (request.fuel ≡ read.fuel) × HasDefaults request
     × (definitions_of request ≡ map parts_of read.definitions.items)
     × IsNamed (option_map (λ name. name.now) read.main) (map (λ path. path.now) read.files.items) request additions
-IsAsked (asks.Names read) request additions = (request.command ≡ asked.Names)
+IsAsked (asks.Names read) request additions = (request.command ≡ asked.Names) × HasDefaults request
     × IsNamed (option_map (λ name. name.now) read.main) (map (λ path. path.now) read.files.items) request additions
 
 -- a template holds what stands under its name, where that is told
