@@ -3,7 +3,7 @@
 #![tactic(auto)]
 
 use std::alloc::Global;
-use template_machine_environment::Environment;
+use template_environment::Environment;
 use template_machine_ids::StateIds;
 use template_values_core::Value;
 use template_values_errors::Error;
