@@ -1,13 +1,10 @@
 -- What contracts see of a template to be rendered, and of what a render leaves.
-use Rattle.std.specs.Prelude.{ℕ, ◌+◌, List, Option}
-use Rattle.std.specs.Option.{option_map}
+use Rattle.std.specs.Prelude.{ℕ, List, Option}
 use Rattle.template_values_model.specs.Val.{Val}
 use Rattle.template_process.specs.Trace.{Run}
-use Rattle.template_machine_meaning.specs.Meaning.{Standing, rendered}
 use Rattle.template_machine_meaning.specs.World.{World}
-use Rattle.template_compiled.specs.Compiled.{standing_of}
 use Rattle.template_compiled.specs.Sources.{Source}
-use Rattle.template_environment.specs.Standing.{setting_of}
+use Rattle.template_environment.specs.Renderings.{left_of, rendering, set_of}
 use Rattle.template_environment.specs.declared.environment.Environment.{Environment}
 use Rattle.template_environment.specs.declared.template.Captured.{Captured}
 use Rattle.template_environment.specs.declared.template.Template.{Template}
@@ -28,17 +25,17 @@ fuel_of t = t.environment.now.fuel
 
 -- what its render over a context means, under a bound
 abbrev pub render_of : Template → ℕ → Val → Run World
-render_of t n context = rendered (setting_of t.environment.now) n (standing_of t.compiled.now) context
+render_of t n context = rendering t.environment.now t.compiled.now n context
 
 -- what a render left: the world, the fuel that was set, and what is left of it
 abbrev pub world_of : Captured → World
 world_of captured = captured.state
 
 abbrev pub fuel_set : Captured → Option ℕ
-fuel_set captured = option_map (λ levels. levels.0 + levels.1) captured.fuel
+fuel_set captured = set_of captured.fuel
 
 abbrev pub fuel_left : Captured → Option ℕ
-fuel_left captured = option_map (λ levels. levels.1) captured.fuel
+fuel_left captured = left_of captured.fuel
 
 -- the number of the render
 abbrev pub id_of : Captured → ℕ

@@ -58,11 +58,11 @@ impl<'source> Environment<'source> {
     pub fn new(alloc: Global, ids: &mut StateIds) -> Result<Environment<'source>, Error>
         ensures empty { IfOk result (λ e. (name : List ℕ) → source_at e name ≡ None) }
         ensures settings { IfOk result (λ e. settings_of e ≡ record {
-            id = ids.old;
-            syntax = default_syntax;
-            fuel = None;
-            limit = greatest_limit;
-            undefined = UndefinedBehavior.Lenient;
+          id = ids.old;
+          syntax = default_syntax;
+          fuel = None;
+          limit = greatest_limit;
+          undefined = UndefinedBehavior.Lenient;
         }) }
         ensures had_one { OnOk result (ids.old ≢ u64.MAX) }
         ensures counted { OnOk result (ids.new ≡ ids.old + 1) }

@@ -1,10 +1,13 @@
 //! Templates of an environment, and what a render leaves.
 ghost use Rattle.std.specs.Prelude.{◌≡◌, ◌≢◌, ◌+◌, ◌∷◌, [], ℕ, IfOk, Err, option_map};
+ghost use Rattle.template_values_model.specs.Val.{Val};
 ghost use Rattle.template_process.specs.Approximants.{IsFinished};
 ghost use Rattle.template_process.specs.Fuel.{under};
 ghost use Rattle.template_machine_going.specs.Paying.{Paid};
 ghost use Rattle.template_machine_escape.specs.Rule.{IsRuleOf};
+ghost use Rattle.template_machine_operations.specs.Outcomes.{TellsFailures};
 ghost use Rattle.template_machine_renders.specs.Renders.{Renders, leaves};
+ghost use Rattle.template_environment.specs.Renderings.{left_of, rendering, set_of};
 
 use crate::environment::Environment;
 use template_compiled::CompiledTemplate;
@@ -55,6 +58,14 @@ impl<'env, 'source> Template<'env, 'source> {
         self.compiled.initial_auto_escape()
     }
 
+    /// A law, as the contract of a method that does nothing: each render of the template ends, as its meaning is
+    /// finished under some bound.
+    pub fn ends(&self)
+        ensures { (context : Val) → (n : ℕ) × IsFinished (render_of self.now n context).end }
+    {
+        let _code = self.compiled.instructions();
+    }
+
     /// Renders the template over a context, under the escape of its name and the fuel of its environment, and
     /// writes the text into a sink as it comes.
     ///
@@ -70,14 +81,14 @@ impl<'env, 'source> Template<'env, 'source> {
         context: Value,
         sink: &mut S,
     ) -> Result<Captured<'env>, Error>
-        // Its meaning is finished under some bound, and under each where it is, it is what the call does.
-        ensures finished { (n : ℕ) × IsFinished (render_of self.now n context.entry).end }
-        ensures renders { ids.old ≢ u64.MAX → (n : ℕ) → IsFinished (render_of self.now n context.entry).end →
-            Renders result (S.taken sink.old) (S.taken sink.new) (under (fuel_of self.now) (render_of self.now n context.entry)) }
-        ensures remains { IfOk result (λ captured. (n : ℕ) → IsFinished (render_of self.now n context.entry).end →
-            fuel_left captured ≡ leaves (fuel_of self.now) (render_of self.now n context.entry)) }
-        ensures world { IfOk result (λ captured. (n : ℕ) → IsFinished (render_of self.now n context.entry).end →
-            world_of captured ≡ (under (fuel_of self.now) (render_of self.now n context.entry)).after) }
+        // Under each bound where its meaning is finished, it is what the call does.
+        ensures renders { ids.old ≢ u64.MAX → (n : ℕ) → IsFinished (render_of self.now n context).end →
+            Renders result (S.taken sink.old) (S.taken sink.new) (under (fuel_of self.now) (render_of self.now n context)) }
+        ensures remains { IfOk result (λ captured. (n : ℕ) → IsFinished (render_of self.now n context).end →
+            fuel_left captured ≡ leaves (fuel_of self.now) (render_of self.now n context)) }
+        ensures world { IfOk result (λ captured. (n : ℕ) → IsFinished (render_of self.now n context).end →
+            world_of captured ≡ (under (fuel_of self.now) (render_of self.now n context)).after) }
+        ensures failures { ids.old ≢ u64.MAX → TellsFailures result (S.failures sink.old) (S.failures sink.new) }
         ensures given { IfOk result (λ captured. fuel_set captured ≡ fuel_of self.now) }
         ensures id { IfOk result (λ captured. id_of captured ≡ ids.old) }
         ensures counted { ids.old ≢ u64.MAX → ids.new ≡ ids.old + 1 }
@@ -85,30 +96,43 @@ impl<'env, 'source> Template<'env, 'source> {
             × (ids.new ≡ ids.old) }
     {
         let id = ids.next()?;
-        let environment = self.environment;
-        let compiled = self.compiled;
-        let code = compiled.instructions();
-        let alloc = environment.allocator();
-        let mut state = State::new(alloc, compiled.initial_auto_escape(), context)?;
-        let fuel = environment.fuel();
-        let mut left = fuel;
-        let mut scratch = String::new(alloc);
-        run_code(
-            alloc,
-            environment.rules(),
-            environment,
-            code,
-            &mut state,
-            &mut left,
-            &mut scratch,
-            sink,
-        )?;
-        Ok(Captured {
-            id,
-            state,
-            fuel: levels(fuel, left),
-        })
+        let (state, fuel) = run(self.environment, self.compiled, context, sink)?;
+        Ok(Captured { id, state, fuel })
     }
+}
+
+// Runs the code of a template over a context, and tells the state that it left and what it took of its fuel.
+fn run<'env, 'source, S: Sink>(
+    environment: &'env Environment<'source>,
+    compiled: &'env CompiledTemplate<'source>,
+    context: Value,
+    sink: &mut S,
+) -> Result<(State<'env>, Option<(u64, u64)>), Error>
+    ensures renders { (n : ℕ) → IsFinished (rendering environment.now compiled.now n context).end →
+        Renders result (S.taken sink.old) (S.taken sink.new) (under environment.now.fuel (rendering environment.now compiled.now n context)) }
+    ensures left { IfOk result (λ r. (n : ℕ) → IsFinished (rendering environment.now compiled.now n context).end →
+        left_of r.1 ≡ leaves environment.now.fuel (rendering environment.now compiled.now n context)) }
+    ensures world { IfOk result (λ r. (n : ℕ) → IsFinished (rendering environment.now compiled.now n context).end →
+        r.0 ≡ (under environment.now.fuel (rendering environment.now compiled.now n context)).after) }
+    ensures failures { TellsFailures result (S.failures sink.old) (S.failures sink.new) }
+    ensures set { IfOk result (λ r. set_of r.1 ≡ environment.now.fuel) }
+{
+    let alloc = environment.allocator();
+    let mut state: State<'env> = State::new(alloc, compiled.initial_auto_escape(), context)?;
+    let fuel = environment.fuel();
+    let mut left = fuel;
+    let mut scratch = String::new(alloc);
+    run_code(
+        alloc,
+        environment.rules(),
+        environment,
+        compiled.instructions(),
+        &mut state,
+        &mut left,
+        &mut scratch,
+        sink,
+    )?;
+    Ok((state, levels(fuel, left)))
 }
 
 impl<'env> Captured<'env> {

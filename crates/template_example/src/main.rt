@@ -1,5 +1,5 @@
-//! The engine as a library: an environment with two templates, a context from Rust values and one from
-//! JSON, renders into a `String`, and a refusal.
+//! The engine as a library: an environment with templates, a context from Rust values and one from JSON,
+//! renders into a `String`, a page with a loop and an include among them, and a refusal.
 #![tactic(auto)]
 
 use std::alloc::Global;
@@ -9,20 +9,24 @@ use template_values_core::Value;
 use template_values_errors::Error;
 use template_values_json::context_from_json;
 
+const PAGE: &str = "{% include 'head.html' %}{% for item in items %}<p>{{ item }}</p>{% else %}<p>-</p>{% endfor %}";
+
 fn main(rt: HostRuntime) -> anyhow::Result<()> {
     let alloc = rt.alloc();
     let mut ids = StateIds::new(0);
     let mut environment = Environment::new(alloc, &mut ids)?;
     environment.add_template("hello.txt", "Hello {{ name }}!")?;
-    environment.add_template("items.html", "<p>{{ items }}</p>")?;
+    environment.add_template("head.html", "<h1>{{ title }}</h1>")?;
+    environment.add_template("page.html", PAGE)?;
 
     let context = hello_context(alloc)?;
     let hello = render(alloc, &environment, &mut ids, "hello.txt", context)?;
     println!(rt; "{hello}")?;
 
-    let context = context_from_json(alloc, b"{\"items\": [1, \"<b>\", null]}")?;
-    let items = render(alloc, &environment, &mut ids, "items.html", context)?;
-    println!(rt; "{items}")?;
+    let json = b"{\"title\": \"Q & A\", \"items\": [1, \"<b>\", null]}";
+    let context = context_from_json(alloc, json)?;
+    let page = render(alloc, &environment, &mut ids, "page.html", context)?;
+    println!(rt; "{page}")?;
 
     match environment.add_template("broken.txt", "Hello {{ name") {
         Ok(()) => println!(rt; "accepted")?,
