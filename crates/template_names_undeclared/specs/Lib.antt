@@ -1,0 +1,3 @@
+pub mod Goes
+pub mod Parts
+pub mod Stores

@@ -1,0 +1,6 @@
+//! The names that a template uses.
+#![tactic(auto)]
+
+mod expressions;
+mod state;
+mod targets;
