@@ -1,3 +1,4 @@
+pub mod Choices
 pub mod Goes
 pub mod Parts
 pub mod Stores

@@ -3,4 +3,5 @@
 
 mod expressions;
 mod state;
+mod statements;
 mod targets;

@@ -168,5 +168,7 @@ fn use_last<'source>(
     if given == 0 {
         return Ok(());
     }
-    use_expression(names, &defaults[given - 1])
+    let last = given - 1;
+    use_expression(names, &defaults[last])?;
+    Ok(())
 }
