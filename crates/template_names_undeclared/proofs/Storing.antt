@@ -145,6 +145,7 @@ pub arguments_end : {G : Names → Type 0} (arguments : Items Expr) (defaults : 
     ((c : Names) → Goes (λ q. is_used_by_arguments q (backwards (take at arguments)) defaults false)
     (λ q. is_stored_in_one q (backwards (take at arguments))) a c → G c) → G a
 arguments_end arguments defaults at a past ends =
-    let tree : backwards (take at arguments) ≡ no_expressions = ap (λ (n : ℕ). backwards (take n arguments)) (omega (arith, past)) in
+    let none : at ≡ 0 = omega (arith, past) in
+    let tree : backwards (take at arguments) ≡ no_expressions = ap (λ (n : ℕ). backwards (take n arguments)) none in
     ends a (goes_as (λ q. ap (λ (es : Expressions). is_used_by_arguments q es defaults false) (sym tree))
     (λ q. ap (λ (es : Expressions). is_stored_in_one q es) (sym tree)) (goes_nowhere a))

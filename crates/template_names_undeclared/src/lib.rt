@@ -5,3 +5,6 @@ mod expressions;
 mod state;
 mod statements;
 mod targets;
+mod undeclared;
+
+pub use undeclared::find_undeclared;

@@ -39,6 +39,14 @@ impl<'source> Names<'source> {
         self.here.contains(name)
     }
 
+    // The names that are found.
+    pub(crate) fn into_found(self) -> BTreeSet<&'source str>
+        ensures { result ≡ self.entry.found }
+    {
+        let Names { found, .. } = self;
+        found
+    }
+
     // The name is used.
     pub(crate) fn find(&mut self, name: &'source str) -> Result<(), AllocError>
         ensures { OnOk result (Goes (just name.now) nothing self.old self.new) }

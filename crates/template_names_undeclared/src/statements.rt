@@ -5,7 +5,7 @@ ghost use Rattle.template_tree.specs.StatementView.{statement_of};
 ghost use Rattle.template_tree_parts.specs.Listed.{statements_in};
 ghost use Rattle.template_names.specs.Names.{is_stored_by, is_used_by, is_used_by_macro, is_used_in};
 ghost use Rattle.template_names_undeclared.specs.Goes.{Goes, nothing};
-ghost use Rattle.template_names_undeclared.specs.Choices.{IsAlone, choice_of};
+ghost use Rattle.template_names_undeclared.specs.Choices.{IsAlone, choice_of, else_uses, test_uses};
 ghost use Rattle.template_names_undeclared.specs.Stores.{is_stored_among};
 
 use crate::expressions::{use_arguments, use_expression, use_optional};
@@ -56,15 +56,39 @@ fn use_chain<'source>(
 {
     let mut choice = Some(first);
     while let Some(at) = choice {
-        use_expression(names, &at.node.expr)?;
-        use_region(alloc, names, &at.node.true_body)?;
+        use_choice(alloc, names, at)?;
         let next = elif(&at.node.false_body);
         if next.is_none() {
-            use_region(alloc, names, &at.node.false_body)?;
+            use_else(alloc, names, at)?;
             return Ok(());
         }
         choice = next;
     }
+    Ok(())
+}
+
+#[cycle(statement)]
+fn use_choice<'source>(
+    alloc: Global,
+    names: &mut Names<'source>,
+    choice: &Spanned<Box<IfCond<'source>>>,
+) -> Result<(), AllocError>
+    ensures { OnOk result (Goes (λ name. test_uses name (choice_of choice.now)) nothing names.old names.new) }
+{
+    use_expression(names, &choice.node.expr)?;
+    use_region(alloc, names, &choice.node.true_body)?;
+    Ok(())
+}
+
+#[cycle(statement)]
+fn use_else<'source>(
+    alloc: Global,
+    names: &mut Names<'source>,
+    choice: &Spanned<Box<IfCond<'source>>>,
+) -> Result<(), AllocError>
+    ensures { OnOk result (Goes (λ name. else_uses name (choice_of choice.now)) nothing names.old names.new) }
+{
+    use_region(alloc, names, &choice.node.false_body)?;
     Ok(())
 }
 
@@ -81,14 +105,14 @@ fn elif<'a, 'source>(body: &'a [Stmt<'source>]) -> Option<&'a Spanned<Box<IfCond
     }
 }
 
-// The arguments and the body of a macro, in a region of its own.
+// The body of a macro behind its arguments, in a region of its own.
 #[cycle(statement)]
 fn use_macro<'source>(
     alloc: Global,
     names: &mut Names<'source>,
+    body: &[Stmt<'source>],
     arguments: &[Expr<'source>],
     defaults: &[Expr<'source>],
-    body: &[Stmt<'source>],
 ) -> Result<(), AllocError>
     ensures { OnOk result (Goes (λ name. is_used_by_macro name (expressions_in arguments.now) (expressions_in defaults.now)
         (is_used_in name (statements_in body.now))) nothing names.old names.new) }
@@ -101,8 +125,9 @@ fn use_macro<'source>(
     Ok(())
 }
 
+// A statement in the region where it stands.
 #[cycle(statement)]
-fn use_statement<'source>(
+pub(crate) fn use_statement<'source>(
     alloc: Global,
     names: &mut Names<'source>,
     statement: &Stmt<'source>,
@@ -162,7 +187,7 @@ fn use_statement<'source>(
         Stmt::Include(n) => use_expression(names, &n.node.name)?,
         Stmt::Macro(n) => {
             let node = &n.node;
-            use_macro(alloc, names, &node.args, &node.defaults, &node.body)?;
+            use_macro(alloc, names, &node.body, &node.args, &node.defaults)?;
             names.store(node.name)?;
         }
         Stmt::CallBlock(n) => {
@@ -173,9 +198,9 @@ fn use_statement<'source>(
             use_macro(
                 alloc,
                 names,
+                &declared.body,
                 &declared.args,
                 &declared.defaults,
-                &declared.body,
             )?;
         }
         Stmt::Continue(_) => {}

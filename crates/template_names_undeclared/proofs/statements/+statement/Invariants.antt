@@ -11,19 +11,25 @@ use Rattle.template_names_undeclared.specs.Stores.{is_stored_among}
 use Rattle.template_names_undeclared.proofs.statements.+statement.Given as goal
 
 abbrev pub decreases-use_statement : goal.decreases-use_statement
-decreases-use_statement l = 4 * size-Stmt l.statement.now + 3
+decreases-use_statement l = 6 * size-Stmt l.statement.now + 5
 
 abbrev pub decreases-use_chain : goal.decreases-use_chain
-decreases-use_chain l = 4 * size-Stmt (IfCond l.first.now) + 2
+decreases-use_chain l = 6 * size-Stmt (IfCond l.first.now) + 4
+
+abbrev pub decreases-use_choice : goal.decreases-use_choice
+decreases-use_choice l = 6 * size-Stmt (IfCond l.choice.now) + 3
+
+abbrev pub decreases-use_else : goal.decreases-use_else
+decreases-use_else l = 6 * size-Stmt (IfCond l.choice.now) + 3
 
 abbrev pub decreases-use_statements : goal.decreases-use_statements
-decreases-use_statements l = 4 * goal.size-use_statements l + 4
+decreases-use_statements l = 6 * goal.size-use_statements l + 6
 
 abbrev pub decreases-use_region : goal.decreases-use_region
-decreases-use_region l = 4 * goal.size-use_region l + 5
+decreases-use_region l = 6 * goal.size-use_region l + 7
 
 abbrev pub decreases-use_macro : goal.decreases-use_macro
-decreases-use_macro l = 4 * goal.size-use_macro l + 5
+decreases-use_macro l = 6 * goal.size-use_macro l + 7
 
 abbrev pub invariant-use_statements-loop-statement : goal.invariant-use_statements-loop-statement
 invariant-use_statements-loop-statement l = (c : Names) →
