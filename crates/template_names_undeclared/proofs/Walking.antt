@@ -1,5 +1,5 @@
 -- What statements use and store, by their parts.
-use Rattle.std.proofs.Common.{◌≡◌, ◌≤◌, ◌+◌, ℕ, Bool, true, false, not, ◌&&◌, ◌||◌, List as Items, [], ◌∷◌, codes, bytes_eq, Option, None, Some, Bor, Box, Global, rules, arith, refl, sym, ap, ◌∙◌}
+use Rattle.std.proofs.Common.{◌≡◌, ◌≤◌, ◌<◌, ◌+◌, ℕ, length, get_or, Bool, true, false, not, ◌&&◌, ◌||◌, List as Items, [], ◌∷◌, codes, bytes_eq, Option, None, Some, Bor, Box, Global, rules, arith, refl, sym, ap, ◌∙◌}
 use Rattle.std.specs.Prelude.{is_none, IfSome}
 use Rattle.std.proofs.lemmas.Slice.Eq.{bytes_eq-Decides}
 use Rattle.template_tree.specs.Tree.{Expressions, Statement, Statements, if_condition}
@@ -10,7 +10,7 @@ use Rattle.template_tree.specs.declared.statements.IfCond.{IfCond as IfCondNode}
 use Rattle.template_tree.specs.declared.statements.Stmt.{Stmt, size-Stmt, IfCond, the_lemmas}
 use Rattle.template_tree_parts.specs.Listed.{statements_in}
 use Rattle.template_tree_parts.proofs.Trees.{if_tree}
-use Rattle.template_names.specs.Names.{is_stored_in_one, is_used_by, is_used_by_arguments, is_used_by_macro, is_used_in, stands_in}
+use Rattle.template_names.specs.Names.{is_stored_by, is_stored_in_one, is_used_by, is_used_by_arguments, is_used_by_macro, is_used_in, stands_in}
 use Rattle.template_names_undeclared.specs.declared.state.Names.{Names}
 use Rattle.template_names_undeclared.specs.Choices.{IsAlone, chain_deep, chain_uses, choice_of, else_uses, test_uses}
 use Rattle.template_names_undeclared.specs.Goes.{Goes, just, nothing}
@@ -69,7 +69,7 @@ alone_uses : (q : Items ℕ) (n : Spanned (Box IfCondNode Global)) (body : Items
     chain_uses next q ≡ else_uses q (choice_of n)
 alone_uses q n body None read alone some = cc
 alone_uses q n body (Some m) read alone some =
-    sym (ap (λ b. is_used_by q (choice_of m.now) || b) (and_false _) ∙ or_false (is_used_by q (choice_of m.now))) ∙
+    sym (ap (λ b. is_used_by q (choice_of m.now) || b) (and_false (not (is_stored_by q (choice_of m.now)))) ∙ or_false (is_used_by q (choice_of m.now))) ∙
     ap (λ (ss : Items Stmt). is_used_in q (statements_in ss)) (sym alone ∙ read) ∙ else_is q n
 
 pub chain_ends : {G : Names → Type 0} (at : Bor (Spanned (Box IfCondNode Global))) (body : Items Stmt) (old next : Option (Bor (Spanned (Box IfCondNode Global))))
@@ -91,10 +91,30 @@ chain_end at old a b c is ends step rest =
     (λ q. if_uses q at.now ∙ ap (λ (o : Option (Bor (Spanned (Box IfCondNode Global)))). chain_uses o q) (sym is))
     (uses_then a b c step rest))
 
+body_below : (n : Spanned (Box IfCondNode Global)) (i : ℕ) (d : Stmt) → i < length n.node.value.false_body.items
+    → size-Stmt (get_or n.node.value.false_body.items i d) < size-Stmt (IfCond n)
+body_below n i d within = search (rules, the_lemmas)
+
 else_below : (n m : Spanned (Box IfCondNode Global)) → n.node.value.false_body.items ≡ IfCond m ∷ [] → size-Stmt (IfCond m) ≤ size-Stmt (IfCond n)
-else_below n m alone = ?
+else_below n m alone =
+    let items = n.node.value.false_body.items in
+    let one : length items ≡ 1 = ap (λ (ss : Items Stmt). length ss) alone in
+    let less = body_below n 0 (IfCond m) (omega (arith, one)) in
+    let same : size-Stmt (get_or items 0 (IfCond m)) ≡ size-Stmt (IfCond m) = ap (λ (ss : Items Stmt). size-Stmt (get_or ss 0 (IfCond m))) alone in
+    omega (arith, less, same)
 
 pub chain_within : (n : Spanned (Box IfCondNode Global)) (body : Items Stmt) (next : Option (Bor (Spanned (Box IfCondNode Global)))) (k : ℕ) →
     body ≡ n.node.value.false_body.items → IfSome next (λ choice. IsAlone choice.now body) → size-Stmt (IfCond n) ≤ k → chain_deep next ≤ k + 1
 chain_within n body None k read alone within = omega arith
 chain_within n body (Some m) k read alone within = let below = else_below n m.now (sym read ∙ alone) in omega (arith, below, within)
+
+-- a loop
+looped : (e t s f l b o : Bool) → ((e || (t || (not s && (f || (not l && b))))) || o) ≡ (((e || t) || (not s && (f || (not l && b)))) || o)
+looped true t s f l b o = refl
+looped false t s f l b o = refl
+
+pub loop_uses : (q : Items ℕ) (e t s f b o : Bool) →
+    ((e || (t || (not s && (f || (not (just (codes "loop") q) && b))))) || o) ≡ (e || t || not s && (f || not (bytes_eq q (codes "loop")) && b) || o)
+loop_uses q e t s f b o =
+    looped e t s f (just (codes "loop") q) b o ∙
+    ap (λ l. ((e || t) || (not s && (f || (not l && b)))) || o) (turned (codes "loop") q)
