@@ -1,0 +1,6 @@
+pub mod Bodies
+pub mod Laws
+pub mod Nodes
+pub mod Sets
+pub mod Storing
+pub mod Walking

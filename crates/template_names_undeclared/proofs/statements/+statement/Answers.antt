@@ -1,0 +1,111 @@
+use Rattle.std.proofs.Common.{◌≡◌, ◌<◌, ◌≤◌, ◌+◌, ℕ, length, List as Items, Option, Bor, Box, Global, arith, refl, sym, ap, ◌∙◌}
+use Rattle.std.specs.Prelude.{false, is_none}
+use Rattle.template_tree.specs.View.{expression_of, expressions_in, optional_in}
+use Rattle.template_tree.specs.StatementView.{assignments_in, imports_in, statement_of}
+use Rattle.template_tree.specs.declared.span.Spanned.{Spanned}
+use Rattle.template_tree.specs.declared.statements.IfCond.{IfCond as IfCondNode}
+use Rattle.template_tree.specs.declared.statements.Stmt.{Stmt, size-Stmt, IfCond}
+use Rattle.template_tree.specs.Tree.{template, for_loop}
+use Rattle.template_tree_parts.specs.Listed.{statements_in}
+use Rattle.template_tree_parts.proofs.Trees.{whole_tree, for_tree}
+use Rattle.template_tree.specs.declared.statements.ForLoop.{ForLoop as ForLoopNode}
+use Rattle.template_names_undeclared.proofs.Bodies.{goes_by}
+use Rattle.template_names.specs.Names.{is_stored_by, is_stored_in, is_used_by, is_used_by_target, is_used_in, stands_if_given, stands_in}
+use Rattle.template_names_undeclared.specs.Choices.{chain_deep, chain_uses}
+use Rattle.template_names_undeclared.specs.Stores.{is_stored_among}
+use Rattle.template_names_undeclared.proofs.Laws.{goes_as, goes_end, goes_inside, goes_item, goes_nowhere, goes_then, uses_as, uses_then}
+use Rattle.template_names_undeclared.proofs.Walking.{loop_uses, chain_end, chain_ends, chain_within, else_is, macro_uses, test_is}
+use Rattle.template_names_undeclared.proofs.statements.+statement.Goals as goal
+
+pub use_statements-loop-statement-preserved : goal.use_statements-loop-statement-preserved
+use_statements-loop-statement-preserved t c =
+    goes_item (λ (s : Stmt) name. is_used_by name (statement_of s)) (λ (s : Stmt) name. is_stored_by name (statement_of s))
+    (λ (ss : Items Stmt) name. is_used_in name (statements_in ss)) (λ (ss : Items Stmt) name. is_stored_among name (statements_in ss))
+    (λ s ss q. refl) (λ s ss q. refl)
+    c.args.body.now c.loop-statement.statement-index c.statement-item.result c.loop-statement.names c.use_statement.new.names (omega arith)
+    c.statement-item.is c.loop-statement.invariant c.in_ok-use_statement.ensures
+
+pub use_statements-returns : goal.use_statements-returns
+use_statements-returns t c =
+    goes_end (λ (ss : Items Stmt) name. is_used_in name (statements_in ss)) (λ (ss : Items Stmt) name. is_stored_among name (statements_in ss))
+    (λ q. refl) (λ q. refl) c.args.body.now c.loop-statement.statement-index c.loop-statement.names c.loop-statement-test.false c.loop-statement.invariant
+
+pub use_region-returns : goal.use_region-returns
+use_region-returns t c =
+    goes_inside c.args.names.now c.open.new.self c.use_statements.new.names c.close.new.self c.in_ok-open.ensures c.in_ok-use_statements.ensures c.close.ensures
+
+pub use_macro-returns : goal.use_macro-returns
+use_macro-returns t c =
+    uses_as (λ q. macro_uses q c.args.arguments.now c.args.defaults.now (is_used_in q (statements_in c.args.body.now)))
+    (goes_inside c.args.names.now c.open.new.self c.use_statements.new.names c.close.new.self c.in_ok-open.ensures
+    (goes_then c.open.new.self c.store.new.self c.use_statements.new.names
+    (goes_then c.open.new.self c.bind_arguments.new.names c.store.new.self c.in_ok-bind_arguments.ensures c.in_ok-store.ensures)
+    c.in_ok-use_statements.ensures) c.close.ensures)
+
+pub use_chain-returns-then-is_none : goal.use_chain-returns-then-is_none
+use_chain-returns-then-is_none t c =
+    chain_end c.in-Some.at c.loop-choice.choice c.loop-choice.names c.use_choice.new.names c.use_else.new.names c.in-Some.is c.loop-choice.invariant.ends
+    c.in_ok-use_choice.ensures c.in_ok-use_else.ensures
+
+pub use_chain-loop-choice-preserved : goal.use_chain-loop-choice-preserved
+use_chain-loop-choice-preserved t c =
+    let at = c.in-Some.at in
+    let body = c.deref-in-Some.result.now in
+    let read = c.deref-in-Some.ensures.value ∙ ap (λ (x : IfCondNode). x.false_body.items) c.deref.ensures in
+    let some : is_none c.elif-next.result ≡ false = grind (arith, c.is_none.ensures, c.if-is_none.false) in
+    let deep : chain_deep c.loop-choice.choice ≡ size-Stmt (IfCond at.now) + 1 =
+    ap (λ (o : Option (Bor (Spanned (Box IfCondNode Global)))). chain_deep o) c.in-Some.is in
+    let inside : chain_deep c.loop-choice.choice ≤ size-Stmt (IfCond c.args.first.now) + 1 = c.loop-choice.invariant.deep in
+    record {
+      ends = chain_ends at body c.loop-choice.choice c.elif-next.result c.loop-choice.names c.use_choice.new.names c.in-Some.is read c.elif-next.ensures some
+          c.loop-choice.invariant.ends c.in_ok-use_choice.ensures;
+      deep = chain_within at.now body c.elif-next.result (size-Stmt (IfCond c.args.first.now)) read c.elif-next.ensures (omega (arith, deep, inside));
+    }
+
+pub use_chain-returns : goal.use_chain-returns
+use_chain-returns t c =
+    c.loop-choice.invariant.ends c.loop-choice.names
+    (uses_as (λ q. ap (λ (o : Option (Bor (Spanned (Box IfCondNode Global)))). chain_uses o q) (sym c.in_default.is)) (goes_nowhere c.loop-choice.names))
+
+pub use_choice-returns : goal.use_choice-returns
+use_choice-returns t c =
+    let test = uses_as (λ q. ap (λ (x : IfCondNode). stands_in q (expression_of x.expr)) c.deref.ensures) c.in_ok-use_expression.ensures in
+    let read = c.deref-3.ensures.value ∙ ap (λ (x : IfCondNode). x.true_body.items) c.deref-2.ensures in
+    let body = uses_as (λ q. ap (λ (ss : Items Stmt). is_used_in q (statements_in ss)) read) c.in_ok-use_region.ensures in
+    uses_as (λ q. test_is q c.args.choice.now) (uses_then c.args.names.now c.use_expression.new.names c.use_region.new.names test body)
+
+pub use_else-returns : goal.use_else-returns
+use_else-returns t c =
+    let read = c.deref-2.ensures.value ∙ ap (λ (x : IfCondNode). x.false_body.items) c.deref.ensures in
+    uses_as (λ q. ap (λ (ss : Items Stmt). is_used_in q (statements_in ss)) read ∙ else_is q c.args.choice.now) c.in_ok-use_region.ensures
+
+pub use_statement-returns-in_ok-use_region-in-Template : goal.use_statement-returns-in_ok-use_region-in-Template
+use_statement-returns-in_ok-use_region-in-Template t c =
+    let tree = ap (λ (x : Stmt). statement_of x) c.in-Template.is ∙ whole_tree c.in-Template.n in
+    goes_by c.args.statement.now (template (statements_in c.in-Template.n.node.children.items)) tree
+    (uses_as (λ q. ap (λ (ss : Items Stmt). is_used_in q (statements_in ss)) c.deref.ensures.value) c.in_ok-use_region-in-Template.ensures)
+
+pub use_statement-returns-in_ok-use_region-in-ForLoop : goal.use_statement-returns-in_ok-use_region-in-ForLoop
+use_statement-returns-in_ok-use_region-in-ForLoop t c =
+    let n = c.in-ForLoop.n in
+    let v = n.node.value in
+    let tree = ap (λ (x : Stmt). statement_of x) c.in-ForLoop.is ∙ for_tree n in
+    let iter = uses_as (λ q. ap (λ (x : ForLoopNode). stands_in q (expression_of x.iter)) c.deref-in-ForLoop.ensures) c.in_ok-use_expression-in-ForLoop.ensures in
+    let target = goes_as (λ q. ap (λ (x : ForLoopNode). is_used_by_target q (expression_of x.target)) c.deref-in-ForLoop-2.ensures)
+    (λ q. ap (λ (x : ForLoopNode). is_stored_in q (expression_of x.target)) c.deref-in-ForLoop-2.ensures) c.in_ok-assign_target-in-ForLoop.ensures in
+    let filter = uses_as (λ q. ap (λ (x : ForLoopNode). stands_if_given q (optional_in x.filter_expr)) c.deref-in-ForLoop-3.ensures) c.in_ok-use_optional-in-ForLoop.ensures in
+    let read = c.deref-in-ForLoop-5.ensures.value ∙ ap (λ (x : ForLoopNode). x.body.items) c.deref-in-ForLoop-4.ensures in
+    let body = goes_as (λ q. ap (λ (ss : Items Stmt). is_used_in q (statements_in ss)) read) (λ q. ap (λ (ss : Items Stmt). is_stored_among q (statements_in ss)) read)
+    c.in_ok-use_statements-in-ForLoop.ensures in
+    let other = c.deref-in-ForLoop-7.ensures.value ∙ ap (λ (x : ForLoopNode). x.else_body.items) c.deref-in-ForLoop-6.ensures in
+    let otherwise = uses_as (λ q. ap (λ (ss : Items Stmt). is_used_in q (statements_in ss)) other) c.in_ok-use_region-in-ForLoop.ensures in
+    let inside = goes_then c.open.new.self c.assign_target.new.names c.use_statements.new.names target
+    (goes_then c.assign_target.new.names c.use_optional.new.names c.use_statements.new.names filter
+    (goes_then c.use_optional.new.names c.store.new.self c.use_statements.new.names c.in_ok-store-in-ForLoop.ensures body)) in
+    let looped = goes_inside c.use_expression-in-ForLoop.new.names c.open.new.self c.use_statements.new.names c.close.new.self c.in_ok-open-in-ForLoop.ensures inside c.close.ensures in
+    goes_by c.args.statement.now
+    (for_loop (expression_of v.target) (expression_of v.iter) (optional_in v.filter_expr) v.recursive (statements_in v.body.items) (statements_in v.else_body.items)) tree
+    (uses_as (λ q. loop_uses q (stands_in q (expression_of v.iter)) (is_used_by_target q (expression_of v.target)) (is_stored_in q (expression_of v.target))
+    (stands_if_given q (optional_in v.filter_expr)) (is_used_in q (statements_in v.body.items)) (is_used_in q (statements_in v.else_body.items)))
+    (uses_then c.args.names.now c.close.new.self c.use_region-in-ForLoop.new.names
+    (uses_then c.args.names.now c.use_expression-in-ForLoop.new.names c.close.new.self iter looped) otherwise))
