@@ -4,3 +4,4 @@ pub mod Nodes
 pub mod Sets
 pub mod Storing
 pub mod Walking
+pub mod Whole

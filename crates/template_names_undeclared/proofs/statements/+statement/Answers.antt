@@ -5,12 +5,22 @@ use Rattle.template_tree.specs.StatementView.{assignments_in, imports_in, statem
 use Rattle.template_tree.specs.declared.span.Spanned.{Spanned}
 use Rattle.template_tree.specs.declared.statements.IfCond.{IfCond as IfCondNode}
 use Rattle.template_tree.specs.declared.statements.Stmt.{Stmt, size-Stmt, IfCond}
-use Rattle.template_tree.specs.Tree.{template, for_loop}
+use Rattle.template_tree.specs.Tree.{template, for_loop, with_block, set, set_block, auto_escape, filter_block, block, import, from_import, macro, call_block, do_call}
 use Rattle.template_tree_parts.specs.Listed.{statements_in}
-use Rattle.template_tree_parts.proofs.Trees.{whole_tree, for_tree}
+use Rattle.template_tree_parts.proofs.Trees.{whole_tree, for_tree, with_tree, escape_tree}
+use Rattle.template_tree.specs.declared.statements.AutoEscape.{AutoEscape as AutoEscapeNode}
+use Rattle.template_tree.specs.declared.statements.Block.{Block as BlockNode}
+use Rattle.template_tree.specs.declared.statements.CallBlock.{CallBlock as CallBlockNode, out-CallBlock}
+use Rattle.template_tree.specs.declared.statements.FilterBlock.{FilterBlock as FilterBlockNode}
 use Rattle.template_tree.specs.declared.statements.ForLoop.{ForLoop as ForLoopNode}
-use Rattle.template_names_undeclared.proofs.Bodies.{goes_by}
-use Rattle.template_names.specs.Names.{is_stored_by, is_stored_in, is_used_by, is_used_by_target, is_used_in, stands_if_given, stands_in}
+use Rattle.template_tree.specs.declared.statements.FromImport.{FromImport as FromImportNode}
+use Rattle.template_tree.specs.declared.statements.Import.{Import as ImportNode}
+use Rattle.template_tree.specs.declared.statements.Macro.{Macro as MacroNode}
+use Rattle.template_tree.specs.declared.statements.Set.{Set as SetNode}
+use Rattle.template_tree.specs.declared.statements.SetBlock.{SetBlock as SetBlockNode}
+use Rattle.template_tree.specs.declared.statements.WithBlock.{WithBlock as WithBlockNode}
+use Rattle.template_names_undeclared.proofs.Bodies.{goes_by, set_block_tree, filter_block_tree, block_tree, macro_tree, call_tree}
+use Rattle.template_names.specs.Names.{is_imported, is_stored_by, is_stored_in, is_used_by, is_used_by_macro, is_used_by_target, is_used_from, is_used_in, stands_if_given, stands_in, stands_in_arguments}
 use Rattle.template_names_undeclared.specs.Choices.{chain_deep, chain_uses}
 use Rattle.template_names_undeclared.specs.Stores.{is_stored_among}
 use Rattle.template_names_undeclared.proofs.Laws.{goes_as, goes_end, goes_inside, goes_item, goes_nowhere, goes_then, uses_as, uses_then}
