@@ -3,6 +3,7 @@ use Rattle.std.proofs.Common.{◌≡◌, ℕ, List as Items, Box, Global, rules,
 use Rattle.template_tree.specs.Tree.{Statement, set_block, filter_block, block, macro, call_block}
 use Rattle.template_tree.specs.View.{expression_of, expressions_in, arguments_in, optional_in}
 use Rattle.template_tree.specs.StatementView.{statement_of}
+use Rattle.template_tree.specs.declared.expressions.Expr.{Expr}
 use Rattle.template_tree.specs.declared.span.Spanned.{Spanned}
 use Rattle.template_tree.specs.declared.statements.Block.{Block as BlockNode}
 use Rattle.template_tree.specs.declared.statements.CallBlock.{CallBlock, CallBlock' as called, out-CallBlock}
@@ -12,7 +13,7 @@ use Rattle.template_tree.specs.declared.statements.SetBlock.{SetBlock as SetBloc
 use Rattle.template_tree.specs.declared.statements.Stmt.{Stmt, Block, CallBlock as calls, FilterBlock, Macro, SetBlock, the_lemmas}
 use Rattle.template_tree_parts.specs.Listed.{statements_in}
 use Rattle.template_tree_parts.proofs.Rows.{statements_row}
-use Rattle.template_names.specs.Names.{is_stored_by, is_used_by}
+use Rattle.template_names.specs.Names.{is_stored_by, is_used_by, is_used_by_macro, is_used_in}
 use Rattle.template_names_undeclared.specs.declared.state.Names.{Names}
 use Rattle.template_names_undeclared.specs.Goes.{Goes}
 use Rattle.template_names_undeclared.proofs.Laws.{goes_as}
@@ -53,3 +54,13 @@ pub call_tree : (n : Spanned (Box CallBlock Global)) → statement_of (calls n)
     (statements_in (out-CallBlock n.node.value).macro_decl.node.value.body.items)
 unfolding with_value
 call_tree n = call_by n n.node.value
+
+-- a macro, by the lists that are read from its node
+pub macro_reads : (q : Items ℕ) {body body' : Items Stmt} {arguments arguments' defaults defaults' : Items Expr} →
+    body ≡ body' → arguments ≡ arguments' → defaults ≡ defaults' →
+    is_used_by_macro q (expressions_in arguments) (expressions_in defaults) (is_used_in q (statements_in body))
+    ≡ is_used_by_macro q (expressions_in arguments') (expressions_in defaults') (is_used_in q (statements_in body'))
+macro_reads q {body} {body'} {arguments} {arguments'} {defaults} {defaults'} bodies xs ds =
+    ap (λ (ss : Items Stmt). is_used_by_macro q (expressions_in arguments) (expressions_in defaults) (is_used_in q (statements_in ss))) bodies ∙
+    ap (λ (es : Items Expr). is_used_by_macro q (expressions_in es) (expressions_in defaults) (is_used_in q (statements_in body'))) xs ∙
+    ap (λ (es : Items Expr). is_used_by_macro q (expressions_in arguments') (expressions_in es) (is_used_in q (statements_in body'))) ds

@@ -5,6 +5,7 @@ use Rattle.template_tree.specs.StatementView.{assignments_in, imports_in, statem
 use Rattle.template_tree.specs.declared.span.Spanned.{Spanned}
 use Rattle.template_tree.specs.declared.statements.IfCond.{IfCond as IfCondNode}
 use Rattle.template_tree.specs.declared.statements.Stmt.{Stmt, size-Stmt, IfCond}
+use Rattle.template_tree.specs.declared.expressions.Expr.{Expr}
 use Rattle.template_tree.specs.Tree.{template, for_loop, with_block, set, set_block, auto_escape, filter_block, block, import, from_import, macro, call_block, do_call}
 use Rattle.template_tree_parts.specs.Listed.{statements_in}
 use Rattle.template_tree_parts.proofs.Trees.{whole_tree, for_tree, with_tree, escape_tree}
@@ -19,11 +20,13 @@ use Rattle.template_tree.specs.declared.statements.Macro.{Macro as MacroNode}
 use Rattle.template_tree.specs.declared.statements.Set.{Set as SetNode}
 use Rattle.template_tree.specs.declared.statements.SetBlock.{SetBlock as SetBlockNode}
 use Rattle.template_tree.specs.declared.statements.WithBlock.{WithBlock as WithBlockNode}
-use Rattle.template_names_undeclared.proofs.Bodies.{goes_by, set_block_tree, filter_block_tree, block_tree, macro_tree, call_tree}
+use Rattle.template_names_undeclared.proofs.Bodies.{goes_by, macro_reads, set_block_tree, filter_block_tree, block_tree, macro_tree, call_tree}
 use Rattle.template_names.specs.Names.{is_imported, is_stored_by, is_stored_in, is_used_by, is_used_by_macro, is_used_by_target, is_used_from, is_used_in, stands_if_given, stands_in, stands_in_arguments}
 use Rattle.template_names_undeclared.specs.Choices.{chain_deep, chain_uses}
-use Rattle.template_names_undeclared.specs.Stores.{is_stored_among}
-use Rattle.template_names_undeclared.proofs.Laws.{goes_as, goes_end, goes_inside, goes_item, goes_nowhere, goes_then, uses_as, uses_then}
+use Rattle.template_names_undeclared.specs.Stores.{is_assigned, is_stored_among}
+use Rattle.template_names_undeclared.specs.Goes.{just}
+use Rattle.template_names_undeclared.proofs.Laws.{goes_as, goes_end, goes_inside, goes_item, goes_nowhere, goes_then, or_false, uses_as, uses_then}
+use Rattle.template_names_undeclared.proofs.Storing.{used_from}
 use Rattle.template_names_undeclared.proofs.Walking.{loop_uses, chain_end, chain_ends, chain_within, else_is, macro_uses, test_is}
 use Rattle.template_names_undeclared.proofs.statements.+statement.Goals as goal
 
@@ -119,3 +122,116 @@ use_statement-returns-in_ok-use_region-in-ForLoop t c =
     (stands_if_given q (optional_in v.filter_expr)) (is_used_in q (statements_in v.body.items)) (is_used_in q (statements_in v.else_body.items)))
     (uses_then c.args.names.now c.close.new.self c.use_region-in-ForLoop.new.names
     (uses_then c.args.names.now c.use_expression-in-ForLoop.new.names c.close.new.self iter looped) otherwise))
+
+pub use_statement-returns-in_ok-use_statements-in-WithBlock : goal.use_statement-returns-in_ok-use_statements-in-WithBlock
+use_statement-returns-in_ok-use_statements-in-WithBlock t c =
+    let n = c.in-WithBlock.n in
+    let assignments = assignments_in n.node.value.assignments.items in
+    let body = statements_in n.node.value.body.items in
+    let tree = ap (λ (x : Stmt). statement_of x) c.in-WithBlock.is ∙ with_tree n in
+    let given = c.deref-in-WithBlock-2.ensures.value ∙ ap (λ (x : WithBlockNode). x.assignments.items) c.deref-in-WithBlock.ensures in
+    let read = c.deref-in-WithBlock-4.ensures.value ∙ ap (λ (x : WithBlockNode). x.body.items) c.deref-in-WithBlock-3.ensures in
+    let first = goes_as (λ q. ap (λ (xs : Items (Expr × Expr)). is_used_from q (assignments_in xs) false) given)
+    (λ q. ap (λ (xs : Items (Expr × Expr)). is_assigned q (assignments_in xs)) given) c.in_ok-use_assignments-in-WithBlock.ensures in
+    let then = goes_as (λ q. ap (λ (ss : Items Stmt). is_used_in q (statements_in ss)) read) (λ q. ap (λ (ss : Items Stmt). is_stored_among q (statements_in ss)) read)
+    c.in_ok-use_statements-in-WithBlock.ensures in
+    let inside = goes_then c.open-in-WithBlock.new.self c.use_assignments.new.names c.use_statements-in-WithBlock.new.names first then in
+    goes_by c.args.statement.now (with_block assignments body) tree
+    (uses_as (λ q. sym (used_from q assignments (is_used_in q body)))
+    (goes_inside c.args.names.now c.open-in-WithBlock.new.self c.use_statements-in-WithBlock.new.names c.close-in-WithBlock.new.self
+    c.in_ok-open-in-WithBlock.ensures inside c.close-in-WithBlock.ensures))
+
+pub use_statement-returns-in_ok-assign_target-in-Set : goal.use_statement-returns-in_ok-assign_target-in-Set
+use_statement-returns-in_ok-assign_target-in-Set t c =
+    let v = c.in-Set.n.node.value in
+    let tree = ap (λ (x : Stmt). statement_of x) c.in-Set.is in
+    let value = uses_as (λ q. ap (λ (x : SetNode). stands_in q (expression_of x.expr)) c.deref-in-Set.ensures) c.in_ok-use_expression-in-Set.ensures in
+    let target = goes_as (λ q. ap (λ (x : SetNode). is_used_by_target q (expression_of x.target)) c.deref-in-Set-2.ensures)
+    (λ q. ap (λ (x : SetNode). is_stored_in q (expression_of x.target)) c.deref-in-Set-2.ensures) c.in_ok-assign_target-in-Set.ensures in
+    goes_by c.args.statement.now (set (expression_of v.target) (expression_of v.expr)) tree
+    (goes_then c.args.names.now c.use_expression-in-Set.new.names c.assign_target-in-Set.new.names value target)
+
+pub use_statement-returns-in_ok-assign_target-in-SetBlock : goal.use_statement-returns-in_ok-assign_target-in-SetBlock
+use_statement-returns-in_ok-assign_target-in-SetBlock t c =
+    let n = c.in-SetBlock.n in
+    let v = n.node.value in
+    let tree = ap (λ (x : Stmt). statement_of x) c.in-SetBlock.is ∙ set_block_tree n in
+    let read = c.deref-in-SetBlock-2.ensures.value ∙ ap (λ (x : SetBlockNode). x.body.items) c.deref-in-SetBlock.ensures in
+    let body = uses_as (λ q. ap (λ (ss : Items Stmt). is_used_in q (statements_in ss)) read) c.in_ok-use_region-in-SetBlock.ensures in
+    let filter = uses_as (λ q. ap (λ (x : SetBlockNode). stands_if_given q (optional_in x.filter)) c.deref-in-SetBlock-3.ensures) c.in_ok-use_optional-in-SetBlock.ensures in
+    let target = goes_as (λ q. ap (λ (x : SetBlockNode). is_used_by_target q (expression_of x.target)) c.deref-in-SetBlock-4.ensures)
+    (λ q. ap (λ (x : SetBlockNode). is_stored_in q (expression_of x.target)) c.deref-in-SetBlock-4.ensures) c.in_ok-assign_target-in-SetBlock.ensures in
+    goes_by c.args.statement.now (set_block (expression_of v.target) (optional_in v.filter) (statements_in v.body.items)) tree
+    (goes_then c.args.names.now c.use_optional-in-SetBlock.new.names c.assign_target-in-SetBlock.new.names
+    (uses_then c.args.names.now c.use_region-in-SetBlock.new.names c.use_optional-in-SetBlock.new.names body filter) target)
+
+pub use_statement-returns-in_ok-use_region-in-AutoEscape : goal.use_statement-returns-in_ok-use_region-in-AutoEscape
+use_statement-returns-in_ok-use_region-in-AutoEscape t c =
+    let n = c.in-AutoEscape.n in
+    let v = n.node.value in
+    let tree = ap (λ (x : Stmt). statement_of x) c.in-AutoEscape.is ∙ escape_tree n in
+    let enabled = uses_as (λ q. ap (λ (x : AutoEscapeNode). stands_in q (expression_of x.enabled)) c.deref-in-AutoEscape.ensures)
+    c.in_ok-use_expression-in-AutoEscape.ensures in
+    let read = c.deref-in-AutoEscape-3.ensures.value ∙ ap (λ (x : AutoEscapeNode). x.body.items) c.deref-in-AutoEscape-2.ensures in
+    let body = uses_as (λ q. ap (λ (ss : Items Stmt). is_used_in q (statements_in ss)) read) c.in_ok-use_region-in-AutoEscape.ensures in
+    goes_by c.args.statement.now (auto_escape (expression_of v.enabled) (statements_in v.body.items)) tree
+    (uses_then c.args.names.now c.use_expression-in-AutoEscape.new.names c.use_region-in-AutoEscape.new.names enabled body)
+
+pub use_statement-returns-in_ok-use_expression-in-FilterBlock : goal.use_statement-returns-in_ok-use_expression-in-FilterBlock
+use_statement-returns-in_ok-use_expression-in-FilterBlock t c =
+    let n = c.in-FilterBlock.n in
+    let v = n.node.value in
+    let tree = ap (λ (x : Stmt). statement_of x) c.in-FilterBlock.is ∙ filter_block_tree n in
+    let read = c.deref-in-FilterBlock-2.ensures.value ∙ ap (λ (x : FilterBlockNode). x.body.items) c.deref-in-FilterBlock.ensures in
+    let body = uses_as (λ q. ap (λ (ss : Items Stmt). is_used_in q (statements_in ss)) read) c.in_ok-use_region-in-FilterBlock.ensures in
+    let filter = uses_as (λ q. ap (λ (x : FilterBlockNode). stands_in q (expression_of x.filter)) c.deref-in-FilterBlock-3.ensures)
+    c.in_ok-use_expression-in-FilterBlock.ensures in
+    goes_by c.args.statement.now (filter_block (expression_of v.filter) (statements_in v.body.items)) tree
+    (uses_then c.args.names.now c.use_region-in-FilterBlock.new.names c.use_expression-in-FilterBlock.new.names body filter)
+
+pub use_statement-returns-in_ok-use_region-in-Block : goal.use_statement-returns-in_ok-use_region-in-Block
+use_statement-returns-in_ok-use_region-in-Block t c =
+    let n = c.in-Block.n in
+    let v = n.node.value in
+    let tree = ap (λ (x : Stmt). statement_of x) c.in-Block.is ∙ block_tree n in
+    let read = c.deref-in-Block-2.ensures.value ∙ ap (λ (x : BlockNode). x.body.items) c.deref-in-Block.ensures in
+    goes_by c.args.statement.now (block v.name.now v.required (statements_in v.body.items)) tree
+    (uses_as (λ q. ap (λ (ss : Items Stmt). is_used_in q (statements_in ss)) read) c.in_ok-use_region-in-Block.ensures)
+
+pub use_statement-returns-in_ok-assign_target-in-Import : goal.use_statement-returns-in_ok-assign_target-in-Import
+use_statement-returns-in_ok-assign_target-in-Import t c =
+    let v = c.in-Import.n.node.value in
+    let tree = ap (λ (x : Stmt). statement_of x) c.in-Import.is in
+    let value = uses_as (λ q. ap (λ (x : ImportNode). stands_in q (expression_of x.expr)) c.deref-in-Import.ensures) c.in_ok-use_expression-in-Import.ensures in
+    let target = goes_as (λ q. ap (λ (x : ImportNode). is_used_by_target q (expression_of x.name)) c.deref-in-Import-2.ensures)
+    (λ q. ap (λ (x : ImportNode). is_stored_in q (expression_of x.name)) c.deref-in-Import-2.ensures) c.in_ok-assign_target-in-Import.ensures in
+    goes_by c.args.statement.now (import (expression_of v.expr) (expression_of v.name)) tree
+    (goes_then c.args.names.now c.use_expression-in-Import.new.names c.assign_target-in-Import.new.names value target)
+
+pub use_statement-returns-in_ok-bind_imports-in-FromImport : goal.use_statement-returns-in_ok-bind_imports-in-FromImport
+use_statement-returns-in_ok-bind_imports-in-FromImport t c =
+    let v = c.in-FromImport.n.node.value in
+    let tree = ap (λ (x : Stmt). statement_of x) c.in-FromImport.is in
+    let value = uses_as (λ q. ap (λ (x : FromImportNode). stands_in q (expression_of x.expr)) c.deref-in-FromImport.ensures)
+    c.in_ok-use_expression-in-FromImport.ensures in
+    let read = c.deref-in-FromImport-3.ensures.value ∙ ap (λ (x : FromImportNode). x.names.items) c.deref-in-FromImport-2.ensures in
+    let imports = goes_as (λ q. refl) (λ q. ap (λ (xs : Items (Expr × Option Expr)). is_imported q (imports_in xs)) read)
+    c.in_ok-bind_imports-in-FromImport.ensures in
+    goes_by c.args.statement.now (from_import (expression_of v.expr) (imports_in v.names.items)) tree
+    (goes_as (λ q. or_false (stands_in q (expression_of v.expr))) (λ q. refl)
+    (goes_then c.args.names.now c.use_expression-in-FromImport.new.names c.bind_imports.new.names value imports))
+
+pub use_statement-returns-in_ok-store-in-Macro : goal.use_statement-returns-in_ok-store-in-Macro
+use_statement-returns-in_ok-store-in-Macro t c =
+    let n = c.in-Macro.n in
+    let v = n.node.value in
+    let tree = ap (λ (x : Stmt). statement_of x) c.in-Macro.is ∙ macro_tree n in
+    let body = c.deref-in-Macro-2.ensures.value ∙ ap (λ (x : MacroNode). x.body.items) c.deref-in-Macro.ensures in
+    let args = c.deref-in-Macro-4.ensures.value ∙ ap (λ (x : MacroNode). x.args.items) c.deref-in-Macro-3.ensures in
+    let defaults = c.deref-in-Macro-6.ensures.value ∙ ap (λ (x : MacroNode). x.defaults.items) c.deref-in-Macro-5.ensures in
+    let inside = uses_as (λ q. macro_reads q body args defaults) c.in_ok-use_macro-in-Macro.ensures in
+    let stored = goes_as (λ q. refl) (λ q. ap (λ (x : MacroNode). just x.name.now q) c.deref-in-Macro-7.ensures) c.in_ok-store-in-Macro.ensures in
+    goes_by c.args.statement.now
+    (macro v.name.now (expressions_in v.args.items) (expressions_in v.defaults.items) (statements_in v.body.items)) tree
+    (goes_as (λ q. or_false (is_used_by_macro q (expressions_in v.args.items) (expressions_in v.defaults.items) (is_used_in q (statements_in v.body.items)))) (λ q. refl)
+    (goes_then c.args.names.now c.use_macro.new.names c.store-in-Macro.new.self inside stored))

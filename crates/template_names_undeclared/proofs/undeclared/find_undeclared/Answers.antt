@@ -1,0 +1,10 @@
+use Rattle.std.proofs.Common.{◌≡◌, sym, ap, subst, ◌∙◌}
+use Rattle.template_tree.specs.StatementView.{statement_of}
+use Rattle.template_names_undeclared.specs.Found.{HasJust}
+use Rattle.template_names_undeclared.proofs.Whole.{whole_names}
+use Rattle.template_names_undeclared.proofs.undeclared.find_undeclared.Goals as goal
+
+pub returns : goal.returns
+returns c =
+    whole_names (statement_of c.args.tree.now) c.new-names.result c.store.new.self c.store-2.new.self c.use_statement.new.names
+    c.new-names.ensures.found c.new-names.ensures.known c.in_ok-store.ensures c.in_ok-store-2.ensures c.in_ok-use_statement.ensures
