@@ -1,3 +1,4 @@
+pub mod Adding
 pub mod Bodies
 pub mod Laws
 pub mod Nodes

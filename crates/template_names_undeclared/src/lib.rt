@@ -2,9 +2,11 @@
 #![tactic(auto)]
 
 mod expressions;
+mod owned;
 mod state;
 mod statements;
 mod targets;
 mod undeclared;
 
+pub use owned::add_undeclared;
 pub use undeclared::find_undeclared;

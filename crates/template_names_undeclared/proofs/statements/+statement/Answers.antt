@@ -133,9 +133,9 @@ use_statement-returns-in_ok-use_statements-in-WithBlock t c =
     let read = c.deref-in-WithBlock-4.ensures.value ∙ ap (λ (x : WithBlockNode). x.body.items) c.deref-in-WithBlock-3.ensures in
     let first = goes_as (λ q. ap (λ (xs : Items (Expr × Expr)). is_used_from q (assignments_in xs) false) given)
     (λ q. ap (λ (xs : Items (Expr × Expr)). is_assigned q (assignments_in xs)) given) c.in_ok-use_assignments-in-WithBlock.ensures in
-    let then = goes_as (λ q. ap (λ (ss : Items Stmt). is_used_in q (statements_in ss)) read) (λ q. ap (λ (ss : Items Stmt). is_stored_among q (statements_in ss)) read)
+    let behind = goes_as (λ q. ap (λ (ss : Items Stmt). is_used_in q (statements_in ss)) read) (λ q. ap (λ (ss : Items Stmt). is_stored_among q (statements_in ss)) read)
     c.in_ok-use_statements-in-WithBlock.ensures in
-    let inside = goes_then c.open-in-WithBlock.new.self c.use_assignments.new.names c.use_statements-in-WithBlock.new.names first then in
+    let inside = goes_then c.open-in-WithBlock.new.self c.use_assignments.new.names c.use_statements-in-WithBlock.new.names first behind in
     goes_by c.args.statement.now (with_block assignments body) tree
     (uses_as (λ q. sym (used_from q assignments (is_used_in q body)))
     (goes_inside c.args.names.now c.open-in-WithBlock.new.self c.use_statements-in-WithBlock.new.names c.close-in-WithBlock.new.self
@@ -235,3 +235,19 @@ use_statement-returns-in_ok-store-in-Macro t c =
     (macro v.name.now (expressions_in v.args.items) (expressions_in v.defaults.items) (statements_in v.body.items)) tree
     (goes_as (λ q. or_false (is_used_by_macro q (expressions_in v.args.items) (expressions_in v.defaults.items) (is_used_in q (statements_in v.body.items)))) (λ q. refl)
     (goes_then c.args.names.now c.use_macro.new.names c.store-in-Macro.new.self inside stored))
+
+pub use_statement-returns-in_ok-use_macro-in-CallBlock : goal.use_statement-returns-in_ok-use_macro-in-CallBlock
+use_statement-returns-in_ok-use_macro-in-CallBlock t c =
+    let n = c.in-CallBlock.n in
+    let v = out-CallBlock n.node.value in
+    let called = v.call.node.value in
+    let declared = v.macro_decl.node.value in
+    let tree = ap (λ (x : Stmt). statement_of x) c.in-CallBlock.is ∙ call_tree n in
+    let callee = ? in
+    let passed = ? in
+    let inside = ? in
+    goes_by c.args.statement.now
+    (call_block (expression_of called.expr) (arguments_in called.args.items) (expressions_in declared.args.items) (expressions_in declared.defaults.items)
+    (statements_in declared.body.items)) tree
+    (uses_then c.args.names.now c.use_arguments.new.names c.use_macro-in-CallBlock.new.names
+    (uses_then c.args.names.now c.use_expression-in-CallBlock.new.names c.use_arguments.new.names callee passed) inside)
