@@ -33,21 +33,21 @@ uses_is (raw text) q = refl
 uses_is (print e) q = refl
 uses_is (for_loop target e filter recursive body otherwise) q = refl
 uses_is (if_condition e body otherwise) q = refl
-uses_is (with_block assignments body) q = refl
+uses_is (with_block values body) q = refl
 uses_is (set target e) q = refl
 uses_is (set_block target filters body) q = refl
 uses_is (auto_escape e body) q = refl
 uses_is (filter_block e body) q = refl
 uses_is (block id required body) q = refl
 uses_is (import e target) q = refl
-uses_is (from_import e imports) q = refl
+uses_is (from_import e names) q = refl
 uses_is (extends e) q = refl
 uses_is (include e ignored) q = refl
-uses_is (macro id arguments defaults body) q = refl
-uses_is (call_block callee passed arguments defaults body) q = refl
+uses_is (macro id args defaults body) q = refl
+uses_is (call_block callee passed args defaults body) q = refl
 uses_is continue_loop q = refl
 uses_is break_loop q = refl
-uses_is (do_call callee arguments) q = refl
+uses_is (do_call callee passed) q = refl
 
 pub whole_names : (t : Statement) (a b c d : Names) → ((q : List ℕ) → has a.found q ≡ false) → ((q : List ℕ) → knows a q ≡ false) →
     Goes nothing (just (codes "self")) a b → Goes nothing (just (codes "super")) b c → Goes (λ q. is_used_by q t) (λ q. is_stored_by q t) c d →

@@ -1,6 +1,6 @@
 use Rattle.std.proofs.Common.{◌≡◌, ◌<◌, ◌≤◌, ◌+◌, ℕ, length, List as Items, Option, Bor, Box, Global, arith, refl, sym, ap, ◌∙◌}
 use Rattle.std.specs.Prelude.{false, is_none}
-use Rattle.template_tree.specs.View.{expression_of, expressions_in, optional_in}
+use Rattle.template_tree.specs.View.{arguments_in, expression_of, expressions_in, optional_in}
 use Rattle.template_tree.specs.StatementView.{assignments_in, imports_in, statement_of}
 use Rattle.template_tree.specs.declared.span.Spanned.{Spanned}
 use Rattle.template_tree.specs.declared.statements.IfCond.{IfCond as IfCondNode}
