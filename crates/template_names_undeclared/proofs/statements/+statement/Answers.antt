@@ -9,6 +9,8 @@ use Rattle.template_tree.specs.declared.expressions.Expr.{Expr}
 use Rattle.template_tree.specs.Tree.{template, for_loop, with_block, set, set_block, auto_escape, filter_block, block, import, from_import, macro, call_block, do_call}
 use Rattle.template_tree_parts.specs.Listed.{statements_in}
 use Rattle.template_tree_parts.proofs.Trees.{whole_tree, for_tree, with_tree, escape_tree}
+use Rattle.template_tree.specs.declared.calls.Call.{Call as CallNode}
+use Rattle.template_tree.specs.declared.calls.CallArg.{CallArg}
 use Rattle.template_tree.specs.declared.statements.AutoEscape.{AutoEscape as AutoEscapeNode}
 use Rattle.template_tree.specs.declared.statements.Block.{Block as BlockNode}
 use Rattle.template_tree.specs.declared.statements.CallBlock.{CallBlock as CallBlockNode, out-CallBlock}
@@ -24,7 +26,7 @@ use Rattle.template_names_undeclared.proofs.Bodies.{goes_by, macro_reads, set_bl
 use Rattle.template_names.specs.Names.{is_imported, is_stored_by, is_stored_in, is_used_by, is_used_by_macro, is_used_by_target, is_used_from, is_used_in, stands_if_given, stands_in, stands_in_arguments}
 use Rattle.template_names_undeclared.specs.Choices.{chain_deep, chain_uses}
 use Rattle.template_names_undeclared.specs.Stores.{is_assigned, is_stored_among}
-use Rattle.template_names_undeclared.specs.Goes.{just}
+use Rattle.template_names_undeclared.specs.Goes.{Goes, just, nothing}
 use Rattle.template_names_undeclared.proofs.Laws.{goes_as, goes_end, goes_inside, goes_item, goes_nowhere, goes_then, or_false, uses_as, uses_then}
 use Rattle.template_names_undeclared.proofs.Storing.{used_from}
 use Rattle.template_names_undeclared.proofs.Walking.{loop_uses, chain_end, chain_ends, chain_within, else_is, macro_uses, test_is}
@@ -243,9 +245,16 @@ use_statement-returns-in_ok-use_macro-in-CallBlock t c =
     let called = v.call.node.value in
     let declared = v.macro_decl.node.value in
     let tree = ap (λ (x : Stmt). statement_of x) c.in-CallBlock.is ∙ call_tree n in
-    let callee = ? in
-    let passed = ? in
-    let inside = ? in
+    let call = ap (λ (x : CallBlockNode). (out-CallBlock x).call.node.value) c.deref-in-CallBlock.ensures in
+    let declaration = ap (λ (x : CallBlockNode). (out-CallBlock x).macro_decl.node.value) c.deref-in-CallBlock-2.ensures in
+    let callee = uses_as (λ q. ap (λ (x : CallNode). stands_in q (expression_of x.expr)) (c.deref-in-CallBlock-3.ensures ∙ call))
+    c.in_ok-use_expression-in-CallBlock.ensures in
+    let given = c.deref-in-CallBlock-5.ensures.value ∙ ap (λ (x : CallNode). x.args.items) (c.deref-in-CallBlock-4.ensures ∙ call) in
+    let passed = uses_as (λ q. ap (λ (xs : Items CallArg). stands_in_arguments q (arguments_in xs)) given) c.in_ok-use_arguments-in-CallBlock.ensures in
+    let body = c.deref-in-CallBlock-7.ensures.value ∙ ap (λ (x : MacroNode). x.body.items) (c.deref-in-CallBlock-6.ensures ∙ declaration) in
+    let args = c.deref-in-CallBlock-9.ensures.value ∙ ap (λ (x : MacroNode). x.args.items) (c.deref-in-CallBlock-8.ensures ∙ declaration) in
+    let defaults = c.deref-in-CallBlock-11.ensures.value ∙ ap (λ (x : MacroNode). x.defaults.items) (c.deref-in-CallBlock-10.ensures ∙ declaration) in
+    let inside = uses_as (λ q. macro_reads q body args defaults) c.in_ok-use_macro-in-CallBlock.ensures in
     goes_by c.args.statement.now
     (call_block (expression_of called.expr) (arguments_in called.args.items) (expressions_in declared.args.items) (expressions_in declared.defaults.items)
     (statements_in declared.body.items)) tree
