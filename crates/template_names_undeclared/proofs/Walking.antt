@@ -2,9 +2,8 @@
 use Rattle.std.proofs.Common.{◌≡◌, ◌≤◌, ◌<◌, ◌+◌, ℕ, length, get_or, Bool, true, false, not, ◌&&◌, ◌||◌, List as Items, [], ◌∷◌, codes, bytes_eq, Option, None, Some, Bor, Box, Global, rules, arith, refl, sym, ap, ◌∙◌}
 use Rattle.std.specs.Prelude.{is_none, IfSome}
 use Rattle.std.proofs.lemmas.Slice.Eq.{bytes_eq-Decides}
-use Rattle.template_tree.specs.Tree.{Expressions, Statement, Statements, if_condition}
-use Rattle.template_tree.specs.View.{expression_of, expressions_in, optional_in}
-use Rattle.template_tree.specs.StatementView.{assignments_in, statement_of}
+use Rattle.template_tree.specs.Tree.{Statement}
+use Rattle.template_tree.specs.View.{expression_of, expressions_in}
 use Rattle.template_tree.specs.declared.span.Spanned.{Spanned}
 use Rattle.template_tree.specs.declared.statements.IfCond.{IfCond as IfCondNode}
 use Rattle.template_tree.specs.declared.statements.Stmt.{Stmt, size-Stmt, IfCond, the_lemmas}
@@ -15,8 +14,8 @@ use Rattle.template_names_undeclared.specs.declared.state.Names.{Names}
 use Rattle.template_names_undeclared.specs.Choices.{IsAlone, chain_deep, chain_uses, choice_of, else_uses, test_uses}
 use Rattle.template_names_undeclared.specs.Goes.{Goes, just, nothing}
 use Rattle.template_names_undeclared.specs.Stores.{backwards}
-use Rattle.template_names_undeclared.proofs.Laws.{goes_as, uses_as, uses_then}
-use Rattle.template_names_undeclared.proofs.Storing.{none_used, used_by_arguments}
+use Rattle.template_names_undeclared.proofs.Laws.{uses_as, uses_then}
+use Rattle.template_names_undeclared.proofs.Storing.{used_by_arguments}
 
 by_cases : (a b : Bool) → (a ≡ true → b ≡ true) → (b ≡ true → a ≡ true) → a ≡ b
 by_cases true true h k = refl

@@ -1,4 +1,4 @@
-use Rattle.std.proofs.Common.{◌≡◌, ◌≤◌, ◌<◌, ◌+◌, length, List as Items, ℕ, Option, Bor, arith, rules, refl, sym, ap, ◌∙◌}
+use Rattle.std.proofs.Common.{◌≡◌, ◌≤◌, ◌+◌, List as Items, Option, Bor, arith, refl, sym, ap, ◌∙◌}
 use Rattle.template_tree.specs.View.{expression_of, expressions_in, links_in, arguments_in, argument_of}
 use Rattle.template_tree.specs.declared.calls.Call.{Call as CallNode}
 use Rattle.template_tree.specs.declared.calls.CallArg.{CallArg}

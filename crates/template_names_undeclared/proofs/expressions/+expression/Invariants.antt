@@ -1,5 +1,5 @@
 -- What is left ends as all does.
-use Rattle.std.proofs.Common.{◌≡◌, ◌+◌, ◌*◌, ◌≤◌, drop}
+use Rattle.std.proofs.Common.{◌+◌, ◌*◌, ◌≤◌, drop}
 use Rattle.template_tree.specs.View.{expression_of, expressions_in, links_in, arguments_in}
 use Rattle.template_tree.specs.declared.expressions.Expr.{size-Expr}
 use Rattle.template_names.specs.Names.{stands_in, stands_in_one, stands_in_links, stands_in_arguments}

@@ -1,4 +1,4 @@
-use Rattle.std.proofs.Common.{◌≡◌, ◌<◌, ◌≤◌, ◌+◌, ℕ, length, List as Items, Option, Bor, Box, Global, arith, refl, sym, ap, ◌∙◌}
+use Rattle.std.proofs.Common.{◌≡◌, ◌≤◌, ◌+◌, List as Items, Option, Bor, Box, Global, arith, refl, sym, ap, ◌∙◌}
 use Rattle.std.specs.Prelude.{false, is_none}
 use Rattle.template_tree.specs.View.{arguments_in, expression_of, expressions_in, optional_in}
 use Rattle.template_tree.specs.StatementView.{assignments_in, imports_in, statement_of}
@@ -6,7 +6,7 @@ use Rattle.template_tree.specs.declared.span.Spanned.{Spanned}
 use Rattle.template_tree.specs.declared.statements.IfCond.{IfCond as IfCondNode}
 use Rattle.template_tree.specs.declared.statements.Stmt.{Stmt, size-Stmt, IfCond}
 use Rattle.template_tree.specs.declared.expressions.Expr.{Expr}
-use Rattle.template_tree.specs.Tree.{template, for_loop, with_block, set, set_block, auto_escape, filter_block, block, import, from_import, macro, call_block, do_call}
+use Rattle.template_tree.specs.Tree.{template, for_loop, with_block, set, set_block, auto_escape, filter_block, block, import, from_import, macro, call_block}
 use Rattle.template_tree_parts.specs.Listed.{statements_in}
 use Rattle.template_tree_parts.proofs.Trees.{whole_tree, for_tree, with_tree, escape_tree}
 use Rattle.template_tree.specs.declared.calls.Call.{Call as CallNode}
@@ -26,7 +26,7 @@ use Rattle.template_names_undeclared.proofs.Bodies.{goes_by, macro_reads, set_bl
 use Rattle.template_names.specs.Names.{is_imported, is_stored_by, is_stored_in, is_used_by, is_used_by_macro, is_used_by_target, is_used_from, is_used_in, stands_if_given, stands_in, stands_in_arguments}
 use Rattle.template_names_undeclared.specs.Choices.{chain_deep, chain_uses}
 use Rattle.template_names_undeclared.specs.Stores.{is_assigned, is_stored_among}
-use Rattle.template_names_undeclared.specs.Goes.{Goes, just, nothing}
+use Rattle.template_names_undeclared.specs.Goes.{just}
 use Rattle.template_names_undeclared.proofs.Laws.{goes_as, goes_end, goes_inside, goes_item, goes_nowhere, goes_then, or_false, uses_as, uses_then}
 use Rattle.template_names_undeclared.proofs.Storing.{used_from}
 use Rattle.template_names_undeclared.proofs.Walking.{loop_uses, chain_end, chain_ends, chain_within, else_is, macro_uses, test_is}

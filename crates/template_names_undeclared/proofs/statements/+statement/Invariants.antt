@@ -1,6 +1,5 @@
 -- What is left ends as all does.
 use Rattle.std.proofs.Common.{◌+◌, ◌*◌, ◌≤◌, drop}
-use Rattle.template_tree.specs.StatementView.{statement_of}
 use Rattle.template_tree.specs.declared.statements.Stmt.{size-Stmt, IfCond}
 use Rattle.template_tree_parts.specs.Listed.{statements_in}
 use Rattle.template_names.specs.Names.{is_used_by, is_used_in}

@@ -1,13 +1,6 @@
-use Rattle.std.proofs.Common.{◌≡◌, ◌<◌, ◌≤◌, ◌+◌, ◌-◌, length, take, false, List as Items, Option, arith, refl, sym, ap, ◌∙◌}
-use Rattle.template_tree.specs.View.{expression_of, expressions_in, optional_in}
-use Rattle.template_tree.specs.StatementView.{assignments_in, imports_in}
-use Rattle.template_tree.specs.declared.expressions.List.{List as ListNode}
-use Rattle.template_tree.specs.declared.expressions.Expr.{Expr}
-use Rattle.template_names.specs.Names.{is_imported, is_stored_in, is_stored_in_one, is_used_by_target, is_used_by_targets, is_used_from, stands_in}
-use Rattle.template_names_undeclared.specs.Goes.{nothing}
-use Rattle.template_names_undeclared.specs.Stores.{backwards, first_stands, is_assigned, is_bound}
-use Rattle.template_names_undeclared.proofs.Laws.{goes_as, goes_end, goes_item, goes_nowhere, goes_then, uses_as}
-use Rattle.template_names_undeclared.proofs.Storing.{arguments_end, argument_ends, backwards_last, import_more, none_used, stored_chain, stored_list, used_chain, used_list}
+use Rattle.std.proofs.Common.{◌≡◌, ◌≤◌, ◌-◌, length, take, arith}
+use Rattle.template_names_undeclared.specs.Stores.{backwards}
+use Rattle.template_names_undeclared.proofs.Storing.{arguments_end, argument_ends}
 use Rattle.template_names_undeclared.proofs.targets.bind_arguments.Goals as goal
 
 pub loop-at-preserved : goal.loop-at-preserved

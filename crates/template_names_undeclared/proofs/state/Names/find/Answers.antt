@@ -1,4 +1,4 @@
-use Rattle.std.proofs.Common.{◌≡◌, ℕ, List, Bor, Bool, ◌||◌, refl, sym, ap, ◌∙◌}
+use Rattle.std.proofs.Common.{Bool, ◌||◌, refl, sym, ap, ◌∙◌}
 use Rattle.template_names_undeclared.specs.Goes.{has}
 use Rattle.template_names_undeclared.proofs.Laws.{goes_nowhere}
 use Rattle.template_names_undeclared.proofs.Sets.{has_more, unknown}

@@ -1,5 +1,4 @@
-use Rattle.std.proofs.Common.{◌≡◌, ℕ, List, Bor, ◌||◌, refl, ap, ◌∙◌}
-use Rattle.template_names_undeclared.specs.Goes.{has}
+use Rattle.std.proofs.Common.{refl}
 use Rattle.template_names_undeclared.proofs.Laws.{goes_nowhere}
 use Rattle.template_names_undeclared.proofs.Sets.{has_more}
 use Rattle.template_names_undeclared.proofs.state.Names.store.Goals as goal
