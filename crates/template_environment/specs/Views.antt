@@ -1,5 +1,5 @@
 -- What contracts see of a template to be rendered, and of what a render leaves.
-use Rattle.std.specs.Prelude.{ℕ, List, Option}
+use Rattle.std.specs.Prelude.{ℕ, List, Option, string_bytes}
 use Rattle.template_values_modes.specs.declared.AutoEscape.{AutoEscape}
 use Rattle.template_values_model.specs.Val.{Val}
 use Rattle.template_process.specs.Trace.{Run}
@@ -41,6 +41,10 @@ fuel_set captured = set_of captured.fuel
 
 abbrev pub fuel_left : Captured → Option ℕ
 fuel_left captured = left_of captured.fuel
+
+-- the text that the render gave
+abbrev pub output_of : Captured → List ℕ
+output_of captured = string_bytes captured.output
 
 -- the number of the render
 abbrev pub id_of : Captured → ℕ

@@ -1,5 +1,5 @@
 //! Templates of an environment, and what a render leaves.
-ghost use Rattle.std.specs.Prelude.{◌≡◌, ◌≢◌, ◌+◌, ◌∷◌, [], ℕ, IfOk, Err, option_map};
+ghost use Rattle.std.specs.Prelude.{◌≡◌, ◌≢◌, ◌+◌, ◌∷◌, [], ℕ, IfOk, IfErr, Err, option_map, string_bytes};
 ghost use Rattle.template_values_model.specs.Val.{Val};
 ghost use Rattle.template_process.specs.Approximants.{IsFinished};
 ghost use Rattle.template_process.specs.Fuel.{under};
@@ -7,7 +7,7 @@ ghost use Rattle.template_machine_going.specs.Paying.{Paid};
 ghost use Rattle.template_machine_escape.specs.Rule.{IsRuleOf};
 ghost use Rattle.template_machine_operations.specs.Outcomes.{TellsFailures};
 ghost use Rattle.template_machine_renders.specs.Renders.{Renders, leaves};
-ghost use Rattle.template_environment.specs.Renderings.{left_of, rendering, set_of};
+ghost use Rattle.template_environment.specs.Renderings.{GivesText, left_of, rendering, set_of};
 
 use crate::environment::Environment;
 use template_compiled::CompiledTemplate;
@@ -30,12 +30,13 @@ pub struct Template<'env, 'source> {
 #[derive(Drop)]
 pub struct Captured<'env> {
     id: u64,
+    output: String,
     state: State<'env>,
     fuel: Option<(u64, u64)>,
 }
 
 impl<'env, 'source> Template<'env, 'source> {
-    ghost use Rattle.template_environment.specs.Views.{escape_of, fuel_left, fuel_of, fuel_set, id_of, name_of, render_of, source_of, world_of};
+    ghost use Rattle.template_environment.specs.Views.{escape_of, fuel_left, fuel_of, fuel_set, id_of, name_of, output_of, render_of, source_of, world_of};
 
     /// The template's name.
     pub fn name(&self) -> &'source str
@@ -67,8 +68,63 @@ impl<'env, 'source> Template<'env, 'source> {
         let _code = self.compiled.instructions();
     }
 
+    /// The text of a render of the template over a context, under the escape of its name and the fuel of its
+    /// environment.
+    ///
+    /// # Errors
+    ///
+    /// As [`Template::render_captured`].
+    pub fn render(&self, ids: &mut StateIds, context: Value) -> Result<String, Error>
+        // Under each bound where its meaning is finished, its text is the one that the call gives.
+        ensures text { ids.old ≢ u64.MAX → (n : ℕ) → IsFinished (render_of self.now n context).end →
+            GivesText (λ text. string_bytes text) result (under (fuel_of self.now) (render_of self.now n context)) }
+        ensures no_write_failure { IfErr result (λ kinds. kinds ≢ ErrorKind.WriteFailure ∷ []) }
+        ensures counted { ids.old ≢ u64.MAX → ids.new ≡ ids.old + 1 }
+        ensures exhausted { ids.old ≡ u64.MAX → (result ≡ Err (ErrorKind.InvalidOperation ∷ [])) × (ids.new ≡ ids.old) }
+    {
+        let captured = self.render_captured(ids, context)?;
+        Ok(captured.into_output())
+    }
+
+    /// Renders the template over a context, under the escape of its name and the fuel of its environment, and keeps
+    /// the text beside what the render leaves.
+    ///
+    /// # Errors
+    ///
+    /// The fault that the render ends with, as [`ErrorKind::OutOfFuel`]; the text before it is then dropped.
+    /// [`ErrorKind::OutOfMemory`] where a growth was refused. [`ErrorKind::InvalidOperation`] where no state id is
+    /// left. Never [`ErrorKind::WriteFailure`], since a text takes all that fits into memory.
+    pub fn render_captured(
+        &self,
+        ids: &mut StateIds,
+        context: Value,
+    ) -> Result<Captured<'env>, Error>
+        // Under each bound where its meaning is finished, its text is the one that the call gives.
+        ensures text { ids.old ≢ u64.MAX → (n : ℕ) → IsFinished (render_of self.now n context).end →
+            GivesText output_of result (under (fuel_of self.now) (render_of self.now n context)) }
+        ensures remains { IfOk result (λ captured. (n : ℕ) → IsFinished (render_of self.now n context).end →
+            fuel_left captured ≡ leaves (fuel_of self.now) (render_of self.now n context)) }
+        ensures world { IfOk result (λ captured. (n : ℕ) → IsFinished (render_of self.now n context).end →
+            world_of captured ≡ (under (fuel_of self.now) (render_of self.now n context)).after) }
+        ensures no_write_failure { IfErr result (λ kinds. kinds ≢ ErrorKind.WriteFailure ∷ []) }
+        ensures given { IfOk result (λ captured. fuel_set captured ≡ fuel_of self.now) }
+        ensures id { IfOk result (λ captured. id_of captured ≡ ids.old) }
+        ensures counted { ids.old ≢ u64.MAX → ids.new ≡ ids.old + 1 }
+        ensures exhausted { ids.old ≡ u64.MAX → (result ≡ Err (ErrorKind.InvalidOperation ∷ [])) × (ids.new ≡ ids.old) }
+    {
+        let id = ids.next()?;
+        let mut output = String::new(self.environment.allocator());
+        let (state, fuel) = run(self.environment, self.compiled, context, &mut output)?;
+        Ok(Captured {
+            id,
+            output,
+            state,
+            fuel,
+        })
+    }
+
     /// Renders the template over a context, under the escape of its name and the fuel of its environment, and
-    /// writes the text into a sink as it comes.
+    /// writes the text into a sink as it comes. What the render leaves has an empty output.
     ///
     /// # Errors
     ///
@@ -92,13 +148,19 @@ impl<'env, 'source> Template<'env, 'source> {
         ensures failures { ids.old ≢ u64.MAX → TellsFailures result (S.failures sink.old) (S.failures sink.new) }
         ensures given { IfOk result (λ captured. fuel_set captured ≡ fuel_of self.now) }
         ensures id { IfOk result (λ captured. id_of captured ≡ ids.old) }
+        ensures output { IfOk result (λ captured. output_of captured ≡ []) }
         ensures counted { ids.old ≢ u64.MAX → ids.new ≡ ids.old + 1 }
         ensures exhausted { ids.old ≡ u64.MAX → (result ≡ Err (ErrorKind.InvalidOperation ∷ [])) × (sink.new ≡ sink.old)
             × (ids.new ≡ ids.old) }
     {
         let id = ids.next()?;
         let (state, fuel) = run(self.environment, self.compiled, context, sink)?;
-        Ok(Captured { id, state, fuel })
+        Ok(Captured {
+            id,
+            output: String::new(self.environment.allocator()),
+            state,
+            fuel,
+        })
     }
 }
 
@@ -137,7 +199,22 @@ fn run<'env, 'source, S: Sink>(
 }
 
 impl<'env> Captured<'env> {
-    ghost use Rattle.template_environment.specs.Views.{fuel_left, fuel_set, id_of, world_of};
+    ghost use Rattle.template_environment.specs.Views.{fuel_left, fuel_set, id_of, output_of, world_of};
+
+    /// The text that the render gave; empty where it went into a sink.
+    pub fn output(&self) -> &str
+        ensures { result.now ≡ output_of self.now }
+    {
+        self.output.as_str()
+    }
+
+    /// The text that the render gave, without all else; empty where it went into a sink.
+    pub fn into_output(self) -> String
+        ensures { string_bytes result ≡ output_of self }
+    {
+        let Captured { output, .. } = self;
+        output
+    }
 
     /// The state that the render left.
     pub fn state(&self) -> &State<'env>
