@@ -4,25 +4,33 @@ use Rattle.template_values_modes.specs.declared.AutoEscape.{AutoEscape}
 use Rattle.template_values_model.specs.Val.{Val}
 use Rattle.template_process.specs.Trace.{Run}
 use Rattle.template_machine_meaning.specs.World.{World}
+use Rattle.template_compiled.specs.Compiled.{Compiled}
 use Rattle.template_compiled.specs.Sources.{Source}
 use Rattle.template_environment.specs.Renderings.{left_of, rendering, set_of}
 use Rattle.template_environment.specs.declared.environment.Environment.{Environment}
 use Rattle.template_environment.specs.declared.template.Captured.{Captured}
 use Rattle.template_environment.specs.declared.template.Template.{Template}
+use Rattle.template_environment.specs.declared.template.TemplateCode.{TemplateCode}
+use Rattle.template_environment.specs.declared.template.TemplateCode.TheVariants.{Borrowed, Owned}
 
--- the environment that it stands in
+-- what was compiled
+abbrev pub compiled_in : TemplateCode → Compiled
+compiled_in (Borrowed c) = c.now
+compiled_in (Owned c) = c
+
+-- the environment that it is a template of
 abbrev pub environment_of : Template → Environment
 environment_of t = t.environment.now
 
 abbrev pub name_of : Template → List ℕ
-name_of t = t.compiled.now.name
+name_of t = (compiled_in t.compiled).name
 
 abbrev pub source_of : Template → Source
-source_of t = t.compiled.now.source
+source_of t = (compiled_in t.compiled).source
 
 -- the escape that it runs under
 abbrev pub escape_of : Template → AutoEscape
-escape_of t = t.compiled.now.escape
+escape_of t = (compiled_in t.compiled).escape
 
 -- the fuel that each of its renders is given
 abbrev pub fuel_of : Template → Option ℕ
@@ -30,7 +38,7 @@ fuel_of t = t.environment.now.fuel
 
 -- what its render over a context means, under a bound
 abbrev pub render_of : Template → ℕ → Val → Run World
-render_of t n context = rendering t.environment.now t.compiled.now n context
+render_of t n context = rendering t.environment.now (compiled_in t.compiled) n context
 
 -- what a render left: the world, the fuel that was set, and what is left of it
 abbrev pub world_of : Captured → World

@@ -19,11 +19,32 @@ use template_values_core::Value;
 use template_values_errors::{Error, ErrorKind};
 use template_values_modes::AutoEscape;
 
-/// A template that stands in an environment.
+/// A template of an environment: one that stands there, or one of its own, that was read under the environment's
+/// syntax and does not stand there.
 #[derive(Drop)]
 pub struct Template<'env, 'source> {
     pub(crate) environment: &'env Environment<'source>,
-    pub(crate) compiled: &'env CompiledTemplate<'source>,
+    pub(crate) compiled: TemplateCode<'env, 'source>,
+}
+
+// A compiled template of an environment, or of its own.
+#[derive(Drop)]
+pub(crate) enum TemplateCode<'env, 'source> {
+    Borrowed(&'env CompiledTemplate<'source>),
+    Owned(CompiledTemplate<'source>),
+}
+
+impl<'env, 'source> TemplateCode<'env, 'source> {
+    ghost use Rattle.template_environment.specs.Views.{compiled_in};
+
+    fn get(&self) -> &CompiledTemplate<'source>
+        ensures { result.now ≡ compiled_in self.now }
+    {
+        match self {
+            TemplateCode::Borrowed(compiled) => compiled,
+            TemplateCode::Owned(compiled) => compiled,
+        }
+    }
 }
 
 /// What a render leaves behind.
@@ -42,14 +63,14 @@ impl<'env, 'source> Template<'env, 'source> {
     pub fn name(&self) -> &'source str
         ensures { result.now ≡ name_of self.now }
     {
-        self.compiled.name()
+        self.compiled.get().name()
     }
 
     /// The template's source.
     pub fn source(&self) -> &'source str
         ensures { result.now ≡ (source_of self.now).text }
     {
-        self.compiled.source()
+        self.compiled.get().source()
     }
 
     /// The escape of the template's name.
@@ -57,7 +78,7 @@ impl<'env, 'source> Template<'env, 'source> {
         ensures rule { IsRuleOf (name_of self.now) result }
         ensures escape { result ≡ escape_of self.now }
     {
-        self.compiled.initial_auto_escape()
+        self.compiled.get().initial_auto_escape()
     }
 
     /// A law, as the contract of a method that does nothing: each render of the template ends, as its meaning is
@@ -65,7 +86,7 @@ impl<'env, 'source> Template<'env, 'source> {
     pub fn ends(&self)
         ensures { (context : Val) → (n : ℕ) × IsFinished (render_of self.now n context).end }
     {
-        let _code = self.compiled.instructions();
+        let _code = self.compiled.get().instructions();
     }
 
     /// The text of a render of the template over a context, under the escape of its name and the fuel of its
@@ -98,7 +119,7 @@ impl<'env, 'source> Template<'env, 'source> {
         &self,
         ids: &mut StateIds,
         context: Value,
-    ) -> Result<Captured<'env>, Error>
+    ) -> Result<Captured<'_>, Error>
         // Under each bound where its meaning is finished, its text is the one that the call gives.
         ensures text { ids.old ≢ u64.MAX → (n : ℕ) → IsFinished (render_of self.now n context).end →
             GivesText output_of result (under (fuel_of self.now) (render_of self.now n context)) }
@@ -114,7 +135,7 @@ impl<'env, 'source> Template<'env, 'source> {
     {
         let id = ids.next()?;
         let mut output = String::new(self.environment.allocator());
-        let (state, fuel) = run(self.environment, self.compiled, context, &mut output)?;
+        let (state, fuel) = run(self.environment, self.compiled.get(), context, &mut output)?;
         Ok(Captured {
             id,
             output,
@@ -137,7 +158,7 @@ impl<'env, 'source> Template<'env, 'source> {
         ids: &mut StateIds,
         context: Value,
         sink: &mut S,
-    ) -> Result<Captured<'env>, Error>
+    ) -> Result<Captured<'_>, Error>
         // Under each bound where its meaning is finished, it is what the call does.
         ensures renders { ids.old ≢ u64.MAX → (n : ℕ) → IsFinished (render_of self.now n context).end →
             Renders result (S.taken sink.old) (S.taken sink.new) (under (fuel_of self.now) (render_of self.now n context)) }
@@ -154,7 +175,7 @@ impl<'env, 'source> Template<'env, 'source> {
             × (ids.new ≡ ids.old) }
     {
         let id = ids.next()?;
-        let (state, fuel) = run(self.environment, self.compiled, context, sink)?;
+        let (state, fuel) = run(self.environment, self.compiled.get(), context, sink)?;
         Ok(Captured {
             id,
             output: String::new(self.environment.allocator()),
