@@ -1,21 +1,26 @@
 //! Environments.
-ghost use Rattle.std.specs.Prelude.{◌≡◌, ◌+◌, ◌≢◌, ◌∷◌, [], ℕ, List, None, Some, Option, IfOk, IfErr, OnOk, OnErr, bytes_eq, min, if◌then◌else◌};
+ghost use Rattle.std.specs.Prelude.{◌≡◌, ◌+◌, ◌≢◌, ◌∷◌, [], ℕ, List, None, Some, Option, IfOk, IfErr, OnOk, OnErr, bytes_eq, min, if◌then◌else◌, string_bytes};
 ghost use Rattle.template_compiler_syntax.specs.Syntax.{default_syntax};
+ghost use Rattle.template_machine_escape.specs.Rule.{IsRuleOf};
 ghost use Rattle.template_compiled.specs.Sources.{IsAccepted, IsRefusedWith};
 ghost use Rattle.template_environment.specs.Standing.{greatest_limit};
 
-use crate::template::Template;
+use crate::template::{Template, TemplateCode};
 use std::alloc::Global;
 use template_compiled::{CompiledTemplate, CompiledTemplates};
 use template_compiler_syntax::SyntaxConfig;
 use template_machine_ids::StateIds;
 use template_machine_loop::{Compiled, Templates};
 use template_machine_perform::Rules;
+use template_values_core::Value;
 use template_values_errors::{Error, ErrorKind};
 use template_values_modes::UndefinedBehavior;
 
 // The deepest that a render may be.
 const MAX_RECURSION: usize = 500;
+
+// The name of a template from a source without a name.
+const UNNAMED: &str = "<string>";
 
 /// The templates that stand, by name, and what each render keeps to.
 #[derive(Drop)]
@@ -46,8 +51,9 @@ impl<'source> Templates for Environment<'source> {
 }
 
 impl<'source> Environment<'source> {
-    ghost use Rattle.template_environment.specs.Standing.{IsUnchanged, read_under, settings_of, source_at};
-    ghost use Rattle.template_environment.specs.Views.{environment_of, name_of, source_of};
+    ghost use Rattle.template_environment.specs.Standing.{IsUnchanged, read_under, settings_of, source_at, unnamed};
+    ghost use Rattle.template_environment.specs.Renderings.{RendersSource};
+    ghost use Rattle.template_environment.specs.Views.{environment_of, escape_of, name_of, source_of};
 
     /// An environment without templates, under the default syntax, without fuel, with the greatest recursion
     /// limit, where undefined values are lenient. It takes a state id as its own.
@@ -189,10 +195,89 @@ impl<'source> Environment<'source> {
         match self.templates.get(name) {
             Some(compiled) => Ok(Template {
                 environment: self,
-                compiled,
+                compiled: TemplateCode::Borrowed(compiled),
             }),
             None => Err(Error::new(ErrorKind::TemplateNotFound)),
         }
+    }
+
+    /// A template of its own from a source, under the name `<string>`. It does not stand here. Takes time linear in
+    /// the source, besides what the operators of constant trees cost.
+    ///
+    /// # Errors
+    ///
+    /// Those of [`Environment::add_template`].
+    pub fn template_from_str(&self, source: &'source str) -> Result<Template<'_, 'source>, Error>
+        ensures accepted { OnOk result (IsAccepted (read_under self.now source.now)) }
+        ensures source { IfOk result (λ t. source_of t ≡ read_under self.now source.now) }
+        ensures named { IfOk result (λ t. name_of t ≡ unnamed) }
+        ensures escape { IfOk result (λ t. IsRuleOf unnamed (escape_of t)) }
+        ensures here { IfOk result (λ t. environment_of t ≡ self.now) }
+        ensures refused { IfErr result (IsRefusedWith (read_under self.now source.now)) }
+    {
+        self.template_from_named_str(UNNAMED, source)
+    }
+
+    /// A template of its own from a source, under a name. It does not stand here. Takes time linear in the source,
+    /// besides what the operators of constant trees cost.
+    ///
+    /// # Errors
+    ///
+    /// Those of [`Environment::add_template`].
+    pub fn template_from_named_str(
+        &self,
+        name: &'source str,
+        source: &'source str,
+    ) -> Result<Template<'_, 'source>, Error>
+        ensures accepted { OnOk result (IsAccepted (read_under self.now source.now)) }
+        ensures source { IfOk result (λ t. source_of t ≡ read_under self.now source.now) }
+        ensures named { IfOk result (λ t. name_of t ≡ name.now) }
+        ensures escape { IfOk result (λ t. IsRuleOf name.now (escape_of t)) }
+        ensures here { IfOk result (λ t. environment_of t ≡ self.now) }
+        ensures refused { IfErr result (IsRefusedWith (read_under self.now source.now)) }
+    {
+        let compiled = CompiledTemplate::new(self.alloc, name, source, &self.syntax)?;
+        Ok(Template {
+            environment: self,
+            compiled: TemplateCode::Owned(compiled),
+        })
+    }
+
+    /// The text of a render of a source over a context, under the name `<string>`. The source is read as by
+    /// [`Environment::template_from_str`].
+    ///
+    /// # Errors
+    ///
+    /// Those of [`Environment::template_from_str`]: then no state id is taken. Then those of [`Template::render`].
+    pub fn render_str(
+        &self,
+        source: &'source str,
+        ids: &mut StateIds,
+        context: Value,
+    ) -> Result<String, Error>
+        ensures { RendersSource self.now unnamed source.now context ids.old ids.new (λ text. string_bytes text) result }
+    {
+        self.render_named_str(UNNAMED, source, ids, context)
+    }
+
+    /// The text of a render of a source over a context, under a name. The source is read as by
+    /// [`Environment::template_from_named_str`].
+    ///
+    /// # Errors
+    ///
+    /// Those of [`Environment::template_from_named_str`]: then no state id is taken. Then those of
+    /// [`Template::render`].
+    pub fn render_named_str(
+        &self,
+        name: &'source str,
+        source: &'source str,
+        ids: &mut StateIds,
+        context: Value,
+    ) -> Result<String, Error>
+        ensures { RendersSource self.now name.now source.now context ids.old ids.new (λ text. string_bytes text) result }
+    {
+        let template = self.template_from_named_str(name, source)?;
+        template.render(ids, context)
     }
 
     // What its renders take their memory from.
