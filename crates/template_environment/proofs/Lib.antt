@@ -1,3 +1,4 @@
 pub mod Rendering
 pub mod Texts
 pub mod Sourced
+pub mod Listed

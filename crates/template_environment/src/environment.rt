@@ -1,5 +1,10 @@
 //! Environments.
-ghost use Rattle.std.specs.Prelude.{◌≡◌, ◌+◌, ◌≢◌, ◌∷◌, [], ℕ, List, None, Some, Option, IfOk, IfErr, OnOk, OnErr, bytes_eq, min, if◌then◌else◌, string_bytes};
+ghost use Rattle.std.specs.Prelude.{◌≡◌, ◌+◌, ◌≢◌, ◌∷◌, [], ℕ, List, None, Some, Option, IfOk, IfErr, OnOk, OnErr, bytes_eq, min, if◌then◌else◌, map, option_map, All, string_bytes};
+ghost use Rattle.std.specs.Cmp.Lexicographic.{slice_cmp};
+ghost use Rattle.std.specs.List.{find};
+ghost use Rattle.std.specs.List.Sorted.{IsStrictlySortedBy};
+ghost use Rattle.std.specs.Ordering.{nat_cmp};
+ghost use Rattle.template_values_errors.specs.Memory.{NoMemory};
 ghost use Rattle.template_compiler_syntax.specs.Syntax.{default_syntax};
 ghost use Rattle.template_machine_escape.specs.Rule.{IsRuleOf};
 ghost use Rattle.template_compiled.specs.Sources.{IsAccepted, IsRefusedWith};
@@ -199,6 +204,28 @@ impl<'source> Environment<'source> {
             }),
             None => Err(Error::new(ErrorKind::TemplateNotFound)),
         }
+    }
+
+    /// The templates that stand, by order of their names by bytes. Linear in their number.
+    ///
+    /// # Errors
+    ///
+    /// [`ErrorKind::OutOfMemory`]
+    pub fn templates(&self) -> Result<Vec<Template<'_, 'source>>, Error>
+        ensures listed { IfOk result (λ list. (name : List ℕ) → source_at self.now name
+            ≡ option_map source_of (find (λ t. bytes_eq name (name_of t)) list.items)) }
+        ensures ordered { IfOk result (λ list. IsStrictlySortedBy (slice_cmp nat_cmp) (map name_of list.items)) }
+        ensures here { IfOk result (λ list. All (λ t. environment_of t ≡ self.now) list.items) }
+        ensures refused { IfErr result NoMemory }
+    {
+        let mut listed = Vec::new(self.alloc);
+        for compiled in self.templates.values() {
+            listed.push(Template {
+                environment: self,
+                compiled: TemplateCode::Borrowed(compiled),
+            })?;
+        }
+        Ok(listed)
     }
 
     /// A template of its own from a source, under the name `<string>`. It does not stand here. Takes time linear in
