@@ -1,3 +1,4 @@
 pub mod Standing
 pub mod Renderings
+pub mod States
 pub mod Views

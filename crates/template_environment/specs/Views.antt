@@ -6,8 +6,10 @@ use Rattle.template_process.specs.Trace.{Run}
 use Rattle.template_machine_meaning.specs.World.{World}
 use Rattle.template_compiled.specs.Compiled.{Compiled}
 use Rattle.template_compiled.specs.Sources.{Source}
-use Rattle.template_environment.specs.Renderings.{left_of, rendering, set_of}
+use Rattle.template_environment.specs.Renderings.{rendering}
+use Rattle.template_environment.specs.States.{fuel_left_in, fuel_set_in, id_in, world_in}
 use Rattle.template_environment.specs.declared.environment.Environment.{Environment}
+use Rattle.template_environment.specs.declared.state.State.{State}
 use Rattle.template_environment.specs.declared.template.Captured.{Captured}
 use Rattle.template_environment.specs.declared.template.Template.{Template}
 use Rattle.template_environment.specs.declared.template.TemplateCode.{TemplateCode}
@@ -40,20 +42,21 @@ fuel_of t = t.environment.now.fuel
 abbrev pub render_of : Template → ℕ → Val → Run World
 render_of t n context = rendering t.environment.now (compiled_in t.compiled) n context
 
--- what a render left: the world, the fuel that was set, and what is left of it
-abbrev pub world_of : Captured → World
-world_of captured = captured.state
-
-abbrev pub fuel_set : Captured → Option ℕ
-fuel_set captured = set_of captured.fuel
-
-abbrev pub fuel_left : Captured → Option ℕ
-fuel_left captured = left_of captured.fuel
-
--- the text that the render gave
+-- what a render left: its text, and its state with the world, the fuel that was set and what is left of it, and its number
 abbrev pub output_of : Captured → List ℕ
 output_of captured = string_bytes captured.output
 
--- the number of the render
+abbrev pub state_of : Captured → State
+state_of captured = captured.state
+
+abbrev pub world_of : Captured → World
+world_of captured = world_in captured.state
+
+abbrev pub fuel_set : Captured → Option ℕ
+fuel_set captured = fuel_set_in captured.state
+
+abbrev pub fuel_left : Captured → Option ℕ
+fuel_left captured = fuel_left_in captured.state
+
 abbrev pub id_of : Captured → ℕ
-id_of captured = captured.id
+id_of captured = id_in captured.state

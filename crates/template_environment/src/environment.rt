@@ -1,5 +1,5 @@
 //! Environments.
-ghost use Rattle.std.specs.Prelude.{◌≡◌, ◌+◌, ◌≢◌, ◌∷◌, [], ℕ, List, None, Some, Option, IfOk, IfErr, OnOk, OnErr, bytes_eq, min, if◌then◌else◌, map, option_map, All, string_bytes};
+ghost use Rattle.std.specs.Prelude.{◌≡◌, ◌+◌, ◌≢◌, ◌∷◌, [], ℕ, List, None, Some, Option, Err, IfOk, IfErr, OnOk, OnErr, bytes_eq, min, if◌then◌else◌, map, option_map, All, string_bytes};
 ghost use Rattle.std.specs.Cmp.Lexicographic.{slice_cmp};
 ghost use Rattle.std.specs.List.{find};
 ghost use Rattle.std.specs.List.Sorted.{IsStrictlySortedBy};
@@ -10,6 +10,7 @@ ghost use Rattle.template_machine_escape.specs.Rule.{IsRuleOf};
 ghost use Rattle.template_compiled.specs.Sources.{IsAccepted, IsRefusedWith};
 ghost use Rattle.template_environment.specs.Standing.{greatest_limit};
 
+use crate::state::State;
 use crate::template::{Template, TemplateCode};
 use std::alloc::Global;
 use template_compiled::{CompiledTemplate, CompiledTemplates};
@@ -19,13 +20,16 @@ use template_machine_loop::{Compiled, Templates};
 use template_machine_perform::Rules;
 use template_values_core::Value;
 use template_values_errors::{Error, ErrorKind};
-use template_values_modes::UndefinedBehavior;
+use template_values_modes::{AutoEscape, UndefinedBehavior};
 
 // The deepest that a render may be.
 const MAX_RECURSION: usize = 500;
 
 // The name of a template from a source without a name.
 const UNNAMED: &str = "<string>";
+
+// The name of a state without a template.
+const UNKNOWN: &str = "<unknown>";
 
 /// The templates that stand, by name, and what each render keeps to.
 #[derive(Drop)]
@@ -58,6 +62,7 @@ impl<'source> Templates for Environment<'source> {
 impl<'source> Environment<'source> {
     ghost use Rattle.template_environment.specs.Standing.{IsUnchanged, read_under, settings_of, source_at, unnamed};
     ghost use Rattle.template_environment.specs.Renderings.{RendersSource};
+    ghost use Rattle.template_environment.specs.States.{environment_in, frameless, fuel_left_in, fuel_set_in, id_in, name_in, unknown, world_in};
     ghost use Rattle.template_environment.specs.Views.{environment_of, escape_of, name_of, source_of};
 
     /// An environment without templates, under the default syntax, without fuel, with the greatest recursion
@@ -268,6 +273,25 @@ impl<'source> Environment<'source> {
             environment: self,
             compiled: TemplateCode::Owned(compiled),
         })
+    }
+
+    /// A state without a template and without frames, under the name `<unknown>` and no escape.
+    ///
+    /// # Errors
+    ///
+    /// [`ErrorKind::OutOfMemory`]; [`ErrorKind::InvalidOperation`] where no state id is left.
+    pub fn empty_state(&self, ids: &mut StateIds) -> Result<State<'_, 'source>, Error>
+        ensures here { IfOk result (λ s. environment_in s ≡ self.now) }
+        ensures named { IfOk result (λ s. name_in s ≡ unknown) }
+        ensures world { IfOk result (λ s. world_in s ≡ frameless AutoEscape.None) }
+        ensures given { IfOk result (λ s. fuel_set_in s ≡ (settings_of self.now).fuel) }
+        ensures remains { IfOk result (λ s. fuel_left_in s ≡ (settings_of self.now).fuel) }
+        ensures id { IfOk result (λ s. id_in s ≡ ids.old) }
+        ensures refused { ids.old ≢ u64.MAX → IfErr result NoMemory }
+        ensures counted { ids.old ≢ u64.MAX → ids.new ≡ ids.old + 1 }
+        ensures exhausted { ids.old ≡ u64.MAX → (result ≡ Err (ErrorKind.InvalidOperation ∷ [])) × (ids.new ≡ ids.old) }
+    {
+        State::without_frames(self, UNKNOWN, AutoEscape::None, ids)
     }
 
     /// The text of a render of a source over a context, under the name `<string>`. The source is read as by

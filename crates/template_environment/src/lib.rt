@@ -2,7 +2,9 @@
 #![tactic(auto)]
 
 mod environment;
+mod state;
 mod template;
 
 pub use environment::Environment;
+pub use state::State;
 pub use template::{Captured, Template};

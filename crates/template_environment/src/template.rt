@@ -1,5 +1,6 @@
 //! Templates of an environment, and what a render leaves.
 ghost use Rattle.std.specs.Prelude.{◌≡◌, ◌≢◌, ◌+◌, ◌∷◌, [], ℕ, IfOk, IfErr, Err, option_map, string_bytes};
+ghost use Rattle.template_values_errors.specs.Memory.{NoMemory};
 ghost use Rattle.template_values_model.specs.Val.{Val};
 ghost use Rattle.template_process.specs.Approximants.{IsFinished};
 ghost use Rattle.template_process.specs.Fuel.{under};
@@ -10,11 +11,12 @@ ghost use Rattle.template_machine_renders.specs.Renders.{Renders, leaves};
 ghost use Rattle.template_environment.specs.Renderings.{GivesText, left_of, rendering, set_of};
 
 use crate::environment::Environment;
+use crate::state::State;
 use template_compiled::CompiledTemplate;
 use template_machine_ids::StateIds;
 use template_machine_loop::run_code;
 use template_machine_output::Sink;
-use template_machine_state::State;
+use template_machine_state::State as MachineState;
 use template_values_core::Value;
 use template_values_errors::{Error, ErrorKind};
 use template_values_modes::AutoEscape;
@@ -49,15 +51,14 @@ impl<'env, 'source> TemplateCode<'env, 'source> {
 
 /// What a render leaves behind.
 #[derive(Drop)]
-pub struct Captured<'env> {
-    id: u64,
+pub struct Captured<'env, 'source> {
     output: String,
-    state: State<'env>,
-    fuel: Option<(u64, u64)>,
+    state: State<'env, 'source>,
 }
 
 impl<'env, 'source> Template<'env, 'source> {
-    ghost use Rattle.template_environment.specs.Views.{escape_of, fuel_left, fuel_of, fuel_set, id_of, name_of, output_of, render_of, source_of, world_of};
+    ghost use Rattle.template_environment.specs.Views.{environment_of, escape_of, fuel_left, fuel_of, fuel_set, id_of, name_of, output_of, render_of, source_of, state_of, world_of};
+    ghost use Rattle.template_environment.specs.States.{environment_in, frameless, fuel_left_in, fuel_set_in, id_in, name_in, world_in};
 
     /// The template's name.
     pub fn name(&self) -> &'source str
@@ -87,6 +88,25 @@ impl<'env, 'source> Template<'env, 'source> {
         ensures { (context : Val) → (n : ℕ) × IsFinished (render_of self.now n context).end }
     {
         let _code = self.compiled.get().instructions();
+    }
+
+    /// A state of the template without frames, under its name and escape.
+    ///
+    /// # Errors
+    ///
+    /// [`ErrorKind::OutOfMemory`]; [`ErrorKind::InvalidOperation`] where no state id is left.
+    pub fn new_state(&self, ids: &mut StateIds) -> Result<State<'_, 'source>, Error>
+        ensures here { IfOk result (λ s. environment_in s ≡ environment_of self.now) }
+        ensures named { IfOk result (λ s. name_in s ≡ name_of self.now) }
+        ensures world { IfOk result (λ s. world_in s ≡ frameless (escape_of self.now)) }
+        ensures given { IfOk result (λ s. fuel_set_in s ≡ fuel_of self.now) }
+        ensures remains { IfOk result (λ s. fuel_left_in s ≡ fuel_of self.now) }
+        ensures id { IfOk result (λ s. id_in s ≡ ids.old) }
+        ensures refused { ids.old ≢ u64.MAX → IfErr result NoMemory }
+        ensures counted { ids.old ≢ u64.MAX → ids.new ≡ ids.old + 1 }
+        ensures exhausted { ids.old ≡ u64.MAX → (result ≡ Err (ErrorKind.InvalidOperation ∷ [])) × (ids.new ≡ ids.old) }
+    {
+        State::without_frames(self.environment, self.name(), self.initial_auto_escape(), ids)
     }
 
     /// The text of a render of the template over a context, under the escape of its name and the fuel of its
@@ -119,7 +139,7 @@ impl<'env, 'source> Template<'env, 'source> {
         &self,
         ids: &mut StateIds,
         context: Value,
-    ) -> Result<Captured<'_>, Error>
+    ) -> Result<Captured<'_, 'source>, Error>
         // Under each bound where its meaning is finished, its text is the one that the call gives.
         ensures text { ids.old ≢ u64.MAX → (n : ℕ) → IsFinished (render_of self.now n context).end →
             GivesText output_of result (under (fuel_of self.now) (render_of self.now n context)) }
@@ -129,18 +149,24 @@ impl<'env, 'source> Template<'env, 'source> {
             world_of captured ≡ (under (fuel_of self.now) (render_of self.now n context)).after) }
         ensures no_write_failure { IfErr result (λ kinds. kinds ≢ ErrorKind.WriteFailure ∷ []) }
         ensures given { IfOk result (λ captured. fuel_set captured ≡ fuel_of self.now) }
+        ensures here { IfOk result (λ captured. environment_in (state_of captured) ≡ environment_of self.now) }
+        ensures named { IfOk result (λ captured. name_in (state_of captured) ≡ name_of self.now) }
         ensures id { IfOk result (λ captured. id_of captured ≡ ids.old) }
         ensures counted { ids.old ≢ u64.MAX → ids.new ≡ ids.old + 1 }
         ensures exhausted { ids.old ≡ u64.MAX → (result ≡ Err (ErrorKind.InvalidOperation ∷ [])) × (ids.new ≡ ids.old) }
     {
         let id = ids.next()?;
         let mut output = String::new(self.environment.allocator());
-        let (state, fuel) = run(self.environment, self.compiled.get(), context, &mut output)?;
+        let (machine, fuel) = run(self.environment, self.compiled.get(), context, &mut output)?;
         Ok(Captured {
-            id,
             output,
-            state,
-            fuel,
+            state: State {
+                id,
+                environment: self.environment,
+                name: self.name(),
+                machine,
+                fuel,
+            },
         })
     }
 
@@ -158,7 +184,7 @@ impl<'env, 'source> Template<'env, 'source> {
         ids: &mut StateIds,
         context: Value,
         sink: &mut S,
-    ) -> Result<Captured<'_>, Error>
+    ) -> Result<Captured<'_, 'source>, Error>
         // Under each bound where its meaning is finished, it is what the call does.
         ensures renders { ids.old ≢ u64.MAX → (n : ℕ) → IsFinished (render_of self.now n context).end →
             Renders result (S.taken sink.old) (S.taken sink.new) (under (fuel_of self.now) (render_of self.now n context)) }
@@ -168,6 +194,8 @@ impl<'env, 'source> Template<'env, 'source> {
             world_of captured ≡ (under (fuel_of self.now) (render_of self.now n context)).after) }
         ensures failures { ids.old ≢ u64.MAX → TellsFailures result (S.failures sink.old) (S.failures sink.new) }
         ensures given { IfOk result (λ captured. fuel_set captured ≡ fuel_of self.now) }
+        ensures here { IfOk result (λ captured. environment_in (state_of captured) ≡ environment_of self.now) }
+        ensures named { IfOk result (λ captured. name_in (state_of captured) ≡ name_of self.now) }
         ensures id { IfOk result (λ captured. id_of captured ≡ ids.old) }
         ensures output { IfOk result (λ captured. output_of captured ≡ []) }
         ensures counted { ids.old ≢ u64.MAX → ids.new ≡ ids.old + 1 }
@@ -175,12 +203,16 @@ impl<'env, 'source> Template<'env, 'source> {
             × (ids.new ≡ ids.old) }
     {
         let id = ids.next()?;
-        let (state, fuel) = run(self.environment, self.compiled.get(), context, sink)?;
+        let (machine, fuel) = run(self.environment, self.compiled.get(), context, sink)?;
         Ok(Captured {
-            id,
             output: String::new(self.environment.allocator()),
-            state,
-            fuel,
+            state: State {
+                id,
+                environment: self.environment,
+                name: self.name(),
+                machine,
+                fuel,
+            },
         })
     }
 }
@@ -191,7 +223,7 @@ fn run<'env, 'source, S: Sink>(
     compiled: &'env CompiledTemplate<'source>,
     context: Value,
     sink: &mut S,
-) -> Result<(State<'env>, Option<(u64, u64)>), Error>
+) -> Result<(MachineState<'env>, Option<(u64, u64)>), Error>
     ensures renders { (n : ℕ) → IsFinished (rendering environment.now compiled.now n context).end →
         Renders result (S.taken sink.old) (S.taken sink.new) (under environment.now.fuel (rendering environment.now compiled.now n context)) }
     ensures left { IfOk result (λ r. (n : ℕ) → IsFinished (rendering environment.now compiled.now n context).end →
@@ -202,7 +234,8 @@ fn run<'env, 'source, S: Sink>(
     ensures set { IfOk result (λ r. set_of r.1 ≡ environment.now.fuel) }
 {
     let alloc = environment.allocator();
-    let mut state: State<'env> = State::new(alloc, compiled.initial_auto_escape(), context)?;
+    let mut state: MachineState<'env> =
+        MachineState::new(alloc, compiled.initial_auto_escape(), context)?;
     let fuel = environment.fuel();
     let mut left = fuel;
     let mut scratch = String::new(alloc);
@@ -219,8 +252,8 @@ fn run<'env, 'source, S: Sink>(
     Ok((state, levels(fuel, left)))
 }
 
-impl<'env> Captured<'env> {
-    ghost use Rattle.template_environment.specs.Views.{fuel_left, fuel_set, id_of, output_of, world_of};
+impl<'env, 'source> Captured<'env, 'source> {
+    ghost use Rattle.template_environment.specs.Views.{fuel_left, fuel_set, id_of, output_of, state_of};
 
     /// The text that the render gave; empty where it went into a sink.
     pub fn output(&self) -> &str
@@ -238,8 +271,8 @@ impl<'env> Captured<'env> {
     }
 
     /// The state that the render left.
-    pub fn state(&self) -> &State<'env>
-        ensures { result.now ≡ world_of self.now }
+    pub fn state(&self) -> &State<'env, 'source>
+        ensures { result.now ≡ state_of self.now }
     {
         &self.state
     }
@@ -248,7 +281,7 @@ impl<'env> Captured<'env> {
     pub fn id(&self) -> u64
         ensures { result ≡ id_of self.now }
     {
-        self.id
+        self.state.id()
     }
 
     /// What was consumed of the fuel and what remains of it, where one was set.
@@ -256,7 +289,7 @@ impl<'env> Captured<'env> {
         ensures remaining { option_map (λ levels. levels.1) result ≡ fuel_left self.now }
         ensures sum { option_map (λ levels. levels.0 + levels.1) result ≡ fuel_set self.now }
     {
-        self.fuel
+        self.state.fuel_levels()
     }
 }
 
