@@ -33,7 +33,10 @@ impl<'source> Environment<'source> {
         ensures refused { IfErr result NoMemory }
     {
         let mut names = given_names(self.allocator())?;
-        template.compiled.add_undeclared(self.allocator(), &mut names)?;
+        template
+            .compiled
+            .get()
+            .add_undeclared(self.allocator(), &mut names)?;
         self.templates.add_undeclared(self.allocator(), &mut names)?;
         template.isolated();
         Ok(names)

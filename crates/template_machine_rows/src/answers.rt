@@ -77,7 +77,7 @@ fn write_quoted(alloc: Global, text: String, out: &mut String) -> Result<(), Err
 }
 
 // What a render took of its fuel, where one is set.
-fn write_price(captured: &Captured<'_>, out: &mut String) -> Result<(), Error> {
+fn write_price(captured: &Captured<'_, '_>, out: &mut String) -> Result<(), Error> {
     if let Some((consumed, _)) = captured.fuel_levels() {
         write!(out, " price {consumed}")?;
     }
