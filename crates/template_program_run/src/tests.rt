@@ -3,6 +3,7 @@ use crate::*;
 use std::process::Abort;
 use std::test::Fail;
 use template_machine_ids::StateIds;
+use template_values_modes::UndefinedBehavior;
 
 /// Renders `{{ a }}` under a name over a context in JSON, and asserts what it writes.
 fn assert_written<R: AllocGlobal + Abort>(
@@ -22,6 +23,8 @@ fn assert_written<R: AllocGlobal + Abort>(
         main: String::from_str(alloc, name)?,
         texts: Vec::new(alloc),
         fuel: None,
+        limit: 500,
+        undefined: UndefinedBehavior::Lenient,
         command: Command::Render,
     };
     let mut ids = StateIds::new(0);

@@ -4,6 +4,7 @@ use anyhow::bail;
 use std::alloc::Global;
 use template_machine_ids::StateIds;
 use template_program_run::{Command, Outcome, Request, run};
+use template_values_modes::UndefinedBehavior;
 
 const MANY: usize = 1000;
 
@@ -26,6 +27,8 @@ fn new_case(alloc: Global, command: Command, main: &str) -> anyhow::Result<Case>
             main: String::from_str(alloc, main)?,
             texts: Vec::new(alloc),
             fuel: None,
+            limit: 500,
+            undefined: UndefinedBehavior::Lenient,
             command,
         },
         wanted: String::new(alloc),
