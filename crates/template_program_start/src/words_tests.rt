@@ -267,8 +267,7 @@ fn tells_what_it_refused(rt: HostRuntime) -> Result<(), Fail> {
                     .starts_with("error: invalid value 'loose' for '--undefined <MODE>'")
             );
             assert!(rt;
-                text.as_str()
-                    .contains("[possible values: lenient, chainable, semistrict, strict]")
+                text.as_str().contains("[possible values: lenient, chainable, semistrict, strict]")
             );
         }
         _ => panic!(rt; "it reads loose as a mode"),
