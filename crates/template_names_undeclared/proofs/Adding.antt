@@ -1,0 +1,24 @@
+-- Owned sets with more names.
+use Rattle.std.proofs.Common.{◌≡◌, ℕ, Bool, true, false, cond, ◌||◌, List, ◌∷◌, bytes_eq, Bor, refl, sym, ap, ◌∙◌}
+use Rattle.std.proofs.lemmas.Map.Text.{is_eq-slice_cmp}
+use Rattle.template_names_undeclared.specs.Goes.{has}
+use Rattle.template_names_undeclared.proofs.Walking.{turned}
+
+or_assoc : (a b c : Bool) → (a || (b || c)) ≡ ((a || b) || c)
+or_assoc true b c = refl
+or_assoc false b c = refl
+
+pub cond_or : (test before : Bool) → cond test true before ≡ (before || test)
+cond_or true true = refl
+cond_or true false = refl
+cond_or false true = refl
+cond_or false false = refl
+
+-- one is added
+pub one_added : (rest : List (Bor (List ℕ))) (name : Bor (List ℕ)) (left : List (Bor (List ℕ))) (old new all : Bool) (q : List ℕ) →
+    rest ≡ name ∷ left → new ≡ (old || bytes_eq name.now q) → (old || has record { keys = rest } q) ≡ all →
+    (new || has record { keys = left } q) ≡ all
+one_added rest name left old new all q is more before =
+    ap (λ b. b || has record { keys = left } q) more ∙ sym (or_assoc old (bytes_eq name.now q) (has record { keys = left } q)) ∙
+    ap (λ b. old || (b || has record { keys = left } q)) (turned name.now q ∙ sym (is_eq-slice_cmp q name.now)) ∙
+    ap (λ (ks : List (Bor (List ℕ))). old || has record { keys = ks } q) (sym is) ∙ before

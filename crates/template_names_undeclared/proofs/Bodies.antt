@@ -1,0 +1,66 @@
+-- The trees of statements, from the parts that a node holds, and walks of statements seen by their trees.
+use Rattle.std.proofs.Common.{◌≡◌, ℕ, List as Items, Box, Global, rules, sym, ap, ◌∙◌}
+use Rattle.template_tree.specs.Tree.{Statement, set_block, filter_block, block, macro, call_block}
+use Rattle.template_tree.specs.View.{expression_of, expressions_in, arguments_in, optional_in}
+use Rattle.template_tree.specs.StatementView.{statement_of}
+use Rattle.template_tree.specs.declared.expressions.Expr.{Expr}
+use Rattle.template_tree.specs.declared.span.Spanned.{Spanned}
+use Rattle.template_tree.specs.declared.statements.Block.{Block as BlockNode}
+use Rattle.template_tree.specs.declared.statements.CallBlock.{CallBlock, CallBlock' as called, out-CallBlock}
+use Rattle.template_tree.specs.declared.statements.FilterBlock.{FilterBlock as FilterBlockNode}
+use Rattle.template_tree.specs.declared.statements.Macro.{Macro as MacroNode}
+use Rattle.template_tree.specs.declared.statements.SetBlock.{SetBlock as SetBlockNode}
+use Rattle.template_tree.specs.declared.statements.Stmt.{Stmt, Block, CallBlock as calls, FilterBlock, Macro, SetBlock, the_lemmas}
+use Rattle.template_tree_parts.specs.Listed.{statements_in}
+use Rattle.template_tree_parts.proofs.Rows.{statements_row}
+use Rattle.template_names.specs.Names.{is_stored_by, is_used_by, is_used_by_macro, is_used_in}
+use Rattle.template_names_undeclared.specs.declared.state.Names.{Names}
+use Rattle.template_names_undeclared.specs.Goes.{Goes}
+use Rattle.template_names_undeclared.proofs.Laws.{goes_as}
+
+pub goes_by : {a b : Names} (s : Stmt) (t : Statement) → statement_of s ≡ t → Goes (λ q. is_used_by q t) (λ q. is_stored_by q t) a b →
+    Goes (λ q. is_used_by q (statement_of s)) (λ q. is_stored_by q (statement_of s)) a b
+goes_by s t tree goes = goes_as (λ q. ap (λ (x : Statement). is_used_by q x) (sym tree)) (λ q. ap (λ (x : Statement). is_stored_by q x) (sym tree)) goes
+
+pub set_block_tree : (n : Spanned (Box SetBlockNode Global)) → statement_of (SetBlock n)
+    ≡ set_block (expression_of n.node.value.target) (optional_in n.node.value.filter) (statements_in n.node.value.body.items)
+set_block_tree n = search (rules, the_lemmas, statements_row)
+
+pub filter_block_tree : (n : Spanned (Box FilterBlockNode Global)) → statement_of (FilterBlock n)
+    ≡ filter_block (expression_of n.node.value.filter) (statements_in n.node.value.body.items)
+filter_block_tree n = search (rules, the_lemmas, statements_row)
+
+pub block_tree : (n : Spanned (Box BlockNode Global)) → statement_of (Block n)
+    ≡ block n.node.value.name.now n.node.value.required (statements_in n.node.value.body.items)
+block_tree n = search (rules, the_lemmas, statements_row)
+
+pub macro_tree : (n : Spanned (Box MacroNode Global)) → statement_of (Macro n)
+    ≡ macro n.node.value.name.now (expressions_in n.node.value.args.items) (expressions_in n.node.value.defaults.items) (statements_in n.node.value.body.items)
+macro_tree n = search (rules, the_lemmas, statements_row)
+
+with_value : Spanned (Box CallBlock Global) → CallBlock → Spanned (Box CallBlock Global)
+with_value n v = record { node = record { ptr = n.node.ptr; alloc = n.node.alloc; value = v }; span = n.span }
+
+call_by : (n : Spanned (Box CallBlock Global)) (v : CallBlock) → statement_of (calls (with_value n v))
+    ≡ call_block (expression_of (out-CallBlock v).call.node.value.expr) (arguments_in (out-CallBlock v).call.node.value.args.items)
+    (expressions_in (out-CallBlock v).macro_decl.node.value.args.items) (expressions_in (out-CallBlock v).macro_decl.node.value.defaults.items)
+    (statements_in (out-CallBlock v).macro_decl.node.value.body.items)
+unfolding with_value out-CallBlock
+call_by n (called call q name args defaults shape body inner) = search (rules, the_lemmas, statements_row)
+
+pub call_tree : (n : Spanned (Box CallBlock Global)) → statement_of (calls n)
+    ≡ call_block (expression_of (out-CallBlock n.node.value).call.node.value.expr) (arguments_in (out-CallBlock n.node.value).call.node.value.args.items)
+    (expressions_in (out-CallBlock n.node.value).macro_decl.node.value.args.items) (expressions_in (out-CallBlock n.node.value).macro_decl.node.value.defaults.items)
+    (statements_in (out-CallBlock n.node.value).macro_decl.node.value.body.items)
+unfolding with_value
+call_tree n = call_by n n.node.value
+
+-- a macro, by the lists that are read from its node
+pub macro_reads : (q : Items ℕ) {body body' : Items Stmt} {arguments arguments' defaults defaults' : Items Expr} →
+    body ≡ body' → arguments ≡ arguments' → defaults ≡ defaults' →
+    is_used_by_macro q (expressions_in arguments) (expressions_in defaults) (is_used_in q (statements_in body))
+    ≡ is_used_by_macro q (expressions_in arguments') (expressions_in defaults') (is_used_in q (statements_in body'))
+macro_reads q {body} {body'} {arguments} {arguments'} {defaults} {defaults'} bodies xs ds =
+    ap (λ (ss : Items Stmt). is_used_by_macro q (expressions_in arguments) (expressions_in defaults) (is_used_in q (statements_in ss))) bodies ∙
+    ap (λ (es : Items Expr). is_used_by_macro q (expressions_in es) (expressions_in defaults) (is_used_in q (statements_in body'))) xs ∙
+    ap (λ (es : Items Expr). is_used_by_macro q (expressions_in arguments') (expressions_in es) (is_used_in q (statements_in body'))) ds

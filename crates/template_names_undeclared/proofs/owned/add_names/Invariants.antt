@@ -1,0 +1,9 @@
+use Rattle.std.proofs.Common.{◌≡◌, ℕ, List, ◌||◌}
+use Rattle.std.specs.BTreeSet.{contains_text}
+use Rattle.template_names_undeclared.specs.Goes.{has}
+use Rattle.template_names_undeclared.proofs.owned.add_names.Given as goal
+
+-- with the names that are left the set has what it is to have
+abbrev pub invariant-loop-name : goal.invariant-loop-name
+invariant-loop-name l = (q : List ℕ) →
+    (contains_text l.names q || has record { keys = l.name-iterator } q) ≡ (contains_text l.fn.names q || has l.used q)

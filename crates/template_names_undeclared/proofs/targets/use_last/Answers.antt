@@ -1,0 +1,17 @@
+use Rattle.std.proofs.Common.{◌≡◌, ◌≤◌, ◌+◌, ◌-◌, ℕ, length, take, arith, sym, ap, ◌∙◌}
+use Rattle.template_tree.specs.Tree.{Expressions}
+use Rattle.template_names_undeclared.specs.Stores.{backwards, first_stands}
+use Rattle.template_names_undeclared.proofs.Laws.{uses_as}
+use Rattle.template_names_undeclared.proofs.Storing.{backwards_last}
+use Rattle.template_names_undeclared.proofs.targets.use_last.Goals as goal
+
+pub returns : goal.returns
+returns c =
+    let ds = c.args.defaults.now in
+    let given = c.args.given in
+    let inside : given ≤ length ds = c.requires in
+    let tested = c.if-given-eq0.false in
+    let one : given ≡ given - 1 + 1 = omega (arith, tested) in
+    let tree = ap (λ (n : ℕ). backwards (take n ds)) one ∙
+    backwards_last ds (given - 1) c.index-defaults-last.result (omega (arith, inside, tested)) c.index-defaults-last.is in
+    uses_as (λ q. ap (λ (es : Expressions). first_stands q es) (sym tree)) c.in_ok-use_expression.ensures

@@ -1,0 +1,5 @@
+pub mod Choices
+pub mod Found
+pub mod Goes
+pub mod Parts
+pub mod Stores

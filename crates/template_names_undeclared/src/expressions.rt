@@ -1,0 +1,129 @@
+//! The names in expressions. A tree is gone along its left parts in a loop; its other parts nest at most 150 deep.
+ghost use Rattle.std.specs.Prelude.{◌≡◌, ◌≤◌, ℕ, List, OnOk};
+ghost use Rattle.template_tree.specs.View.{expression_of, expressions_in, links_in, optional_in, argument_of, arguments_in};
+ghost use Rattle.template_names.specs.Names.{stands_in, stands_if_given, stands_in_one, stands_in_links, stands_in_arguments, stands_in_argument};
+ghost use Rattle.template_names_undeclared.specs.Goes.{Goes, nothing};
+ghost use Rattle.template_names_undeclared.specs.Parts.{stands_beside};
+
+use crate::state::Names;
+use std::alloc::AllocError;
+use template_tree::{CallArg, CompareOp, Expr};
+use template_tree_spines::left;
+
+// Uses the names in an expression.
+#[cycle(expression)]
+pub(crate) fn use_expression<'source>(
+    names: &mut Names<'source>,
+    expr: &Expr<'source>,
+) -> Result<(), AllocError>
+    ensures { OnOk result (Goes (λ name. stands_in name (expression_of expr.now)) nothing names.old names.new) }
+{
+    let mut left_part = Some(expr);
+    while let Some(part) = left_part {
+        use_others(names, part)?;
+        left_part = left(part);
+    }
+    Ok(())
+}
+
+// Uses the names in an expression beside its left part.
+#[cycle(expression)]
+fn use_others<'source>(names: &mut Names<'source>, expr: &Expr<'source>) -> Result<(), AllocError>
+    ensures { OnOk result (Goes (λ name. stands_beside name (expression_of expr.now)) nothing names.old names.new) }
+{
+    match expr {
+        Expr::Var(n) => names.find(n.node.id)?,
+        Expr::Const(_) => {}
+        Expr::Slice(n) => {
+            let node = &n.node;
+            use_optional(names, &node.start)?;
+            use_optional(names, &node.stop)?;
+            use_optional(names, &node.step)?;
+        }
+        Expr::UnaryOp(n) => use_expression(names, &n.node.expr)?,
+        Expr::BinOp(n) => use_expression(names, &n.node.right)?,
+        Expr::Compare(n) => use_links(names, &n.node.ops)?,
+        Expr::IfExpr(n) => {
+            let node = &n.node;
+            use_expression(names, &node.test_expr)?;
+            use_expression(names, &node.true_expr)?;
+            use_optional(names, &node.false_expr)?;
+        }
+        Expr::Filter(n) => use_arguments(names, &n.node.args)?,
+        Expr::Test(n) => use_arguments(names, &n.node.args)?,
+        Expr::GetAttr(_) => {}
+        Expr::GetItem(n) => use_expression(names, &n.node.subscript_expr)?,
+        Expr::Call(n) => use_arguments(names, &n.node.args)?,
+        Expr::List(n) => use_items(names, &n.node.items)?,
+        Expr::Tuple(n) => use_items(names, &n.node.items)?,
+        Expr::Map(n) => {
+            use_items(names, &n.node.keys)?;
+            use_items(names, &n.node.values)?;
+        }
+    }
+    Ok(())
+}
+
+#[cycle(expression)]
+pub(crate) fn use_optional<'source>(
+    names: &mut Names<'source>,
+    expr: &Option<Expr<'source>>,
+) -> Result<(), AllocError>
+    ensures { OnOk result (Goes (λ name. stands_if_given name (optional_in expr.now)) nothing names.old names.new) }
+{
+    match expr {
+        Some(expr) => use_expression(names, expr),
+        None => Ok(()),
+    }
+}
+
+#[cycle(expression)]
+fn use_items<'source>(names: &mut Names<'source>, items: &[Expr<'source>]) -> Result<(), AllocError>
+    ensures { OnOk result (Goes (λ name. stands_in_one name (expressions_in items.now)) nothing names.old names.new) }
+{
+    for item in items {
+        use_expression(names, item)?;
+    }
+    Ok(())
+}
+
+#[cycle(expression)]
+fn use_links<'source>(
+    names: &mut Names<'source>,
+    links: &[CompareOp<'source>],
+) -> Result<(), AllocError>
+    ensures { OnOk result (Goes (λ name. stands_in_links name (links_in links.now)) nothing names.old names.new) }
+{
+    for link in links {
+        use_expression(names, &link.expr)?;
+    }
+    Ok(())
+}
+
+#[cycle(expression)]
+pub(crate) fn use_arguments<'source>(
+    names: &mut Names<'source>,
+    arguments: &[CallArg<'source>],
+) -> Result<(), AllocError>
+    ensures { OnOk result (Goes (λ name. stands_in_arguments name (arguments_in arguments.now)) nothing names.old names.new) }
+{
+    for argument in arguments {
+        use_argument(names, argument)?;
+    }
+    Ok(())
+}
+
+#[cycle(expression)]
+fn use_argument<'source>(
+    names: &mut Names<'source>,
+    argument: &CallArg<'source>,
+) -> Result<(), AllocError>
+    ensures { OnOk result (Goes (λ name. stands_in_argument name (argument_of argument.now)) nothing names.old names.new) }
+{
+    match argument {
+        CallArg::Pos(expr) => use_expression(names, expr),
+        CallArg::Kwarg(_, expr) => use_expression(names, expr),
+        CallArg::PosSplat(expr) => use_expression(names, expr),
+        CallArg::KwargSplat(expr) => use_expression(names, expr),
+    }
+}

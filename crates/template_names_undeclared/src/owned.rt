@@ -1,0 +1,50 @@
+//! Owned sets of names, to which templates add theirs.
+ghost use Rattle.std.specs.Prelude.{◌≡◌, ℕ, List, ◌||◌, OnOk, bytes_eq};
+ghost use Rattle.std.specs.BTreeSet.{contains_text};
+ghost use Rattle.template_tree.specs.StatementView.{statement_of};
+ghost use Rattle.template_names_undeclared.specs.Found.{AddsJust};
+ghost use Rattle.template_names_undeclared.specs.Goes.{has};
+
+use crate::undeclared::find_undeclared;
+use std::alloc::{AllocError, Global};
+use std::collections::BTreeSet;
+use template_tree::Stmt;
+
+/// Adds the names that a template uses to a set of names. Takes what [`find_undeclared`] takes, and a
+/// look-up in the set and memory for each of the names.
+///
+/// # Errors
+///
+/// Want of memory; then the set has its old names, and some of those that the template uses.
+pub fn add_undeclared(
+    alloc: Global,
+    names: &mut BTreeSet<String>,
+    tree: &Stmt<'_>,
+) -> Result<(), AllocError>
+    ensures { OnOk result (AddsJust (statement_of tree.now) names.old names.new) }
+{
+    let used = find_undeclared(alloc, tree)?;
+    add_names(alloc, names, &used)
+}
+
+fn add_names(
+    alloc: Global,
+    names: &mut BTreeSet<String>,
+    used: &BTreeSet<&str>,
+) -> Result<(), AllocError>
+    ensures { OnOk result ((q : List ℕ) → contains_text names.new q ≡ (contains_text names.old q || has used.now q)) }
+{
+    for name in used {
+        add_name(alloc, names, name)?;
+    }
+    Ok(())
+}
+
+fn add_name(alloc: Global, names: &mut BTreeSet<String>, name: &str) -> Result<(), AllocError>
+    ensures { OnOk result ((q : List ℕ) → contains_text names.new q ≡ (contains_text names.old q || bytes_eq name.now q)) }
+{
+    if !names.contains(name) {
+        names.insert(String::from_str(alloc, name)?)?;
+    }
+    Ok(())
+}
