@@ -1,6 +1,8 @@
 -- What is compiled is faithful to its source.
-use Rattle.std.proofs.Common.{◌≡◌, ℕ, List, [], ◌∷◌, ◌++◌, length, inl, inr, refl, sym, ap, subst, ◌∙◌}
+use Rattle.std.proofs.Common.{◌≡◌, ◌<◌, ◌≤◌, ℕ, List, [], ◌∷◌, ◌++◌, length, inl, inr, arith, refl, sym, ap, subst, ◌∙◌}
+use Rattle.std.specs.Prelude.{◌^◌}
 use Rattle.template_values_errors.specs.declared.ErrorKind.{ErrorKind}
+use Rattle.template_values_errors.specs.declared.ErrorKind.TheVariants.{OutOfMemory}
 use Rattle.template_values_modes.specs.declared.AutoEscape.{AutoEscape}
 use Rattle.template_tree.specs.Tree.{Statement, Statements, template}
 use Rattle.template_walk.specs.Runnable.{IsRunnableTemplate}
@@ -9,7 +11,7 @@ use Rattle.template_compiler_codegen.specs.Statements.{no_ways, statements_code,
 use Rattle.template_compiler_runnable.specs.Runs.{RunsWhole}
 use Rattle.template_compiler_statement_codegen.specs.Listed.{IsRunnableTree, body_in}
 use Rattle.template_compiler_syntax.specs.Syntax.{Syntax, IsUsable}
-use Rattle.template_compiler_sources.specs.Source.{IsSource, source_of}
+use Rattle.template_compiler_sources.specs.Source.{IsSource, RefusesSource, source_of}
 use Rattle.template_machine_escape.specs.Rule.{IsRuleOf}
 use Rattle.template_compiled.specs.Compiled.{Compiled, IsFaithful}
 use Rattle.template_compiled.specs.Sources.{Source, HasTree, IsUnsupported, tree_in}
@@ -31,10 +33,11 @@ unsupported source s (source_of {body = body} spelled is) refuses = (body, sourc
 pub tree_is : (source : Source) (s : Statement) → IsUsable source.syntax → IsSource source.syntax source.text s → tree_in source ≡ body_in s
 tree_is source s usable (source_of {body = body} spelled is) = one_tree source body usable (source_of spelled is)
 
-pub faithful : (name : List ℕ) (source : Source) (escape : AutoEscape) (s : Statement) → IsUsable source.syntax → IsSource source.syntax source.text s → RunsWhole s
-    → IsRuleOf name escape → IsFaithful (record { name = name; source = source; escape = escape })
-faithful name source escape s usable is runs rule = record {
+pub faithful : (name : List ℕ) (source : Source) (escape : AutoEscape) (s : Statement) → IsUsable source.syntax → (2 ^ 32 ≤ length source.text → ⊥)
+    → IsSource source.syntax source.text s → RunsWhole s → IsRuleOf name escape → IsFaithful (record { name = name; source = source; escape = escape })
+faithful name source escape s usable fits is runs rule = record {
   usable = usable;
+  fits = omega (arith, fits);
   has_tree = subst (HasTree source) (sym (tree_is source s usable is))
       (subst (IsSource source.syntax source.text) (source_body source s is) is, runs_body source s is runs);
   is_rule = rule;
@@ -42,11 +45,21 @@ faithful name source escape s usable is runs rule = record {
 
 -- what is kept of it
 pub kept : (name own : List ℕ) (text copied : List ℕ) (x y : Syntax) (escape : AutoEscape) (code : List Code) (s : Statement) → own ≡ name → copied ≡ text → y ≡ x
-    → IsUsable x → IsSource x text s → RunsWhole s → IsRuleOf name escape → code ≡ template_code (body_in s)
+    → IsUsable x → (2 ^ 32 ≤ length text → ⊥) → IsSource x text s → RunsWhole s → IsRuleOf name escape → code ≡ template_code (body_in s)
     → IsFaithful (record { name = own; source = record { text = copied; syntax = y }; escape = escape }) × (code ≡ template_code (tree_in (record { text = copied; syntax = y })))
-kept name own text copied x y escape code s named same shared usable is runs rule is_code =
+kept name own text copied x y escape code s named same shared usable fits is runs rule is_code =
     let source : Source = record { text = text; syntax = x } in
     let path : record { name = name; source = source; escape = escape } ≡ record { name = own; source = record { text = copied; syntax = y }; escape = escape } =
     λ i. record { name = sym named i; source = record { text = sym same i; syntax = sym shared i }; escape = escape } in
     subst (λ (c : Compiled). IsFaithful c × (code ≡ template_code (tree_in c.source))) path
-    (faithful name source escape s usable is runs rule, is_code ∙ ap template_code (sym (tree_is source s usable is)))
+    (faithful name source escape s usable fits is runs rule, is_code ∙ ap template_code (sym (tree_is source s usable is)))
+
+-- a source that was accepted is refused for want of memory alone
+pub only_want : (c : Compiled) (kinds : List ErrorKind) → IsFaithful c → RefusesSource c.source.syntax c.source.text kinds → kinds ≡ OutOfMemory ∷ []
+only_want c kinds is (inl want) = want
+only_want c kinds is (inr (inl (large, long))) = let fits = is.fits in absurd (omega (arith, long, fits))
+only_want c kinds is (inr (inr (fault, alone, faulty))) = absurd (faulty.treeless (template (tree_in c.source)) is.has_tree.0)
+
+-- its tree, as it is read once more
+pub whole_tree : (source : Source) (s : Statement) → IsUsable source.syntax → IsSource source.syntax source.text s → s ≡ template (tree_in source)
+whole_tree source s usable is = source_body source s is ∙ ap template (sym (tree_is source s usable is))

@@ -1,3 +1,4 @@
 pub mod Trees
 pub mod Accepting
 pub mod Updates
+pub mod Using

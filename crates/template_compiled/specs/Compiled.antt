@@ -1,5 +1,5 @@
 -- What contracts see of a compiled template.
-use Rattle.std.specs.Prelude.{◌≡◌, ℕ, Bool, false, List}
+use Rattle.std.specs.Prelude.{◌≡◌, ℕ, ◌<◌, ◌^◌, Bool, false, List, length}
 use Rattle.template_values_modes.specs.declared.AutoEscape.{AutoEscape}
 use Rattle.template_code.specs.Code.{Code}
 use Rattle.template_compiler_codegen.specs.Statements.{template_code}
@@ -17,6 +17,7 @@ pub record Compiled : Type 0 where
 -- its source has a tree that runs, and its escape is that of its name
 pub record IsFaithful (c : Compiled) : Type 0 where
   pub usable : IsUsable c.source.syntax
+  pub fits : length c.source.text < 2 ^ 32
   pub has_tree : HasTree c.source (tree_in c.source)
   pub is_rule : IsRuleOf c.name c.escape
 

@@ -1,3 +1,4 @@
 pub mod Sources
 pub mod Compiled
+pub mod Names
 pub mod Standing

@@ -1,14 +1,18 @@
 //! Compiled templates.
-ghost use Rattle.std.specs.Prelude.{◌≡◌, IfOk, IfErr};
+ghost use Rattle.std.specs.Prelude.{◌≡◌, IfOk, IfErr, OnOk};
+ghost use Rattle.template_values_errors.specs.Memory.{NoMemory};
 ghost use Rattle.template_tree.specs.Tree.{Statements, template};
+ghost use Rattle.template_tree.specs.StatementView.{statement_of};
 ghost use Rattle.template_code.specs.Listing.{code_in};
 ghost use Rattle.template_compiler_syntax.specs.Syntax.{IsUsable};
 ghost use Rattle.template_compiler_sources.specs.Source.{IsSource};
 ghost use Rattle.template_machine_escape.specs.Rule.{IsRuleOf};
 ghost use Rattle.template_compiled.specs.Compiled.{IsFaithful, code_for};
+ghost use Rattle.template_compiled.specs.Names.{HasMore, uses};
 ghost use Rattle.template_compiled.specs.Sources.{IsRefusedWith, Source, tree_in};
 
 use std::alloc::Global;
+use std::collections::BTreeSet;
 use std::marker::Model;
 use template_code::Instructions;
 use template_compiler_runnable::is_runnable;
@@ -16,6 +20,8 @@ use template_compiler_sources::parse;
 use template_compiler_statement_codegen::compile_template;
 use template_compiler_syntax::SyntaxConfig;
 use template_machine_escape::default_auto_escape_callback;
+use template_names_undeclared::add_undeclared;
+use template_tree::Stmt;
 use template_values_errors::{Error, ErrorKind};
 use template_values_modes::AutoEscape;
 
@@ -110,6 +116,33 @@ impl<'source> CompiledTemplate<'source> {
         ensures rule { IsRuleOf self.now.name result }
     {
         self.initial_auto_escape
+    }
+
+    /// The tree of the template's source, which is read once more, in time linear in its length.
+    ///
+    /// # Errors
+    ///
+    /// [`ErrorKind::OutOfMemory`].
+    pub fn tree(&self, alloc: Global) -> Result<Stmt<'source>, Error>
+        ensures tree { IfOk result (λ tree. statement_of tree ≡ template (tree_in self.now.source)) }
+        ensures refused { IfErr result NoMemory }
+    {
+        parse(alloc, self.source(), self.name(), self.syntax.clone()?)
+    }
+
+    /// Adds the names that the template uses to a set of names. Reads the source once more, in time linear in its
+    /// length, and takes a look-up for each place of use.
+    ///
+    /// # Errors
+    ///
+    /// [`ErrorKind::OutOfMemory`].
+    pub fn add_undeclared(&self, alloc: Global, names: &mut BTreeSet<String>) -> Result<(), Error>
+        ensures added { OnOk result (HasMore (uses self.now) names.old names.new) }
+        ensures refused { IfErr result NoMemory }
+    {
+        let tree = self.tree(alloc)?;
+        add_undeclared(alloc, names, &tree)?;
+        Ok(())
     }
 
     /// The template's code.

@@ -1,6 +1,7 @@
 //! Compiled templates by their names.
-ghost use Rattle.std.specs.Prelude.{◌≡◌, ℕ, List, true, false, None, Some, OnOk, OnErr, IfErr, bytes_eq, if◌then◌else◌, option_copied};
+ghost use Rattle.std.specs.Prelude.{◌≡◌, ℕ, List, true, false, ◌↔◌, ◌⊎◌, IsTrue, None, Some, OnOk, OnErr, IfErr, bytes_eq, if◌then◌else◌, option_copied};
 ghost use Rattle.std.specs.BTreeMap.{get_by_text};
+ghost use Rattle.std.specs.BTreeSet.{contains_text};
 ghost use Rattle.std.specs.Option.{ForSome};
 ghost use Rattle.template_values_errors.specs.Memory.{NoMemory};
 ghost use Rattle.template_compiler_runnable.specs.Running.{statements_run};
@@ -8,7 +9,7 @@ ghost use Rattle.template_compiled.specs.Sources.{tree_in};
 
 use crate::compiled::CompiledTemplate;
 use std::alloc::Global;
-use std::collections::BTreeMap;
+use std::collections::{BTreeMap, BTreeSet};
 use template_values_errors::{Error, ErrorKind};
 
 /// Compiled templates, each under its own name.
@@ -22,7 +23,7 @@ pub struct CompiledTemplates<'source> {
 
 impl<'source> CompiledTemplates<'source> {
     ghost use Rattle.template_compiled.specs.Compiled.{IsFaithful};
-    ghost use Rattle.template_compiled.specs.Standing.{compiled_at};
+    ghost use Rattle.template_compiled.specs.Standing.{IsUsedByOne, compiled_at};
 
     /// No templates.
     pub fn new(alloc: Global) -> CompiledTemplates<'source>
@@ -78,5 +79,22 @@ impl<'source> CompiledTemplates<'source> {
         ensures found { option_copied result ≡ compiled_at self.now name.now }
     {
         self.by_name.get(name)
+    }
+
+    /// Adds the names that the templates use to a set of names. Reads each source once more, in time linear in its
+    /// length, and takes a look-up for each place of use.
+    ///
+    /// # Errors
+    ///
+    /// [`ErrorKind::OutOfMemory`].
+    pub fn add_undeclared(&self, alloc: Global, names: &mut BTreeSet<String>) -> Result<(), Error>
+        ensures added { OnOk result ((name : List ℕ) → IsTrue (contains_text names.new name)
+            ↔ (IsTrue (contains_text names.old name) ⊎ IsUsedByOne self.now name)) }
+        ensures refused { IfErr result NoMemory }
+    {
+        for (_name, template) in &self.by_name {
+            template.add_undeclared(alloc, names)?;
+        }
+        Ok(())
     }
 }

@@ -2,8 +2,10 @@
 #![tactic(auto)]
 
 mod expression;
+mod parser;
 mod source;
 mod template;
 
 pub use expression::parse_expr;
+pub use parser::Parser;
 pub use source::parse;

@@ -1,1 +1,2 @@
 pub mod Rendering
+pub mod Naming

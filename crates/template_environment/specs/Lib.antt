@@ -1,3 +1,4 @@
 pub mod Standing
 pub mod Renderings
 pub mod Views
+pub mod Isolated

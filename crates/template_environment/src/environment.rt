@@ -22,7 +22,7 @@ const MAX_RECURSION: usize = 500;
 pub struct Environment<'source> {
     id: u64,
     alloc: Global,
-    templates: CompiledTemplates<'source>,
+    pub(crate) templates: CompiledTemplates<'source>,
     syntax: SyntaxConfig,
     fuel: Option<u64>,
     recursion_limit: usize,

@@ -2,6 +2,7 @@
 #![tactic(auto)]
 
 mod environment;
+mod names;
 mod template;
 
 pub use environment::Environment;

@@ -26,7 +26,7 @@ invariant_of-result c =
     let runs : c.is_runnable.result ≡ true = search rules in
     let put = c.in_ok-compile_template.ensures.put in
     kept c.args.name.now _ c.args.source.now _ c.args.syntax.now _ _ _ tree (put.same.name ∙ c.new-instructions.ensures.name)
-    (put.same.source ∙ c.new-instructions.ensures.source) copied c.usable.ensures
+    (put.same.source ∙ c.new-instructions.ensures.source) copied c.usable.ensures c.in_ok-tree.ensures.too_large
     (subst (λ (x : Syntax). IsSource x c.args.source.now tree) shared c.in_ok-tree.ensures.found) (c.is_runnable.ensures.0 runs) c.default_auto_escape_callback.ensures
     (put.code ∙ ap (λ (l : List Code). l ++ statements_code no_ways (body_in tree) (length l)) c.new-instructions.ensures.empty)
 
@@ -38,6 +38,6 @@ returns-clause-faithful c =
     let runs : c.is_runnable.result ≡ true = search rules in
     let put = c.in_ok-compile_template.ensures.put in
     (kept c.args.name.now _ c.args.source.now _ c.args.syntax.now _ _ _ tree (put.same.name ∙ c.new-instructions.ensures.name)
-    (put.same.source ∙ c.new-instructions.ensures.source) copied c.usable.ensures
+    (put.same.source ∙ c.new-instructions.ensures.source) copied c.usable.ensures c.in_ok-tree.ensures.too_large
     (subst (λ (x : Syntax). IsSource x c.args.source.now tree) shared c.in_ok-tree.ensures.found) (c.is_runnable.ensures.0 runs) c.default_auto_escape_callback.ensures
     (put.code ∙ ap (λ (l : List Code). l ++ statements_code no_ways (body_in tree) (length l)) c.new-instructions.ensures.empty)).0

@@ -1,0 +1,64 @@
+-- Which of the templates that stand uses a name.
+use Rattle.std.proofs.Common.{◌≡◌, ℕ, zero, suc, Bool, true, false, ◌||◌, List, [], ◌∷◌, ◌++◌, map, Option, None, Some, inl, inr, ◌⊎◌, ◌↔◌, IsTrue, refl, sym, ap, subst, ◌∙◌, string_bytes}
+use Rattle.std.specs.List.{list_any, slice_get}
+use Rattle.std.specs.Option.{option_map}
+use Rattle.std.specs.String.{string_cmp, string_cmp_total}
+use Rattle.std.specs.BTreeMap as tree
+use Rattle.std.proofs.lemmas.Map.Entries.{place_from_lookup, btree_map_get_place}
+use Rattle.template_compiled.specs.Compiled.{Compiled}
+use Rattle.template_compiled.specs.Names.{uses}
+use Rattle.template_compiled.specs.Standing.{IsUsedByOne}
+use Rattle.template_compiled.specs.declared.templates.CompiledTemplates.{CompiledTemplates}
+
+or_false : (b : Bool) → (b || false) ≡ b
+or_false true = refl
+or_false false = refl
+
+or_assoc : (a b c : Bool) → ((a || b) || c) ≡ (a || (b || c))
+or_assoc true b c = refl
+or_assoc false b c = refl
+
+-- one item more
+any_push : {X : Type 0} (test : X → Bool) (xs : List X) (x : X) → list_any test (xs ++ x ∷ []) ≡ (list_any test xs || test x)
+any_push test [] x = or_false (test x)
+any_push test (y ∷ ys) x = ap (λ b. test y || b) (any_push test ys x) ∙ sym (or_assoc (test y) (list_any test ys) (test x))
+
+pub more_used : {X : Type 0} (test : X → Bool) (xs : List X) (x : X) (old before new : Bool) → before ≡ (old || list_any test xs) → new ≡ (before || test x)
+    → new ≡ (old || list_any test (xs ++ x ∷ []))
+more_used test xs x old before new so_far step =
+    step ∙ ap (λ b. b || test x) so_far ∙ or_assoc old (list_any test xs) (test x) ∙ ap (λ b. old || b) (sym (any_push test xs x))
+
+pub any_map : {X Y : Type 0} (test : Y → Bool) (g : X → Y) (xs : List X) → list_any test (map g xs) ≡ list_any (λ x. test (g x)) xs
+any_map test g [] = refl
+any_map test g (x ∷ xs) = ap (λ b. test (g x) || b) (any_map test g xs)
+
+pub either : (a b : Bool) → IsTrue (a || b) ↔ (IsTrue a ⊎ IsTrue b)
+either true b = (λ h. inl h, λ h. tt)
+either false b = (λ h. inr h, λ h. elim h [ inl n ↦ absurd n | inr y ↦ y ])
+
+-- where in a list
+place_of : {X : Type 0} (test : X → Bool) (xs : List X) → IsTrue (list_any test xs) → (i : ℕ) × (x : X) × (slice_get xs i ≡ Some x) × IsTrue (test x)
+place_of test [] h = absurd h
+place_of test (x ∷ xs) h = elim ((either (test x) (list_any test xs)).0 h) [
+  | inl here ↦ (0, x, refl, here)
+  | inr there ↦ let p = place_of test xs there in (suc p.0, p.1, p.2, p.3)
+]
+
+at_place : {X : Type 0} (test : X → Bool) (xs : List X) (i : ℕ) (x : X) → slice_get xs i ≡ Some x → IsTrue (test x) → IsTrue (list_any test xs)
+at_place test [] i x at is = cc
+at_place test (y ∷ ys) zero x at is =
+    let same : y ≡ x = cc in (either (test y) (list_any test ys)).1 (inl (subst (λ z. IsTrue (test z)) (sym same) is))
+at_place test (y ∷ ys) (suc i) x at is = (either (test y) (list_any test ys)).1 (inr (at_place test ys i x at is))
+
+-- the templates are their map's entries
+pub used_by_one : (templates : CompiledTemplates) → tree.IsOrdered string_cmp templates.by_name → (name : List ℕ)
+    → IsTrue (list_any (λ e. uses e.1 name) templates.by_name.entries) ↔ IsUsedByOne templates name
+used_by_one templates ordered name = (
+  λ used.
+      let p = place_of (λ e. uses e.1 name) templates.by_name.entries used in
+      let found = btree_map_get_place string_cmp_total templates.by_name p.0 p.1.0 p.1.1 ordered p.2 in
+      (string_bytes p.1.0, p.1.1, found, p.3),
+  λ used.
+      let place = place_from_lookup _ templates.by_name.entries used.1 used.2 in
+      at_place (λ e. uses e.1 name) templates.by_name.entries place.0 (place.1, used.1) place.2 used.3,
+)

@@ -1,0 +1,56 @@
+-- The names that can matter, among those of the templates that stand.
+use Rattle.std.proofs.Common.{◌≡◌, ℕ, Bool, true, false, ◌||◌, List, codes, bytes_eq, Option, None, Some, inl, inr, ◌⊎◌, ◌↔◌, IsTrue, arith, refl, sym, ap, subst, ◌∙◌}
+use Rattle.std.specs.Option.{option_map}
+use Rattle.std.proofs.lemmas.Slice.Eq.{bytes_eq-Decides}
+use Rattle.template_tree.specs.Tree.{Statements}
+use Rattle.template_names.specs.Names.{is_used}
+use Rattle.template_names_undeclared.proofs.Walking.{turned}
+use Rattle.template_machine_isolation.specs.Isolation as isolation
+use Rattle.template_machine_isolation.specs.Isolation.{IsContextName, is_given}
+use Rattle.template_machine_meaning.specs.Meaning.{Standing}
+use Rattle.template_compiled.specs.Compiled.{Compiled, standing_of}
+use Rattle.template_compiled.specs.Names.{uses}
+use Rattle.template_compiled.specs.Standing.{IsUsedByOne, compiled_at}
+use Rattle.template_compiled.proofs.Using.{either}
+use Rattle.template_environment.specs.Standing.{setting_of}
+use Rattle.template_environment.specs.declared.environment.Environment.{Environment}
+
+under_map : {X Y : Type 0} (f : X → Y) (o : Option X) (y : Y) → option_map f o ≡ Some y → (x : X) × (o ≡ Some x) × (f x ≡ y)
+under_map f None y h = cc
+under_map f (Some x) y h = (x, refl, cc)
+
+pub used_by_one : (e : Environment) (name : List ℕ) → IsUsedByOne e.templates name ↔ isolation.IsUsedByOne (setting_of e) name
+used_by_one e name = (
+  λ u. (u.0, standing_of u.1, ap (option_map standing_of) u.2, u.3),
+  λ u.
+      let under = under_map standing_of (compiled_at e.templates u.0) u.1 u.2 in
+      (u.0, under.0, under.1, subst (λ (t : Standing). IsTrue (is_used name t.tree)) (sym under.2) u.3),
+)
+
+pub listed : (e : Environment) (c : Compiled) (name : List ℕ) (given own : Bool) (Has : Type 0) → given ≡ is_given name → own ≡ (given || uses c name)
+    → Has ↔ (IsTrue own ⊎ IsUsedByOne e.templates name) → Has ↔ IsContextName (setting_of e) (standing_of c).tree name
+listed e c name given own Has at_first then all =
+    let both = either given (uses c name) in (
+      λ h. elim (all.0 h) [
+        | inl o ↦ elim (both.0 (subst IsTrue then o)) [ inl g ↦ inl (subst IsTrue at_first g) | inr u ↦ inr (inl u) ]
+        | inr u ↦ inr (inr ((used_by_one e name).0 u))
+      ],
+      λ h. all.1 (elim h [
+        | inl g ↦ inl (subst IsTrue (sym then) (both.1 (inl (subst IsTrue (sym at_first) g))))
+        | inr s ↦ elim s [ inl u ↦ inl (subst IsTrue (sym then) (both.1 (inr u))) | inr v ↦ inr ((used_by_one e name).1 v) ]
+      ]),
+    )
+
+four : (a b c d : Bool) → ((((false || a) || b) || c) || d) ≡ ((a || b) || (c || d))
+four true b c d = refl
+four false true c d = refl
+four false false true d = refl
+four false false false d = refl
+
+pub given_is : (q : List ℕ) → ((((false || bytes_eq (codes "self") q) || bytes_eq (codes "super") q) || bytes_eq (codes "loop") q) || bytes_eq (codes "caller") q) ≡ is_given q
+given_is q =
+    four (bytes_eq (codes "self") q) (bytes_eq (codes "super") q) (bytes_eq (codes "loop") q) (bytes_eq (codes "caller") q) ∙
+    ap (λ a. (a || bytes_eq (codes "super") q) || (bytes_eq (codes "loop") q || bytes_eq (codes "caller") q)) (turned (codes "self") q) ∙
+    ap (λ b. (bytes_eq q (codes "self") || b) || (bytes_eq (codes "loop") q || bytes_eq (codes "caller") q)) (turned (codes "super") q) ∙
+    ap (λ c. (bytes_eq q (codes "self") || bytes_eq q (codes "super")) || (c || bytes_eq (codes "caller") q)) (turned (codes "loop") q) ∙
+    ap (λ d. (bytes_eq q (codes "self") || bytes_eq q (codes "super")) || (bytes_eq q (codes "loop") || d)) (turned (codes "caller") q)

@@ -1,0 +1,27 @@
+-- The names of a context that can matter to a render of a template.
+use Rattle.std.specs.Prelude.{ℕ, List, Option, IsTrue, String}
+use Rattle.std.specs.BTreeSet.{BTreeSet, contains_text}
+use Rattle.template_values_model.specs.Val.{Val}
+use Rattle.template_tree.specs.Tree.{Statements}
+use Rattle.template_process.specs.Fuel.{IsSameRun, under}
+use Rattle.template_machine_isolation.specs.Isolation.{AgreesAt, IsContextName}
+use Rattle.template_compiled.specs.Sources.{tree_in}
+use Rattle.template_environment.specs.Standing.{setting_of}
+use Rattle.template_environment.specs.Views.{environment_of, render_of, source_of}
+use Rattle.template_environment.specs.declared.template.Template.{Template}
+
+-- the tree of the template's source
+abbrev pub tree_of : Template → Statements
+tree_of t = tree_in (source_of t)
+
+-- the contexts hold the same under each of the names, or neither holds anything
+abbrev pub AgreeAmong : {A : Type 0} → BTreeSet (String A) → Val → Val → Type 0
+AgreeAmong names c d = (name : List ℕ) → IsTrue (contains_text names name) → AgreesAt c d name
+
+-- they do so under each name that can matter to a render of the template
+abbrev pub AgreeFor : Template → Val → Val → Type 0
+AgreeFor t c d = (name : List ℕ) → IsContextName (setting_of (environment_of t)) (tree_of t) name → AgreesAt c d name
+
+-- renders over the two contexts write the same, step by step at the same price, and come to the same end, under every bound and every fuel
+abbrev pub IsSameRender : Template → Val → Val → Type 0
+IsSameRender t c d = (n : ℕ) (fuel : Option ℕ) → IsSameRun (under fuel (render_of t n c)) (under fuel (render_of t n d))

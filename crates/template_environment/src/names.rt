@@ -1,0 +1,75 @@
+//! The names of a context that can matter to a render.
+ghost use Rattle.std.specs.Prelude.{◌≡◌, ◌↔◌, ◌||◌, ℕ, List, IsTrue, IfOk, IfErr, OnOk, bytes_eq};
+ghost use Rattle.std.specs.BTreeSet.{contains_text};
+ghost use Rattle.template_values_errors.specs.Memory.{NoMemory};
+ghost use Rattle.template_values_model.specs.Val.{Val};
+ghost use Rattle.template_machine_isolation.specs.Isolation.{IsContextName, is_given};
+ghost use Rattle.template_environment.specs.Isolated.{AgreeAmong, AgreeFor, IsSameRender, tree_of};
+ghost use Rattle.template_environment.specs.Standing.{setting_of};
+ghost use Rattle.template_environment.specs.Views.{environment_of};
+
+use crate::environment::Environment;
+use crate::template::Template;
+use std::alloc::Global;
+use std::collections::BTreeSet;
+use template_machine_isolation::isolation;
+use template_values_errors::{Error, ErrorKind};
+
+impl<'source> Environment<'source> {
+    /// The names of a context that can matter to a render of a template of this environment: `caller`, `loop`,
+    /// `self`, `super`, and the names that it uses, or a template that stands. Reads the source of each once more,
+    /// in time linear in their length, and takes a look-up for each place of use.
+    ///
+    /// # Errors
+    ///
+    /// [`ErrorKind::OutOfMemory`].
+    pub fn context_names(&self, template: &Template<'_, 'source>) -> Result<BTreeSet<String>, Error>
+        ensures listed { IfOk result (λ names. (name : List ℕ) → IsTrue (contains_text names name)
+            ↔ IsContextName (setting_of self.now) (tree_of template.now) name) }
+
+        // Contexts that agree at these names make no difference to its renders.
+        ensures isolated { IfOk result (λ names. environment_of template.now ≡ self.now → (c d : Val) → AgreeAmong names c d →
+            IsSameRender template.now c d) }
+        ensures refused { IfErr result NoMemory }
+    {
+        let mut names = given_names(self.allocator())?;
+        template.compiled.add_undeclared(self.allocator(), &mut names)?;
+        self.templates.add_undeclared(self.allocator(), &mut names)?;
+        template.isolated();
+        Ok(names)
+    }
+}
+
+impl<'env, 'source> Template<'env, 'source> {
+    /// A law, as the contract of a method that does nothing: contexts that agree at the names that can matter make
+    /// no difference to its renders.
+    pub fn isolated(&self)
+        ensures { (c d : Val) → AgreeFor self.now c d → IsSameRender self.now c d }
+    {
+        isolation();
+    }
+}
+
+// The names that the engine gives in places.
+fn given_names(alloc: Global) -> Result<BTreeSet<String>, Error>
+    ensures given { IfOk result (λ names. (name : List ℕ) → contains_text names name ≡ is_given name) }
+    ensures refused { IfErr result NoMemory }
+{
+    let mut names = BTreeSet::new(alloc);
+    add_name(alloc, &mut names, "self")?;
+    add_name(alloc, &mut names, "super")?;
+    add_name(alloc, &mut names, "loop")?;
+    add_name(alloc, &mut names, "caller")?;
+    Ok(names)
+}
+
+fn add_name(alloc: Global, names: &mut BTreeSet<String>, name: &str) -> Result<(), Error>
+    ensures added { OnOk result ((q : List ℕ) → contains_text names.new q ≡ (contains_text names.old q || bytes_eq name.now q)) }
+    ensures refused { IfErr result NoMemory }
+{
+    let name = String::from_str(alloc, name).map_err(|_refused| Error::new(ErrorKind::OutOfMemory))?;
+    match names.insert(name) {
+        Ok(_new) => Ok(()),
+        Err(_refused) => Err(Error::new(ErrorKind::OutOfMemory)),
+    }
+}
