@@ -1,8 +1,9 @@
-//! Times calls of values. The words are names of tasks; each is done once, and a line tells its name and
-//! the microseconds that the calls took, without what was made ready for them. `benchmarks/values` runs
-//! it beside the same work in Rust.
+//! Times calls of values, and additions and renders of templates. The words are names of tasks; each is
+//! done once, and a line tells its name and the microseconds that the calls took, without what was made
+//! ready for them. `benchmarks/values` runs the tasks of values beside the same work in Rust.
 #![tactic(auto)]
 
+mod renders;
 mod tasks;
 
 use crate::tasks::measure;

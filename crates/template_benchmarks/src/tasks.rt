@@ -1,4 +1,5 @@
-//! The tasks.
+//! The tasks, those of values among them.
+use crate::renders::{add_template, render_includes, render_loop, render_prints, render_sums};
 use std::alloc::Global;
 use std::hint::black_box;
 use std::time::{Duration, Instant};
@@ -35,6 +36,11 @@ pub(crate) fn measure(rt: &HostRuntime, task: &str) -> Option<Duration> {
         "look-up" => look_up(rt),
         "add" => add_up(rt),
         "copy" => copy(rt),
+        "add-template" => add_template(rt),
+        "render-prints" => render_prints(rt),
+        "render-loop" => render_loop(rt),
+        "render-sums" => render_sums(rt),
+        "render-includes" => render_includes(rt),
         _ => None,
     }
 }

@@ -1,27 +1,36 @@
 pub use Rattle.template_values_errors.specs.Causes
 pub use Rattle.template_values_errors.specs.Names
 pub use Rattle.template_values_model.specs.Val
-pub use Rattle.template_compiler_tree.specs.Tree
-pub use Rattle.template_compiler_tree.specs.View
-pub use Rattle.template_compiler_tree.specs.Names as UsedNames
-pub use Rattle.template_compiler_grammar.specs.Grammar
-pub use Rattle.template_compiler_grammar.specs.Segments
-pub use Rattle.template_compiler_grammar.specs.Reader
-pub use Rattle.template_compiler_parser.specs.Refusals
-pub use Rattle.template_compiler_names.specs.Used
-pub use Rattle.template_compiler_process.specs.Process
-pub use Rattle.template_compiler_process.specs.Drive
-pub use Rattle.template_compiler_process.specs.Trace
-pub use Rattle.template_compiler_process.specs.Fuel
-pub use Rattle.template_compiler_process.specs.Whole
-pub use Rattle.template_compiler_process.specs.Laws
-pub use Rattle.template_compiler_walk.specs.Walk
-pub use Rattle.template_compiler_code.specs.Code
-pub use Rattle.template_compiler_code.specs.View as CodeView
-pub use Rattle.template_compiler_code.specs.Steps
-pub use Rattle.template_compiler_code.specs.Prices
-pub use Rattle.template_compiler_code.specs.Shapes
-pub use Rattle.template_compiler_code.specs.Listing
-pub use Rattle.template_compiler_generator.specs.Generated
-pub use Rattle.template_compiler_generator.specs.Performs
-pub use Rattle.template_compiler_generator.specs.Progress
+pub use Rattle.template_compiler_tokens.specs.Token
+pub use Rattle.template_compiler_tokens.specs.View as TokenView
+pub use Rattle.template_compiler_tokens.specs.Left
+pub use Rattle.template_compiler_tokens.specs.Lexical
+pub use Rattle.template_compiler_syntax.specs.Syntax
+pub use Rattle.template_compiler_syntax.specs.Settings
+pub use Rattle.template_compiler_segments.specs.Segments
+pub use Rattle.template_compiler_tokenizer.specs.Tokenizer
+pub use Rattle.template_compiler_tokenizer.specs.Stream
+pub use Rattle.template_tree.specs.Tree
+pub use Rattle.template_tree.specs.View as TreeView
+pub use Rattle.template_tree.specs.StatementView
+pub use Rattle.template_compiler_expressions.specs.Grammar as ExpressionGrammar
+pub use Rattle.template_compiler_statements.specs.Grammar
+pub use Rattle.template_compiler_sources.specs.Source
+pub use Rattle.template_process.specs.Process
+pub use Rattle.template_process.specs.Drive
+pub use Rattle.template_process.specs.Whole
+pub use Rattle.template_walk.specs.Constants
+pub use Rattle.template_walk.specs.Expressions as ExpressionWalk
+pub use Rattle.template_walk.specs.Statements as StatementWalk
+pub use Rattle.template_walk.specs.Runnable
+pub use Rattle.template_code.specs.Code
+pub use Rattle.template_code.specs.View as CodeView
+pub use Rattle.template_code.specs.Steps
+pub use Rattle.template_code.specs.Prices
+pub use Rattle.template_code.specs.Listing
+pub use Rattle.template_compiler_codegen.specs.Expressions as ExpressionCode
+pub use Rattle.template_compiler_codegen.specs.Statements as StatementCode
+pub use Rattle.template_compiler_codegen.specs.Laws
+pub use Rattle.template_compiler_runnable.specs.Runs
+pub use Rattle.template_compiled.specs.Sources
+pub use Rattle.template_compiled.specs.Compiled

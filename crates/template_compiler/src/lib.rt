@@ -1,47 +1,57 @@
-//! The compiler of templates: from a text to the tree of its nodes, to the names that it uses, and to the
-//! instructions of the virtual machine. This crate holds no code of its own: it gathers the compiler's
-//! crates under one name.
+//! The compiler of templates: from a text to its tokens, to the tree of its nodes, to the names that it
+//! uses, and to the instructions of the virtual machine. This crate holds no code of its own: it gathers
+//! the compiler's crates under one name.
 //!
 //! # A first example
 //!
 //! ```text
-//! let template = parse(alloc, "Hello {{ name }}!")?;
-//! let names = find_undeclared(alloc, &template.node)?;    // name
-//! let code = compile(alloc, "hello.txt", "Hello {{ name }}!", &template.node)?;
+//! let syntax = SyntaxConfig::new();
+//! let tree = parse(alloc, "Hello {{ name }}!", "hello.txt", syntax)?;
+//! let compiled = CompiledTemplate::new(alloc, "hello.txt", "Hello {{ name }}!", &SyntaxConfig::new())?;
+//! let code = compiled.instructions();
 //! ```
 //!
-//! The code is `EmitRaw("Hello ")`, `Lookup("name")`, `Emit`, `EmitRaw("!")`.
+//! The tree is one of `ast::Stmt::Template` with three statements, and the code is `EmitRaw("Hello ")`,
+//! `Lookup("name")`, `Emit`, `EmitRaw("!")`.
 //!
 //! # The main calls
 //!
-//! - [`parse`] accepts exactly the texts that have a tree in the grammar, and gives that tree. Its nodes
-//!   borrow their texts from the source, and each knows its [`Span`].
-//! - [`find_undeclared`] gives the names that a tree uses, which a context may be asked for.
-//! - [`compile`] gives the [`Instructions`] of a tree; a [`CodeGenerator`] gathers them piece by piece.
+//! - [`SyntaxConfig::builder`] takes other delimiters, and prefixes of line statements and comments;
+//!   [`SyntaxConfigBuilder::build`] refuses exactly those that are empty or cannot be told apart.
+//! - A [`Tokenizer`] gives the tokens of a source, one after another; a [`TokenStream`] looks one ahead.
+//! - [`parse`] accepts exactly the texts that have a tree in the grammar, and gives that tree;
+//!   [`parse_expr`] does so for an expression. The nodes stand in [`ast`]; they borrow their texts from the
+//!   source, and each knows its [`ast::Span`].
+//! - [`is_runnable`] tells whether all constructs of a tree have a walk yet.
+//! - [`compile_template`] puts the code of a tree behind what stands in [`Instructions`], [`compile_expr`]
+//!   that of an expression. [`CompiledTemplate::new`] does all of it: from a text to its code.
 //!
 //! # What is proved
 //!
-//! Contracts speak of definitions that no code slows down: the grammar, the tree, the walk of a tree (a
-//! process that takes priced steps and asks its surroundings), and the step table of the instructions.
-//! [`one_tree`] and [`is_decided`] say that a text has one tree or none, [`templates_perform`] that the
-//! code of every tree does exactly what the tree's walk does, whatever is answered, and [`runs_alike`]
-//! that both leave the same trace under the same surroundings.
+//! Contracts speak of definitions that no code slows down: the tokens of a text, the grammar, the tree, the
+//! walk of a tree (a process that takes priced steps and asks its surroundings), and the step table of the
+//! instructions. [`one_token`] says that at each place stands one token or fault, [`one_template`] and
+//! [`is_decided`] that tokens have one tree or none, [`templates_perform`] and [`expressions_perform`] that
+//! the code of every tree does exactly what the tree's walk does, whatever is answered, and [`one_tree`]
+//! which tree an accepted source has.
 #![tactic(auto)]
 
+pub mod ast;
 #[cfg(test)]
 mod tests;
 
-pub use template_compiler_code::{Instruction, Instructions, charged_first};
-pub use template_compiler_generator::{
-    CodeGenerator, compile, runs_alike, templates_balance, templates_perform,
+pub use template_code::{
+    CaptureMode, CompareOp, Instruction, Instructions, LOOP_FLAG_RECURSIVE,
+    LOOP_FLAG_WITH_LOOP_VAR, LocalId, MACRO_CALLER, MAX_LOCALS, code_rises,
 };
-pub use template_compiler_grammar::{
-    is_decided, one_tree, plain_text_is_itself, reads_the_grammar,
-};
-pub use template_compiler_names::{add_name, add_undeclared, find_undeclared};
-pub use template_compiler_parser::parse;
-pub use template_compiler_process::{
-    below_is_an_order, driven_alike, driven_whole, run_alike, run_whole,
-};
-pub use template_compiler_tree::{EmitExpr, EmitRaw, Expr, Span, Spanned, Stmt, Template, Var};
+pub use template_compiled::{CompiledTemplate, CompiledTemplates, one_tree};
+pub use template_compiler_codegen::{expressions_perform, templates_perform};
+pub use template_compiler_expression_codegen::compile_expr;
+pub use template_compiler_runnable::is_runnable;
+pub use template_compiler_sources::{parse, parse_expr};
+pub use template_compiler_statement_codegen::compile_template;
+pub use template_compiler_statement_laws::{is_decided, one_template, reads_the_grammar};
+pub use template_compiler_syntax::{StartMarker, SyntaxConfig, SyntaxConfigBuilder};
+pub use template_compiler_tokenizer::{TokenStream, Tokenizer};
+pub use template_compiler_tokens::{Token, Tokens, one_token};
 pub use template_values_errors::{Error, ErrorKind};

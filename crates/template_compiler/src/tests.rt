@@ -1,5 +1,4 @@
-//! What no clause says: that calls succeed, the spans of nodes, and the parts together.
-mod generating;
-mod instructions;
-mod names;
+//! What no clause says: that calls succeed, and the parts together, from a text to its code.
+mod compiling;
 mod parsing;
+mod tokenizing;

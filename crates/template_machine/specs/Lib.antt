@@ -1,4 +1,5 @@
 pub use Rattle.template_values_errors.specs.Causes
+pub use Rattle.template_values_errors.specs.Memory
 pub use Rattle.template_values_errors.specs.Names as ErrorNames
 pub use Rattle.template_values_model.specs.Val
 pub use Rattle.template_values_model.specs.Lookup
@@ -6,20 +7,26 @@ pub use Rattle.template_machine_escape.specs.Rule
 pub use Rattle.template_machine_output.specs.Failures
 pub use Rattle.template_machine_output.specs.Wrapper
 pub use Rattle.template_machine_output.specs.Writes
-pub use Rattle.template_machine_world.specs.Scopes
-pub use Rattle.template_machine_world.specs.World
-pub use Rattle.template_machine_world.specs.Surroundings
-pub use Rattle.template_machine_world.specs.Meaning
-pub use Rattle.template_machine_world.specs.History
-pub use Rattle.template_machine_world.specs.Laws
-pub use Rattle.template_machine_run.specs.Streams
-pub use Rattle.template_machine_run.specs.Tanks
-pub use Rattle.template_machine_run.specs.Outcomes
-pub use Rattle.template_machine_run.specs.Runs
-pub use Rattle.template_machine_environment.specs.Addition
-pub use Rattle.template_machine_environment.specs.Compiled
-pub use Rattle.template_machine_environment.specs.Uses
-pub use Rattle.template_machine_environment.specs.Standing
-pub use Rattle.template_machine_environment.specs.Names
-pub use Rattle.template_machine_environment.specs.Rendering
-pub use Rattle.template_machine_environment.specs.Views
+pub use Rattle.template_process.specs.Process
+pub use Rattle.template_process.specs.Trace
+pub use Rattle.template_process.specs.Fuel
+pub use Rattle.template_process.specs.Approximants
+pub use Rattle.template_process.specs.Laws as ProcessLaws
+pub use Rattle.template_code_shapes.specs.Shapes
+pub use Rattle.template_code_shapes.specs.Streams
+pub use Rattle.template_code_shapes.specs.Laws as StreamLaws
+pub use Rattle.template_machine_meaning.specs.World
+pub use Rattle.template_machine_meaning.specs.Undefined
+pub use Rattle.template_machine_meaning.specs.Replies
+pub use Rattle.template_machine_meaning.specs.Includes
+pub use Rattle.template_machine_meaning.specs.Surroundings
+pub use Rattle.template_machine_meaning.specs.Meaning
+pub use Rattle.template_machine_meaning.specs.Laws
+pub use Rattle.template_machine_isolation.specs.Isolation
+pub use Rattle.template_machine_operations.specs.Outcomes
+pub use Rattle.template_machine_loop.specs.Programs
+pub use Rattle.template_machine_loop.specs.Runs
+pub use Rattle.template_machine_renders.specs.Renders
+pub use Rattle.template_environment.specs.Standing
+pub use Rattle.template_environment.specs.Renderings
+pub use Rattle.template_environment.specs.Views

@@ -17,29 +17,41 @@
 //! # The main calls
 //!
 //! - [`Environment::add_template`] adds a template in the place of one of that name, or refuses it and
-//!   changes nothing; [`Environment::get_template`] finds it.
+//!   changes nothing; [`Environment::get_template`] finds it, and [`Environment::remove_template`] takes it
+//!   away.
 //! - [`Template::render_captured_to`] renders it into a [`Sink`]: a `String`, a [`WriteWrapper`] over a
-//!   writer, or a [`NullWriter`].
-//! - [`Environment::set_fuel`] bounds each render; [`State::fuel_levels`] tells what one consumed.
+//!   writer, or a [`NullWriter`]. [`Captured`] is what it leaves.
+//! - [`Environment::set_fuel`] bounds each render by its steps, and [`Captured::fuel_levels`] tells what one
+//!   consumed; [`Environment::set_recursion_limit`] bounds how deep it may be.
+//! - [`Environment::set_undefined_behavior`] says what may be done with undefined values, and
+//!   [`Environment::set_syntax`] how templates are written.
 //! - [`Environment::context_names`] gives the names of a context that can matter to a render.
-//! - [`verify`] accepts instructions from anywhere, and [`run_code`] runs those of a template.
+//! - [`verify`] accepts instructions from anywhere that never lack an operand, a frame or a loop.
 //!
 //! # What is proved
 //!
-//! A render writes the text and ends as the meaning of the template's tree says, for the context, the
-//! escape of its name and the fuel. It may also want memory or meet a failing sink, and then a beginning
-//! of the text is written. [`isolation`], [`enough_fuel`], [`fuel_adds_up`] and [`cut_text`] are the laws
-//! of that meaning. Everything ends.
+//! A render writes the text and ends as the meaning of the template's tree says, for the templates that
+//! stand, the context, the escape of its name and the fuel. It may also want memory or meet a failing sink,
+//! and then a beginning of the text is written. [`every_run_ends`] and [`one_meaning`] say that every render
+//! ends, and in one way; [`isolation`] that it takes no more of its context than the names that are listed;
+//! [`enough_is_enough`], [`fuel_adds_up`] and [`writes_beginning`] are the laws of fuel, and
+//! [`good_ends_well`] that of verified instructions.
 #![tactic(auto)]
 
 #[cfg(test)]
 mod tests;
 
-pub use template_machine_environment::{Captured, CompiledTemplate, Environment, State, Template};
+pub use template_code_shapes::{Checked, StreamKind, certified_is_good, good_ends_well, verify};
+pub use template_environment::{Captured, Environment, Template};
 pub use template_machine_escape::{default_auto_escape_callback, one_rule};
+pub use template_machine_frames::{Context, Frame, LoopState};
 pub use template_machine_ids::StateIds;
+pub use template_machine_isolation::isolation;
+pub use template_machine_loop::{Compiled, Templates, run_code};
+pub use template_machine_meaning::{every_run_ends, one_meaning};
 pub use template_machine_output::{NullWriter, Sink, SinkFault, WriteWrapper, write_text};
-pub use template_machine_run::{Checked, FuelTracker, StreamKind, run_code, verify};
-pub use template_machine_world::{cut_text, enough_fuel, fuel_adds_up, isolation};
+pub use template_machine_perform::Rules;
+pub use template_machine_state::{Caller, State};
+pub use template_process::{enough_is_enough, fuel_adds_up, writes_beginning};
 pub use template_values_errors::{Error, ErrorKind};
-pub use template_values_modes::AutoEscape;
+pub use template_values_modes::{AutoEscape, UndefinedBehavior};

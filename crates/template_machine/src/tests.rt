@@ -1,3 +1,3 @@
 //! What no clause says: that calls succeed, and the parts together.
 mod rendering;
-mod running;
+mod verifying;

@@ -2,7 +2,8 @@
 use Rattle.std.proofs.Common.{◌≡◌, ◌∙◌, ap, sym, refl, ℕ, ◌+◌, ◌⊎◌, inl, inr, List, Option, if◌then◌else◌}
 use Rattle.std.proofs.lemmas.Bool.Decides.{eqb_tells}
 use Rattle.template_values_model.specs.Val.{Val}
-use Rattle.template_machine_environment.specs.declared.environment.Environment.{Environment}
+use Rattle.template_machine_meaning.specs.Meaning.{Standing}
+use Rattle.template_environment.specs.declared.environment.Environment.{Environment}
 use Rattle.template_program_run.specs.Answers.{Rendered, Told}
 use Rattle.template_program_run.specs.Ids.{IsLastId, behind_one, behind_request, last_id}
 use Rattle.template_program_run.specs.declared.outcome.Outcome.{Outcome}
@@ -20,41 +21,41 @@ one_more next more = elim (eqb_tells next last_id) [
 ]
 
 -- a render ends done or with an error of the render
-takes_two : (name source : List ℕ) (fuel : Option ℕ) (context : Val) (id : ℕ) (outcome : Outcome) (before after : Option (List ℕ)) (failed fails : ℕ)
-    → Rendered name source fuel context id outcome before after failed fails
+takes_two : (e : Environment) (t : Standing) (context : Val) (id : ℕ) (outcome : Outcome) (before after : Option (List ℕ)) (failed fails : ℕ)
+    → Rendered e t context id outcome before after failed fails
     → (next : ℕ) → behind_request asked.Render outcome next ≡ behind_one (behind_one next)
-takes_two name source fuel context id Done before after failed fails rendered next = refl
-takes_two name source fuel context id (Render kinds) before after failed fails rendered next = refl
-takes_two name source fuel context id (Context kinds) before after failed fails rendered next = elim (last_or_not id) [
+takes_two e t context id Done before after failed fails rendered next = refl
+takes_two e t context id (Render kinds) before after failed fails rendered next = refl
+takes_two e t context id (Context kinds) before after failed fails rendered next = elim (last_or_not id) [
   | inl last ↦ let is = (rendered.0 last).0 in cc
   | inr more ↦ absurd (rendered.1 more).1
 ]
-takes_two name source fuel context id (Template kinds) before after failed fails rendered next = elim (last_or_not id) [
+takes_two e t context id (Template kinds) before after failed fails rendered next = elim (last_or_not id) [
   | inl last ↦ let is = (rendered.0 last).0 in cc
   | inr more ↦ absurd (rendered.1 more).1
 ]
 
 -- and so does a telling of names
-takes_one : (environment : Environment) (source : List ℕ) (outcome : Outcome) (before after : Option (List ℕ)) (failed fails : ℕ)
-    → Told environment source outcome before after failed fails
+takes_one : (e : Environment) (t : Standing) (outcome : Outcome) (before after : Option (List ℕ)) (failed fails : ℕ)
+    → Told e t outcome before after failed fails
     → (next : ℕ) → behind_request asked.Names outcome next ≡ behind_one next
-takes_one environment source Done before after failed fails told next = refl
-takes_one environment source (Render kinds) before after failed fails told next = refl
-takes_one environment source (Context kinds) before after failed fails told next = absurd told
-takes_one environment source (Template kinds) before after failed fails told next = refl
+takes_one e t Done before after failed fails told next = refl
+takes_one e t (Render kinds) before after failed fails told next = refl
+takes_one e t (Context kinds) before after failed fails told next = absurd told
+takes_one e t (Template kinds) before after failed fails told next = refl
 
-pub rendered_counts : (name source : List ℕ) (fuel : Option ℕ) (context : Val) (id : ℕ) (outcome : Outcome) (before after : Option (List ℕ)) (failed fails : ℕ)
-    → Rendered name source fuel context id outcome before after failed fails
+pub rendered_counts : (e : Environment) (t : Standing) (context : Val) (id : ℕ) (outcome : Outcome) (before after : Option (List ℕ)) (failed fails : ℕ)
+    → Rendered e t context id outcome before after failed fails
     → (command : Command) → command ≡ asked.Render → (next end : ℕ) → id ≡ behind_one next → end ≡ behind_one id
     → end ≡ behind_request command outcome next
-rendered_counts name source fuel context id outcome before after failed fails rendered command is next end first second =
-    second ∙ ap behind_one first ∙ sym (takes_two name source fuel context id outcome before after failed fails rendered next)
+rendered_counts e t context id outcome before after failed fails rendered command is next end first second =
+    second ∙ ap behind_one first ∙ sym (takes_two e t context id outcome before after failed fails rendered next)
     ∙ ap (λ (c : Command). behind_request c outcome next) (sym is)
 
-pub told_counts : (environment : Environment) (source : List ℕ) (outcome : Outcome) (before after : Option (List ℕ)) (failed fails : ℕ)
-    → Told environment source outcome before after failed fails
+pub told_counts : (e : Environment) (t : Standing) (outcome : Outcome) (before after : Option (List ℕ)) (failed fails : ℕ)
+    → Told e t outcome before after failed fails
     → (command : Command) → command ≡ asked.Names → (next end : ℕ) → end ≡ behind_one next
     → end ≡ behind_request command outcome next
-told_counts environment source outcome before after failed fails told command is next end first =
-    first ∙ sym (takes_one environment source outcome before after failed fails told next)
+told_counts e t outcome before after failed fails told command is next end first =
+    first ∙ sym (takes_one e t outcome before after failed fails told next)
     ∙ ap (λ (c : Command). behind_request c outcome next) (sym is)

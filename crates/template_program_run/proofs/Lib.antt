@@ -1,3 +1,5 @@
 pub mod Histories
+pub mod Settings
 pub mod MainStands
+pub mod Rendering
 pub mod Counting

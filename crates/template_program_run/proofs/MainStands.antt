@@ -1,43 +1,66 @@
 -- The answers to requests whose main template stands.
-use Rattle.std.proofs.Common.{◌≡◌, sym, subst, ℕ, ◌+◌, List, Option, Some, inr, string_bytes}
+use Rattle.std.proofs.Common.{◌≡◌, ◌∙◌, sym, subst, ap, refl, ℕ, ◌+◌, List, Option, None, Some, inr, string_bytes}
+use Rattle.std.specs.Option.{option_map}
 use Rattle.template_values_model.specs.Val.{Val}
-use Rattle.template_machine_world.specs.History.{standing}
-use Rattle.template_machine_environment.specs.Standing.{source_at}
-use Rattle.template_machine_environment.specs.declared.environment.Environment.{Environment}
+use Rattle.template_values_modes.specs.declared.AutoEscape.{AutoEscape}
+use Rattle.template_machine_escape.specs.Rule.{IsRuleOf}
+use Rattle.template_machine_meaning.specs.Meaning.{Standing}
+use Rattle.template_compiled.specs.Compiled.{Compiled, standing_of}
+use Rattle.template_compiled.specs.Sources.{Source, tree_in}
+use Rattle.template_environment.specs.Standing.{source_at}
+use Rattle.template_environment.specs.declared.environment.Environment.{Environment}
 use Rattle.template_program_run.specs.Additions.{AllAreAccepted}
+use Rattle.template_program_run.specs.Environments.{IsMade}
+use Rattle.template_program_run.specs.History.{source_for, source_standing, standing}
 use Rattle.template_program_run.specs.Ids.{IsLastId}
-use Rattle.template_program_run.specs.Answers.{Answers, HasContext, Performed, Rendered, Told, definitions_of}
+use Rattle.template_program_run.specs.Answers.{Answers, Does, HasContext, IsTemplateOf, Performed, Rendered, Told, definitions_of}
 use Rattle.template_program_run.specs.declared.outcome.Outcome.{Outcome}
 use Rattle.template_program_run.specs.declared.request.Command.{Command}
 use Rattle.template_program_run.specs.declared.request.Command.TheVariants as asked
 use Rattle.template_program_run.specs.declared.request.Request.{Request}
 
-pub answers_rendered : (request : Request) (additions : List (List ℕ × List ℕ)) (json : Option (List ℕ)) (next : ℕ) (outcome : Outcome)
-    (before after : Option (List ℕ)) (failed fails : ℕ)
-    → ¬ IsLastId next → AllAreAccepted additions → request.command ≡ asked.Render
-    → (source : List ℕ) → standing additions (string_bytes request.main) ≡ Some source
-    → (context : Val) → HasContext request.command json (definitions_of request) context
-    → (name : List ℕ) → name ≡ string_bytes request.main → (fuel : Option ℕ) → fuel ≡ request.fuel → (id : ℕ) → id ≡ next + 1
-    → Rendered name source fuel context id outcome before after failed fails
-    → Answers request additions json next outcome before after failed fails
-answers_rendered request additions json next outcome before after failed fails had accepted is source stands context has name named fuel fueled id counted rendered =
-    let read = subst (λ (command : Command). HasContext command json (definitions_of request) context) is has in
-    let by_name = subst (λ (n : List ℕ). Rendered n source fuel context id outcome before after failed fails) named rendered in
-    let by_fuel = subst (λ (f : Option ℕ). Rendered (string_bytes request.main) source f context id outcome before after failed fails) fueled by_name in
-    let by_id = subst (λ (i : ℕ). Rendered (string_bytes request.main) source request.fuel context i outcome before after failed fails) counted by_fuel in
-    let performed = subst (λ (command : Command). Performed command request additions json next outcome before after failed fails) (sym is)
-    (source, stands, (context, read.1, by_id)) in
-    inr ((context, has), inr (had, accepted, inr performed))
+some_is : {s : Source} {t : Source} → Some s ≡ Some t → s ≡ t
+some_is same = cc
 
-pub answers_told : (request : Request) (additions : List (List ℕ × List ℕ)) (json : Option (List ℕ)) (next : ℕ) (outcome : Outcome)
+none_is : {s : Source} → None ≡ Some s → ⊥
+none_is same = cc
+
+-- the text of a source that stands
+text_there : (o : Option (List ℕ)) (s : Source) → option_map source_for o ≡ Some s → (text : List ℕ) × (o ≡ Some text) × (s ≡ source_for text)
+text_there None s is = absurd (none_is is)
+text_there (Some text) s is = (text, refl, sym (some_is is))
+
+-- where no source stands, no text does
+pub none_there : (o : Option (List ℕ)) → option_map source_for o ≡ None → o ≡ None
+none_there None is = refl
+none_there (Some text) is = absurd (none_is (sym is))
+
+-- the main template is the one that was found
+found_there : (request : Request) (additions : List (List ℕ × List ℕ)) (e : Environment) (c : Compiled)
+    → IsMade request additions e → source_at e (string_bytes request.main) ≡ Some c.source → IsRuleOf (string_bytes request.main) c.escape
+    → (text : List ℕ) × (standing additions (string_bytes request.main) ≡ Some text)
+    × IsTemplateOf (string_bytes request.main) text (standing_of c)
+found_there request additions e c made found rule =
+    let there = text_there (standing additions (string_bytes request.main)) c.source (sym (made.sources (string_bytes request.main)) ∙ found) in
+    (there.0, there.1, record { tree = ap tree_in there.2; rule = rule })
+
+pub answers_done : (request : Request) (additions : List (List ℕ × List ℕ)) (json : Option (List ℕ)) (next : ℕ) (outcome : Outcome)
     (before after : Option (List ℕ)) (failed fails : ℕ)
     → (context : Val) → HasContext request.command json (definitions_of request) context
-    → ¬ IsLastId next → AllAreAccepted additions → request.command ≡ asked.Names
-    → (environment : Environment) → ((name : List ℕ) → source_at environment name ≡ standing additions name)
-    → (source : List ℕ) → standing additions (string_bytes request.main) ≡ Some source
-    → Told environment source outcome before after failed fails
+    → ¬ IsLastId next → AllAreAccepted additions → (e : Environment) → IsMade request additions e
+    → (c : Compiled) → source_at e (string_bytes request.main) ≡ Some c.source → IsRuleOf (string_bytes request.main) c.escape
+    → (command : Command) → request.command ≡ command
+    → Does command e (standing_of c) request json next outcome before after failed fails
     → Answers request additions json next outcome before after failed fails
-answers_told request additions json next outcome before after failed fails context has had accepted is environment same source stands told =
-    let performed = subst (λ (command : Command). Performed command request additions json next outcome before after failed fails) (sym is)
-    (environment, same, (source, stands, told)) in
-    inr ((context, has), inr (had, accepted, inr performed))
+answers_done request additions json next outcome before after failed fails context has had accepted e made c found rule command is does =
+    let there = found_there request additions e c made found rule in
+    let done = subst (λ (k : Command). Does k e (standing_of c) request json next outcome before after failed fails) (sym is) does in
+    inr ((context, has), inr (had, accepted, inr (e, made, (there.0, there.1, (standing_of c, there.2, done)))))
+
+pub rendered_does : (request : Request) (json : Option (List ℕ)) (next : ℕ) (outcome : Outcome) (before after : Option (List ℕ)) (failed fails : ℕ)
+    → (context : Val) → HasContext request.command json (definitions_of request) context → request.command ≡ asked.Render
+    → (e : Environment) (t : Standing) (id : ℕ) → id ≡ next + 1 → Rendered e t context id outcome before after failed fails
+    → Does asked.Render e t request json next outcome before after failed fails
+rendered_does request json next outcome before after failed fails context has is e t id counted rendered =
+    let read = subst (λ (command : Command). HasContext command json (definitions_of request) context) is has in
+    (context, read.1, subst (λ (i : ℕ). Rendered e t context i outcome before after failed fails) counted rendered)

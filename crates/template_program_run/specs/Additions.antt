@@ -2,18 +2,19 @@
 use Rattle.std.specs.Prelude.{◌≡◌, ℕ, ◌⊎◌, List, [], ◌∷◌}
 use Rattle.template_values_errors.specs.declared.ErrorKind.{ErrorKind}
 use Rattle.template_values_errors.specs.declared.ErrorKind.TheVariants.{InvalidOperation}
-use Rattle.template_machine_environment.specs.Addition.{IsAccepted, IsRefusedWith}
+use Rattle.template_compiled.specs.Sources.{IsAccepted, IsRefusedWith}
+use Rattle.template_program_run.specs.History.{source_for}
 use Rattle.template_program_run.specs.Ids.{IsLastId}
 
 -- each source is accepted
 abbrev pub AllAreAccepted : List (List ℕ × List ℕ) → Type 0
 AllAreAccepted [] = Unit {0}
-AllAreAccepted (addition ∷ later) = IsAccepted addition.1 × AllAreAccepted later
+AllAreAccepted (addition ∷ later) = IsAccepted (source_for addition.1) × AllAreAccepted later
 
 -- a source is refused with these kinds, and each before it is accepted
 abbrev pub RefusesOne : List (List ℕ × List ℕ) → List ErrorKind → Type 0
 RefusesOne [] kinds = ⊥
-RefusesOne (addition ∷ later) kinds = IsRefusedWith addition.1 kinds ⊎ (IsAccepted addition.1 × RefusesOne later kinds)
+RefusesOne (addition ∷ later) kinds = IsRefusedWith (source_for addition.1) kinds ⊎ (IsAccepted (source_for addition.1) × RefusesOne later kinds)
 
 -- the kinds that the additions are refused with: there is no state id, or else the first refused one's
 abbrev pub IsRefusedAddition : List (List ℕ × List ℕ) → ℕ → List ErrorKind → Type 0

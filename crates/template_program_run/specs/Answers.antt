@@ -7,22 +7,23 @@ use Rattle.std.specs.Io.KnownBytes.{Appends}
 use Rattle.template_values_errors.specs.declared.ErrorKind.{ErrorKind}
 use Rattle.template_values_errors.specs.declared.ErrorKind.TheVariants.{InvalidOperation, TemplateNotFound}
 use Rattle.template_values_errors.specs.Memory.{NoMemory}
-use Rattle.template_values_modes.specs.declared.AutoEscape.{AutoEscape}
 use Rattle.template_values_model.specs.Val.{Val}
-use Rattle.template_compiler_tree.specs.Tree.{Statement}
-use Rattle.template_compiler_grammar.specs.Grammar.{IsTemplate}
+use Rattle.template_process.specs.Approximants.{IsFinished}
+use Rattle.template_process.specs.Fuel.{under}
 use Rattle.template_machine_escape.specs.Rule.{IsRuleOf}
 use Rattle.template_machine_output.specs.Writes.{AppendsBeginning}
-use Rattle.template_machine_world.specs.History.{standing}
-use Rattle.template_machine_world.specs.Meaning.{rendered}
-use Rattle.template_machine_run.specs.Outcomes.{IsWant, TellsFailures}
-use Rattle.template_machine_environment.specs.Rendering.{Renders}
-use Rattle.template_machine_environment.specs.Names.{IsListed}
-use Rattle.template_machine_environment.specs.Standing.{source_at}
-use Rattle.template_machine_environment.specs.declared.environment.Environment.{Environment}
+use Rattle.template_machine_operations.specs.Outcomes.{IsWant, TellsFailures}
+use Rattle.template_machine_meaning.specs.Meaning.{Standing, rendered}
+use Rattle.template_machine_isolation.specs.Isolation.{IsContextName}
+use Rattle.template_machine_renders.specs.Renders.{Renders}
+use Rattle.template_compiled.specs.Sources.{tree_in}
+use Rattle.template_environment.specs.Standing.{setting_of}
+use Rattle.template_environment.specs.declared.environment.Environment.{Environment}
 use Rattle.template_program_context.specs.Context.{fault_of_json, IsContext, texts_in}
 use Rattle.template_values_json.specs.Json.{IsRefusal}
 use Rattle.template_program_run.specs.Additions.{AllAreAccepted, IsRefusedAddition}
+use Rattle.template_program_run.specs.Environments.{IsMade}
+use Rattle.template_program_run.specs.History.{source_for, standing}
 use Rattle.template_program_run.specs.Ids.{IsLastId}
 use Rattle.template_program_run.specs.Lines.{lines_of}
 use Rattle.template_program_run.specs.declared.outcome.Outcome.{Outcome}
@@ -55,44 +56,61 @@ EndsWith Done (Ok _) = Unit {0}
 EndsWith (Render kinds) (Err others) = kinds ≡ others
 EndsWith _ _ = ⊥
 
--- The main template of that name and source is rendered over the context, under the escape of its name and
--- the fuel: its tree decides the text and the end. The render is refused where no state id is left.
-abbrev pub Rendered : List ℕ → List ℕ → Option ℕ → Val → ℕ → Outcome → Option (List ℕ) → Option (List ℕ) → ℕ → ℕ → Type 0
-Rendered name source fuel context next outcome before after failed fails =
+-- a template that stands is the tree of the text, with the escape of the name
+pub record IsTemplateOf (name text : List ℕ) (t : Standing) : Type 0 where
+  pub tree : t.tree ≡ tree_in (source_for text)
+  pub rule : IsRuleOf name t.escape
+
+-- Its render ends: it is finished under some bound. Under each bound where it is, it decides, with the fuel, the text
+-- and the end.
+pub record IsRendered (e : Environment) (t : Standing) (context : Val) (result : Result (Unit {0}) (List ErrorKind))
+    (before after : Option (List ℕ)) : Type 0 where
+  pub finished : (n : ℕ) × IsFinished (rendered (setting_of e) n t context).end
+  pub renders : (n : ℕ) → IsFinished (rendered (setting_of e) n t context).end
+      → Renders result before after (under e.fuel (rendered (setting_of e) n t context))
+
+-- A template that stands is rendered over the context. The render is refused where no state id is left.
+abbrev pub Rendered : Environment → Standing → Val → ℕ → Outcome → Option (List ℕ) → Option (List ℕ) → ℕ → ℕ → Type 0
+Rendered e t context next outcome before after failed fails =
     (IsLastId next → (outcome ≡ Render (InvalidOperation ∷ [])) × IsUntouched before after failed fails)
     × (¬ IsLastId next → (result : Result (Unit {0}) (List ErrorKind)) × EndsWith outcome result
-    × ((rule : AutoEscape) → IsRuleOf name rule → (tree : List Statement) → IsTemplate source tree
-    → Renders result before after failed fails (rendered rule fuel tree context)))
+    × TellsFailures result failed fails × IsRendered e t context result before after)
 
--- The set has just the names that can matter to a render of the source.
-abbrev pub HasNames : Environment → List ℕ → BTreeSet (String Global) → Type 0
-HasNames environment source names = IsOrdered string_cmp names
-    × ((name : List ℕ) → IsTrue (contains_text names name) ↔ IsListed environment source name)
+-- The set has just the names that can matter to a render of the template.
+abbrev pub HasNames : Environment → Standing → BTreeSet (String Global) → Type 0
+HasNames e t names = IsOrdered string_cmp names
+    × ((name : List ℕ) → IsTrue (contains_text names name) ↔ IsContextName (setting_of e) t.tree name)
 
 -- The names that can matter are written in their order, one a line; or a beginning of that, for want of
 -- memory or of a sink that works. Where they cannot be found for want of memory, nothing is written.
-abbrev pub Told : Environment → List ℕ → Outcome → Option (List ℕ) → Option (List ℕ) → ℕ → ℕ → Type 0
-Told environment source Done before after failed fails =
-    (names : BTreeSet (String Global)) × HasNames environment source names × Appends before after (lines_of names.keys) × (fails ≡ failed)
-Told environment source (Render kinds) before after failed fails =
-    (names : BTreeSet (String Global)) × HasNames environment source names × IsWant kinds
+abbrev pub Told : Environment → Standing → Outcome → Option (List ℕ) → Option (List ℕ) → ℕ → ℕ → Type 0
+Told e t Done before after failed fails =
+    (names : BTreeSet (String Global)) × HasNames e t names × Appends before after (lines_of names.keys) × (fails ≡ failed)
+Told e t (Render kinds) before after failed fails =
+    (names : BTreeSet (String Global)) × HasNames e t names × IsWant kinds
     × AppendsBeginning before after (lines_of names.keys)
     × ((result : Result (Unit {0}) (List ErrorKind)) × (result ≡ Err kinds) × TellsFailures result failed fails)
-Told environment source (Template kinds) before after failed fails =
+Told e t (Template kinds) before after failed fails =
     NoMemory kinds × IsUntouched before after failed fails
-Told environment source _ before after failed fails = ⊥
+Told e t _ before after failed fails = ⊥
 
--- what is done with the main template, once it stands
+-- what is done with the main template
+abbrev pub Does : Command → Environment → Standing → Request → Option (List ℕ) → ℕ → Outcome
+    → Option (List ℕ) → Option (List ℕ) → ℕ → ℕ → Type 0
+Does asked.Render e t request json next outcome before after failed fails =
+    (context : Val) × IsContext json (definitions_of request) context
+    × Rendered e t context (next + 1) outcome before after failed fails
+Does asked.Names e t request json next outcome before after failed fails =
+    Told e t outcome before after failed fails
+
+-- The main template stands, in an environment of the request, and that is done with it.
 abbrev pub Performed : Command → Request → List (List ℕ × List ℕ) → Option (List ℕ) → ℕ → Outcome
     → Option (List ℕ) → Option (List ℕ) → ℕ → ℕ → Type 0
-Performed asked.Render request additions json next outcome before after failed fails =
-    (source : List ℕ) × (standing additions (string_bytes request.main) ≡ Some source)
-    × ((context : Val) × IsContext json (definitions_of request) context
-    × Rendered (string_bytes request.main) source request.fuel context (next + 1) outcome before after failed fails)
-Performed asked.Names request additions json next outcome before after failed fails =
-    (environment : Environment) × ((name : List ℕ) → source_at environment name ≡ standing additions name)
-    × ((source : List ℕ) × (standing additions (string_bytes request.main) ≡ Some source)
-    × Told environment source outcome before after failed fails)
+Performed command request additions json next outcome before after failed fails =
+    (e : Environment) × IsMade request additions e
+    × ((text : List ℕ) × (standing additions (string_bytes request.main) ≡ Some text)
+    × ((t : Standing) × IsTemplateOf (string_bytes request.main) text t
+    × Does command e t request json next outcome before after failed fails))
 
 -- The context of a render is refused; or else the additions are, or the main template does not stand; or else
 -- what is asked is done. With no state id left the additions are refused.

@@ -1,4 +1,6 @@
 pub mod Ids
+pub mod History
 pub mod Additions
+pub mod Environments
 pub mod Lines
 pub mod Answers

@@ -1,18 +1,19 @@
 //! The templates, added in order.
-ghost use Rattle.std.specs.Prelude.{◌≡◌, ◌+◌, ℕ, List, IfOk, IfErr, OnOk};
-ghost use Rattle.template_machine_environment.specs.Standing.{source_at};
-ghost use Rattle.template_machine_world.specs.History.{standing};
+ghost use Rattle.std.specs.Prelude.{◌≡◌, ◌+◌, ℕ, List, [], ◌∷◌, None, IfOk, IfErr, OnOk};
+ghost use Rattle.template_environment.specs.Standing.{settings_of, source_at};
 ghost use Rattle.template_program_context.specs.Context.{texts_in};
 ghost use Rattle.template_program_run.specs.Additions.{AllAreAccepted, IsRefusedAddition};
+ghost use Rattle.template_program_run.specs.Environments.{HasSettings, IsMade};
 ghost use Rattle.template_program_run.specs.Ids.{IsLastId, behind_one};
 
+use crate::request::Request;
 use std::alloc::Global;
-use template_machine_environment::Environment;
+use template_environment::Environment;
 use template_machine_ids::StateIds;
-use template_values_errors::Error;
+use template_values_errors::{Error, ErrorKind};
 
-/// An environment with the templates, of which a later one replaces an earlier one of its name, and with
-/// the fuel.
+/// An environment with the templates, of which a later one replaces an earlier one of its name, set to what
+/// the request asks for.
 ///
 /// # Errors
 ///
@@ -20,20 +21,37 @@ use template_values_errors::Error;
 pub(crate) fn environment_of<'source>(
     alloc: Global,
     templates: &'source [(String, String)],
-    fuel: Option<u64>,
+    request: &Request,
     ids: &mut StateIds,
 ) -> Result<Environment<'source>, Error>
     ensures accepted { IfOk result (λ e. AllAreAccepted (texts_in templates.entry.now)) }
-    ensures stands { IfOk result (λ e. (name : List ℕ) → source_at e name ≡ standing (texts_in templates.entry.now) name) }
-    ensures fuel { IfOk result (λ e. e.fuel ≡ fuel) }
+    ensures made { IfOk result (IsMade request.now (texts_in templates.entry.now)) }
     ensures had_one { OnOk result (¬ IsLastId ids.old) }
     ensures counted { ids.new ≡ behind_one ids.old }
     ensures refused { IfErr result (IsRefusedAddition (texts_in templates.entry.now) ids.old) }
 {
-    let mut environment = Environment::new(alloc, ids)?;
+    let mut environment = set_up(alloc, request, ids)?;
     for (name, source) in templates {
         environment.add_template(name.as_str(), source.as_str())?;
     }
-    environment.set_fuel(fuel);
+    Ok(environment)
+}
+
+// An environment without templates, set to what the request asks for.
+fn set_up<'source>(
+    alloc: Global,
+    request: &Request,
+    ids: &mut StateIds,
+) -> Result<Environment<'source>, Error>
+    ensures empty { IfOk result (λ e. (name : List ℕ) → source_at e name ≡ None) }
+    ensures settings { IfOk result (λ e. HasSettings request.now (settings_of e)) }
+    ensures had_one { OnOk result (¬ IsLastId ids.old) }
+    ensures counted { ids.new ≡ behind_one ids.old }
+    ensures refused { IfErr result (λ kinds. IsLastId ids.old × (kinds ≡ ErrorKind.InvalidOperation ∷ [])) }
+{
+    let mut environment = Environment::new(alloc, ids)?;
+    environment.set_fuel(request.fuel);
+    environment.set_recursion_limit(request.limit);
+    environment.set_undefined_behavior(request.undefined);
     Ok(environment)
 }

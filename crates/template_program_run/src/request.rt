@@ -1,5 +1,7 @@
 //! What is asked of the program.
 
+use template_values_modes::UndefinedBehavior;
+
 /// What is to be written.
 #[derive(Clone, Copy, Debug, PartialEq, Eq)]
 pub enum Command {
@@ -18,6 +20,10 @@ pub struct Request {
     pub texts: Vec<(String, String)>,
     /// The fuel of a render, if one is set.
     pub fuel: Option<u64>,
+    /// How deep a render may be: 500 at most.
+    pub limit: usize,
+    /// What may be done with undefined values.
+    pub undefined: UndefinedBehavior,
     /// What is to be written.
     pub command: Command,
 }

@@ -1,7 +1,9 @@
 //! The run of a request.
 ghost use Rattle.std.specs.Prelude.{◌≡◌, option_copied, IfOk, IfErr};
 ghost use Rattle.template_program_context.specs.Context.{texts_in};
-ghost use Rattle.template_machine_environment.specs.Views.{fuel_of, name_of, source_of};
+ghost use Rattle.template_machine_escape.specs.Rule.{IsRuleOf};
+ghost use Rattle.template_compiled.specs.Compiled.{standing_of};
+ghost use Rattle.template_environment.specs.Views.{environment_of as place_of, name_of};
 ghost use Rattle.template_program_run.specs.Answers.{Answers, HasContext, IsRefusedContext, Rendered, Told, definitions_of};
 ghost use Rattle.template_program_run.specs.Ids.{behind_one, behind_request};
 
@@ -10,7 +12,7 @@ use crate::names::write_lines;
 use crate::outcome::Outcome;
 use crate::request::{Command, Request};
 use std::alloc::Global;
-use template_machine_environment::{Environment, Template};
+use template_environment::{Environment, Template};
 use template_machine_ids::StateIds;
 use template_machine_output::Sink;
 use template_program_context::read_context;
@@ -46,7 +48,7 @@ pub fn run<S: Sink>(
         Ok(context) => context,
         Err(error) => return Outcome::Context(error),
     };
-    let environment = match environment_of(alloc, templates, request.fuel, ids) {
+    let environment = match environment_of(alloc, templates, request, ids) {
         Ok(environment) => environment,
         Err(error) => return Outcome::Template(error),
     };
@@ -78,10 +80,13 @@ fn render<S: Sink>(
     ids: &mut StateIds,
     sink: &mut S,
 ) -> Outcome
-    ensures rendered { Rendered (name_of template.now) (source_of template.now) (fuel_of template.now) context ids.old result
+    ensures rendered { Rendered (place_of template.now) (standing_of template.now.compiled.now) context ids.old result
         (S.taken sink.old) (S.taken sink.new) (S.failures sink.old) (S.failures sink.new) }
+    ensures rule { IsRuleOf (name_of template.now) template.now.compiled.now.escape }
     ensures counted { ids.new ≡ behind_one ids.old }
 {
+    let _escape = template.initial_auto_escape();
+    template.ends();
     match template.render_captured_to(ids, context, sink) {
         Ok(_captured) => Outcome::Done,
         Err(error) => Outcome::Render(error),
@@ -94,9 +99,11 @@ fn tell_names<'source, S: Sink>(
     template: &Template<'_, 'source>,
     sink: &mut S,
 ) -> Outcome
-    ensures { Told environment.now (source_of template.now) result
+    ensures told { Told environment.now (standing_of template.now.compiled.now) result
         (S.taken sink.old) (S.taken sink.new) (S.failures sink.old) (S.failures sink.new) }
+    ensures rule { IsRuleOf (name_of template.now) template.now.compiled.now.escape }
 {
+    let _escape = template.initial_auto_escape();
     let names = match environment.context_names(template) {
         Ok(names) => names,
         Err(error) => return Outcome::Template(error),

@@ -8,7 +8,8 @@ mod sinks;
 
 use crate::readers::{read_file_back, read_slice, read_wrapped};
 use crate::requests::{
-    many_definitions, many_items, many_names, many_prints, many_templates, one_text,
+    many_definitions, many_includes, many_items, many_names, many_prints, many_rounds,
+    many_templates, one_text,
 };
 use crate::sinks::{into_buffer, into_nothing, into_text, into_writer};
 use std::alloc::Global;
@@ -46,6 +47,8 @@ fn main(rt: HostRuntime) -> anyhow::Result<()> {
     tell(&rt, "1000 names", many_names(alloc)?)?;
     tell(&rt, "1000 definitions", many_definitions(alloc)?)?;
     tell(&rt, "100000 items", many_items(alloc)?)?;
+    tell(&rt, "100000 rounds", many_rounds(alloc)?)?;
+    tell(&rt, "1000 includes", many_includes(alloc)?)?;
     Ok(())
 }
 

@@ -1,9 +1,10 @@
-//! Requests with long sources, and with many statements, templates, names and definitions.
+//! Requests with long sources, and with many statements, templates, names, definitions, rounds and includes.
 use crate::Came;
 use anyhow::bail;
 use std::alloc::Global;
 use template_machine_ids::StateIds;
 use template_program_run::{Command, Outcome, Request, run};
+use template_values_modes::UndefinedBehavior;
 
 const MANY: usize = 1000;
 
@@ -26,6 +27,8 @@ fn new_case(alloc: Global, command: Command, main: &str) -> anyhow::Result<Case>
             main: String::from_str(alloc, main)?,
             texts: Vec::new(alloc),
             fuel: None,
+            limit: 500,
+            undefined: UndefinedBehavior::Lenient,
             command,
         },
         wanted: String::new(alloc),
@@ -117,15 +120,45 @@ pub(crate) fn many_definitions(alloc: Global) -> anyhow::Result<Came> {
     answered(alloc, &case)
 }
 
+// The context `{"x": [0, 0, ..]}`.
+fn zeros(alloc: Global, count: usize) -> anyhow::Result<String> {
+    let zeros = "0,".repeat(alloc, count.saturating_sub(1))?;
+    Ok(format!(in alloc; "{{\"x\": [{zeros}0]}}")?)
+}
+
 /// A print of a list with many items, which the context has.
 pub(crate) fn many_items(alloc: Global) -> anyhow::Result<Came> {
     let mut case = new_case(alloc, Command::Render, "t.txt")?;
     let name = String::from_str(alloc, "t.txt")?;
     case.templates
         .push((name, String::from_str(alloc, "{{ x }}")?))?;
-    let zeros = "0,".repeat(alloc, ITEMS - 1)?;
-    case.context = Some(format!(in alloc; "{{\"x\": [{zeros}0]}}")?);
+    case.context = Some(zeros(alloc, ITEMS)?);
     let zeros = "0, ".repeat(alloc, ITEMS - 1)?;
     case.wanted = format!(in alloc; "[{zeros}0]")?;
+    answered(alloc, &case)
+}
+
+/// A loop over a list with many items.
+pub(crate) fn many_rounds(alloc: Global) -> anyhow::Result<Came> {
+    let mut case = new_case(alloc, Command::Render, "t.txt")?;
+    let name = String::from_str(alloc, "t.txt")?;
+    let source = String::from_str(alloc, "{% for y in x %}{{ y + 1 }},{% endfor %}")?;
+    case.templates.push((name, source))?;
+    case.context = Some(zeros(alloc, ITEMS)?);
+    case.wanted = "1,".repeat(alloc, ITEMS)?;
+    answered(alloc, &case)
+}
+
+/// A loop that includes another template in each round.
+pub(crate) fn many_includes(alloc: Global) -> anyhow::Result<Came> {
+    let mut case = new_case(alloc, Command::Render, "t.txt")?;
+    let name = String::from_str(alloc, "t.txt")?;
+    let source = String::from_str(alloc, "{% for y in x %}{% include 'part' %}{% endfor %}")?;
+    case.templates.push((name, source))?;
+    let name = String::from_str(alloc, "part")?;
+    let source = String::from_str(alloc, "<{{ y }}>")?;
+    case.templates.push((name, source))?;
+    case.context = Some(zeros(alloc, MANY)?);
+    case.wanted = "<0>".repeat(alloc, MANY)?;
     answered(alloc, &case)
 }

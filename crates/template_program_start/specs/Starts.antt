@@ -3,7 +3,9 @@ use Rattle.std.specs.Prelude.{◌≡◌, ◌⊎◌, ℕ, List, [], ◌∷◌, ma
 use Rattle.std.specs.Io.KnownBytes.{append_known}
 use Rattle.std.specs.declared.io.Error.{Error}
 use Rattle.clap.specs.Words.{Kinds, Row}
-use Rattle.template_program_words.specs.Reading.{Reads, parts_of}
+use Rattle.template_values_modes.specs.declared.UndefinedBehavior.{UndefinedBehavior}
+use Rattle.template_values_modes.specs.declared.UndefinedBehavior.TheVariants.{Lenient}
+use Rattle.template_program_words.specs.Reading.{Reads, default_limit, parts_of}
 use Rattle.template_program_words.specs.Refusals.{Refuses}
 use Rattle.template_program_words.specs.declared.faults.WordsFault.{WordsFault}
 use Rattle.template_program_words.specs.declared.faults.WordsFault.TheVariants.{Memory, Help, Usage, Definition}
@@ -43,12 +45,19 @@ IsNamed main paths request additions =
     (names_in additions ≡ template_names paths)
     × (string_bytes request.main ≡ unwrap_or main (first_name (names_in additions)))
 
--- the request is what the words ask for
+-- the fuel, the limit, and what may be done with undefined values
+abbrev pub HasSettings : Request → Option ℕ → ℕ → UndefinedBehavior → Type 0
+HasSettings request fuel limit undefined =
+    (request.fuel ≡ fuel) × (request.limit ≡ limit) × (request.undefined ≡ undefined)
+
+-- The request is what the words ask for. Names are told in an environment set as one begins.
 abbrev pub IsAsked : Words → Request → List (List ℕ × List ℕ) → Type 0
-IsAsked (asks.Render read) request additions = (request.command ≡ asked.Render) × (request.fuel ≡ read.fuel)
+IsAsked (asks.Render read) request additions = (request.command ≡ asked.Render)
+    × HasSettings request read.fuel read.limit read.undefined
     × (definitions_of request ≡ map parts_of read.definitions.items)
     × IsNamed (option_map (λ name. name.now) read.main) (map (λ path. path.now) read.files.items) request additions
 IsAsked (asks.Names read) request additions = (request.command ≡ asked.Names)
+    × HasSettings request None default_limit Lenient
     × IsNamed (option_map (λ name. name.now) read.main) (map (λ path. path.now) read.files.items) request additions
 
 -- a template holds what stands under its name, where that is told

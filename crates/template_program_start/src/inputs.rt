@@ -10,9 +10,13 @@ use template_program_files::{
 };
 use template_program_run::{Command, Request};
 use template_program_words::{Definition, NamesWords, RenderWords, Words};
+use template_values_modes::UndefinedBehavior;
 
 /// An input of so many bytes or more is refused.
 const INPUT_LIMIT: usize = 1 << 32;
+
+// How deep a render may be in an environment as it begins.
+const DEFAULT_LIMIT: usize = 500;
 
 /// What a run takes.
 #[derive(Drop)]
@@ -53,6 +57,8 @@ fn read_render<R: FileSystem + AllocGlobal, I: Reader>(
         main: main_name(rt.alloc(), words.main, templates.as_slice())?,
         texts: owned_definitions(rt.alloc(), words.definitions.as_slice())?,
         fuel: words.fuel,
+        limit: usize::from(words.limit),
+        undefined: words.undefined,
         command: Command::Render,
     };
     Ok(Inputs {
@@ -76,6 +82,8 @@ fn read_names<R: FileSystem + AllocGlobal, I: Reader>(
         main: main_name(rt.alloc(), words.main, templates.as_slice())?,
         texts: Vec::new(rt.alloc()),
         fuel: None,
+        limit: DEFAULT_LIMIT,
+        undefined: UndefinedBehavior::Lenient,
         command: Command::Names,
     };
     Ok(Inputs {

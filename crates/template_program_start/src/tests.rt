@@ -79,13 +79,62 @@ fn refuses_words(rt: HostRuntime) {
     assert_run(
         &rt,
         ["render"].as_slice(),
-        b"{{ 1 }}",
+        b"{{ x",
         "",
         "fault: SyntaxError\n",
         5,
     );
     let words = ["render", "--main", "b"].as_slice();
     assert_run(&rt, words, b"a", "", "fault: TemplateNotFound\n", 5);
+    let told = "error: invalid value 'loose' for '--undefined <MODE>'\n  \
+        [possible values: lenient, chainable, semistrict, strict]\n\n\
+        For more information, try '--help'.\n";
+    let words = ["render", "--undefined", "loose", "-D", "x"].as_slice();
+    assert_run(&rt, words, b"a", "", told, 2);
+}
+
+#[test]
+fn runs_statements_and_operators(rt: HostRuntime) {
+    let render = ["render"].as_slice();
+    assert_run(
+        &rt,
+        render,
+        b"{% for x in [1, 2] %}{{ x }},{% endfor %}",
+        "1,2,",
+        "",
+        0,
+    );
+    assert_run(&rt, render, b"{{ 2 + 3 * 4 }}", "14", "", 0);
+    let divided = b"x{{ 1 / 2 }}".as_slice();
+    assert_run(&rt, render, divided, "x", "fault: InvalidOperation\n", 1);
+}
+
+#[test]
+fn stops_at_the_limit(rt: HostRuntime) {
+    let round = b"{% for x in [1] %}{{ x }}{% endfor %}".as_slice();
+    let rows = [
+        ("1", "", "fault: InvalidOperation\n", 1),
+        ("2", "1", "", 0),
+        ("65535", "1", "", 0),
+    ];
+    for (limit, out, fault, status) in rows {
+        let words = ["render", "--limit", limit];
+        assert_run(&rt, words.as_slice(), round, out, fault, status);
+    }
+}
+
+#[test]
+fn minds_what_undefined_values_may_do(rt: HostRuntime) {
+    let rows = [
+        ("lenient", "{{ x.y }}", "fault: UndefinedError\n", 1),
+        ("chainable", "{{ x.y }}", "", 0),
+        ("semistrict", "{{ 1 if x }}", "", 0),
+        ("strict", "{{ x }}", "fault: UndefinedError\n", 1),
+    ];
+    for (mode, source, fault, status) in rows {
+        let words = ["render", "--undefined", mode];
+        assert_run(&rt, words.as_slice(), source.as_bytes(), "", fault, status);
+    }
 }
 
 #[test]
@@ -95,6 +144,8 @@ fn renders_files(rt: HostRuntime) -> Result<(), Fail> {
     fs::write(&rt, "start_t.html", "{{ name }}")?;
     fs::write(&rt, "start_c.json", "{\"name\": \"World\"}")?;
     fs::write(&rt, "start_d.json", "{\"name\": 1.5}")?;
+    fs::write(&rt, "start_i.txt", "a{% include \"start_n.txt\" %}")?;
+    fs::write(&rt, "start_n.txt", "b{{ 1 // 0 }}")?;
     let words = ["render", "--context", "start_c.json", "start_t.txt"].as_slice();
     assert_run(&rt, words, b"", "Hello World!", "", 0);
     let words = ["render", "--context", "start_d.json", "start_t.txt"].as_slice();
@@ -121,12 +172,25 @@ fn renders_files(rt: HostRuntime) -> Result<(), Fail> {
     ]
     .as_slice();
     assert_run(&rt, words, b"", "2", "", 0);
+    let words = ["render", "start_i.txt", "start_n.txt"].as_slice();
+    assert_run(
+        &rt,
+        words,
+        b"",
+        "ab",
+        "fault: BadInclude: InvalidOperation\n",
+        1,
+    );
+    let words = ["render", "start_i.txt"].as_slice();
+    assert_run(&rt, words, b"", "a", "fault: TemplateNotFound\n", 1);
     for path in [
         "start_t.txt",
         "start_u.txt",
         "start_t.html",
         "start_c.json",
         "start_d.json",
+        "start_i.txt",
+        "start_n.txt",
     ] {
         fs::remove_file(&rt, path)?;
     }

@@ -1,13 +1,15 @@
 -- What the getters of the matches read, by the rows.
 use Rattle.std.proofs.Common.{◌≡◌, ◌∙◌, ◌⊎◌, OnOk, inl, inr, ℕ, List, [], ap, ap₂, codes, Bor, Option, None, Some, Result, Ok, Err, map, option_map, refl, unwrap_or}
 use Rattle.std.specs.Str.Parse.{ParsesUnsigned}
-use Rattle.clap.specs.Words.{IsAmong, Kinds, ReadsOne, Row, subcommand_name_of, subcommand_rows_of}
+use Rattle.clap.specs.Words.{IsAmong, Kinds, ReadsOne, Row, first_of, subcommand_name_of, subcommand_rows_of}
 use Rattle.clap.specs.declared.error.kind.ErrorKind.{ErrorKind}
 use Rattle.clap.specs.declared.error.kind.ErrorKind.TheVariants.{OutOfMemory}
 use Rattle.clap.specs.declared.parser.matches.ArgMatches.{ArgMatches}
 use Rattle.clap.specs.declared.parser.matches.ArgMatches.TheViews.{out-ArgMatches}
+use Rattle.template_values_modes.specs.declared.UndefinedBehavior.{UndefinedBehavior}
+use Rattle.template_program_words.specs.Modes.{mode_of}
 use Rattle.template_program_words.specs.Reading.{ReadsNumber, values_of}
-use Rattle.template_program_words.specs.Refusals.{IsFaultOf, Refuses, RefusesDefinitions}
+use Rattle.template_program_words.specs.Refusals.{IsFaultOf, IsUsage, NamesNoMode, Refuses, RefusesDefinitions, RefusesMode, RefusesRender}
 use Rattle.template_program_words.specs.declared.faults.WordsFault.{WordsFault}
 use Rattle.template_program_words.specs.declared.faults.WordsFault.TheVariants.{Memory, Help, Usage, Definition}
 
@@ -18,17 +20,17 @@ pub values_read : (read : Option (Bor (List (Bor (List ℕ))))) (none : Bor (Lis
 values_read None none rows empty same = ap (map (λ v. v.now)) empty ∙ ap (λ o. unwrap_or o []) same
 values_read (Some s) none rows empty same = ap (λ o. unwrap_or o []) same
 
-pub ReadsNumber-cases : (text : Option (List ℕ)) (number : Option ℕ) → (text ≡ None → number ≡ None)
-    → ((t : List ℕ) → text ≡ Some t → ReadsNumber (Some t) number) → ReadsNumber text number
-ReadsNumber-cases None number none some = none refl
-ReadsNumber-cases (Some t) number none some = some t refl
+pub ReadsNumber-cases : (bits : ℕ) (text : Option (List ℕ)) (number : Option ℕ) → (text ≡ None → number ≡ None)
+    → ((t : List ℕ) → text ≡ Some t → ReadsNumber bits (Some t) number) → ReadsNumber bits text number
+ReadsNumber-cases bits None number none some = none refl
+ReadsNumber-cases bits (Some t) number none some = some t refl
 
 -- what `parse` gives
-pub ReadsNumber-parsed : {E : Type 0} (gives : List ℕ → Result ℕ E → Type 0)
-    → ((t : List ℕ) (r : Result ℕ E) → gives t r → ParsesUnsigned 64 10 t r)
-    → (t : List ℕ) (number : Option ℕ) → ReadsOne gives t number → ReadsNumber (Some t) number
-ReadsNumber-parsed gives parses t (Some n) h = parses t (Ok n) h
-ReadsNumber-parsed gives parses t None h = parses t (Err h.0) h.1
+pub ReadsNumber-parsed : {E : Type 0} (bits : ℕ) (gives : List ℕ → Result ℕ E → Type 0)
+    → ((t : List ℕ) (r : Result ℕ E) → gives t r → ParsesUnsigned bits 10 t r)
+    → (t : List ℕ) (number : Option ℕ) → ReadsOne gives t number → ReadsNumber bits (Some t) number
+ReadsNumber-parsed bits gives parses t (Some n) h = parses t (Ok n) h
+ReadsNumber-parsed bits gives parses t None h = parses t (Err h.0) h.1
 
 pub is_pair : (found : Option (List ℕ × List Row)) (name : List ℕ) (rows : List Row) → option_map (λ f. f.0) found ≡ Some name
     → option_map (λ f. f.1) found ≡ Some rows → found ≡ Some (name, rows)
@@ -47,11 +49,27 @@ name_of_rows m = option_map-map _ (out-ArgMatches m).subcommand
 
 -- what is refused behind `render` is refused of the whole
 pub Refuses-render : (found : Option (List ℕ × List Row)) (rows : List Row) (fault : WordsFault) → found ≡ Some (codes "render", rows)
-    → RefusesDefinitions (values_of (codes "definition") rows) fault → Refuses [] found fault
+    → RefusesRender rows fault → Refuses [] found fault
 Refuses-render found rows Memory is h = tt
 Refuses-render found rows (Help text) is h = absurd h
-Refuses-render found rows (Usage text) is h = absurd h
+Refuses-render found rows (Usage text) is h = inr (refl, inr (rows, is, h))
 Refuses-render found rows Definition is h = (refl, (rows, is, h))
+
+-- a text for the user is right where no mode has the name
+pub RefusesMode-usage : (rows : List Row) (fault : WordsFault) → IsUsage fault → NamesNoMode rows → RefusesMode rows fault
+RefusesMode-usage rows Memory usage none = tt
+RefusesMode-usage rows (Help text) usage none = absurd usage
+RefusesMode-usage rows (Usage text) usage none = none
+RefusesMode-usage rows Definition usage none = absurd usage
+
+-- and so is a definition with no `=` where a mode has it
+pub RefusesRender-definitions : (rows : List Row) (mode : UndefinedBehavior) (fault : WordsFault)
+    → mode_of (first_of (codes "undefined") rows) ≡ Some mode
+    → RefusesDefinitions (values_of (codes "definition") rows) fault → RefusesRender rows fault
+RefusesRender-definitions rows mode Memory named h = tt
+RefusesRender-definitions rows mode (Help text) named h = absurd h
+RefusesRender-definitions rows mode (Usage text) named h = absurd h
+RefusesRender-definitions rows mode Definition named h = ((λ none. cc), h)
 
 -- an error of one of these kinds is refused
 pub Refuses-kind : (kinds : Kinds) (found : Option (List ℕ × List Row)) (kind : ErrorKind) (fault : WordsFault)

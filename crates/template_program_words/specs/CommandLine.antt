@@ -1,10 +1,10 @@
--- The command line: `render [--context FILE] [-D NAME=TEXT]... [--fuel N] [--main NAME] [FILE...]`
--- and `names [--main NAME] [FILE...]`, in the words in which `clap` describes one.
-use Rattle.std.specs.Prelude.{Some, codes, true}
+-- The command line, in the words in which `clap` describes one: `names [--main NAME] [FILE...]` and
+-- `render [--context FILE] [-D NAME=TEXT]... [--fuel N] [--limit N] [--undefined MODE] [--main NAME] [FILE...]`.
+use Rattle.std.specs.Prelude.{Some, codes, pos, true}
 use Rattle.clap.specs.Lexer.{usize_max}
 use Rattle.clap.specs.Words.{App, Rule, new_app, new_rule, with_rule, with_subcommand}
 use Rattle.clap.specs.declared.builder.action.ArgAction.TheVariants.{Append}
-use Rattle.clap.specs.declared.builder.value_parser.ValueParser.TheVariants.{Unsigned}
+use Rattle.clap.specs.declared.builder.value_parser.ValueParser.TheVariants.{Signed, Unsigned}
 
 -- `--context FILE`, once at most
 abbrev pub context_option : Rule
@@ -23,6 +23,18 @@ fuel_option = record (new_rule (codes "fuel")) {
   parser = Some (Unsigned 0 18446744073709551615);
 }
 
+-- `--limit N`, once at most, of 16 bits
+abbrev pub limit_option : Rule
+limit_option = record (new_rule (codes "limit")) {
+  long = Some (codes "limit");
+  value_names = 1;
+  parser = Some (Signed (pos 0) (pos 65535));
+}
+
+-- `--undefined MODE`, once at most
+abbrev pub undefined_option : Rule
+undefined_option = record (new_rule (codes "undefined")) { long = Some (codes "undefined"); value_names = 1 }
+
 -- `--main NAME`, once at most
 abbrev pub main_option : Rule
 main_option = record (new_rule (codes "main")) { long = Some (codes "main"); value_names = 1 }
@@ -36,8 +48,8 @@ files_argument = record (new_rule (codes "files")) {
 }
 
 abbrev pub render_command : App
-render_command = with_rule (with_rule (with_rule (with_rule (with_rule (new_app (codes "render"))
-    context_option) definition_option) fuel_option) main_option) files_argument
+render_command = with_rule (with_rule (with_rule (with_rule (with_rule (with_rule (with_rule (new_app (codes "render"))
+    context_option) definition_option) fuel_option) limit_option) undefined_option) main_option) files_argument
 
 abbrev pub names_command : App
 names_command = with_rule (with_rule (new_app (codes "names")) main_option) files_argument

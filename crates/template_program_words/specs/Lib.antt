@@ -1,4 +1,5 @@
 pub mod Definitions
 pub mod CommandLine
+pub mod Modes
 pub mod Reading
 pub mod Refusals

@@ -4,6 +4,7 @@ use Rattle.std.specs.Option.{SomeIff}
 use Rattle.std.specs.Str.Parse.{IsNumeral, digits_value, without_leading_plus}
 use Rattle.clap.specs.Words.{Row, all_of, first_of, one_of}
 use Rattle.template_program_words.specs.Definitions.{equals_sign, name_in, text_in}
+use Rattle.template_program_words.specs.Modes.{mode_of}
 use Rattle.template_program_words.specs.declared.definitions.Definition.{Definition}
 use Rattle.template_program_words.specs.declared.words.NamesWords.{NamesWords}
 use Rattle.template_program_words.specs.declared.words.RenderWords.{RenderWords}
@@ -26,18 +27,28 @@ pub record Defines (words : List (List ℕ)) (definitions : List Definition) : T
   pub signed : All (λ text. Contains text equals_sign) words
   pub parts : map parts_of definitions ≡ map parts_in words
 
--- a number of 64 bits in decimal digits, with `+` before it or none
-abbrev pub ReadsNumber : Option (List ℕ) → Option ℕ → Type 0
-ReadsNumber None number = number ≡ None
-ReadsNumber (Some text) number =
+-- a number of so many bits in decimal digits, with `+` before it or none
+abbrev pub ReadsNumber : ℕ → Option (List ℕ) → Option ℕ → Type 0
+ReadsNumber bits None number = number ≡ None
+ReadsNumber bits (Some text) number =
     let digits = without_leading_plus text in
-    SomeIff number (IsNumeral 10 digits × (digits_value 10 digits < 2 ^ 64)) (digits_value 10 digits)
+    SomeIff number (IsNumeral 10 digits × (digits_value 10 digits < 2 ^ bits)) (digits_value 10 digits)
+
+-- how deep a render may be where no number says it
+abbrev pub default_limit : ℕ
+default_limit = 500
+
+-- a number of 16 bits, or else the default
+abbrev pub ReadsLimit : Option (List ℕ) → ℕ → Type 0
+ReadsLimit text limit = (number : Option ℕ) × ReadsNumber 16 text number × (limit ≡ unwrap_or number default_limit)
 
 -- the words behind `render`
 pub record ReadsRender (rows : List Row) (read : RenderWords) : Type 0 where
   pub context : option_map (λ path. path.now) read.context ≡ first_of (codes "context") rows
   pub definitions : Defines (values_of (codes "definition") rows) read.definitions.items
-  pub fuel : ReadsNumber (one_of (codes "fuel") rows) read.fuel
+  pub fuel : ReadsNumber 64 (one_of (codes "fuel") rows) read.fuel
+  pub limit : ReadsLimit (one_of (codes "limit") rows) read.limit
+  pub undefined : mode_of (first_of (codes "undefined") rows) ≡ Some read.undefined
   pub main : option_map (λ name. name.now) read.main ≡ first_of (codes "main") rows
   pub files : map (λ path. path.now) read.files.items ≡ values_of (codes "files") rows
 

@@ -1,10 +1,11 @@
 -- Why the words are refused, by the kinds of error that `clap` may give for them and by what it
 -- finds in them.
-use Rattle.std.specs.Prelude.{◌≡◌, ◌≢◌, ◌⊎◌, ⊤, ℕ, List, [], codes, Option, Some, Contains, option_map}
-use Rattle.clap.specs.Words.{IsAmong, Kinds, Row}
+use Rattle.std.specs.Prelude.{◌≡◌, ◌≢◌, ◌⊎◌, ⊤, ℕ, List, [], codes, Option, None, Some, Contains, option_map}
+use Rattle.clap.specs.Words.{IsAmong, Kinds, Row, first_of}
 use Rattle.clap.specs.declared.error.kind.ErrorKind.{ErrorKind}
 use Rattle.clap.specs.declared.error.kind.ErrorKind.TheVariants.{DisplayHelp, DisplayVersion, OutOfMemory}
 use Rattle.template_program_words.specs.Definitions.{equals_sign}
+use Rattle.template_program_words.specs.Modes.{mode_of}
 use Rattle.template_program_words.specs.Reading.{values_of}
 use Rattle.template_program_words.specs.declared.faults.WordsFault.{WordsFault}
 use Rattle.template_program_words.specs.declared.faults.WordsFault.TheVariants.{Memory, Help, Usage, Definition}
@@ -24,6 +25,12 @@ IsFaultOf kind (Help text) = IsRequest kind
 IsFaultOf kind (Usage text) = IsMistake kind
 IsFaultOf kind Definition = ⊥
 
+-- a text for the user; that no memory is left may be seen here too
+abbrev pub IsUsage : WordsFault → Type 0
+IsUsage Memory = ⊤
+IsUsage (Usage text) = ⊤
+IsUsage fault = ⊥
+
 -- a definition has no `=`
 abbrev pub LacksSign : List (List ℕ) → Type 0
 LacksSign words = (text : List ℕ) × Contains words text × ¬ (Contains text equals_sign)
@@ -33,16 +40,35 @@ abbrev pub FindsNone : Option (List ℕ × List Row) → Type 0
 FindsNone found = (option_map (λ f. f.0) found ≢ Some (codes "render"))
     × (option_map (λ f. f.0) found ≢ Some (codes "names"))
 
--- `clap`'s refusals come first, and then a definition with no `=`
+-- no mode has this name
+abbrev pub NamesNoMode : List Row → Type 0
+NamesNoMode rows = mode_of (first_of (codes "undefined") rows) ≡ None
+
+abbrev pub RefusesMode : List Row → WordsFault → Type 0
+RefusesMode rows Memory = ⊤
+RefusesMode rows (Usage text) = NamesNoMode rows
+RefusesMode rows fault = ⊥
+
+-- the words behind `render`, that `clap` takes: a mode that is none comes first, and then a definition with no `=`
+abbrev pub RefusesRender : List Row → WordsFault → Type 0
+RefusesRender rows Memory = ⊤
+RefusesRender rows (Help text) = ⊥
+RefusesRender rows (Usage text) = NamesNoMode rows
+RefusesRender rows Definition = ¬ (NamesNoMode rows) × LacksSign (values_of (codes "definition") rows)
+
+-- the words that `clap` takes
+abbrev pub RefusesFound : Option (List ℕ × List Row) → WordsFault → Type 0
+RefusesFound found fault = (rows : List Row) × (found ≡ Some (codes "render", rows)) × RefusesRender rows fault
+
+-- `clap`'s refusals come first
 abbrev pub Refuses : Kinds → Option (List ℕ × List Row) → WordsFault → Type 0
 Refuses kinds found Memory = ⊤
 Refuses kinds found (Help text) = (kind : ErrorKind) × IsAmong kind kinds × IsRequest kind
 Refuses kinds found (Usage text) = ((kind : ErrorKind) × IsAmong kind kinds × IsMistake kind)
-    ⊎ ((kinds ≡ []) × FindsNone found)
-Refuses kinds found Definition = (kinds ≡ []) × ((rows : List Row)
-    × (found ≡ Some (codes "render", rows)) × LacksSign (values_of (codes "definition") rows))
+    ⊎ ((kinds ≡ []) × (FindsNone found ⊎ RefusesFound found (Usage text)))
+Refuses kinds found Definition = (kinds ≡ []) × RefusesFound found Definition
 
--- the same of the words behind `render`
+-- the same of the definitions alone
 abbrev pub RefusesDefinitions : List (List ℕ) → WordsFault → Type 0
 RefusesDefinitions words Memory = ⊤
 RefusesDefinitions words Definition = LacksSign words

@@ -1,7 +1,7 @@
 //! Why the words were refused.
 ghost use Rattle.std.specs.Prelude.{◌≡◌};
 ghost use Rattle.clap.specs.Words.{kind_of};
-ghost use Rattle.template_program_words.specs.Refusals.{IsFaultOf};
+ghost use Rattle.template_program_words.specs.Refusals.{IsFaultOf, IsUsage};
 ghost use Rattle.template_program_words.specs.declared.faults.WordsFault.TheVariants.{Memory};
 
 use clap::error::ErrorKind;
@@ -46,6 +46,21 @@ pub(crate) fn fault_from(alloc: Global, error: &clap::Error) -> WordsFault
     match error.to_string(alloc) {
         Ok(text) if error.use_stderr() => WordsFault::Usage(text),
         Ok(text) => WordsFault::Help(text),
+        Err(_refused) => WordsFault::Memory,
+    }
+}
+
+/// The fault where no mode has this name, in the words in which `clap` refuses a value.
+pub(crate) fn unknown_mode(alloc: Global, name: &str) -> WordsFault
+    ensures { IsUsage result }
+{
+    let text = format!(in alloc;
+        "error: invalid value '{name}' for '--undefined <MODE>'\n  \
+         [possible values: lenient, chainable, semistrict, strict]\n\n\
+         For more information, try '--help'.\n"
+    );
+    match text {
+        Ok(text) => WordsFault::Usage(text),
         Err(_refused) => WordsFault::Memory,
     }
 }

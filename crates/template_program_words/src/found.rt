@@ -1,14 +1,20 @@
 //! What `clap` found in the words.
-ghost use Rattle.std.specs.Prelude.{◌≡◌, [], codes, map, IfErr, IfOk};
-ghost use Rattle.clap.specs.Words.{found_of, rows_of, subcommand_rows_of};
+ghost use Rattle.std.specs.Prelude.{◌≡◌, [], Some, codes, map, IfErr, IfOk};
+ghost use Rattle.clap.specs.Words.{first_of, found_of, rows_of, subcommand_rows_of};
+ghost use Rattle.template_program_words.specs.Modes.{mode_of};
 ghost use Rattle.template_program_words.specs.Reading.{Defines, Reads, ReadsNames, ReadsRender, values_of};
-ghost use Rattle.template_program_words.specs.Refusals.{Refuses, RefusesDefinitions};
+ghost use Rattle.template_program_words.specs.Refusals.{Refuses, RefusesDefinitions, RefusesMode, RefusesRender};
 
 use crate::definitions::{Definition, split_definition};
-use crate::faults::WordsFault;
+use crate::faults::{WordsFault, unknown_mode};
+use crate::modes::mode_named;
 use crate::words::{NamesWords, RenderWords, Words};
 use clap::ArgMatches;
 use std::alloc::{AllocError, Global};
+use template_values_modes::UndefinedBehavior;
+
+/// How deep a render may be where no word says it.
+const DEFAULT_LIMIT: u16 = 500;
 
 /// What the matches ask for.
 pub(crate) fn words_in<'a>(alloc: Global, matches: &ArgMatches<'a>) -> Result<Words<'a>, WordsFault>
@@ -28,17 +34,32 @@ pub(crate) fn words_in<'a>(alloc: Global, matches: &ArgMatches<'a>) -> Result<Wo
 
 fn render_words<'a>(alloc: Global, matches: &ArgMatches<'a>) -> Result<RenderWords<'a>, WordsFault>
     ensures reads { IfOk result (ReadsRender (rows_of (found_of matches.now))) }
-    ensures refuses { IfErr result (RefusesDefinitions (values_of (codes "definition")
-        (rows_of (found_of matches.now)))) }
+    ensures refuses { IfErr result (RefusesRender (rows_of (found_of matches.now))) }
 {
+    let undefined = undefined_in(alloc, matches)?;
     let definitions = values(alloc, matches, "definition")?;
     Ok(RenderWords {
         context: matches.get_str("context"),
         definitions: definitions_in(alloc, definitions.as_slice())?,
         fuel: matches.get_one::<u64>("fuel"),
+        limit: matches.get_one::<u16>("limit").unwrap_or(DEFAULT_LIMIT),
+        undefined,
         main: matches.get_str("main"),
         files: values(alloc, matches, "files")?,
     })
+}
+
+fn undefined_in(alloc: Global, matches: &ArgMatches<'_>) -> Result<UndefinedBehavior, WordsFault>
+    ensures reads { IfOk result (λ mode. mode_of (first_of (codes "undefined") (rows_of (found_of matches.now))) ≡ Some mode) }
+    ensures refuses { IfErr result (RefusesMode (rows_of (found_of matches.now))) }
+{
+    let Some(name) = matches.get_str("undefined") else {
+        return Ok(UndefinedBehavior::Lenient);
+    };
+    match mode_named(name) {
+        Some(mode) => Ok(mode),
+        None => Err(unknown_mode(alloc, name)),
+    }
 }
 
 fn names_words<'a>(alloc: Global, matches: &ArgMatches<'a>) -> Result<NamesWords<'a>, AllocError>

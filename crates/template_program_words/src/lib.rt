@@ -4,6 +4,7 @@
 mod definitions;
 mod faults;
 mod found;
+mod modes;
 mod options;
 mod reading;
 mod words;

@@ -33,7 +33,7 @@ pub(crate) fn program<'a>(alloc: Global) -> Result<Command<'a>, AllocError>
         .subcommand(names(alloc)?)
 }
 
-/// `render [--context FILE] [-D NAME=TEXT]... [--fuel N] [--main NAME] [FILE...]`
+/// `render [--context FILE] [-D NAME=TEXT]... [--fuel N] [--limit N] [--undefined MODE] [--main NAME] [FILE...]`
 fn render<'a>(alloc: Global) -> Result<Command<'a>, AllocError>
     ensures app { IfOk result (λ command. app_of command ≡ line.render_command) }
     ensures local { IfOk result (λ command. (out-Command command).has_globals ≡ false) }
@@ -43,6 +43,8 @@ fn render<'a>(alloc: Global) -> Result<Command<'a>, AllocError>
         .arg(context(alloc))?
         .arg(definition(alloc))?
         .arg(fuel(alloc))?
+        .arg(limit(alloc))?
+        .arg(undefined(alloc))?
         .arg(main(alloc))?
         .arg(files(alloc))
 }
@@ -91,6 +93,29 @@ fn fuel<'a>(alloc: Global) -> Arg<'a>
         .value_parser(value_parser!(u64))
         .help(
             "Stops the render at its N-th step of the price list, which is not run: N - 1 steps are",
+        )
+}
+
+fn limit<'a>(alloc: Global) -> Arg<'a>
+    ensures rule { rule_of result ≡ line.limit_option }
+    ensures local { result.global ≡ false }
+{
+    Arg::new(alloc, "limit")
+        .long("limit")
+        .value_name("N")
+        .value_parser(value_parser!(u16))
+        .help("How deep the render may be; 500 if not given")
+}
+
+fn undefined<'a>(alloc: Global) -> Arg<'a>
+    ensures rule { rule_of result ≡ line.undefined_option }
+    ensures local { result.global ≡ false }
+{
+    Arg::new(alloc, "undefined")
+        .long("undefined")
+        .value_name("MODE")
+        .help(
+            "What may be done with undefined values: lenient (if not given), chainable, semistrict or strict",
         )
 }
 

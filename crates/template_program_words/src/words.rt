@@ -1,5 +1,6 @@
 //! The types of what the words ask for.
 use crate::definitions::Definition;
+use template_values_modes::UndefinedBehavior;
 
 /// What the words ask for.
 #[derive(Debug, Drop)]
@@ -19,6 +20,10 @@ pub struct RenderWords<'a> {
     pub definitions: Vec<Definition<'a>>,
     /// The fuel.
     pub fuel: Option<u64>,
+    /// How deep the render may be: 500 where no word says it.
+    pub limit: u16,
+    /// What may be done with undefined values: lenient where no word says it.
+    pub undefined: UndefinedBehavior,
     /// The name of the main template.
     pub main: Option<&'a str>,
     /// The paths of the templates, in the order of the words.

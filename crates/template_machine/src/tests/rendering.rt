@@ -1,8 +1,10 @@
 //! Additions, renders and the names of contexts.
-use crate::{Environment, Error, ErrorKind, StateIds};
+use crate::{
+    Environment, Error, ErrorKind, NullWriter, StateIds, Template, UndefinedBehavior, WriteWrapper,
+};
 use std::alloc::Global;
 use std::test::Fail;
-use template_values_core::{Entry, Value};
+use template_values_core::Value;
 
 const HELLO: &str = "Hello {{ name }}!";
 
@@ -17,24 +19,9 @@ fn hello(
     Ok(environment)
 }
 
-fn context(alloc: Global) -> Result<Value, Error> {
-    let name = text(alloc, "name")?;
-    let world = text(alloc, "World")?;
-    let mut entries = Vec::new(alloc);
-    match entries.push(Entry {
-        key: name,
-        value: world,
-    }) {
-        Ok(()) => Value::from_map(alloc, entries),
-        Err(_refused) => Err(Error::new(ErrorKind::OutOfMemory)),
-    }
-}
-
-fn text(alloc: Global, text: &str) -> Result<Value, Error> {
-    match String::from_str(alloc, text) {
-        Ok(text) => Value::from_text(text),
-        Err(_refused) => Err(Error::new(ErrorKind::OutOfMemory)),
-    }
+fn world(alloc: Global) -> Result<Value, Error> {
+    let world = Value::from_str(alloc, "World")?;
+    Value::from_pairs(alloc, vec![in alloc; ("name", world)]?)
 }
 
 // What is written and how it ends, with the levels of the fuel after a render that is done.
@@ -46,8 +33,15 @@ fn rendered(
     let mut ids = StateIds::new(0);
     let environment = hello(alloc, &mut ids, fuel)?;
     let template = environment.get_template("t.txt")?;
-    let captured = template.render_captured_to(&mut ids, context(alloc)?, out)?;
-    Ok(captured.state().fuel_levels())
+    let captured = template.render_captured_to(&mut ids, world(alloc)?, out)?;
+    Ok(captured.fuel_levels())
+}
+
+fn kind_of<T>(answer: Result<T, Error>) -> Result<T, ErrorKind> {
+    match answer {
+        Ok(value) => Ok(value),
+        Err(error) => Err(error.kind()),
+    }
 }
 
 #[test]
@@ -56,13 +50,6 @@ fn a_fuel_of_five_leaves_one(rt: HostRuntime) {
     let levels = kind_of(rendered(rt.alloc(), Some(5), &mut out));
     assert_eq!(rt; levels, Ok(Some((4, 1))));
     assert_eq!(rt; out.as_str(), "Hello World!");
-}
-
-fn kind_of<T>(answer: Result<T, Error>) -> Result<T, ErrorKind> {
-    match answer {
-        Ok(value) => Ok(value),
-        Err(error) => Err(error.kind()),
-    }
 }
 
 #[test]
@@ -98,8 +85,112 @@ fn additions_replace_and_refuse(rt: HostRuntime) -> Result<(), Fail> {
     assert_eq!(rt; source_at(&environment, "t.txt")?, HELLO);
     assert_eq!(rt; add(&mut environment, "a"), Ok(()));
     assert_eq!(rt; source_at(&environment, "t.txt")?, "a");
-    let missing = source_at(&environment, "u.txt").err();
+    environment.remove_template("t.txt");
+    let missing = source_at(&environment, "t.txt").err();
     assert_eq!(rt; missing, Some(ErrorKind::TemplateNotFound));
+    Ok(())
+}
+
+// How a render of a template over an empty context ends; its text goes to `out`.
+fn ended(
+    alloc: Global,
+    environment: &Environment<'_>,
+    ids: &mut StateIds,
+    out: &mut String,
+) -> Result<(), Error> {
+    let template = environment.get_template("t.txt")?;
+    let context = Value::from_pairs(alloc, Vec::new(alloc))?;
+    let _captured = template.render_captured_to(ids, context, out)?;
+    Ok(())
+}
+
+#[test]
+fn environments_decide_how_deep_and_how_strict(rt: HostRuntime) -> Result<(), Fail> {
+    let round = "{% for x in [1] %}{{ x }}{% endfor %}";
+    let lenient = UndefinedBehavior::Lenient;
+    let rows = [
+        (round, 1, lenient, Err(ErrorKind::InvalidOperation), ""),
+        (round, 2, lenient, Ok(()), "1"),
+        (
+            "{{ x.y }}",
+            500,
+            lenient,
+            Err(ErrorKind::UndefinedError),
+            "",
+        ),
+        ("{{ x.y }}", 500, UndefinedBehavior::Chainable, Ok(()), ""),
+        (
+            "{{ x }}",
+            500,
+            UndefinedBehavior::Strict,
+            Err(ErrorKind::UndefinedError),
+            "",
+        ),
+    ];
+    for (source, limit, undefined, end, text) in rows {
+        let mut ids = StateIds::new(0);
+        let mut environment = Environment::new(rt.alloc(), &mut ids)?;
+        environment.add_template("t.txt", source)?;
+        environment.set_recursion_limit(limit);
+        environment.set_undefined_behavior(undefined);
+        let mut out = String::new(rt.alloc());
+        let ended = kind_of(ended(rt.alloc(), &environment, &mut ids, &mut out));
+        assert_eq!(rt; ended, end, "{source}");
+        assert_eq!(rt; out.as_str(), text, "{source}");
+    }
+    Ok(())
+}
+
+#[test]
+fn includes_find_what_stands_now(rt: HostRuntime) -> Result<(), Fail> {
+    let mut ids = StateIds::new(0);
+    let mut environment = Environment::new(rt.alloc(), &mut ids)?;
+    environment.add_template("t.txt", "x{% include 'b' %}")?;
+    for (source, text) in [("1", "x1"), ("{{ 2 * 3 }}", "x6")] {
+        environment.add_template("b", source)?;
+        let mut out = String::new(rt.alloc());
+        ended(rt.alloc(), &environment, &mut ids, &mut out)?;
+        assert_eq!(rt; out.as_str(), text);
+    }
+    environment.remove_template("b");
+    let mut out = String::new(rt.alloc());
+    let end = kind_of(ended(rt.alloc(), &environment, &mut ids, &mut out));
+    assert_eq!(rt; end, Err(ErrorKind::TemplateNotFound));
+    assert_eq!(rt; out.as_str(), "x");
+    Ok(())
+}
+
+// Renders into a writer of so many bytes.
+fn written(
+    alloc: Global,
+    template: &Template<'_, '_>,
+    ids: &mut StateIds,
+    bytes: &mut [u8],
+) -> Result<(), Error> {
+    let mut sink = WriteWrapper::new(bytes);
+    let _captured = template.render_captured_to(ids, world(alloc)?, &mut sink)?;
+    Ok(())
+}
+
+#[test]
+fn a_full_writer_has_the_bytes_before(rt: HostRuntime) -> Result<(), Fail> {
+    let mut ids = StateIds::new(0);
+    let environment = kind_of(hello(rt.alloc(), &mut ids, None))?;
+    let template = kind_of(environment.get_template("t.txt"))?;
+    let whole = b"Hello World!";
+    for room in 0..=12usize {
+        let mut bytes = [0u8; 12];
+        let end = kind_of(written(rt.alloc(), &template, &mut ids, &mut bytes[..room]));
+        let answer = if room < 12 {
+            Err(ErrorKind::WriteFailure)
+        } else {
+            Ok(())
+        };
+        assert_eq!(rt; end, answer, "after {room} bytes");
+        assert_eq!(rt; &bytes[..room], &whole[..room], "after {room} bytes");
+    }
+    let captured = template.render_captured_to(&mut ids, world(rt.alloc())?, &mut NullWriter)?;
+    assert!(rt; captured.fuel_levels().is_none());
     Ok(())
 }
 

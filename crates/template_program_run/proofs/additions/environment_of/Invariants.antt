@@ -1,13 +1,15 @@
 use Rattle.std.proofs.Common.{◌≡◌, ℕ, List, take}
-use Rattle.template_machine_environment.specs.Standing.{source_at}
-use Rattle.template_machine_world.specs.History.{standing}
+use Rattle.template_environment.specs.Standing.{settings_of, source_at}
 use Rattle.template_program_context.specs.Context.{texts_in}
 use Rattle.template_program_run.specs.Additions.{AllAreAccepted}
+use Rattle.template_program_run.specs.Environments.{HasSettings}
+use Rattle.template_program_run.specs.History.{source_standing}
 use Rattle.template_program_run.proofs.additions.environment_of.Given as goal
 
--- the additions so far are accepted, and they stand
+-- the additions so far are accepted, and they stand, under the settings of the request
 abbrev pub invariant-loop-name : goal.invariant-loop-name
 invariant-loop-name l = record {
   accepted : AllAreAccepted (texts_in (take l.name-index l.templates));
-  stands : (q : List ℕ) → source_at l.environment q ≡ standing (texts_in (take l.name-index l.templates)) q;
+  stands : (q : List ℕ) → source_at l.environment q ≡ source_standing (texts_in (take l.name-index l.templates)) q;
+  settings : HasSettings l.request (settings_of l.environment);
 }

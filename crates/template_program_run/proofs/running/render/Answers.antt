@@ -1,4 +1,5 @@
 use Rattle.std.proofs.Common.{refl, Ok, Err, ap}
+use Rattle.template_program_run.proofs.Rendering.{renders_done, renders_failed}
 use Rattle.template_program_run.proofs.running.render.Goals as goal
 
 pub returns-in-Ok-clause-rendered : goal.returns-in-Ok-clause-rendered
@@ -7,9 +8,11 @@ returns-in-Ok-clause-rendered g c = (
   λ more. (
     Ok tt,
     tt,
-    λ rule asks tree is.
-        let r = c.in-Ok.ensures.renders more rule asks tree is in
-        record { outcome = r.outcome; text = r.text; beginning = r.beginning; failures = r.failures },
+    c.in-Ok.ensures.failures more,
+    record {
+      finished = c.ends.ensures c.args.context;
+      renders = λ n done. renders_done _ _ _ _ (c.in-Ok.ensures.renders more n done);
+    },
   ),
 )
 
@@ -22,8 +25,10 @@ returns-in-Err-clause-rendered g c = (
   λ more. (
     Err c.in-Err.error,
     refl,
-    λ rule asks tree is.
-        let r = c.in-Err.ensures.renders more rule asks tree is in
-        record { outcome = r.outcome; text = r.text; beginning = r.beginning; failures = r.failures },
+    c.in-Err.ensures.failures more,
+    record {
+      finished = c.ends.ensures c.args.context;
+      renders = λ n done. renders_failed _ _ _ _ (c.in-Err.ensures.renders more n done);
+    },
   ),
 )

@@ -11,9 +11,11 @@ returns-clause-app c =
     let first = app_of-arg _ _ _ _ _ c.in_ok-arg.ensures bare c.context.ensures.rule c.context.ensures.local in
     let second = app_of-arg _ _ _ _ _ c.in_ok-arg-2.ensures first c.definition.ensures.rule c.definition.ensures.local in
     let third = app_of-arg _ _ _ _ _ c.in_ok-arg-3.ensures second c.fuel.ensures.rule c.fuel.ensures.local in
-    let fourth = app_of-arg _ _ _ _ _ c.in_ok-arg-4.ensures third c.main.ensures.rule c.main.ensures.local in
-    IfOk-weaker c.arg-5.result _ _ (λ command adds.
-    app_of-arg _ _ _ _ _ adds fourth c.files.ensures.rule c.files.ensures.local) c.arg-5.ensures
+    let fourth = app_of-arg _ _ _ _ _ c.in_ok-arg-4.ensures third c.limit.ensures.rule c.limit.ensures.local in
+    let fifth = app_of-arg _ _ _ _ _ c.in_ok-arg-5.ensures fourth c.undefined.ensures.rule c.undefined.ensures.local in
+    let sixth = app_of-arg _ _ _ _ _ c.in_ok-arg-6.ensures fifth c.main.ensures.rule c.main.ensures.local in
+    IfOk-weaker c.arg-7.result _ _ (λ command adds.
+    app_of-arg _ _ _ _ _ adds sixth c.files.ensures.rule c.files.ensures.local) c.arg-7.ensures
 
 pub returns-clause-local : goal.returns-clause-local
 returns-clause-local c =
@@ -21,6 +23,8 @@ returns-clause-local c =
     let first = is_local-arg _ _ _ c.in_ok-arg.ensures bare c.context.ensures.local in
     let second = is_local-arg _ _ _ c.in_ok-arg-2.ensures first c.definition.ensures.local in
     let third = is_local-arg _ _ _ c.in_ok-arg-3.ensures second c.fuel.ensures.local in
-    let fourth = is_local-arg _ _ _ c.in_ok-arg-4.ensures third c.main.ensures.local in
-    IfOk-weaker c.arg-5.result _ _ (λ command adds.
-    is_local-arg _ _ _ adds fourth c.files.ensures.local) c.arg-5.ensures
+    let fourth = is_local-arg _ _ _ c.in_ok-arg-4.ensures third c.limit.ensures.local in
+    let fifth = is_local-arg _ _ _ c.in_ok-arg-5.ensures fourth c.undefined.ensures.local in
+    let sixth = is_local-arg _ _ _ c.in_ok-arg-6.ensures fifth c.main.ensures.local in
+    IfOk-weaker c.arg-7.result _ _ (λ command adds.
+    is_local-arg _ _ _ adds sixth c.files.ensures.local) c.arg-7.ensures

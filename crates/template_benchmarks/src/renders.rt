@@ -1,0 +1,98 @@
+//! The tasks of templates: their additions and renders.
+use std::alloc::Global;
+use std::hint::black_box;
+use std::time::{Duration, Instant};
+use template_environment::Environment;
+use template_machine_ids::StateIds;
+use template_values_core::Value;
+use template_values_errors::Error;
+
+const PRINTS: usize = 100_000;
+
+const ITEMS: u32 = 1_000_000;
+
+const INCLUDES: u32 = 100_000;
+
+const SUMS: &str =
+    "{% for x in items %}{% if x % 2 == 0 %}{{ x * 3 + 1 }},{% else %}odd,{% endif %}{% endfor %}";
+
+/// The time of adding a template of 1.2 MB.
+pub(crate) fn add_template(rt: &HostRuntime) -> Option<Duration> {
+    let source = "text {{ x }}\n".repeat(rt.alloc(), PRINTS).ok()?;
+    let mut ids = StateIds::new(0);
+    let mut environment = Environment::new(rt.alloc(), &mut ids).ok()?;
+    let start = Instant::now(rt).ok()?;
+    environment.add_template("t.txt", source.as_str()).ok()?;
+    start.elapsed(rt).ok()
+}
+
+/// The time of a render of many prints of one name.
+pub(crate) fn render_prints(rt: &HostRuntime) -> Option<Duration> {
+    let source = "text {{ x }}\n".repeat(rt.alloc(), PRINTS).ok()?;
+    render(rt, source.as_str(), "x", Value::from_int(7))
+}
+
+/// The time of a loop that prints what it goes over.
+pub(crate) fn render_loop(rt: &HostRuntime) -> Option<Duration> {
+    let items = numbers(rt.alloc(), ITEMS)?;
+    render(
+        rt,
+        "{% for x in items %}{{ x }},{% endfor %}",
+        "items",
+        items,
+    )
+}
+
+/// The time of a loop with branches and sums.
+pub(crate) fn render_sums(rt: &HostRuntime) -> Option<Duration> {
+    let items = numbers(rt.alloc(), ITEMS)?;
+    render(rt, SUMS, "items", items)
+}
+
+/// The time of a loop that includes a small template each time.
+pub(crate) fn render_includes(rt: &HostRuntime) -> Option<Duration> {
+    let items = numbers(rt.alloc(), INCLUDES)?;
+    render(
+        rt,
+        "{% for x in items %}{% include 'part' %}{% endfor %}",
+        "items",
+        items,
+    )
+}
+
+// A list of the numbers from 0 on.
+fn numbers(alloc: Global, count: u32) -> Option<Value> {
+    let mut items = Vec::new(alloc);
+    for number in 0..count {
+        items.push(Value::from_int(i128::from(number))).ok()?;
+    }
+    Value::from_list(alloc, items).ok()
+}
+
+// The time of a render over a context of one name.
+fn render(rt: &HostRuntime, source: &str, name: &str, value: Value) -> Option<Duration> {
+    let mut ids = StateIds::new(0);
+    let environment = environment_of(rt.alloc(), source, &mut ids).ok()?;
+    let template = environment.get_template("t.txt").ok()?;
+    let pairs = vec![in rt.alloc(); (name, value)].ok()?;
+    let context = Value::from_pairs(rt.alloc(), pairs).ok()?;
+    let mut out = String::new(rt.alloc());
+    let start = Instant::now(rt).ok()?;
+    template
+        .render_captured_to(&mut ids, context, &mut out)
+        .ok()?;
+    let time = start.elapsed(rt).ok()?;
+    black_box(out.as_str().len());
+    Some(time)
+}
+
+fn environment_of<'source>(
+    alloc: Global,
+    source: &'source str,
+    ids: &mut StateIds,
+) -> Result<Environment<'source>, Error> {
+    let mut environment = Environment::new(alloc, ids)?;
+    environment.add_template("part", "<{{ x }}>")?;
+    environment.add_template("t.txt", source)?;
+    Ok(environment)
+}
