@@ -16,6 +16,7 @@ use std::alloc::Global;
 use template_compiled::{CompiledTemplate, CompiledTemplates};
 use template_compiler_syntax::SyntaxConfig;
 use template_machine_ids::StateIds;
+use template_machine_isolation::isolation;
 use template_machine_loop::{Compiled, Templates};
 use template_machine_perform::Rules;
 use template_values_core::Value;
@@ -61,6 +62,8 @@ impl<'source> Templates for Environment<'source> {
 
 impl<'source> Environment<'source> {
     ghost use Rattle.template_environment.specs.Standing.{IsUnchanged, read_under, settings_of, source_at, unnamed};
+    ghost use Rattle.template_values_model.specs.Val.{Val};
+    ghost use Rattle.template_environment.specs.Isolated.{AgreeForSource, IsSameForSource};
     ghost use Rattle.template_environment.specs.Renderings.{RendersSource};
     ghost use Rattle.template_environment.specs.States.{environment_in, frameless, fuel_left_in, fuel_set_in, id_in, name_in, unknown, world_in};
     ghost use Rattle.template_environment.specs.Views.{environment_of, escape_of, name_of, source_of};
@@ -306,7 +309,11 @@ impl<'source> Environment<'source> {
         ids: &mut StateIds,
         context: Value,
     ) -> Result<String, Error>
-        ensures { RendersSource self.now unnamed source.now context ids.old ids.new (λ text. string_bytes text) result }
+        ensures renders { RendersSource self.now unnamed source.now context ids.old ids.new (λ text. string_bytes text) result }
+
+        // Contexts that agree at the names that can matter make no difference.
+        ensures isolated { (other : Val) → AgreeForSource self.now (read_under self.now source.now) context other →
+            IsSameForSource self.now (read_under self.now source.now) context other }
     {
         self.render_named_str(UNNAMED, source, ids, context)
     }
@@ -325,8 +332,13 @@ impl<'source> Environment<'source> {
         ids: &mut StateIds,
         context: Value,
     ) -> Result<String, Error>
-        ensures { RendersSource self.now name.now source.now context ids.old ids.new (λ text. string_bytes text) result }
+        ensures renders { RendersSource self.now name.now source.now context ids.old ids.new (λ text. string_bytes text) result }
+
+        // Contexts that agree at the names that can matter make no difference.
+        ensures isolated { (other : Val) → AgreeForSource self.now (read_under self.now source.now) context other →
+            IsSameForSource self.now (read_under self.now source.now) context other }
     {
+        isolation();
         let template = self.template_from_named_str(name, source)?;
         template.render(ids, context)
     }

@@ -57,6 +57,7 @@ pub struct Captured<'env, 'source> {
 }
 
 impl<'env, 'source> Template<'env, 'source> {
+    ghost use Rattle.template_environment.specs.Isolated.{AgreeFor, IsSameRender};
     ghost use Rattle.template_environment.specs.Views.{environment_of, escape_of, fuel_left, fuel_of, fuel_set, id_of, name_of, output_of, render_of, source_of, state_of, world_of};
     ghost use Rattle.template_environment.specs.States.{environment_in, frameless, fuel_left_in, fuel_set_in, id_in, name_in, world_in};
 
@@ -119,10 +120,14 @@ impl<'env, 'source> Template<'env, 'source> {
         // Under each bound where its meaning is finished, its text is the one that the call gives.
         ensures text { ids.old ≢ u64.MAX → (n : ℕ) → IsFinished (render_of self.now n context).end →
             GivesText (λ text. string_bytes text) result (under (fuel_of self.now) (render_of self.now n context)) }
+
+        // Contexts that agree at the names that can matter make no difference.
+        ensures isolated { (other : Val) → AgreeFor self.now context other → IsSameRender self.now context other }
         ensures no_write_failure { IfErr result (λ kinds. kinds ≢ ErrorKind.WriteFailure ∷ []) }
         ensures counted { ids.old ≢ u64.MAX → ids.new ≡ ids.old + 1 }
         ensures exhausted { ids.old ≡ u64.MAX → (result ≡ Err (ErrorKind.InvalidOperation ∷ [])) × (ids.new ≡ ids.old) }
     {
+        self.isolated();
         let captured = self.render_captured(ids, context)?;
         Ok(captured.into_output())
     }
@@ -147,6 +152,9 @@ impl<'env, 'source> Template<'env, 'source> {
             fuel_left captured ≡ leaves (fuel_of self.now) (render_of self.now n context)) }
         ensures world { IfOk result (λ captured. (n : ℕ) → IsFinished (render_of self.now n context).end →
             world_of captured ≡ (under (fuel_of self.now) (render_of self.now n context)).after) }
+
+        // Contexts that agree at the names that can matter make no difference.
+        ensures isolated { (other : Val) → AgreeFor self.now context other → IsSameRender self.now context other }
         ensures no_write_failure { IfErr result (λ kinds. kinds ≢ ErrorKind.WriteFailure ∷ []) }
         ensures given { IfOk result (λ captured. fuel_set captured ≡ fuel_of self.now) }
         ensures here { IfOk result (λ captured. environment_in (state_of captured) ≡ environment_of self.now) }
@@ -155,6 +163,7 @@ impl<'env, 'source> Template<'env, 'source> {
         ensures counted { ids.old ≢ u64.MAX → ids.new ≡ ids.old + 1 }
         ensures exhausted { ids.old ≡ u64.MAX → (result ≡ Err (ErrorKind.InvalidOperation ∷ [])) × (ids.new ≡ ids.old) }
     {
+        self.isolated();
         let id = ids.next()?;
         let mut output = String::new(self.environment.allocator());
         let (machine, fuel) = run(self.environment, self.compiled.get(), context, &mut output)?;
@@ -192,6 +201,9 @@ impl<'env, 'source> Template<'env, 'source> {
             fuel_left captured ≡ leaves (fuel_of self.now) (render_of self.now n context)) }
         ensures world { IfOk result (λ captured. (n : ℕ) → IsFinished (render_of self.now n context).end →
             world_of captured ≡ (under (fuel_of self.now) (render_of self.now n context)).after) }
+
+        // Contexts that agree at the names that can matter make no difference.
+        ensures isolated { (other : Val) → AgreeFor self.now context other → IsSameRender self.now context other }
         ensures failures { ids.old ≢ u64.MAX → TellsFailures result (S.failures sink.old) (S.failures sink.new) }
         ensures given { IfOk result (λ captured. fuel_set captured ≡ fuel_of self.now) }
         ensures here { IfOk result (λ captured. environment_in (state_of captured) ≡ environment_of self.now) }
@@ -202,6 +214,7 @@ impl<'env, 'source> Template<'env, 'source> {
         ensures exhausted { ids.old ≡ u64.MAX → (result ≡ Err (ErrorKind.InvalidOperation ∷ [])) × (sink.new ≡ sink.old)
             × (ids.new ≡ ids.old) }
     {
+        self.isolated();
         let id = ids.next()?;
         let (machine, fuel) = run(self.environment, self.compiled.get(), context, sink)?;
         Ok(Captured {
