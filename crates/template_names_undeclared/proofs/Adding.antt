@@ -1,18 +1,9 @@
 -- Owned sets with more names.
-use Rattle.std.proofs.Common.{Result, Ok, Err, OnErr, IsTrue, ◌≡◌, ℕ, Bool, true, false, cond, ◌||◌, List, ◌∷◌, bytes_eq, Bor, refl, sym, ap, ◌∙◌}
+use Rattle.std.proofs.Common.{Result, Ok, Err, OnErr, IsTrue, ◌≡◌, ℕ, Bool, ◌||◌, List, ◌∷◌, bytes_eq, Bor, sym, ap, ◌∙◌}
 use Rattle.std.proofs.lemmas.Map.Text.{is_eq-slice_cmp}
 use Rattle.template_names_undeclared.specs.Goes.{has}
+use Rattle.template_names_undeclared.proofs.Laws.{or_assoc}
 use Rattle.template_names_undeclared.proofs.Walking.{turned}
-
-or_assoc : (a b c : Bool) → (a || (b || c)) ≡ ((a || b) || c)
-or_assoc true b c = refl
-or_assoc false b c = refl
-
-pub cond_or : (test before : Bool) → cond test true before ≡ (before || test)
-cond_or true true = refl
-cond_or true false = refl
-cond_or false true = refl
-cond_or false false = refl
 
 -- one is added
 pub one_added : (rest : List (Bor (List ℕ))) (name : Bor (List ℕ)) (left : List (Bor (List ℕ))) (old new all : Bool) (q : List ℕ) →

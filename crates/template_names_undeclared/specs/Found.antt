@@ -15,7 +15,7 @@ uses s name = not (is_stored_everywhere name) && is_used_by name s
 abbrev pub HasJust : Statement → BTreeSet (Bor (List ℕ)) → Type 0
 HasJust s names = (name : List ℕ) → has names name ≡ uses s name
 
--- the set has the names that were there and those among the others
+-- the set has the names that were there and those that are among the others, and no more
 abbrev pub Adds : {A : Type 0} → Among → BTreeSet (String A) → BTreeSet (String A) → Type 0
 Adds among old new = (name : List ℕ) → contains_text new name ≡ (contains_text old name || among name)
 
@@ -23,7 +23,7 @@ Adds among old new = (name : List ℕ) → contains_text new name ≡ (contains_
 abbrev pub AddsJust : {A : Type 0} → Statement → BTreeSet (String A) → BTreeSet (String A) → Type 0
 AddsJust s old new = Adds (uses s) old new
 
--- the set has the names that were there, and new ones from among the others alone
+-- the set keeps the names that were there, and what is new is among the others
 pub record AddsSome {A : Type 0} (among : Among) (old new : BTreeSet (String A)) : Type 0 where
   pub kept : (name : List ℕ) → IsTrue (contains_text old name) → IsTrue (contains_text new name)
   pub others : (name : List ℕ) → IsTrue (contains_text new name) → IsTrue (contains_text old name || among name)

@@ -1,5 +1,5 @@
 //! Owned sets of names, to which templates add theirs.
-ghost use Rattle.std.specs.Prelude.{◌≡◌, ℕ, List, IsTrue, OnErr, OnOk};
+ghost use Rattle.std.specs.Prelude.{◌≡◌, ℕ, List, OnErr, OnOk};
 ghost use Rattle.std.specs.BTreeSet.{contains_text};
 ghost use Rattle.template_tree.specs.StatementView.{statement_of};
 ghost use Rattle.template_names_undeclared.specs.Found.{Adds, AddsJust, AddsSome, uses};

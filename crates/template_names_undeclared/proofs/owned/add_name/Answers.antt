@@ -1,7 +1,7 @@
 use Rattle.std.proofs.Common.{◌≡◌, ◌∙◌, ap, true, ◌||◌, string_bytes, bytes_eq}
 use Rattle.std.specs.BTreeSet.{contains_text}
 use Rattle.std.proofs.lemmas.Map.Text.{btree_set_updates_text}
-use Rattle.template_names_undeclared.proofs.Adding.{cond_or}
+use Rattle.template_names_undeclared.proofs.Sets.{cond_or}
 use Rattle.template_names_undeclared.proofs.owned.add_name.Goals as goal
 
 pub returns-in_ok-insert-clause-added : goal.returns-in_ok-insert-clause-added
