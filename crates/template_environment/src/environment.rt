@@ -271,10 +271,10 @@ impl<'source> Environment<'source> {
         ensures here { IfOk result (λ t. environment_of t ≡ self.now) }
         ensures refused { IfErr result (IsRefusedWith (read_under self.now source.now)) }
     {
-        let compiled = CompiledTemplate::new(self.alloc, name, source, &self.syntax)?;
+        let own = CompiledTemplate::new(self.alloc, name, source, &self.syntax)?;
         Ok(Template {
             environment: self,
-            compiled: TemplateCode::Owned(compiled),
+            compiled: TemplateCode::Owned(own),
         })
     }
 
