@@ -264,7 +264,7 @@ impl<'env, 'source> Captured<'env, 'source> {
 
     /// The text that the render gave, without all else; empty where it went into a sink.
     pub fn into_output(self) -> String
-        ensures { string_bytes result ≡ output_of self }
+        ensures { string_bytes result ≡ output_of self.entry }
     {
         let Captured { output, .. } = self;
         output
