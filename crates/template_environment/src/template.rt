@@ -106,7 +106,12 @@ impl<'env, 'source> Template<'env, 'source> {
         ensures counted { ids.old ≢ u64.MAX → ids.new ≡ ids.old + 1 }
         ensures exhausted { ids.old ≡ u64.MAX → (result ≡ Err (ErrorKind.InvalidOperation ∷ [])) × (ids.new ≡ ids.old) }
     {
-        State::without_frames(self.environment, self.name(), self.initial_auto_escape(), ids)
+        State::without_frames(
+            self.environment,
+            self.name(),
+            self.initial_auto_escape(),
+            ids,
+        )
     }
 
     /// The text of a render of the template over a context, under the escape of its name and the fuel of its
@@ -234,8 +239,11 @@ fn run<'env, 'source, S: Sink>(
     ensures set { IfOk result (λ r. set_of r.1 ≡ environment.now.fuel) }
 {
     let alloc = environment.allocator();
-    let mut state: MachineState<'env> =
-        MachineState::new(alloc, compiled.initial_auto_escape(), context)?;
+    let mut state: MachineState<'env> = MachineState::new(
+        alloc,
+        compiled.initial_auto_escape(),
+        context,
+    )?;
     let fuel = environment.fuel();
     let mut left = fuel;
     let mut scratch = String::new(alloc);
