@@ -39,9 +39,10 @@ pub names_ascend : {X : Type 0} (name : X → List ℕ) (es : List (String Globa
     → IsStrictlySortedBy string_cmp (keys_of es) → IsStrictlySortedBy (slice_cmp nat_cmp) (map name (values_of es))
 unfolding IsStrictlySortedBy
 names_ascend name [] named ordered = ordered
-names_ascend name (e ∷ es) named ordered =
-    (all_below name e.0 (name e.1) (named 0 e.0 e.1 refl) es (λ i k v at. named (suc i) k v at) ordered.0,
-    names_ascend name es (λ i k v at. named (suc i) k v at) ordered.1)
+names_ascend name (e ∷ es) named ordered = (
+  all_below name e.0 (name e.1) (named 0 e.0 e.1 refl) es (λ i k v at. named (suc i) k v at) ordered.0,
+  names_ascend name es (λ i k v at. named (suc i) k v at) ordered.1,
+)
 
 -- where each look-up finds one of its name
 pub are_named : {X : Type 0} (name : X → List ℕ) (m : BTreeMap (String Global) X) → IsOrdered string_cmp m

@@ -1,5 +1,5 @@
 -- Of a list of templates: what a name finds there, and the order of their names.
-use Rattle.std.proofs.Common.{◌≡◌, ◌∙◌, ap, refl, sym, Bool, true, false, cond, List, [], ◌∷◌, Option, Some, map}
+use Rattle.std.proofs.Common.{◌≡◌, ap, refl, Bool, true, false, cond, List, [], ◌∷◌, Option, Some, map}
 use Rattle.std.specs.List.{find}
 use Rattle.std.specs.Option.{option_map}
 

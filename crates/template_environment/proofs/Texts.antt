@@ -1,9 +1,8 @@
 -- From a render into a text to the text that a call gives.
-use Rattle.std.proofs.Common.{◌≡◌, ◌≢◌, ◌∙◌, ap, ℕ, ◌<◌, List, [], ◌∷◌, ◌++◌, Some, Ok, Err, inl, inr, arith}
+use Rattle.std.proofs.Common.{◌≡◌, ◌≢◌, ◌∙◌, ap, ℕ, List, [], ◌∷◌, ◌++◌, Some, Ok, Err, inl, inr, arith}
 use Rattle.template_values_errors.specs.declared.ErrorKind.{ErrorKind}
 use Rattle.template_values_errors.specs.declared.ErrorKind.TheVariants.{WriteFailure}
 use Rattle.template_process.specs.Trace.{Run, text_of}
-use Rattle.template_machine_outcomes.specs.Outcomes.{IsWanting}
 use Rattle.template_machine_operations.specs.Outcomes.{TellsFailures}
 use Rattle.template_machine_renders.specs.Renders.{Renders, whole, broken}
 use Rattle.template_environment.specs.Renderings.{GivesText}

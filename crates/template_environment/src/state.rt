@@ -46,8 +46,11 @@ impl<'env, 'source> State<'env, 'source> {
         ensures exhausted { ids.old ≡ u64.MAX → (result ≡ Err (ErrorKind.InvalidOperation ∷ [])) × (ids.new ≡ ids.old) }
     {
         let id = ids.next()?;
-        let mut machine: MachineState<'env> =
-            MachineState::new(environment.allocator(), escape, Value::undefined())?;
+        let mut machine: MachineState<'env> = MachineState::new(
+            environment.allocator(),
+            escape,
+            Value::undefined(),
+        )?;
         machine.close_frame();
         Ok(State {
             id,

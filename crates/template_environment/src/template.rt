@@ -107,7 +107,12 @@ impl<'env, 'source> Template<'env, 'source> {
         ensures counted { ids.old ≢ u64.MAX → ids.new ≡ ids.old + 1 }
         ensures exhausted { ids.old ≡ u64.MAX → (result ≡ Err (ErrorKind.InvalidOperation ∷ [])) × (ids.new ≡ ids.old) }
     {
-        State::without_frames(self.environment, self.name(), self.initial_auto_escape(), ids)
+        State::without_frames(
+            self.environment,
+            self.name(),
+            self.initial_auto_escape(),
+            ids,
+        )
     }
 
     /// The text of a render of the template over a context, under the escape of its name and the fuel of its
@@ -247,8 +252,11 @@ fn run<'env, 'source, S: Sink>(
     ensures set { IfOk result (λ r. set_of r.1 ≡ environment.now.fuel) }
 {
     let alloc = environment.allocator();
-    let mut state: MachineState<'env> =
-        MachineState::new(alloc, compiled.initial_auto_escape(), context)?;
+    let mut state: MachineState<'env> = MachineState::new(
+        alloc,
+        compiled.initial_auto_escape(),
+        context,
+    )?;
     let fuel = environment.fuel();
     let mut left = fuel;
     let mut scratch = String::new(alloc);
@@ -277,7 +285,7 @@ impl<'env, 'source> Captured<'env, 'source> {
 
     /// The text that the render gave, without all else; empty where it went into a sink.
     pub fn into_output(self) -> String
-        ensures { string_bytes result ≡ output_of self }
+        ensures { string_bytes result ≡ output_of self.entry }
     {
         let Captured { output, .. } = self;
         output

@@ -22,12 +22,16 @@ fn main(rt: HostRuntime) -> anyhow::Result<()> {
     environment.add_template("page.html", PAGE)?;
 
     let context = hello_context(alloc)?;
-    let hello = environment.get_template("hello.txt")?.render(&mut ids, context)?;
+    let hello = environment
+        .get_template("hello.txt")?
+        .render(&mut ids, context)?;
     println!(rt; "{hello}")?;
 
     let json = b"{\"title\": \"Q & A\", \"items\": [1, \"<b>\", null]}";
     let context = context_from_json(alloc, json)?;
-    let page = environment.get_template("page.html")?.render(&mut ids, context)?;
+    let page = environment
+        .get_template("page.html")?
+        .render(&mut ids, context)?;
     println!(rt; "{page}")?;
 
     match environment.add_template("broken.txt", "Hello {{ name") {

@@ -108,11 +108,7 @@ impl<'env> Locals<'env> {
     }
 
     // Adds the names.
-    pub(crate) fn add_names(
-        &self,
-        alloc: Global,
-        names: &mut BTreeSet<String>,
-    ) -> Result<(), Error>
+    pub(crate) fn add_names(&self, alloc: Global, names: &mut BTreeSet<String>) -> Result<(), Error>
         ensures added { OnOk result ((q : List ℕ) → contains_text names.new q
             ≡ (contains_text names.old q || is_some (local_at q self.now))) }
         ensures refused { IfErr result NoMemory }

@@ -13,11 +13,7 @@ use template_values_core::{Entry, Value};
 use template_values_errors::Error;
 
 // Adds a name.
-pub(crate) fn add_name(
-    alloc: Global,
-    names: &mut BTreeSet<String>,
-    name: &str,
-) -> Result<(), Error>
+pub(crate) fn add_name(alloc: Global, names: &mut BTreeSet<String>, name: &str) -> Result<(), Error>
     ensures added { OnOk result ((q : List ℕ) → contains_text names.new q ≡ (contains_text names.old q || bytes_eq name.now q)) }
     ensures refused { IfErr result NoMemory }
 {
