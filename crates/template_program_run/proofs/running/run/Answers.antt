@@ -1,13 +1,12 @@
-use Rattle.std.proofs.Common.{◌∙◌, ap, sym, subst, rules, List, ℕ, option_copied, string_bytes}
+use Rattle.std.proofs.Common.{◌∙◌, sym, subst, rules, List, ℕ, option_copied}
 use Rattle.template_machine_escape.specs.Rule.{IsRuleOf}
 use Rattle.template_compiled.specs.Compiled.{standing_of}
-use Rattle.template_environment.specs.Views.{environment_of, name_of}
-use Rattle.template_environment.specs.declared.environment.Environment.{Environment}
+use Rattle.template_environment.specs.Views.{environment_of}
 use Rattle.template_program_context.specs.Context.{texts_in}
 use Rattle.template_program_run.specs.Environments.{IsMade}
 use Rattle.template_program_run.specs.declared.request.Command.TheVariants as asked
 use Rattle.template_program_run.proofs.Counting.{one_more, rendered_counts, told_counts}
-use Rattle.template_program_run.proofs.MainStands.{answers_done, none_there, rendered_does}
+use Rattle.template_program_run.proofs.MainStands.{answers_done, rendered_does}
 use Rattle.template_program_run.proofs.running.run.Goals as goal
 
 pub returns-in-Render-clause-answers : goal.returns-in-Render-clause-answers
