@@ -1,13 +1,16 @@
 -- What is compiled is faithful to its source.
-use Rattle.std.proofs.Common.{◌≡◌, ◌<◌, ◌≤◌, ℕ, List, [], ◌∷◌, ◌++◌, length, inl, inr, arith, refl, sym, ap, subst, ◌∙◌}
+use Rattle.std.proofs.Common.{◌≡◌, ◌≤◌, ℕ, List, [], ◌∷◌, length, inl, inr, Result, Ok, Err, IfOk, IfErr, arith, refl, sym, ap, subst, ◌∙◌}
 use Rattle.std.specs.Prelude.{◌^◌}
 use Rattle.template_values_errors.specs.declared.ErrorKind.{ErrorKind}
 use Rattle.template_values_errors.specs.declared.ErrorKind.TheVariants.{OutOfMemory}
 use Rattle.template_values_modes.specs.declared.AutoEscape.{AutoEscape}
-use Rattle.template_tree.specs.Tree.{Statement, Statements, template}
+use Rattle.template_tree.specs.Tree.{Statement, template}
+use Rattle.template_tree.specs.StatementView.{statement_of}
+use Rattle.template_tree.specs.declared.statements.Stmt.{Stmt}
+use Rattle.template_values_errors.specs.Memory.{NoMemory}
 use Rattle.template_walk.specs.Runnable.{IsRunnableTemplate}
 use Rattle.template_code.specs.Code.{Code}
-use Rattle.template_compiler_codegen.specs.Statements.{no_ways, statements_code, template_code}
+use Rattle.template_compiler_codegen.specs.Statements.{template_code}
 use Rattle.template_compiler_runnable.specs.Runs.{RunsWhole}
 use Rattle.template_compiler_statement_codegen.specs.Listed.{IsRunnableTree, body_in}
 use Rattle.template_compiler_syntax.specs.Syntax.{Syntax, IsUsable}
@@ -55,11 +58,24 @@ kept name own text copied x y escape code s named same shared usable fits is run
     (faithful name source escape s usable fits is runs rule, is_code ∙ ap template_code (sym (tree_is source s usable is)))
 
 -- a source that was accepted is refused for want of memory alone
-pub only_want : (c : Compiled) (kinds : List ErrorKind) → IsFaithful c → RefusesSource c.source.syntax c.source.text kinds → kinds ≡ OutOfMemory ∷ []
+only_want : (c : Compiled) (kinds : List ErrorKind) → IsFaithful c → RefusesSource c.source.syntax c.source.text kinds → kinds ≡ OutOfMemory ∷ []
 only_want c kinds is (inl want) = want
 only_want c kinds is (inr (inl (large, long))) = let fits = is.fits in absurd (omega (arith, long, fits))
 only_want c kinds is (inr (inr (fault, alone, faulty))) = absurd (faulty.treeless (template (tree_in c.source)) is.has_tree.0)
 
 -- its tree, as it is read once more
-pub whole_tree : (source : Source) (s : Statement) → IsUsable source.syntax → IsSource source.syntax source.text s → s ≡ template (tree_in source)
+whole_tree : (source : Source) (s : Statement) → IsUsable source.syntax → IsSource source.syntax source.text s → s ≡ template (tree_in source)
 whole_tree source s usable is = source_body source s is ∙ ap template (sym (tree_is source s usable is))
+
+pub read_whole : (r : Result Stmt (List ErrorKind)) (c : Compiled) (x : Syntax) (text : List ℕ) → x ≡ c.source.syntax → text ≡ c.source.text → IsFaithful c
+    → IfOk r (λ tree. IsSource x text (statement_of tree)) → IfOk r (λ tree. statement_of tree ≡ template (tree_in c.source))
+read_whole (Ok tree) c x text shared same is found =
+    whole_tree c.source (statement_of tree) is.usable
+    (subst (λ (y : Syntax). IsSource y c.source.text (statement_of tree)) shared (subst (λ (t : List ℕ). IsSource x t (statement_of tree)) same found))
+read_whole (Err kinds) c x text shared same is found = tt
+
+pub read_wants : (r : Result Stmt (List ErrorKind)) (c : Compiled) (x : Syntax) (text : List ℕ) → x ≡ c.source.syntax → text ≡ c.source.text → IsFaithful c
+    → IfErr r (RefusesSource x text) → IfErr r NoMemory
+read_wants (Ok tree) c x text shared same is refused = tt
+read_wants (Err kinds) c x text shared same is refused =
+    only_want c kinds is (subst (λ (y : Syntax). RefusesSource y c.source.text kinds) shared (subst (λ (t : List ℕ). RefusesSource x t kinds) same refused))

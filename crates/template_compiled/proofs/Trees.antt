@@ -1,11 +1,9 @@
 -- A source has one tree at most: the one that it is read to.
-use Rattle.std.proofs.Common.{◌≡◌, ℕ, List, Result, Ok, Err, refl, sym, ap, ◌∙◌}
+use Rattle.std.proofs.Common.{◌≡◌, List, ap, ◌∙◌}
 use Rattle.template_tree.specs.Tree.{Statements, template}
-use Rattle.template_compiler_tokens.specs.Token.{Token, TokenFault}
-use Rattle.template_compiler_syntax.specs.Syntax.{Syntax, IsUsable}
-use Rattle.template_compiler_segments.specs.Flat.{IsTokens}
+use Rattle.template_compiler_tokens.specs.Token.{Token}
+use Rattle.template_compiler_syntax.specs.Syntax.{IsUsable}
 use Rattle.template_compiler_segments.proofs.Theorems.{one_tokens, some_tokens}
-use Rattle.template_compiler_statements.specs.Grammar.{IsTemplate}
 use Rattle.template_compiler_statements.specs.Reader.{template_of}
 use Rattle.template_compiler_statement_laws.proofs.Complete.{template_complete}
 use Rattle.template_compiler_sources.specs.Source.{IsSource, source_of}

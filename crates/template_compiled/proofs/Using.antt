@@ -1,7 +1,10 @@
 -- Which of the templates that stand uses a name.
-use Rattle.std.proofs.Common.{◌≡◌, ℕ, zero, suc, Bool, true, false, ◌||◌, List, [], ◌∷◌, ◌++◌, map, Option, None, Some, inl, inr, ◌⊎◌, ◌↔◌, IsTrue, refl, sym, ap, subst, ◌∙◌, string_bytes}
+use Rattle.std.proofs.Common.{◌≡◌, ℕ, zero, suc, Bool, true, false, ◌||◌, List, [], ◌∷◌, ◌++◌, map, Some, inl, inr, ◌⊎◌, ◌↔◌, IsTrue, refl, sym, ap, subst, ◌∙◌, string_bytes}
+use Rattle.std.specs.Borrow.{Bor}
 use Rattle.std.specs.List.{list_any, slice_get}
-use Rattle.std.specs.Option.{option_map}
+use Rattle.std.specs.Map.Iter.{deref_pair}
+use Rattle.std.specs.Prelude.{String}
+use Rattle.std.specs.declared.alloc.Global.{Global}
 use Rattle.std.specs.String.{string_cmp, string_cmp_total}
 use Rattle.std.specs.BTreeMap as tree
 use Rattle.std.proofs.lemmas.Map.Entries.{place_from_lookup, btree_map_get_place}
@@ -28,17 +31,17 @@ pub more_used : {X : Type 0} (test : X → Bool) (xs : List X) (x : X) (old befo
 more_used test xs x old before new so_far step =
     step ∙ ap (λ b. b || test x) so_far ∙ or_assoc old (list_any test xs) (test x) ∙ ap (λ b. old || b) (sym (any_push test xs x))
 
-pub any_map : {X Y : Type 0} (test : Y → Bool) (g : X → Y) (xs : List X) → list_any test (map g xs) ≡ list_any (λ x. test (g x)) xs
+any_map : {X Y : Type 0} (test : Y → Bool) (g : X → Y) (xs : List X) → list_any test (map g xs) ≡ list_any (λ x. test (g x)) xs
 any_map test g [] = refl
 any_map test g (x ∷ xs) = ap (λ b. test (g x) || b) (any_map test g xs)
 
 pub either : (a b : Bool) → IsTrue (a || b) ↔ (IsTrue a ⊎ IsTrue b)
-either true b = (λ h. inl h, λ h. tt)
-either false b = (λ h. inr h, λ h. elim h [ inl n ↦ absurd n | inr y ↦ y ])
+either true b = (λ h. inl refl, λ h. refl)
+either false b = (λ h. inr h, λ h. elim h [ inl n ↦ cc | inr y ↦ y ])
 
 -- where in a list
 place_of : {X : Type 0} (test : X → Bool) (xs : List X) → IsTrue (list_any test xs) → (i : ℕ) × (x : X) × (slice_get xs i ≡ Some x) × IsTrue (test x)
-place_of test [] h = absurd h
+place_of test [] h = cc
 place_of test (x ∷ xs) h = elim ((either (test x) (list_any test xs)).0 h) [
   | inl here ↦ (0, x, refl, here)
   | inr there ↦ let p = place_of test xs there in (suc p.0, p.1, p.2, p.3)
@@ -51,7 +54,7 @@ at_place test (y ∷ ys) zero x at is =
 at_place test (y ∷ ys) (suc i) x at is = (either (test y) (list_any test ys)).1 (inr (at_place test ys i x at is))
 
 -- the templates are their map's entries
-pub used_by_one : (templates : CompiledTemplates) → tree.IsOrdered string_cmp templates.by_name → (name : List ℕ)
+used_by_one : (templates : CompiledTemplates) → tree.IsOrdered string_cmp templates.by_name → (name : List ℕ)
     → IsTrue (list_any (λ e. uses e.1 name) templates.by_name.entries) ↔ IsUsedByOne templates name
 used_by_one templates ordered name = (
   λ used.
@@ -62,3 +65,16 @@ used_by_one templates ordered name = (
       let place = place_from_lookup _ templates.by_name.entries used.1 used.2 in
       at_place (λ e. uses e.1 name) templates.by_name.entries place.0 (place.1, used.1) place.2 used.3,
 )
+
+pub all_used : (templates : CompiledTemplates) (yielded : List (Bor (String Global) × Bor Compiled)) (name : List ℕ) (old new : Bool)
+    → tree.IsOrdered string_cmp templates.by_name → map deref_pair yielded ≡ templates.by_name.entries → new ≡ (old || list_any (λ e. uses e.1.now name) yielded)
+    → IsTrue new ↔ (IsTrue old ⊎ IsUsedByOne templates name)
+all_used templates yielded name old new ordered all is =
+    let test : String Global × Compiled → Bool = λ e. uses e.1 name in
+    let whole : new ≡ (old || list_any test templates.by_name.entries) =
+    is ∙ ap (λ b. old || b) (sym (any_map test deref_pair yielded) ∙ ap (λ es. list_any test es) all) in
+    let one = used_by_one templates ordered name in
+    let both = either old (list_any test templates.by_name.entries) in (
+      λ h. elim (both.0 (subst IsTrue whole h)) [ inl a ↦ inl a | inr u ↦ inr (one.0 u) ],
+      λ h. subst IsTrue (sym whole) (both.1 (elim h [ inl a ↦ inl a | inr u ↦ inr (one.1 u) ])),
+    )

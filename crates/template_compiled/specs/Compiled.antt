@@ -1,5 +1,5 @@
 -- What contracts see of a compiled template.
-use Rattle.std.specs.Prelude.{◌≡◌, ℕ, ◌<◌, ◌^◌, Bool, false, List, length}
+use Rattle.std.specs.Prelude.{ℕ, ◌<◌, ◌^◌, Bool, false, List, length}
 use Rattle.template_values_modes.specs.declared.AutoEscape.{AutoEscape}
 use Rattle.template_code.specs.Code.{Code}
 use Rattle.template_compiler_codegen.specs.Statements.{template_code}

@@ -8,7 +8,7 @@ use Rattle.template_names_undeclared.specs.Goes.{has, knows}
 use Rattle.template_names_undeclared.specs.declared.state.Names.{Names}
 use Rattle.std.proofs.lemmas.Slice.Eq.{bytes_eq-Decides}
 
-cond_or : (test before : Bool) → cond test true before ≡ (before || test)
+pub cond_or : (test before : Bool) → cond test true before ≡ (before || test)
 cond_or true true = refl
 cond_or true false = refl
 cond_or false true = refl

@@ -13,7 +13,7 @@ use Rattle.template_names.specs.Names.{is_imported, is_stored_in, is_stored_in_o
 use Rattle.template_names_undeclared.specs.declared.state.Names.{Names}
 use Rattle.template_names_undeclared.specs.Goes.{Goes, nothing}
 use Rattle.template_names_undeclared.specs.Stores.{backwards, first_stands, is_assigned, is_bound}
-use Rattle.template_names_undeclared.proofs.Laws.{goes_as, goes_nowhere, goes_then}
+use Rattle.template_names_undeclared.proofs.Laws.{goes_as, goes_nowhere, goes_then, or_assoc, or_false}
 
 -- a list of targets, and an expression that is no target
 pub stored_list : (q : Items ℕ) (e : Expr) (n : Spanned (Box ListNode Global)) → e ≡ List n →
@@ -45,10 +45,6 @@ import_more (name, None) xs q = refl
 import_more (name, Some alias) xs q = refl
 
 -- assignments with what follows them
-or_assoc : (a b c : Bool) → (a || (b || c)) ≡ ((a || b) || c)
-or_assoc true b c = refl
-or_assoc false b c = refl
-
 and_or : (s v k f : Bool) → (not s && (v || (not k && f))) ≡ ((not s && v) || (not (s || k) && f))
 and_or true v k f = refl
 and_or false v k f = refl
@@ -114,10 +110,6 @@ rest_backwards (x ∷ xs) (suc k) later within is =
     ap (λ (n : ℕ). rest_of (backwards (take n (x ∷ xs)))) one ∙
     ap rest_of (ap (λ (es : Items Expr). backwards es) (take_more (x ∷ xs) k x (omega (arith, within))) ∙ reversed_push (take k (x ∷ xs)) d no_expressions) ∙
     ap (λ (n : ℕ). backwards (take n (x ∷ xs))) (sym same)
-
-or_false : (b : Bool) → (b || false) ≡ b
-or_false true = refl
-or_false false = refl
 
 pub argument_ends : {G : Names → Type 0} (arguments defaults : Items Expr) (at before given later : ℕ) (x : Expr) (a b d : Names) →
     at ≡ before + 1 → before < length arguments → given ≤ length defaults → later ≡ given - 1 → x ≡ get_or arguments before x →

@@ -14,7 +14,7 @@ use Rattle.template_names_undeclared.specs.declared.state.Names.{Names}
 use Rattle.template_names_undeclared.specs.Choices.{IsAlone, chain_deep, chain_uses, choice_of, else_uses, test_uses}
 use Rattle.template_names_undeclared.specs.Goes.{Goes, just, nothing}
 use Rattle.template_names_undeclared.specs.Stores.{backwards}
-use Rattle.template_names_undeclared.proofs.Laws.{uses_as, uses_then}
+use Rattle.template_names_undeclared.proofs.Laws.{and_false, or_false, uses_as, uses_then}
 use Rattle.template_names_undeclared.proofs.Storing.{used_by_arguments}
 
 by_cases : (a b : Bool) → (a ≡ true → b ≡ true) → (b ≡ true → a ≡ true) → a ≡ b
@@ -54,14 +54,6 @@ test_is q n = ap (λ (t : Statement). test_uses q t) (sym (if_tree n))
 pub else_is : (q : Items ℕ) (n : Spanned (Box IfCondNode Global)) →
     is_used_in q (statements_in n.node.value.false_body.items) ≡ else_uses q (choice_of n)
 else_is q n = ap (λ (t : Statement). else_uses q t) (sym (if_tree n))
-
-or_false : (b : Bool) → (b || false) ≡ b
-or_false true = refl
-or_false false = refl
-
-and_false : (b : Bool) → (b && false) ≡ false
-and_false true = refl
-and_false false = refl
 
 alone_uses : (q : Items ℕ) (n : Spanned (Box IfCondNode Global)) (body : Items Stmt) (next : Option (Bor (Spanned (Box IfCondNode Global)))) →
     body ≡ n.node.value.false_body.items → IfSome next (λ choice. IsAlone choice.now body) → is_none next ≡ false →

@@ -1,9 +1,9 @@
 //! Owned sets of names, to which templates add theirs.
-ghost use Rattle.std.specs.Prelude.{◌≡◌, ℕ, List, ◌||◌, OnOk, bytes_eq};
+ghost use Rattle.std.specs.Prelude.{◌≡◌, ℕ, List, OnErr, OnOk};
 ghost use Rattle.std.specs.BTreeSet.{contains_text};
 ghost use Rattle.template_tree.specs.StatementView.{statement_of};
-ghost use Rattle.template_names_undeclared.specs.Found.{AddsJust};
-ghost use Rattle.template_names_undeclared.specs.Goes.{has};
+ghost use Rattle.template_names_undeclared.specs.Found.{Adds, AddsJust, AddsSome, uses};
+ghost use Rattle.template_names_undeclared.specs.Goes.{has, just};
 
 use crate::undeclared::find_undeclared;
 use std::alloc::{AllocError, Global};
@@ -21,7 +21,8 @@ pub fn add_undeclared(
     names: &mut BTreeSet<String>,
     tree: &Stmt<'_>,
 ) -> Result<(), AllocError>
-    ensures { OnOk result (AddsJust (statement_of tree.now) names.old names.new) }
+    ensures added { OnOk result (AddsJust (statement_of tree.now) names.old names.new) }
+    ensures partial { OnErr result (AddsSome (uses (statement_of tree.now)) names.old names.new) }
 {
     let used = find_undeclared(alloc, tree)?;
     add_names(alloc, names, &used)
@@ -32,7 +33,8 @@ fn add_names(
     names: &mut BTreeSet<String>,
     used: &BTreeSet<&str>,
 ) -> Result<(), AllocError>
-    ensures { OnOk result ((q : List ℕ) → contains_text names.new q ≡ (contains_text names.old q || has used.now q)) }
+    ensures added { OnOk result (Adds (has used.now) names.old names.new) }
+    ensures partial { OnErr result (AddsSome (has used.now) names.old names.new) }
 {
     for name in used {
         add_name(alloc, names, name)?;
@@ -41,7 +43,8 @@ fn add_names(
 }
 
 fn add_name(alloc: Global, names: &mut BTreeSet<String>, name: &str) -> Result<(), AllocError>
-    ensures { OnOk result ((q : List ℕ) → contains_text names.new q ≡ (contains_text names.old q || bytes_eq name.now q)) }
+    ensures added { OnOk result (Adds (just name.now) names.old names.new) }
+    ensures unchanged { OnErr result ((q : List ℕ) → contains_text names.new q ≡ contains_text names.old q) }
 {
     if !names.contains(name) {
         names.insert(String::from_str(alloc, name)?)?;

@@ -5,5 +5,5 @@ use Rattle.template_compiled.specs.Names.{uses}
 use Rattle.template_compiled.proofs.templates.CompiledTemplates.add_undeclared.Given as goal
 
 -- the names that were there, and those that the templates so far use
-abbrev pub invariant-loop-template : goal.invariant-loop-template
-invariant-loop-template l = (q : List ℕ) → contains_text l.names q ≡ (contains_text l.fn.names q || list_any (λ e. uses e.1.now q) l.yielded)
+abbrev pub invariant-loop-name : goal.invariant-loop-name
+invariant-loop-name l = (q : List ℕ) → contains_text l.names q ≡ (contains_text l.fn.names q || list_any (λ e. uses e.1.now q) l.yielded)
