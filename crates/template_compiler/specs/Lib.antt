@@ -16,6 +16,7 @@ pub use Rattle.template_tree.specs.StatementView
 pub use Rattle.template_compiler_expressions.specs.Grammar as ExpressionGrammar
 pub use Rattle.template_compiler_statements.specs.Grammar
 pub use Rattle.template_compiler_sources.specs.Source
+pub use Rattle.template_names.specs.Names as UsedNames
 pub use Rattle.template_process.specs.Process
 pub use Rattle.template_process.specs.Drive
 pub use Rattle.template_process.specs.Whole

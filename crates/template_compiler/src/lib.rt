@@ -22,6 +22,8 @@
 //! - [`parse`] accepts exactly the texts that have a tree in the grammar, and gives that tree;
 //!   [`parse_expr`] does so for an expression. The nodes stand in [`ast`]; they borrow their texts from the
 //!   source, and each knows its [`ast::Span`].
+//! - [`find_undeclared`] gives the names that a tree uses, which a context may be asked for;
+//!   [`add_undeclared`] adds them to a set.
 //! - [`is_runnable`] tells whether all constructs of a tree have a walk yet.
 //! - [`compile_template`] puts the code of a tree behind what stands in [`Instructions`], [`compile_expr`]
 //!   that of an expression. [`CompiledTemplate::new`] does all of it: from a text to its code.
@@ -54,4 +56,5 @@ pub use template_compiler_statement_laws::{is_decided, one_template, reads_the_g
 pub use template_compiler_syntax::{StartMarker, SyntaxConfig, SyntaxConfigBuilder};
 pub use template_compiler_tokenizer::{TokenStream, Tokenizer};
 pub use template_compiler_tokens::{Token, Tokens, one_token};
+pub use template_names_undeclared::{add_undeclared, find_undeclared};
 pub use template_values_errors::{Error, ErrorKind};

@@ -1,4 +1,5 @@
 //! What no clause says: that calls succeed, and the parts together, from a text to its code.
 mod compiling;
+mod names;
 mod parsing;
 mod tokenizing;

@@ -2,7 +2,6 @@
 use Rattle.std.proofs.Common.{◌≡◌, ◌∙◌, sym, subst, ap, refl, ℕ, ◌+◌, List, Option, None, Some, inr, string_bytes}
 use Rattle.std.specs.Option.{option_map}
 use Rattle.template_values_model.specs.Val.{Val}
-use Rattle.template_values_modes.specs.declared.AutoEscape.{AutoEscape}
 use Rattle.template_machine_escape.specs.Rule.{IsRuleOf}
 use Rattle.template_machine_meaning.specs.Meaning.{Standing}
 use Rattle.template_compiled.specs.Compiled.{Compiled, standing_of}
@@ -11,9 +10,9 @@ use Rattle.template_environment.specs.Standing.{source_at}
 use Rattle.template_environment.specs.declared.environment.Environment.{Environment}
 use Rattle.template_program_run.specs.Additions.{AllAreAccepted}
 use Rattle.template_program_run.specs.Environments.{IsMade}
-use Rattle.template_program_run.specs.History.{source_for, source_standing, standing}
+use Rattle.template_program_run.specs.History.{source_for, standing}
 use Rattle.template_program_run.specs.Ids.{IsLastId}
-use Rattle.template_program_run.specs.Answers.{Answers, Does, HasContext, IsTemplateOf, Performed, Rendered, Told, definitions_of}
+use Rattle.template_program_run.specs.Answers.{Answers, Does, HasContext, IsTemplateOf, Rendered, definitions_of}
 use Rattle.template_program_run.specs.declared.outcome.Outcome.{Outcome}
 use Rattle.template_program_run.specs.declared.request.Command.{Command}
 use Rattle.template_program_run.specs.declared.request.Command.TheVariants as asked

@@ -1,5 +1,5 @@
 -- What a call of a render does, as what the request's outcome tells.
-use Rattle.std.proofs.Common.{◌≡◌, ℕ, List, Option, Result, Ok, Err}
+use Rattle.std.proofs.Common.{ℕ, List, Option, Ok, Err}
 use Rattle.template_values_errors.specs.declared.ErrorKind.{ErrorKind}
 use Rattle.template_process.specs.Trace.{Run}
 use Rattle.template_machine_renders.specs.Renders.{Renders, whole, broken}

@@ -1,6 +1,5 @@
 -- The settings of a request, one after another.
-use Rattle.std.proofs.Common.{◌≡◌, ◌∙◌, ℕ, Option, None, min, refl, ap}
-use Rattle.template_values_modes.specs.declared.UndefinedBehavior.{UndefinedBehavior}
+use Rattle.std.proofs.Common.{◌≡◌, ◌∙◌, ℕ, None, min, ap}
 use Rattle.template_values_modes.specs.declared.UndefinedBehavior.TheVariants.{Lenient}
 use Rattle.template_compiler_syntax.specs.Syntax.{default_syntax}
 use Rattle.template_environment.specs.Standing.{Settings, greatest_limit}

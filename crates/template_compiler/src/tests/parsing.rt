@@ -4,19 +4,30 @@ use crate::{Error, SyntaxConfig, parse, parse_expr};
 use std::alloc::Global;
 use std::test::Fail;
 
-// Data as `[text]`, a print of a name as `(name)`, another statement as its description, a refusal as its kind.
+// Data as `[text]`, a print of a name as `(name)`, of all else as its description, another statement as `<>`, a
+// refusal as its kind.
 fn shown(alloc: Global, source: &str) -> Result<String, Fail> {
     let mut text = String::new(alloc);
     match parse(alloc, source, "t.txt", SyntaxConfig::new()) {
-        Ok(Stmt::Template(template)) => {
-            for statement in &template.node.children {
-                write_statement(statement, &mut text)?;
-            }
-        }
-        Ok(other) => write!(text, "{}", other.description())?,
+        Ok(tree) => write_template(&tree, &mut text)?,
         Err(error) => write!(text, "{error}")?,
     }
     Ok(text)
+}
+
+fn write_template(tree: &Stmt, text: &mut String) -> Result<(), Fail> {
+    for statement in children(tree) {
+        write_statement(statement, text)?;
+    }
+    Ok(())
+}
+
+// The statements of a template; none of any other statement.
+fn children<'a, 'source>(tree: &'a Stmt<'source>) -> &'a [Stmt<'source>] {
+    match tree {
+        Stmt::Template(template) => template.node.children.as_slice(),
+        _ => &[],
+    }
 }
 
 fn write_statement(statement: &Stmt, text: &mut String) -> Result<(), Fail> {
@@ -26,7 +37,7 @@ fn write_statement(statement: &Stmt, text: &mut String) -> Result<(), Fail> {
             Expr::Var(name) => write!(text, "({})", name.node.id)?,
             other => write!(text, "({})", other.description())?,
         },
-        other => write!(text, "<{}>", other.description())?,
+        _ => text.push_str("<>")?,
     }
     Ok(())
 }
@@ -43,6 +54,7 @@ fn reads_trees(rt: HostRuntime) -> Result<(), Fail> {
         ("äöü {{x}} €𐍈", "[äöü ](x)[ €𐍈]"),
         ("{% raw %}{{ x }}{% endraw %}", "[{{ x }}]"),
         ("a{# b #}c", "[a][c]"),
+        ("{% if x %}{% endif %}{{ x + 1 }}", "<>(binary operator)"),
     ] {
         assert_eq!(rt; shown(rt.alloc(), source)?.as_str(), wanted, "of {source}");
     }
@@ -67,7 +79,7 @@ fn refuses_sources_without_a_tree(rt: HostRuntime) -> Result<(), Fail> {
 
 #[test]
 fn reads_expressions(rt: HostRuntime) -> Result<(), Error> {
-    match parse_expr(rt.alloc(), "name")? {
+    match &parse_expr(rt.alloc(), "name")? {
         Expr::Var(name) => {
             assert_eq!(rt; name.node.id, "name");
             assert_eq!(rt; (name.span.start_offset, name.span.end_offset), (0, 4));
@@ -86,11 +98,7 @@ fn reads_long_sources_in_linear_time(rt: HostRuntime) -> Result<(), Fail> {
     for _ in 0..1_000_000u32 {
         source.push_str("{ ")?;
     }
-    match parse(rt.alloc(), source.as_str(), "t.txt", SyntaxConfig::new())? {
-        Stmt::Template(template) => {
-            assert_eq!(rt; template.node.children.len(), 200_001);
-        }
-        _ => panic!(rt; "a source is no template"),
-    }
+    let tree = parse(rt.alloc(), source.as_str(), "t.txt", SyntaxConfig::new())?;
+    assert_eq!(rt; children(&tree).len(), 200_001);
     Ok(())
 }

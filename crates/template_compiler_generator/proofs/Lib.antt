@@ -1,6 +1,0 @@
-pub mod Places
-pub mod Runs
-pub mod Correct
-pub mod Balance
-pub mod Statements
-mod Rows

@@ -1,3 +1,0 @@
-pub mod Generated
-pub mod Performs
-pub mod Progress

@@ -1,3 +1,0 @@
-pub mod Signs
-pub mod Refusals
-pub mod Steps

@@ -1,4 +1,0 @@
-pub mod UsedBySome
-pub mod Faithful
-pub mod OwnNames
-pub mod Sizes

@@ -1,6 +1,0 @@
-pub mod Scopes
-pub mod World
-pub mod Surroundings
-pub mod Meaning
-pub mod History
-pub mod Laws
