@@ -1,4 +1,3 @@
 pub mod Rendering
-pub mod Texts
 pub mod Sourced
 pub mod Listed
