@@ -43,7 +43,8 @@ last_id = 2 ^ 64 - 1
 -- a call that renders a template to a text, and the numbers that come next before it and after it
 pub record RendersText {X : Type 0} (e : Environment) (c : Compiled) (context : Val) (id next : ℕ) (text : X → List ℕ)
     (result : Result X (List ErrorKind)) : Type 0 where
-  pub gives : id ≢ last_id → (n : ℕ) → IsFinished (rendering e c n context).end → GivesText text result (under e.fuel (rendering e c n context))
+  pub gives : id ≢ last_id → (n : ℕ) → IsFinished (rendering e c n context).end
+      → GivesText text result (under e.fuel (rendering e c n context))
   pub no_write_failure : IfErr result (λ kinds. kinds ≢ WriteFailure ∷ [])
   pub counted : id ≢ last_id → next ≡ id + 1
   pub exhausted : id ≡ last_id → (result ≡ Err (InvalidOperation ∷ [])) × (next ≡ id)

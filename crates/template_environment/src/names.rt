@@ -1,5 +1,5 @@
 //! The names of a context that can matter to a render.
-ghost use Rattle.std.specs.Prelude.{◌≡◌, ◌↔◌, ◌||◌, ℕ, List, IsTrue, IfOk, IfErr, OnOk, bytes_eq};
+ghost use Rattle.std.specs.Prelude.{◌≡◌, ◌↔◌, ℕ, List, IsTrue, IfOk, IfErr};
 ghost use Rattle.std.specs.BTreeSet.{contains_text};
 ghost use Rattle.template_values_errors.specs.Memory.{NoMemory};
 ghost use Rattle.template_values_model.specs.Val.{Val};
@@ -13,7 +13,8 @@ use crate::template::Template;
 use std::alloc::Global;
 use std::collections::BTreeSet;
 use template_machine_isolation::isolation;
-use template_values_errors::{Error, ErrorKind};
+use template_names_undeclared::add_name;
+use template_values_errors::Error;
 
 impl<'source> Environment<'source> {
     /// The names of a context that can matter to a render of a template of this environment: `caller`, `loop`,
@@ -64,15 +65,4 @@ fn given_names(alloc: Global) -> Result<BTreeSet<String>, Error>
     add_name(alloc, &mut names, "loop")?;
     add_name(alloc, &mut names, "caller")?;
     Ok(names)
-}
-
-fn add_name(alloc: Global, names: &mut BTreeSet<String>, name: &str) -> Result<(), Error>
-    ensures added { OnOk result ((q : List ℕ) → contains_text names.new q ≡ (contains_text names.old q || bytes_eq name.now q)) }
-    ensures refused { IfErr result NoMemory }
-{
-    let name = String::from_str(alloc, name).map_err(|_refused| Error::new(ErrorKind::OutOfMemory))?;
-    match names.insert(name) {
-        Ok(_new) => Ok(()),
-        Err(_refused) => Err(Error::new(ErrorKind::OutOfMemory)),
-    }
 }
