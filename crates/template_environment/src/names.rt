@@ -4,9 +4,8 @@ ghost use Rattle.std.specs.BTreeSet.{contains_text};
 ghost use Rattle.template_values_errors.specs.Memory.{NoMemory};
 ghost use Rattle.template_values_model.specs.Val.{Val};
 ghost use Rattle.template_machine_isolation.specs.Isolation.{IsContextName, is_given};
-ghost use Rattle.template_environment.specs.Isolated.{AgreeAmong, AgreeFor, IsSameRender, tree_of};
+ghost use Rattle.template_environment.specs.Isolated.{AgreeAmong, AgreeFor, IsSameRender, IsSameRenderIn, tree_of};
 ghost use Rattle.template_environment.specs.Standing.{setting_of};
-ghost use Rattle.template_environment.specs.Views.{environment_of};
 
 use crate::environment::Environment;
 use crate::template::Template;
@@ -28,9 +27,8 @@ impl<'source> Environment<'source> {
         ensures listed { IfOk result (λ names. (name : List ℕ) → IsTrue (contains_text names name)
             ↔ IsContextName (setting_of self.now) (tree_of template.now) name) }
 
-        // Contexts that agree at these names make no difference to its renders.
-        ensures isolated { IfOk result (λ names. environment_of template.now ≡ self.now → (c d : Val) → AgreeAmong names c d →
-            IsSameRender template.now c d) }
+        // Contexts that agree at these names make no difference to its renders here.
+        ensures isolated { IfOk result (λ names. (c d : Val) → AgreeAmong names c d → IsSameRenderIn self.now template.now c d) }
         ensures refused { IfErr result NoMemory }
     {
         let mut names = given_names(self.allocator())?;
@@ -39,7 +37,7 @@ impl<'source> Environment<'source> {
             .get()
             .add_undeclared(self.allocator(), &mut names)?;
         self.templates.add_undeclared(self.allocator(), &mut names)?;
-        template.isolated();
+        isolation();
         Ok(names)
     }
 }

@@ -1,12 +1,9 @@
-use Rattle.std.proofs.Common.{◌||◌, ap, subst, ◌∙◌}
+use Rattle.std.proofs.Common.{◌||◌, ap, ◌∙◌}
 use Rattle.std.specs.BTreeSet.{contains_text}
-use Rattle.template_machine_isolation.specs.Isolation.{IsContextName}
-use Rattle.template_compiled.specs.Compiled.{Compiled}
+use Rattle.template_compiled.specs.Compiled.{Compiled, standing_of}
 use Rattle.template_compiled.specs.Names.{uses}
-use Rattle.template_environment.specs.Isolated.{tree_of}
 use Rattle.template_environment.specs.Standing.{setting_of}
 use Rattle.template_environment.specs.Views.{compiled_in}
-use Rattle.template_environment.specs.declared.environment.Environment.{Environment}
 use Rattle.template_environment.proofs.Naming.{listed}
 use Rattle.template_environment.proofs.environment.Environment.context_names.Goals as goal
 
@@ -18,7 +15,6 @@ returns-clause-listed c = λ name.
     (c.in_ok-add_undeclared-2.ensures.added name)
 
 pub returns-clause-isolated : goal.returns-clause-isolated
-returns-clause-isolated c = λ here x d agree n fuel.
-    c.isolated.ensures x d
-    (λ name can_matter. agree name ((returns-clause-listed c name).1
-    (subst (λ (e : Environment). IsContextName (setting_of e) (tree_of c.args.template.now) name) here can_matter))) n fuel
+returns-clause-isolated c = λ x d agree n fuel.
+    c.isolation.ensures (setting_of c.args.self.now) (standing_of (compiled_in c.args.template.now.compiled)) x d
+    (λ name can_matter. agree name ((returns-clause-listed c name).1 can_matter)) n fuel
