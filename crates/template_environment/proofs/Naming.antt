@@ -41,16 +41,9 @@ listed e c name given own Has at_first then all =
       ]),
     )
 
-four : (a b c d : Bool) → ((((false || a) || b) || c) || d) ≡ ((a || b) || (c || d))
-four true b c d = refl
-four false true c d = refl
-four false false true d = refl
-four false false false d = refl
-
 pub given_is : (q : List ℕ) → ((((false || bytes_eq (codes "self") q) || bytes_eq (codes "super") q) || bytes_eq (codes "loop") q) || bytes_eq (codes "caller") q) ≡ is_given q
 given_is q =
-    four (bytes_eq (codes "self") q) (bytes_eq (codes "super") q) (bytes_eq (codes "loop") q) (bytes_eq (codes "caller") q) ∙
-    ap (λ a. (a || bytes_eq (codes "super") q) || (bytes_eq (codes "loop") q || bytes_eq (codes "caller") q)) (turned (codes "self") q) ∙
-    ap (λ b. (bytes_eq q (codes "self") || b) || (bytes_eq (codes "loop") q || bytes_eq (codes "caller") q)) (turned (codes "super") q) ∙
-    ap (λ c. (bytes_eq q (codes "self") || bytes_eq q (codes "super")) || (c || bytes_eq (codes "caller") q)) (turned (codes "loop") q) ∙
-    ap (λ d. (bytes_eq q (codes "self") || bytes_eq q (codes "super")) || (bytes_eq q (codes "loop") || d)) (turned (codes "caller") q)
+    ap (λ a. ((a || bytes_eq (codes "super") q) || bytes_eq (codes "loop") q) || bytes_eq (codes "caller") q) (turned (codes "self") q) ∙
+    ap (λ b. ((bytes_eq q (codes "self") || b) || bytes_eq (codes "loop") q) || bytes_eq (codes "caller") q) (turned (codes "super") q) ∙
+    ap (λ c. ((bytes_eq q (codes "self") || bytes_eq q (codes "super")) || c) || bytes_eq (codes "caller") q) (turned (codes "loop") q) ∙
+    ap (λ d. ((bytes_eq q (codes "self") || bytes_eq q (codes "super")) || bytes_eq q (codes "loop")) || d) (turned (codes "caller") q)
