@@ -14,8 +14,8 @@ ghost use Rattle.template_compiled.specs.Sources.{tree_in};
 
 use crate::compiled::CompiledTemplate;
 use std::alloc::Global;
-use std::collections::{BTreeMap, BTreeSet};
 use std::collections::btree_map::Values;
+use std::collections::{BTreeMap, BTreeSet};
 use template_values_errors::{Error, ErrorKind};
 
 /// Compiled templates, each under its own name.

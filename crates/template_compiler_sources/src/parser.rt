@@ -101,11 +101,6 @@ impl<'source> Parser<'source> {
         ensures found { IfOk result (λ tree. IsSource (syntax_of self.now) (source_of self.now) (statement_of tree)) }
         ensures refused { IfErr result (RefusesSource (syntax_of self.now) (source_of self.now)) }
     {
-        parse(
-            self.alloc,
-            self.source,
-            self.filename,
-            self.syntax.clone()?,
-        )
+        parse(self.alloc, self.source, self.filename, self.syntax.clone()?)
     }
 }

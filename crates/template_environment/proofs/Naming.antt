@@ -1,8 +1,6 @@
 -- The names that can matter, among those of the templates that stand.
-use Rattle.std.proofs.Common.{◌≡◌, ℕ, Bool, true, false, ◌||◌, List, codes, bytes_eq, Option, None, Some, inl, inr, ◌⊎◌, ◌↔◌, IsTrue, arith, refl, sym, ap, subst, ◌∙◌}
+use Rattle.std.proofs.Common.{◌≡◌, ℕ, Bool, false, ◌||◌, List, codes, bytes_eq, Option, None, Some, inl, inr, ◌⊎◌, ◌↔◌, IsTrue, refl, sym, ap, subst, ◌∙◌}
 use Rattle.std.specs.Option.{option_map}
-use Rattle.std.proofs.lemmas.Slice.Eq.{bytes_eq-Decides}
-use Rattle.template_tree.specs.Tree.{Statements}
 use Rattle.template_names.specs.Names.{is_used}
 use Rattle.template_names_undeclared.proofs.Walking.{turned}
 use Rattle.template_machine_isolation.specs.Isolation as isolation
