@@ -2,3 +2,4 @@ pub mod Trees
 pub mod Accepting
 pub mod Updates
 pub mod Using
+pub mod Listing

@@ -8,7 +8,8 @@ ghost use Rattle.template_compiler_syntax.specs.Syntax.{IsUsable};
 ghost use Rattle.template_compiler_sources.specs.Source.{IsSource};
 ghost use Rattle.template_machine_escape.specs.Rule.{IsRuleOf};
 ghost use Rattle.template_compiled.specs.Compiled.{IsFaithful, code_for};
-ghost use Rattle.template_compiled.specs.Names.{HasMore, uses};
+ghost use Rattle.template_names_undeclared.specs.Found.{Adds};
+ghost use Rattle.template_compiled.specs.Names.{uses};
 ghost use Rattle.template_compiled.specs.Sources.{IsRefusedWith, Source, tree_in};
 
 use std::alloc::Global;
@@ -137,7 +138,7 @@ impl<'source> CompiledTemplate<'source> {
     ///
     /// [`ErrorKind::OutOfMemory`].
     pub fn add_undeclared(&self, alloc: Global, names: &mut BTreeSet<String>) -> Result<(), Error>
-        ensures added { OnOk result (HasMore (uses self.now) names.old names.new) }
+        ensures added { OnOk result (Adds (uses self.now) names.old names.new) }
         ensures refused { IfErr result NoMemory }
     {
         let tree = self.tree(alloc)?;

@@ -1,8 +1,13 @@
 //! Compiled templates by their names.
-ghost use Rattle.std.specs.Prelude.{◌≡◌, ℕ, List, true, false, ◌↔◌, ◌⊎◌, IsTrue, None, Some, OnOk, OnErr, IfErr, bytes_eq, if◌then◌else◌, option_copied};
+ghost use Rattle.std.specs.Prelude.{◌≡◌, ℕ, List, true, false, ◌↔◌, ◌⊎◌, IsTrue, None, Some, OnOk, OnErr, IfErr, bytes_eq, if◌then◌else◌, option_copied, map};
 ghost use Rattle.std.specs.BTreeMap.{get_by_text};
 ghost use Rattle.std.specs.BTreeSet.{contains_text};
+ghost use Rattle.std.specs.Cmp.Lexicographic.{slice_cmp};
+ghost use Rattle.std.specs.List.{find};
+ghost use Rattle.std.specs.List.Sorted.{IsStrictlySortedBy};
+ghost use Rattle.std.specs.Map.Iter.{ShowsInOrder, deref};
 ghost use Rattle.std.specs.Option.{ForSome};
+ghost use Rattle.std.specs.Ordering.{nat_cmp};
 ghost use Rattle.template_values_errors.specs.Memory.{NoMemory};
 ghost use Rattle.template_compiler_runnable.specs.Running.{statements_run};
 ghost use Rattle.template_compiled.specs.Sources.{tree_in};
@@ -10,6 +15,7 @@ ghost use Rattle.template_compiled.specs.Sources.{tree_in};
 use crate::compiled::CompiledTemplate;
 use std::alloc::Global;
 use std::collections::{BTreeMap, BTreeSet};
+use std::collections::btree_map::Values;
 use template_values_errors::{Error, ErrorKind};
 
 /// Compiled templates, each under its own name.
@@ -22,8 +28,8 @@ pub struct CompiledTemplates<'source> {
 }
 
 impl<'source> CompiledTemplates<'source> {
-    ghost use Rattle.template_compiled.specs.Compiled.{IsFaithful};
-    ghost use Rattle.template_compiled.specs.Standing.{IsUsedByOne, compiled_at};
+    ghost use Rattle.template_compiled.specs.Compiled.{IsFaithful, Compiled};
+    ghost use Rattle.template_compiled.specs.Standing.{IsUsedByOne, compiled_at, all_in};
 
     /// No templates.
     pub fn new(alloc: Global) -> CompiledTemplates<'source>
@@ -96,5 +102,17 @@ impl<'source> CompiledTemplates<'source> {
             template.add_undeclared(alloc, names)?;
         }
         Ok(())
+    }
+
+    /// All that stand, by order of their names by bytes.
+    pub fn values(&self) -> Values<'_, String, CompiledTemplate<'source>>
+        ensures rest { result ≡ all_in self.now }
+        ensures runs { ShowsInOrder (deref {X = Compiled}) }
+
+        // The names ascend, and each look-up finds the one of that name.
+        ensures ordered { IsStrictlySortedBy (slice_cmp nat_cmp) (map (λ t. t.name) (all_in self.now)) }
+        ensures found { (name : List ℕ) → find (λ t. bytes_eq name t.name) (all_in self.now) ≡ compiled_at self.now name }
+    {
+        self.by_name.values()
     }
 }

@@ -1,13 +1,17 @@
 -- The names of a context that can matter to a render of a template.
 use Rattle.std.specs.Prelude.{ℕ, List, Option, IsTrue, String}
 use Rattle.std.specs.BTreeSet.{BTreeSet, contains_text}
+use Rattle.template_values_modes.specs.declared.AutoEscape.{AutoEscape}
 use Rattle.template_values_model.specs.Val.{Val}
 use Rattle.template_tree.specs.Tree.{Statements}
 use Rattle.template_process.specs.Fuel.{IsSameRun, under}
 use Rattle.template_machine_isolation.specs.Isolation.{AgreesAt, IsContextName}
-use Rattle.template_compiled.specs.Sources.{tree_in}
+use Rattle.template_machine_meaning.specs.Meaning.{rendered}
+use Rattle.template_compiled.specs.Sources.{Source, tree_in}
 use Rattle.template_environment.specs.Standing.{setting_of}
-use Rattle.template_environment.specs.Views.{environment_of, render_of, source_of}
+use Rattle.template_environment.specs.Renderings.{rendering}
+use Rattle.template_environment.specs.Views.{compiled_in, environment_of, source_of}
+use Rattle.template_environment.specs.declared.environment.Environment.{Environment}
 use Rattle.template_environment.specs.declared.template.Template.{Template}
 
 -- the tree of the template's source
@@ -22,6 +26,21 @@ AgreeAmong names c d = (name : List ℕ) → IsTrue (contains_text names name) �
 abbrev pub AgreeFor : Template → Val → Val → Type 0
 AgreeFor t c d = (name : List ℕ) → IsContextName (setting_of (environment_of t)) (tree_of t) name → AgreesAt c d name
 
--- renders over the two contexts write the same, step by step at the same price, and come to the same end, under every bound and every fuel
+-- renders of the template in an environment over the two contexts write the same, step by step at the same price, and come to the
+-- same end, under every bound and every fuel
+abbrev pub IsSameRenderIn : Environment → Template → Val → Val → Type 0
+IsSameRenderIn e t c d = (n : ℕ) (fuel : Option ℕ) → IsSameRun (under fuel (rendering e (compiled_in t.compiled) n c))
+    (under fuel (rendering e (compiled_in t.compiled) n d))
+
+-- the same in the environment that it is a template of
 abbrev pub IsSameRender : Template → Val → Val → Type 0
-IsSameRender t c d = (n : ℕ) (fuel : Option ℕ) → IsSameRun (under fuel (render_of t n c)) (under fuel (render_of t n d))
+IsSameRender t c d = IsSameRenderIn (environment_of t) t c d
+
+-- the same of a source that does not stand, under any escape
+abbrev pub AgreeForSource : Environment → Source → Val → Val → Type 0
+AgreeForSource e source c d = (name : List ℕ) → IsContextName (setting_of e) (tree_in source) name → AgreesAt c d name
+
+abbrev pub IsSameForSource : Environment → Source → Val → Val → Type 0
+IsSameForSource e source c d =
+    (escape : AutoEscape) (n : ℕ) (fuel : Option ℕ) → IsSameRun (under fuel (rendered (setting_of e) n (record { tree = tree_in source; escape = escape }) c))
+    (under fuel (rendered (setting_of e) n (record { tree = tree_in source; escape = escape }) d))

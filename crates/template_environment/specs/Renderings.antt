@@ -1,12 +1,22 @@
 -- What a render means, and what it leaves of its fuel.
-use Rattle.std.specs.Prelude.{ℕ, ◌+◌, Option}
+use Rattle.std.specs.Prelude.{◌≡◌, ◌≢◌, ℕ, ◌+◌, ◌-◌, ◌^◌, ◌⊎◌, List, [], ◌∷◌, Option, Result, Ok, Err, IfErr, IsErrAnd}
 use Rattle.std.specs.Option.{option_map}
+use Rattle.template_values_errors.specs.declared.ErrorKind.{ErrorKind}
+use Rattle.template_values_errors.specs.declared.ErrorKind.TheVariants.{InvalidOperation, WriteFailure}
+use Rattle.template_values_errors.specs.Memory.{NoMemory}
+use Rattle.template_values_modes.specs.declared.AutoEscape.{AutoEscape}
 use Rattle.template_values_model.specs.Val.{Val}
-use Rattle.template_process.specs.Trace.{Run}
+use Rattle.template_process.specs.Approximants.{IsFinished}
+use Rattle.template_process.specs.Drive.{faults}
+use Rattle.template_process.specs.Fuel.{under}
+use Rattle.template_process.specs.Trace.{Run, text_of}
 use Rattle.template_machine_meaning.specs.Meaning.{rendered}
 use Rattle.template_machine_meaning.specs.World.{World}
+use Rattle.template_machine_escape.specs.Rule.{IsRuleOf}
+use Rattle.template_machine_renders.specs.Renders.{IsOver}
 use Rattle.template_compiled.specs.Compiled.{Compiled, standing_of}
-use Rattle.template_environment.specs.Standing.{setting_of}
+use Rattle.template_compiled.specs.Sources.{IsAccepted, IsRefusedWith}
+use Rattle.template_environment.specs.Standing.{read_under, setting_of}
 use Rattle.template_environment.specs.declared.environment.Environment.{Environment}
 
 -- a template of an environment over a context, under a bound
@@ -19,3 +29,29 @@ set_of levels = option_map (λ l. l.0 + l.1) levels
 
 abbrev pub left_of : Option (ℕ × ℕ) → Option ℕ
 left_of levels = option_map (λ l. l.1) levels
+
+-- The call gives the text of the run, where that is over; else it answers with the run's fault, and gives no text. Or a
+-- growth was refused.
+abbrev pub GivesText : {X S : Type 0} → (X → List ℕ) → Result X (List ErrorKind) → Run S → Type 0
+GivesText text (Ok x) r = IsOver r.end × (text x ≡ text_of r.items)
+GivesText text (Err kinds) r = (r.end ≡ faults kinds) ⊎ NoMemory kinds
+
+-- the number that is never given to a state
+abbrev pub last_id : ℕ
+last_id = 2 ^ 64 - 1
+
+-- a call that renders a template to a text, and the numbers that come next before it and after it
+pub record RendersText {X : Type 0} (e : Environment) (c : Compiled) (context : Val) (id next : ℕ) (text : X → List ℕ)
+    (result : Result X (List ErrorKind)) : Type 0 where
+  pub gives : id ≢ last_id → (n : ℕ) → IsFinished (rendering e c n context).end
+      → GivesText text result (under e.fuel (rendering e c n context))
+  pub no_write_failure : IfErr result (λ kinds. kinds ≢ WriteFailure ∷ [])
+  pub counted : id ≢ last_id → next ≡ id + 1
+  pub exhausted : id ≡ last_id → (result ≡ Err (InvalidOperation ∷ [])) × (next ≡ id)
+
+-- The source is refused, and takes no number; or it is accepted, and rendered as a template of the name.
+abbrev pub RendersSource : {X : Type 0} → Environment → List ℕ → List ℕ → Val → ℕ → ℕ → (X → List ℕ) → Result X (List ErrorKind) → Type 0
+RendersSource e name source context id next text result =
+    (IsErrAnd result (IsRefusedWith (read_under e source)) × (next ≡ id))
+    ⊎ (IsAccepted (read_under e source) × ((escape : AutoEscape) → IsRuleOf name escape
+    → RendersText e (record { name = name; source = read_under e source; escape = escape }) context id next text result))

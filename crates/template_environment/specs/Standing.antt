@@ -1,5 +1,5 @@
 -- What stands in an environment, and what it means.
-use Rattle.std.specs.Prelude.{◌≡◌, ℕ, List, Option}
+use Rattle.std.specs.Prelude.{◌≡◌, ℕ, List, Option, codes}
 use Rattle.std.specs.Option.{option_map}
 use Rattle.template_values_modes.specs.declared.UndefinedBehavior.{UndefinedBehavior}
 use Rattle.template_compiler_syntax.specs.Syntax.{Syntax}
@@ -17,6 +17,10 @@ source_at e name = option_map (λ c. c.source) (compiled_at e.templates name)
 -- a text, under the syntax in force
 abbrev pub read_under : Environment → List ℕ → Source
 read_under e text = record { text = text; syntax = e.syntax }
+
+-- the name of a template from a source without a name
+abbrev pub unnamed : List ℕ
+unnamed = codes "<string>"
 
 -- the deepest that a render may be
 abbrev pub greatest_limit : ℕ

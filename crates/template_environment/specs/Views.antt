@@ -1,28 +1,38 @@
 -- What contracts see of a template to be rendered, and of what a render leaves.
-use Rattle.std.specs.Prelude.{ℕ, List, Option}
+use Rattle.std.specs.Prelude.{ℕ, List, Option, string_bytes}
 use Rattle.template_values_modes.specs.declared.AutoEscape.{AutoEscape}
 use Rattle.template_values_model.specs.Val.{Val}
 use Rattle.template_process.specs.Trace.{Run}
 use Rattle.template_machine_meaning.specs.World.{World}
+use Rattle.template_compiled.specs.Compiled.{Compiled}
 use Rattle.template_compiled.specs.Sources.{Source}
-use Rattle.template_environment.specs.Renderings.{left_of, rendering, set_of}
+use Rattle.template_environment.specs.Renderings.{rendering}
+use Rattle.template_environment.specs.States.{fuel_left_in, fuel_set_in, id_in, world_in}
 use Rattle.template_environment.specs.declared.environment.Environment.{Environment}
+use Rattle.template_environment.specs.declared.state.State.{State}
 use Rattle.template_environment.specs.declared.template.Captured.{Captured}
 use Rattle.template_environment.specs.declared.template.Template.{Template}
+use Rattle.template_environment.specs.declared.template.TemplateCode.{TemplateCode}
+use Rattle.template_environment.specs.declared.template.TemplateCode.TheVariants.{Borrowed, Owned}
 
--- the environment that it stands in
+-- what was compiled
+abbrev pub compiled_in : TemplateCode → Compiled
+compiled_in (Borrowed c) = c.now
+compiled_in (Owned c) = c
+
+-- the environment that it is a template of
 abbrev pub environment_of : Template → Environment
 environment_of t = t.environment.now
 
 abbrev pub name_of : Template → List ℕ
-name_of t = t.compiled.now.name
+name_of t = (compiled_in t.compiled).name
 
 abbrev pub source_of : Template → Source
-source_of t = t.compiled.now.source
+source_of t = (compiled_in t.compiled).source
 
 -- the escape that it runs under
 abbrev pub escape_of : Template → AutoEscape
-escape_of t = t.compiled.now.escape
+escape_of t = (compiled_in t.compiled).escape
 
 -- the fuel that each of its renders is given
 abbrev pub fuel_of : Template → Option ℕ
@@ -30,18 +40,23 @@ fuel_of t = t.environment.now.fuel
 
 -- what its render over a context means, under a bound
 abbrev pub render_of : Template → ℕ → Val → Run World
-render_of t n context = rendering t.environment.now t.compiled.now n context
+render_of t n context = rendering t.environment.now (compiled_in t.compiled) n context
 
--- what a render left: the world, the fuel that was set, and what is left of it
+-- what a render left: its text, and its state with the world, the fuel that was set and what is left of it, and its number
+abbrev pub output_of : Captured → List ℕ
+output_of captured = string_bytes captured.output
+
+abbrev pub state_of : Captured → State
+state_of captured = captured.state
+
 abbrev pub world_of : Captured → World
-world_of captured = captured.state
+world_of captured = world_in captured.state
 
 abbrev pub fuel_set : Captured → Option ℕ
-fuel_set captured = set_of captured.fuel
+fuel_set captured = fuel_set_in captured.state
 
 abbrev pub fuel_left : Captured → Option ℕ
-fuel_left captured = left_of captured.fuel
+fuel_left captured = fuel_left_in captured.state
 
--- the number of the render
 abbrev pub id_of : Captured → ℕ
-id_of captured = captured.id
+id_of captured = id_in captured.state

@@ -1,21 +1,36 @@
 //! Environments.
-ghost use Rattle.std.specs.Prelude.{◌≡◌, ◌+◌, ◌≢◌, ◌∷◌, [], ℕ, List, None, Some, Option, IfOk, IfErr, OnOk, OnErr, bytes_eq, min, if◌then◌else◌};
+ghost use Rattle.std.specs.Prelude.{◌≡◌, ◌+◌, ◌≢◌, ◌∷◌, [], ℕ, List, None, Some, Option, Err, IfOk, IfErr, OnOk, OnErr, bytes_eq, min, if◌then◌else◌, map, option_map, All, string_bytes};
+ghost use Rattle.std.specs.Cmp.Lexicographic.{slice_cmp};
+ghost use Rattle.std.specs.List.{find};
+ghost use Rattle.std.specs.List.Sorted.{IsStrictlySortedBy};
+ghost use Rattle.std.specs.Ordering.{nat_cmp};
+ghost use Rattle.template_values_errors.specs.Memory.{NoMemory};
 ghost use Rattle.template_compiler_syntax.specs.Syntax.{default_syntax};
+ghost use Rattle.template_machine_escape.specs.Rule.{IsRuleOf};
 ghost use Rattle.template_compiled.specs.Sources.{IsAccepted, IsRefusedWith};
 ghost use Rattle.template_environment.specs.Standing.{greatest_limit};
 
-use crate::template::Template;
+use crate::state::State;
+use crate::template::{Template, TemplateCode};
 use std::alloc::Global;
 use template_compiled::{CompiledTemplate, CompiledTemplates};
 use template_compiler_syntax::SyntaxConfig;
 use template_machine_ids::StateIds;
+use template_machine_isolation::isolation;
 use template_machine_loop::{Compiled, Templates};
 use template_machine_perform::Rules;
+use template_values_core::Value;
 use template_values_errors::{Error, ErrorKind};
-use template_values_modes::UndefinedBehavior;
+use template_values_modes::{AutoEscape, UndefinedBehavior};
 
 // The deepest that a render may be.
 const MAX_RECURSION: usize = 500;
+
+// The name of a template from a source without a name.
+const UNNAMED: &str = "<string>";
+
+// The name of a state without a template.
+const UNKNOWN: &str = "<unknown>";
 
 /// The templates that stand, by name, and what each render keeps to.
 #[derive(Drop)]
@@ -46,8 +61,12 @@ impl<'source> Templates for Environment<'source> {
 }
 
 impl<'source> Environment<'source> {
-    ghost use Rattle.template_environment.specs.Standing.{IsUnchanged, read_under, settings_of, source_at};
-    ghost use Rattle.template_environment.specs.Views.{environment_of, name_of, source_of};
+    ghost use Rattle.template_environment.specs.Standing.{IsUnchanged, read_under, settings_of, source_at, unnamed};
+    ghost use Rattle.template_values_model.specs.Val.{Val};
+    ghost use Rattle.template_environment.specs.Isolated.{AgreeForSource, IsSameForSource};
+    ghost use Rattle.template_environment.specs.Renderings.{RendersSource};
+    ghost use Rattle.template_environment.specs.States.{environment_in, frameless, fuel_left_in, fuel_set_in, id_in, name_in, unknown, world_in};
+    ghost use Rattle.template_environment.specs.Views.{environment_of, escape_of, name_of, source_of};
 
     /// An environment without templates, under the default syntax, without fuel, with the greatest recursion
     /// limit, where undefined values are lenient. It takes a state id as its own.
@@ -189,10 +208,139 @@ impl<'source> Environment<'source> {
         match self.templates.get(name) {
             Some(compiled) => Ok(Template {
                 environment: self,
-                compiled,
+                compiled: TemplateCode::Borrowed(compiled),
             }),
             None => Err(Error::new(ErrorKind::TemplateNotFound)),
         }
+    }
+
+    /// The templates that stand, by order of their names by bytes. Linear in their number.
+    ///
+    /// # Errors
+    ///
+    /// [`ErrorKind::OutOfMemory`]
+    pub fn templates(&self) -> Result<Vec<Template<'_, 'source>>, Error>
+        ensures listed { IfOk result (λ list. (name : List ℕ) → source_at self.now name
+            ≡ option_map source_of (find (λ t. bytes_eq name (name_of t)) list.items)) }
+        ensures ordered { IfOk result (λ list. IsStrictlySortedBy (slice_cmp nat_cmp) (map name_of list.items)) }
+        ensures here { IfOk result (λ list. All (λ t. environment_of t ≡ self.now) list.items) }
+        ensures refused { IfErr result NoMemory }
+    {
+        let mut listed = Vec::new(self.alloc);
+        for compiled in self.templates.values() {
+            listed.push(Template {
+                environment: self,
+                compiled: TemplateCode::Borrowed(compiled),
+            })?;
+        }
+        Ok(listed)
+    }
+
+    /// A template of its own from a source, under the name `<string>`. It does not stand here. Takes time linear in
+    /// the source, besides what the operators of constant trees cost.
+    ///
+    /// # Errors
+    ///
+    /// Those of [`Environment::add_template`].
+    pub fn template_from_str(&self, source: &'source str) -> Result<Template<'_, 'source>, Error>
+        ensures accepted { OnOk result (IsAccepted (read_under self.now source.now)) }
+        ensures source { IfOk result (λ t. source_of t ≡ read_under self.now source.now) }
+        ensures named { IfOk result (λ t. name_of t ≡ unnamed) }
+        ensures escape { IfOk result (λ t. IsRuleOf unnamed (escape_of t)) }
+        ensures here { IfOk result (λ t. environment_of t ≡ self.now) }
+        ensures refused { IfErr result (IsRefusedWith (read_under self.now source.now)) }
+    {
+        self.template_from_named_str(UNNAMED, source)
+    }
+
+    /// A template of its own from a source, under a name. It does not stand here. Takes time linear in the source,
+    /// besides what the operators of constant trees cost.
+    ///
+    /// # Errors
+    ///
+    /// Those of [`Environment::add_template`].
+    pub fn template_from_named_str(
+        &self,
+        name: &'source str,
+        source: &'source str,
+    ) -> Result<Template<'_, 'source>, Error>
+        ensures accepted { OnOk result (IsAccepted (read_under self.now source.now)) }
+        ensures source { IfOk result (λ t. source_of t ≡ read_under self.now source.now) }
+        ensures named { IfOk result (λ t. name_of t ≡ name.now) }
+        ensures escape { IfOk result (λ t. IsRuleOf name.now (escape_of t)) }
+        ensures here { IfOk result (λ t. environment_of t ≡ self.now) }
+        ensures refused { IfErr result (IsRefusedWith (read_under self.now source.now)) }
+    {
+        let own = CompiledTemplate::new(self.alloc, name, source, &self.syntax)?;
+        Ok(Template {
+            environment: self,
+            compiled: TemplateCode::Owned(own),
+        })
+    }
+
+    /// A state without a template and without frames, under the name `<unknown>` and no escape.
+    ///
+    /// # Errors
+    ///
+    /// [`ErrorKind::OutOfMemory`]; [`ErrorKind::InvalidOperation`] where no state id is left.
+    pub fn empty_state(&self, ids: &mut StateIds) -> Result<State<'_, 'source>, Error>
+        ensures here { IfOk result (λ s. environment_in s ≡ self.now) }
+        ensures named { IfOk result (λ s. name_in s ≡ unknown) }
+        ensures world { IfOk result (λ s. world_in s ≡ frameless AutoEscape.None) }
+        ensures given { IfOk result (λ s. fuel_set_in s ≡ (settings_of self.now).fuel) }
+        ensures remains { IfOk result (λ s. fuel_left_in s ≡ (settings_of self.now).fuel) }
+        ensures id { IfOk result (λ s. id_in s ≡ ids.old) }
+        ensures refused { ids.old ≢ u64.MAX → IfErr result NoMemory }
+        ensures counted { ids.old ≢ u64.MAX → ids.new ≡ ids.old + 1 }
+        ensures exhausted { ids.old ≡ u64.MAX → (result ≡ Err (ErrorKind.InvalidOperation ∷ [])) × (ids.new ≡ ids.old) }
+    {
+        State::without_frames(self, UNKNOWN, AutoEscape::None, ids)
+    }
+
+    /// The text of a render of a source over a context, under the name `<string>`. The source is read as by
+    /// [`Environment::template_from_str`].
+    ///
+    /// # Errors
+    ///
+    /// Those of [`Environment::template_from_str`]: then no state id is taken. Then those of [`Template::render`].
+    pub fn render_str(
+        &self,
+        source: &'source str,
+        ids: &mut StateIds,
+        context: Value,
+    ) -> Result<String, Error>
+        ensures renders { RendersSource self.now unnamed source.now context ids.old ids.new (λ text. string_bytes text) result }
+
+        // Contexts that agree at the names that can matter make no difference.
+        ensures isolated { (other : Val) → AgreeForSource self.now (read_under self.now source.now) context other →
+            IsSameForSource self.now (read_under self.now source.now) context other }
+    {
+        self.render_named_str(UNNAMED, source, ids, context)
+    }
+
+    /// The text of a render of a source over a context, under a name. The source is read as by
+    /// [`Environment::template_from_named_str`].
+    ///
+    /// # Errors
+    ///
+    /// Those of [`Environment::template_from_named_str`]: then no state id is taken. Then those of
+    /// [`Template::render`].
+    pub fn render_named_str(
+        &self,
+        name: &'source str,
+        source: &'source str,
+        ids: &mut StateIds,
+        context: Value,
+    ) -> Result<String, Error>
+        ensures renders { RendersSource self.now name.now source.now context ids.old ids.new (λ text. string_bytes text) result }
+
+        // Contexts that agree at the names that can matter make no difference.
+        ensures isolated { (other : Val) → AgreeForSource self.now (read_under self.now source.now) context other →
+            IsSameForSource self.now (read_under self.now source.now) context other }
+    {
+        isolation();
+        let template = self.template_from_named_str(name, source)?;
+        template.render(ids, context)
     }
 
     // What its renders take their memory from.

@@ -3,7 +3,9 @@
 
 mod environment;
 mod names;
+mod state;
 mod template;
 
 pub use environment::Environment;
+pub use state::State;
 pub use template::{Captured, Template};

@@ -1,19 +1,19 @@
 //! The names of a context that can matter to a render.
-ghost use Rattle.std.specs.Prelude.{◌≡◌, ◌↔◌, ◌||◌, ℕ, List, IsTrue, IfOk, IfErr, OnOk, bytes_eq};
+ghost use Rattle.std.specs.Prelude.{◌≡◌, ◌↔◌, ℕ, List, IsTrue, IfOk, IfErr};
 ghost use Rattle.std.specs.BTreeSet.{contains_text};
 ghost use Rattle.template_values_errors.specs.Memory.{NoMemory};
 ghost use Rattle.template_values_model.specs.Val.{Val};
 ghost use Rattle.template_machine_isolation.specs.Isolation.{IsContextName, is_given};
-ghost use Rattle.template_environment.specs.Isolated.{AgreeAmong, AgreeFor, IsSameRender, tree_of};
+ghost use Rattle.template_environment.specs.Isolated.{AgreeAmong, AgreeFor, IsSameRender, IsSameRenderIn, tree_of};
 ghost use Rattle.template_environment.specs.Standing.{setting_of};
-ghost use Rattle.template_environment.specs.Views.{environment_of};
 
 use crate::environment::Environment;
 use crate::template::Template;
 use std::alloc::Global;
 use std::collections::BTreeSet;
 use template_machine_isolation::isolation;
-use template_values_errors::{Error, ErrorKind};
+use template_names_undeclared::add_name;
+use template_values_errors::Error;
 
 impl<'source> Environment<'source> {
     /// The names of a context that can matter to a render of a template of this environment: `caller`, `loop`,
@@ -27,15 +27,17 @@ impl<'source> Environment<'source> {
         ensures listed { IfOk result (λ names. (name : List ℕ) → IsTrue (contains_text names name)
             ↔ IsContextName (setting_of self.now) (tree_of template.now) name) }
 
-        // Contexts that agree at these names make no difference to its renders.
-        ensures isolated { IfOk result (λ names. environment_of template.now ≡ self.now → (c d : Val) → AgreeAmong names c d →
-            IsSameRender template.now c d) }
+        // Contexts that agree at these names make no difference to its renders here.
+        ensures isolated { IfOk result (λ names. (c d : Val) → AgreeAmong names c d → IsSameRenderIn self.now template.now c d) }
         ensures refused { IfErr result NoMemory }
     {
         let mut names = given_names(self.allocator())?;
-        template.compiled.add_undeclared(self.allocator(), &mut names)?;
+        template
+            .compiled
+            .get()
+            .add_undeclared(self.allocator(), &mut names)?;
         self.templates.add_undeclared(self.allocator(), &mut names)?;
-        template.isolated();
+        isolation();
         Ok(names)
     }
 }
@@ -61,15 +63,4 @@ fn given_names(alloc: Global) -> Result<BTreeSet<String>, Error>
     add_name(alloc, &mut names, "loop")?;
     add_name(alloc, &mut names, "caller")?;
     Ok(names)
-}
-
-fn add_name(alloc: Global, names: &mut BTreeSet<String>, name: &str) -> Result<(), Error>
-    ensures added { OnOk result ((q : List ℕ) → contains_text names.new q ≡ (contains_text names.old q || bytes_eq name.now q)) }
-    ensures refused { IfErr result NoMemory }
-{
-    let name = String::from_str(alloc, name).map_err(|_refused| Error::new(ErrorKind::OutOfMemory))?;
-    match names.insert(name) {
-        Ok(_new) => Ok(()),
-        Err(_refused) => Err(Error::new(ErrorKind::OutOfMemory)),
-    }
 }

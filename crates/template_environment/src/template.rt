@@ -1,5 +1,6 @@
 //! Templates of an environment, and what a render leaves.
-ghost use Rattle.std.specs.Prelude.{◌≡◌, ◌≢◌, ◌+◌, ◌∷◌, [], ℕ, IfOk, Err, option_map};
+ghost use Rattle.std.specs.Prelude.{◌≡◌, ◌≢◌, ◌+◌, ◌∷◌, [], ℕ, IfOk, IfErr, Err, option_map, string_bytes};
+ghost use Rattle.template_values_errors.specs.Memory.{NoMemory};
 ghost use Rattle.template_values_model.specs.Val.{Val};
 ghost use Rattle.template_process.specs.Approximants.{IsFinished};
 ghost use Rattle.template_process.specs.Fuel.{under};
@@ -7,48 +8,71 @@ ghost use Rattle.template_machine_going.specs.Paying.{Paid};
 ghost use Rattle.template_machine_escape.specs.Rule.{IsRuleOf};
 ghost use Rattle.template_machine_operations.specs.Outcomes.{TellsFailures};
 ghost use Rattle.template_machine_renders.specs.Renders.{Renders, leaves};
-ghost use Rattle.template_environment.specs.Renderings.{left_of, rendering, set_of};
+ghost use Rattle.template_environment.specs.Renderings.{GivesText, left_of, rendering, set_of};
 
 use crate::environment::Environment;
+use crate::state::State;
 use template_compiled::CompiledTemplate;
 use template_machine_ids::StateIds;
 use template_machine_loop::run_code;
 use template_machine_output::Sink;
-use template_machine_state::State;
+use template_machine_state::State as MachineState;
 use template_values_core::Value;
 use template_values_errors::{Error, ErrorKind};
 use template_values_modes::AutoEscape;
 
-/// A template that stands in an environment.
+/// A template of an environment: one that stands there, or one of its own, that was read under the environment's
+/// syntax and does not stand there.
 #[derive(Drop)]
 pub struct Template<'env, 'source> {
     pub(crate) environment: &'env Environment<'source>,
-    pub(crate) compiled: &'env CompiledTemplate<'source>,
+    pub(crate) compiled: TemplateCode<'env, 'source>,
+}
+
+// A compiled template of an environment, or of its own.
+#[derive(Drop)]
+pub(crate) enum TemplateCode<'env, 'source> {
+    Borrowed(&'env CompiledTemplate<'source>),
+    Owned(CompiledTemplate<'source>),
+}
+
+impl<'env, 'source> TemplateCode<'env, 'source> {
+    ghost use Rattle.template_environment.specs.Views.{compiled_in};
+
+    pub(crate) fn get(&self) -> &CompiledTemplate<'source>
+        ensures { result.now ≡ compiled_in self.now }
+    {
+        match self {
+            TemplateCode::Borrowed(compiled) => compiled,
+            TemplateCode::Owned(compiled) => compiled,
+        }
+    }
 }
 
 /// What a render leaves behind.
 #[derive(Drop)]
-pub struct Captured<'env> {
-    id: u64,
-    state: State<'env>,
-    fuel: Option<(u64, u64)>,
+pub struct Captured<'env, 'source> {
+    output: String,
+    state: State<'env, 'source>,
 }
 
 impl<'env, 'source> Template<'env, 'source> {
-    ghost use Rattle.template_environment.specs.Views.{escape_of, fuel_left, fuel_of, fuel_set, id_of, name_of, render_of, source_of, world_of};
+    ghost use Rattle.template_environment.specs.Isolated.{AgreeFor, IsSameRender};
+    ghost use Rattle.template_environment.specs.Views.{environment_of, escape_of, fuel_left, fuel_of, fuel_set, id_of, name_of, output_of, render_of, source_of, state_of, world_of};
+    ghost use Rattle.template_environment.specs.States.{environment_in, frameless, fuel_left_in, fuel_set_in, id_in, name_in, world_in};
 
     /// The template's name.
     pub fn name(&self) -> &'source str
         ensures { result.now ≡ name_of self.now }
     {
-        self.compiled.name()
+        self.compiled.get().name()
     }
 
     /// The template's source.
     pub fn source(&self) -> &'source str
         ensures { result.now ≡ (source_of self.now).text }
     {
-        self.compiled.source()
+        self.compiled.get().source()
     }
 
     /// The escape of the template's name.
@@ -56,7 +80,7 @@ impl<'env, 'source> Template<'env, 'source> {
         ensures rule { IsRuleOf (name_of self.now) result }
         ensures escape { result ≡ escape_of self.now }
     {
-        self.compiled.initial_auto_escape()
+        self.compiled.get().initial_auto_escape()
     }
 
     /// A law, as the contract of a method that does nothing: each render of the template ends, as its meaning is
@@ -64,11 +88,104 @@ impl<'env, 'source> Template<'env, 'source> {
     pub fn ends(&self)
         ensures { (context : Val) → (n : ℕ) × IsFinished (render_of self.now n context).end }
     {
-        let _code = self.compiled.instructions();
+        let _code = self.compiled.get().instructions();
+    }
+
+    /// A state of the template without frames, under its name and escape.
+    ///
+    /// # Errors
+    ///
+    /// [`ErrorKind::OutOfMemory`]; [`ErrorKind::InvalidOperation`] where no state id is left.
+    pub fn new_state(&self, ids: &mut StateIds) -> Result<State<'_, 'source>, Error>
+        ensures here { IfOk result (λ s. environment_in s ≡ environment_of self.now) }
+        ensures named { IfOk result (λ s. name_in s ≡ name_of self.now) }
+        ensures world { IfOk result (λ s. world_in s ≡ frameless (escape_of self.now)) }
+        ensures given { IfOk result (λ s. fuel_set_in s ≡ fuel_of self.now) }
+        ensures remains { IfOk result (λ s. fuel_left_in s ≡ fuel_of self.now) }
+        ensures id { IfOk result (λ s. id_in s ≡ ids.old) }
+        ensures refused { ids.old ≢ u64.MAX → IfErr result NoMemory }
+        ensures counted { ids.old ≢ u64.MAX → ids.new ≡ ids.old + 1 }
+        ensures exhausted { ids.old ≡ u64.MAX → (result ≡ Err (ErrorKind.InvalidOperation ∷ [])) × (ids.new ≡ ids.old) }
+    {
+        State::without_frames(
+            self.environment,
+            self.name(),
+            self.initial_auto_escape(),
+            ids,
+        )
+    }
+
+    /// The text of a render of the template over a context, under the escape of its name and the fuel of its
+    /// environment.
+    ///
+    /// # Errors
+    ///
+    /// As [`Template::render_captured`].
+    pub fn render(&self, ids: &mut StateIds, context: Value) -> Result<String, Error>
+        // Under each bound where its meaning is finished, its text is the one that the call gives.
+        ensures text { ids.old ≢ u64.MAX → (n : ℕ) → IsFinished (render_of self.now n context).end →
+            GivesText (λ text. string_bytes text) result (under (fuel_of self.now) (render_of self.now n context)) }
+
+        // Contexts that agree at the names that can matter make no difference.
+        ensures isolated { (other : Val) → AgreeFor self.now context other → IsSameRender self.now context other }
+        ensures no_write_failure { IfErr result (λ kinds. kinds ≢ ErrorKind.WriteFailure ∷ []) }
+        ensures counted { ids.old ≢ u64.MAX → ids.new ≡ ids.old + 1 }
+        ensures exhausted { ids.old ≡ u64.MAX → (result ≡ Err (ErrorKind.InvalidOperation ∷ [])) × (ids.new ≡ ids.old) }
+    {
+        self.isolated();
+        let captured = self.render_captured(ids, context)?;
+        Ok(captured.into_output())
+    }
+
+    /// Renders the template over a context, under the escape of its name and the fuel of its environment, and keeps
+    /// the text beside what the render leaves.
+    ///
+    /// # Errors
+    ///
+    /// The fault that the render ends with, as [`ErrorKind::OutOfFuel`]; the text before it is then dropped.
+    /// [`ErrorKind::OutOfMemory`] where a growth was refused. [`ErrorKind::InvalidOperation`] where no state id is
+    /// left. Never [`ErrorKind::WriteFailure`], since a text takes all that fits into memory.
+    pub fn render_captured(
+        &self,
+        ids: &mut StateIds,
+        context: Value,
+    ) -> Result<Captured<'_, 'source>, Error>
+        // Under each bound where its meaning is finished, its text is the one that the call gives.
+        ensures text { ids.old ≢ u64.MAX → (n : ℕ) → IsFinished (render_of self.now n context).end →
+            GivesText output_of result (under (fuel_of self.now) (render_of self.now n context)) }
+        ensures remains { IfOk result (λ captured. (n : ℕ) → IsFinished (render_of self.now n context).end →
+            fuel_left captured ≡ leaves (fuel_of self.now) (render_of self.now n context)) }
+        ensures world { IfOk result (λ captured. (n : ℕ) → IsFinished (render_of self.now n context).end →
+            world_of captured ≡ (under (fuel_of self.now) (render_of self.now n context)).after) }
+
+        // Contexts that agree at the names that can matter make no difference.
+        ensures isolated { (other : Val) → AgreeFor self.now context other → IsSameRender self.now context other }
+        ensures no_write_failure { IfErr result (λ kinds. kinds ≢ ErrorKind.WriteFailure ∷ []) }
+        ensures given { IfOk result (λ captured. fuel_set captured ≡ fuel_of self.now) }
+        ensures here { IfOk result (λ captured. environment_in (state_of captured) ≡ environment_of self.now) }
+        ensures named { IfOk result (λ captured. name_in (state_of captured) ≡ name_of self.now) }
+        ensures id { IfOk result (λ captured. id_of captured ≡ ids.old) }
+        ensures counted { ids.old ≢ u64.MAX → ids.new ≡ ids.old + 1 }
+        ensures exhausted { ids.old ≡ u64.MAX → (result ≡ Err (ErrorKind.InvalidOperation ∷ [])) × (ids.new ≡ ids.old) }
+    {
+        self.isolated();
+        let id = ids.next()?;
+        let mut output = String::new(self.environment.allocator());
+        let (machine, fuel) = run(self.environment, self.compiled.get(), context, &mut output)?;
+        Ok(Captured {
+            output,
+            state: State {
+                id,
+                environment: self.environment,
+                name: self.name(),
+                machine,
+                fuel,
+            },
+        })
     }
 
     /// Renders the template over a context, under the escape of its name and the fuel of its environment, and
-    /// writes the text into a sink as it comes.
+    /// writes the text into a sink as it comes. What the render leaves has an empty output.
     ///
     /// # Errors
     ///
@@ -81,7 +198,7 @@ impl<'env, 'source> Template<'env, 'source> {
         ids: &mut StateIds,
         context: Value,
         sink: &mut S,
-    ) -> Result<Captured<'env>, Error>
+    ) -> Result<Captured<'_, 'source>, Error>
         // Under each bound where its meaning is finished, it is what the call does.
         ensures renders { ids.old ≢ u64.MAX → (n : ℕ) → IsFinished (render_of self.now n context).end →
             Renders result (S.taken sink.old) (S.taken sink.new) (under (fuel_of self.now) (render_of self.now n context)) }
@@ -89,16 +206,32 @@ impl<'env, 'source> Template<'env, 'source> {
             fuel_left captured ≡ leaves (fuel_of self.now) (render_of self.now n context)) }
         ensures world { IfOk result (λ captured. (n : ℕ) → IsFinished (render_of self.now n context).end →
             world_of captured ≡ (under (fuel_of self.now) (render_of self.now n context)).after) }
+
+        // Contexts that agree at the names that can matter make no difference.
+        ensures isolated { (other : Val) → AgreeFor self.now context other → IsSameRender self.now context other }
         ensures failures { ids.old ≢ u64.MAX → TellsFailures result (S.failures sink.old) (S.failures sink.new) }
         ensures given { IfOk result (λ captured. fuel_set captured ≡ fuel_of self.now) }
+        ensures here { IfOk result (λ captured. environment_in (state_of captured) ≡ environment_of self.now) }
+        ensures named { IfOk result (λ captured. name_in (state_of captured) ≡ name_of self.now) }
         ensures id { IfOk result (λ captured. id_of captured ≡ ids.old) }
+        ensures output { IfOk result (λ captured. output_of captured ≡ []) }
         ensures counted { ids.old ≢ u64.MAX → ids.new ≡ ids.old + 1 }
         ensures exhausted { ids.old ≡ u64.MAX → (result ≡ Err (ErrorKind.InvalidOperation ∷ [])) × (sink.new ≡ sink.old)
             × (ids.new ≡ ids.old) }
     {
+        self.isolated();
         let id = ids.next()?;
-        let (state, fuel) = run(self.environment, self.compiled, context, sink)?;
-        Ok(Captured { id, state, fuel })
+        let (machine, fuel) = run(self.environment, self.compiled.get(), context, sink)?;
+        Ok(Captured {
+            output: String::new(self.environment.allocator()),
+            state: State {
+                id,
+                environment: self.environment,
+                name: self.name(),
+                machine,
+                fuel,
+            },
+        })
     }
 }
 
@@ -108,7 +241,7 @@ fn run<'env, 'source, S: Sink>(
     compiled: &'env CompiledTemplate<'source>,
     context: Value,
     sink: &mut S,
-) -> Result<(State<'env>, Option<(u64, u64)>), Error>
+) -> Result<(MachineState<'env>, Option<(u64, u64)>), Error>
     ensures renders { (n : ℕ) → IsFinished (rendering environment.now compiled.now n context).end →
         Renders result (S.taken sink.old) (S.taken sink.new) (under environment.now.fuel (rendering environment.now compiled.now n context)) }
     ensures left { IfOk result (λ r. (n : ℕ) → IsFinished (rendering environment.now compiled.now n context).end →
@@ -119,7 +252,11 @@ fn run<'env, 'source, S: Sink>(
     ensures set { IfOk result (λ r. set_of r.1 ≡ environment.now.fuel) }
 {
     let alloc = environment.allocator();
-    let mut state: State<'env> = State::new(alloc, compiled.initial_auto_escape(), context)?;
+    let mut state: MachineState<'env> = MachineState::new(
+        alloc,
+        compiled.initial_auto_escape(),
+        context,
+    )?;
     let fuel = environment.fuel();
     let mut left = fuel;
     let mut scratch = String::new(alloc);
@@ -136,12 +273,27 @@ fn run<'env, 'source, S: Sink>(
     Ok((state, levels(fuel, left)))
 }
 
-impl<'env> Captured<'env> {
-    ghost use Rattle.template_environment.specs.Views.{fuel_left, fuel_set, id_of, world_of};
+impl<'env, 'source> Captured<'env, 'source> {
+    ghost use Rattle.template_environment.specs.Views.{fuel_left, fuel_set, id_of, output_of, state_of};
+
+    /// The text that the render gave; empty where it went into a sink.
+    pub fn output(&self) -> &str
+        ensures { result.now ≡ output_of self.now }
+    {
+        self.output.as_str()
+    }
+
+    /// The text that the render gave, without all else; empty where it went into a sink.
+    pub fn into_output(self) -> String
+        ensures { string_bytes result ≡ output_of self.entry }
+    {
+        let Captured { output, .. } = self;
+        output
+    }
 
     /// The state that the render left.
-    pub fn state(&self) -> &State<'env>
-        ensures { result.now ≡ world_of self.now }
+    pub fn state(&self) -> &State<'env, 'source>
+        ensures { result.now ≡ state_of self.now }
     {
         &self.state
     }
@@ -150,7 +302,7 @@ impl<'env> Captured<'env> {
     pub fn id(&self) -> u64
         ensures { result ≡ id_of self.now }
     {
-        self.id
+        self.state.id()
     }
 
     /// What was consumed of the fuel and what remains of it, where one was set.
@@ -158,7 +310,7 @@ impl<'env> Captured<'env> {
         ensures remaining { option_map (λ levels. levels.1) result ≡ fuel_left self.now }
         ensures sum { option_map (λ levels. levels.0 + levels.1) result ≡ fuel_set self.now }
     {
-        self.fuel
+        self.state.fuel_levels()
     }
 }
 

@@ -1,5 +1,6 @@
 //! The engine as a library: an environment with templates, a context from Rust values and one from JSON,
-//! renders into a `String`, a page with a loop and an include among them, and a refusal.
+//! renders to a `String`, a page with a loop and an include among them, a refusal, a source that does not stand,
+//! and what its render leaves.
 #![tactic(auto)]
 
 use std::alloc::Global;
@@ -21,17 +22,31 @@ fn main(rt: HostRuntime) -> anyhow::Result<()> {
     environment.add_template("page.html", PAGE)?;
 
     let context = hello_context(alloc)?;
-    let hello = render(alloc, &environment, &mut ids, "hello.txt", context)?;
+    let hello = environment
+        .get_template("hello.txt")?
+        .render(&mut ids, context)?;
     println!(rt; "{hello}")?;
 
     let json = b"{\"title\": \"Q & A\", \"items\": [1, \"<b>\", null]}";
     let context = context_from_json(alloc, json)?;
-    let page = render(alloc, &environment, &mut ids, "page.html", context)?;
+    let page = environment
+        .get_template("page.html")?
+        .render(&mut ids, context)?;
     println!(rt; "{page}")?;
 
     match environment.add_template("broken.txt", "Hello {{ name") {
         Ok(()) => println!(rt; "accepted")?,
         Err(error) => println!(rt; "refused: {error}")?,
+    }
+    for template in environment.templates()? {
+        println!(rt; "stands: {}", template.name())?;
+    }
+
+    let template = environment.template_from_str("{% set answer = 42 %}Hello again!")?;
+    let captured = template.render_captured(&mut ids, Value::undefined())?;
+    println!(rt; "{}", captured.output())?;
+    for name in captured.state().exports()? {
+        println!(rt; "exports: {name}")?;
     }
     Ok(())
 }
@@ -40,19 +55,4 @@ fn main(rt: HostRuntime) -> anyhow::Result<()> {
 fn hello_context(alloc: Global) -> Result<Value, Error> {
     let name = Value::from_str(alloc, "World")?;
     Value::from_pairs(alloc, vec![in alloc; ("name", name)]?)
-}
-
-// The text of a template over a context.
-fn render(
-    alloc: Global,
-    environment: &Environment<'_>,
-    ids: &mut StateIds,
-    name: &str,
-    context: Value,
-) -> Result<String, Error> {
-    let mut text = String::new(alloc);
-    environment
-        .get_template(name)?
-        .render_captured_to(ids, context, &mut text)?;
-    Ok(text)
 }

@@ -1,3 +1,4 @@
 pub mod Named
 pub mod Known
 pub mod Innermost
+pub mod Knowing

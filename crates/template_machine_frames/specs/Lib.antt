@@ -1,3 +1,4 @@
 pub mod Frames
 pub mod Codes
 pub mod Locals
+pub mod Names

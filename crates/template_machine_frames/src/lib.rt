@@ -5,6 +5,7 @@ mod context;
 mod frame;
 mod locals;
 mod loops;
+mod names;
 
 pub use context::Context;
 pub use frame::Frame;

@@ -1,11 +1,15 @@
 //! The locals of a frame.
-ghost use Rattle.std.specs.Prelude.{◌≡◌, [], IfErr, OnOk, OnErr, option_copied};
+ghost use Rattle.std.specs.Prelude.{◌≡◌, ℕ, List, ◌||◌, [], is_some, IfErr, OnOk, OnErr, option_copied};
+ghost use Rattle.std.specs.BTreeSet.{contains_text};
 ghost use Rattle.std.specs.List.{find, position};
 ghost use Rattle.template_values_errors.specs.Memory.{NoMemory};
 ghost use Rattle.template_machine_meaning.specs.World.{local_at, put_local};
 ghost use Rattle.template_machine_frames.specs.Locals.{is_named};
+ghost use Rattle.template_machine_frames.specs.Names.{exports_of};
 
+use crate::names::{add_name, is_private};
 use std::alloc::Global;
+use std::collections::BTreeSet;
 use std::marker::Model;
 use template_values_core::Value;
 use template_values_errors::Error;
@@ -101,6 +105,35 @@ impl<'env> Locals<'env> {
                 Ok(())
             }
         }
+    }
+
+    // Adds the names.
+    pub(crate) fn add_names(&self, alloc: Global, names: &mut BTreeSet<String>) -> Result<(), Error>
+        ensures added { OnOk result ((q : List ℕ) → contains_text names.new q
+            ≡ (contains_text names.old q || is_some (local_at q self.now))) }
+        ensures refused { IfErr result NoMemory }
+    {
+        for local in &self.locals {
+            add_name(alloc, names, local.name)?;
+        }
+        Ok(())
+    }
+
+    // Adds the names that do not begin with `_`.
+    pub(crate) fn add_exports(
+        &self,
+        alloc: Global,
+        names: &mut BTreeSet<String>,
+    ) -> Result<(), Error>
+        ensures added { OnOk result ((q : List ℕ) → contains_text names.new q ≡ (contains_text names.old q || exports_of self.now q)) }
+        ensures refused { IfErr result NoMemory }
+    {
+        for local in &self.locals {
+            if !is_private(local.name) {
+                add_name(alloc, names, local.name)?;
+            }
+        }
+        Ok(())
     }
 
     /// No names any more.

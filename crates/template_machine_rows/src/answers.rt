@@ -3,6 +3,7 @@ use crate::case::Case;
 use crate::steps::Step;
 use serde_json::Value as Json;
 use std::alloc::Global;
+use std::collections::BTreeSet;
 use template_environment::{Captured, Environment, Template};
 use template_machine_ids::StateIds;
 use template_values_core::Value;
@@ -24,6 +25,7 @@ pub(crate) fn answer(alloc: Global, case: Case<'_>) -> Result<String, Error> {
         }
     }
     match environment.get_template(case.main) {
+        Ok(template) if case.asks_names => write_names(&environment, &template, &mut out)?,
         Ok(template) => write_render(alloc, &template, &mut ids, case.context, &mut out)?,
         Err(error) => write!(out, "! {error}")?,
     }
@@ -77,9 +79,33 @@ fn write_quoted(alloc: Global, text: String, out: &mut String) -> Result<(), Err
 }
 
 // What a render took of its fuel, where one is set.
-fn write_price(captured: &Captured<'_>, out: &mut String) -> Result<(), Error> {
+fn write_price(captured: &Captured<'_, '_>, out: &mut String) -> Result<(), Error> {
     if let Some((consumed, _)) = captured.fuel_levels() {
         write!(out, " price {consumed}")?;
     }
     Ok(())
+}
+
+fn write_names(
+    environment: &Environment<'_>,
+    template: &Template<'_, '_>,
+    out: &mut String,
+) -> Result<(), Error> {
+    match environment.context_names(template) {
+        Ok(names) => write_list(&names, out),
+        Err(error) => Ok(write!(out, "! {error}")?),
+    }
+}
+
+fn write_list(names: &BTreeSet<String>, out: &mut String) -> Result<(), Error> {
+    out.push('[')?;
+    let mut first = true;
+    for name in names {
+        if !first {
+            out.push_str(", ")?;
+        }
+        first = false;
+        out.push_str(name.as_str())?;
+    }
+    Ok(out.push(']')?)
 }

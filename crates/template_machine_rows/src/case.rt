@@ -16,6 +16,7 @@ pub(crate) struct Case<'line> {
     pub(crate) fuel: Option<u64>,
     pub(crate) limit: Option<usize>,
     pub(crate) undefined: UndefinedBehavior,
+    pub(crate) asks_names: bool,
     pub(crate) skips_refusals: bool,
 }
 
@@ -35,6 +36,7 @@ impl<'line> Case<'line> {
             fuel: number_of(entries.get("fuel"))?,
             limit: limit_of(entries.get("limit"))?,
             undefined: behavior_of(entries.get("undefined"))?,
+            asks_names: truth_of(entries.get("names"))?,
             skips_refusals: truth_of(entries.get("skip"))?,
             steps,
         })
@@ -48,7 +50,8 @@ fn unreadable<T: Drop>() -> Result<T, Error> {
 fn are_known(entries: &Map<String, Json>) -> bool {
     for (name, _) in entries {
         match name.as_str() {
-            "templates" | "main" | "context" | "fuel" | "limit" | "undefined" | "skip" => {}
+            "templates" | "main" | "context" | "fuel" | "limit" | "undefined" | "names" | "skip" =>
+                {}
             _ => return false,
         }
     }

@@ -8,6 +8,7 @@
 //! - `fuel`: a number; none, if left out;
 //! - `limit`: the recursion limit; 500, if left out;
 //! - `undefined`: `lenient` (as also if left out), `chainable`, `semi_strict` or `strict`;
+//! - `names`: `true`, where the names of a context are asked for in place of a render;
 //! - `skip`: `true`, where a refused addition does not end the case.
 //!
 //! The line is written as it stands, then ` = `, then what came of it:
@@ -17,6 +18,7 @@
 //! - `- name ! Kind` where the addition of that template is refused, which ends the case (or goes before the rest,
 //!   with `, ` between, where refusals are skipped);
 //! - `! Kind` where the main template does not stand;
+//! - `[name, name]` where names are asked for;
 //! - `? Kind` where the line is no case.
 //!
 //! A line that begins with `#` is a heading. The stored run is the table of the language's cases, written from the

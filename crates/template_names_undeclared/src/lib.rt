@@ -8,5 +8,5 @@ mod statements;
 mod targets;
 mod undeclared;
 
-pub use owned::add_undeclared;
+pub use owned::{add_name, add_undeclared};
 pub use undeclared::find_undeclared;

@@ -42,7 +42,12 @@ fn add_names(
     Ok(())
 }
 
-fn add_name(alloc: Global, names: &mut BTreeSet<String>, name: &str) -> Result<(), AllocError>
+/// Adds a name to a set of names. Takes a look-up in the set, and memory where the name is new there.
+///
+/// # Errors
+///
+/// Want of memory; the set is then as it was.
+pub fn add_name(alloc: Global, names: &mut BTreeSet<String>, name: &str) -> Result<(), AllocError>
     ensures added { OnOk result (Adds (just name.now) names.old names.new) }
     ensures unchanged { OnErr result ((q : List ℕ) → contains_text names.new q ≡ contains_text names.old q) }
 {

@@ -9,7 +9,7 @@ use Rattle.template_values_errors.specs.declared.ErrorKind.TheVariants.{InvalidO
 use Rattle.template_values_errors.specs.Memory.{NoMemory}
 use Rattle.template_values_model.specs.Val.{Val}
 use Rattle.template_process.specs.Approximants.{IsFinished}
-use Rattle.template_process.specs.Fuel.{under}
+use Rattle.template_process.specs.Fuel.{IsSameRun, under}
 use Rattle.template_machine_escape.specs.Rule.{IsRuleOf}
 use Rattle.template_machine_output.specs.Writes.{AppendsBeginning}
 use Rattle.template_machine_operations.specs.Outcomes.{IsWant, TellsFailures}
@@ -17,6 +17,7 @@ use Rattle.template_machine_meaning.specs.Meaning.{Standing, rendered}
 use Rattle.template_machine_isolation.specs.Isolation.{IsContextName}
 use Rattle.template_machine_renders.specs.Renders.{Renders}
 use Rattle.template_compiled.specs.Sources.{tree_in}
+use Rattle.template_environment.specs.Isolated.{AgreeAmong}
 use Rattle.template_environment.specs.Standing.{setting_of}
 use Rattle.template_environment.specs.declared.environment.Environment.{Environment}
 use Rattle.template_program_context.specs.Context.{fault_of_json, IsContext, texts_in}
@@ -76,10 +77,13 @@ Rendered e t context next outcome before after failed fails =
     × (¬ IsLastId next → (result : Result (Unit {0}) (List ErrorKind)) × EndsWith outcome result
     × TellsFailures result failed fails × IsRendered e t context result before after)
 
--- The set has just the names that can matter to a render of the template.
+-- The set has just the names that can matter to a render of the template: contexts that agree at these make no difference, at
+-- no bound and under no fuel.
 abbrev pub HasNames : Environment → Standing → BTreeSet (String Global) → Type 0
 HasNames e t names = IsOrdered string_cmp names
     × ((name : List ℕ) → IsTrue (contains_text names name) ↔ IsContextName (setting_of e) t.tree name)
+    × ((c d : Val) → AgreeAmong names c d → (n : ℕ) (fuel : Option ℕ)
+    → IsSameRun (under fuel (rendered (setting_of e) n t c)) (under fuel (rendered (setting_of e) n t d)))
 
 -- The names that can matter are written in their order, one a line; or a beginning of that, for want of
 -- memory or of a sink that works. Where they cannot be found for want of memory, nothing is written.

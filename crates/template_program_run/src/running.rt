@@ -3,7 +3,7 @@ ghost use Rattle.std.specs.Prelude.{◌≡◌, option_copied, IfOk, IfErr};
 ghost use Rattle.template_program_context.specs.Context.{texts_in};
 ghost use Rattle.template_machine_escape.specs.Rule.{IsRuleOf};
 ghost use Rattle.template_compiled.specs.Compiled.{standing_of};
-ghost use Rattle.template_environment.specs.Views.{environment_of as place_of, name_of};
+ghost use Rattle.template_environment.specs.Views.{compiled_in, environment_of as place_of, name_of};
 ghost use Rattle.template_program_run.specs.Answers.{Answers, HasContext, IsRefusedContext, Rendered, Told, definitions_of};
 ghost use Rattle.template_program_run.specs.Ids.{behind_one, behind_request};
 
@@ -80,9 +80,9 @@ fn render<S: Sink>(
     ids: &mut StateIds,
     sink: &mut S,
 ) -> Outcome
-    ensures rendered { Rendered (place_of template.now) (standing_of template.now.compiled.now) context ids.old result
+    ensures rendered { Rendered (place_of template.now) (standing_of (compiled_in template.now.compiled)) context ids.old result
         (S.taken sink.old) (S.taken sink.new) (S.failures sink.old) (S.failures sink.new) }
-    ensures rule { IsRuleOf (name_of template.now) template.now.compiled.now.escape }
+    ensures rule { IsRuleOf (name_of template.now) (compiled_in template.now.compiled).escape }
     ensures counted { ids.new ≡ behind_one ids.old }
 {
     let _escape = template.initial_auto_escape();
@@ -99,9 +99,9 @@ fn tell_names<'source, S: Sink>(
     template: &Template<'_, 'source>,
     sink: &mut S,
 ) -> Outcome
-    ensures told { Told environment.now (standing_of template.now.compiled.now) result
+    ensures told { Told environment.now (standing_of (compiled_in template.now.compiled)) result
         (S.taken sink.old) (S.taken sink.new) (S.failures sink.old) (S.failures sink.new) }
-    ensures rule { IsRuleOf (name_of template.now) template.now.compiled.now.escape }
+    ensures rule { IsRuleOf (name_of template.now) (compiled_in template.now.compiled).escape }
 {
     let _escape = template.initial_auto_escape();
     let names = match environment.context_names(template) {

@@ -1,6 +1,12 @@
+use Rattle.std.proofs.Common.{ℕ, subst}
+use Rattle.template_process.specs.Approximants.{IsFinished}
+use Rattle.template_compiled.specs.Compiled.{Compiled}
+use Rattle.template_environment.specs.Renderings.{rendering}
 use Rattle.template_environment.proofs.Rendering.{render_ends}
 use Rattle.template_environment.proofs.template.Template.ends.Goals as goal
 
 pub returns : goal.returns
 returns c = λ context.
-    render_ends c.args.self.now.environment.now c.args.self.now.compiled.now context c.args.self.now.environment.now.templates.running c.instructions-code.ensures.faithful.has_tree.1
+    let environment = c.args.self.now.environment.now in
+    subst (λ (t : Compiled). (n : ℕ) × IsFinished (rendering environment t n context).end) c.get.ensures
+    (render_ends environment c.get.result.now context environment.templates.running c.instructions-code.ensures.faithful.has_tree.1)

@@ -1,0 +1,37 @@
+-- What contracts see of a state.
+use Rattle.std.specs.Prelude.{ℕ, List, [], Option, codes}
+use Rattle.template_values_modes.specs.declared.AutoEscape.{AutoEscape}
+use Rattle.template_machine_meaning.specs.World.{World}
+use Rattle.template_environment.specs.Renderings.{left_of, set_of}
+use Rattle.template_environment.specs.declared.environment.Environment.{Environment}
+use Rattle.template_environment.specs.declared.state.State.{State}
+
+abbrev pub environment_in : State → Environment
+environment_in s = s.environment.now
+
+-- the name of its template
+abbrev pub name_in : State → List ℕ
+name_in s = s.name.now
+
+-- its frames, and the escape in force
+abbrev pub world_in : State → World
+world_in s = s.machine
+
+-- the fuel that was set, and what is left of it
+abbrev pub fuel_set_in : State → Option ℕ
+fuel_set_in s = set_of s.fuel
+
+abbrev pub fuel_left_in : State → Option ℕ
+fuel_left_in s = left_of s.fuel
+
+-- its number
+abbrev pub id_in : State → ℕ
+id_in s = s.id
+
+-- no frame, under an escape
+abbrev pub frameless : AutoEscape → World
+frameless escape = record { frames = []; outer = 0; escape = escape; saved = []; first = escape }
+
+-- the name of a state without a template
+abbrev pub unknown : List ℕ
+unknown = codes "<unknown>"

@@ -1,0 +1,160 @@
+//! States of templates, as callers see them.
+ghost use Rattle.std.specs.Prelude.{◌≡◌, ◌≢◌, ◌+◌, ◌∷◌, [], ℕ, List, IfOk, IfErr, Err, is_some, option_map};
+ghost use Rattle.std.specs.BTreeSet.{contains_text};
+ghost use Rattle.template_values_errors.specs.Memory.{NoMemory};
+ghost use Rattle.template_machine_meaning.specs.World.{known_at};
+ghost use Rattle.template_machine_frames.specs.Names.{is_exported};
+ghost use Rattle.template_environment.specs.Renderings.{left_of, set_of};
+
+use crate::environment::Environment;
+use std::collections::BTreeSet;
+use template_machine_ids::StateIds;
+use template_machine_state::State as MachineState;
+use template_values_core::Value;
+use template_values_errors::{Error, ErrorKind};
+use template_values_modes::{AutoEscape, UndefinedBehavior};
+
+/// What surrounds a template: as a render of it left it, or without any frame.
+#[derive(Drop)]
+pub struct State<'env, 'source> {
+    pub(crate) id: u64,
+    pub(crate) environment: &'env Environment<'source>,
+    pub(crate) name: &'source str,
+    pub(crate) machine: MachineState<'env>,
+    pub(crate) fuel: Option<(u64, u64)>,
+}
+
+impl<'env, 'source> State<'env, 'source> {
+    ghost use Rattle.template_environment.specs.Standing.{settings_of};
+    ghost use Rattle.template_environment.specs.States.{environment_in, frameless, fuel_left_in, fuel_set_in, id_in, name_in, world_in};
+
+    // A state without frames, under a name and an escape, that has consumed no fuel.
+    pub(crate) fn without_frames(
+        environment: &'env Environment<'source>,
+        name: &'source str,
+        escape: AutoEscape,
+        ids: &mut StateIds,
+    ) -> Result<State<'env, 'source>, Error>
+        ensures here { IfOk result (λ s. environment_in s ≡ environment.now) }
+        ensures named { IfOk result (λ s. name_in s ≡ name.now) }
+        ensures world { IfOk result (λ s. world_in s ≡ frameless escape) }
+        ensures given { IfOk result (λ s. fuel_set_in s ≡ environment.now.fuel) }
+        ensures remains { IfOk result (λ s. fuel_left_in s ≡ environment.now.fuel) }
+        ensures id { IfOk result (λ s. id_in s ≡ ids.old) }
+        ensures refused { ids.old ≢ u64.MAX → IfErr result NoMemory }
+        ensures counted { ids.old ≢ u64.MAX → ids.new ≡ ids.old + 1 }
+        ensures exhausted { ids.old ≡ u64.MAX → (result ≡ Err (ErrorKind.InvalidOperation ∷ [])) × (ids.new ≡ ids.old) }
+    {
+        let id = ids.next()?;
+        let mut machine: MachineState<'env> = MachineState::new(
+            environment.allocator(),
+            escape,
+            Value::undefined(),
+        )?;
+        machine.close_frame();
+        Ok(State {
+            id,
+            environment,
+            name,
+            machine,
+            fuel: unspent(environment.fuel()),
+        })
+    }
+
+    /// The number of the state.
+    pub fn id(&self) -> u64
+        ensures { result ≡ id_in self.now }
+    {
+        self.id
+    }
+
+    /// The environment of its template.
+    pub fn env(&self) -> &'env Environment<'source>
+        ensures { result.now ≡ environment_in self.now }
+    {
+        self.environment
+    }
+
+    /// The name of its template.
+    pub fn name(&self) -> &'source str
+        ensures { result.now ≡ name_in self.now }
+    {
+        self.name
+    }
+
+    /// The escape in force.
+    pub fn auto_escape(&self) -> AutoEscape
+        ensures { result ≡ (world_in self.now).escape }
+    {
+        self.machine.auto_escape()
+    }
+
+    /// What may be done with undefined values.
+    pub fn undefined_behavior(&self) -> UndefinedBehavior
+        ensures { result ≡ (settings_of (environment_in self.now)).undefined }
+    {
+        self.environment.undefined_behavior()
+    }
+
+    /// What the innermost frame that knows the name has under it: a local value first, then what its context has.
+    /// Linear in the number of frames and of their names, and logarithmic in the size of each context. The value
+    /// shares its contents.
+    ///
+    /// # Errors
+    ///
+    /// [`ErrorKind::OutOfMemory`]
+    pub fn lookup(&self, name: &str) -> Result<Option<Value>, Error>
+        ensures found { IfOk result (λ found. found ≡ known_at name.now (world_in self.now).frames) }
+        ensures refused { IfErr result NoMemory }
+    {
+        match self.machine.load(name) {
+            Some(value) => Ok(Some(value.copy()?)),
+            None => Ok(None),
+        }
+    }
+
+    /// The names of the outermost frame's locals that do not begin with `_`. Takes n log n comparisons for n locals.
+    ///
+    /// # Errors
+    ///
+    /// [`ErrorKind::OutOfMemory`]
+    pub fn exports(&self) -> Result<BTreeSet<String>, Error>
+        ensures exported { IfOk result (λ names. (name : List ℕ) → contains_text names name ≡ is_exported name (world_in self.now).frames) }
+        ensures refused { IfErr result NoMemory }
+    {
+        self.machine.exports(self.environment.allocator())
+    }
+
+    /// The names that [`State::lookup`] finds: each frame's locals, and the text keys of a context that is a map.
+    /// Takes n log n comparisons for n names in all frames and their contexts.
+    ///
+    /// # Errors
+    ///
+    /// [`ErrorKind::OutOfMemory`]
+    pub fn known_variables(&self) -> Result<BTreeSet<String>, Error>
+        ensures known { IfOk result (λ names. (name : List ℕ) → contains_text names name
+            ≡ is_some (known_at name (world_in self.now).frames)) }
+        ensures refused { IfErr result NoMemory }
+    {
+        self.machine.known_variables(self.environment.allocator())
+    }
+
+    /// What was consumed of the fuel and what remains of it, where one was set.
+    pub fn fuel_levels(&self) -> Option<(u64, u64)>
+        ensures remaining { option_map (λ levels. levels.1) result ≡ fuel_left_in self.now }
+        ensures sum { option_map (λ levels. levels.0 + levels.1) result ≡ fuel_set_in self.now }
+    {
+        self.fuel
+    }
+}
+
+// The levels of a fuel of which nothing was consumed.
+fn unspent(fuel: Option<u64>) -> Option<(u64, u64)>
+    ensures set { set_of result ≡ fuel }
+    ensures left { left_of result ≡ fuel }
+{
+    match fuel {
+        Some(fuel) => Some((0, fuel)),
+        None => None,
+    }
+}
