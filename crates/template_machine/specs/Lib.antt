@@ -29,4 +29,6 @@ pub use Rattle.template_machine_loop.specs.Runs
 pub use Rattle.template_machine_renders.specs.Renders
 pub use Rattle.template_environment.specs.Standing
 pub use Rattle.template_environment.specs.Renderings
+pub use Rattle.template_environment.specs.States
+pub use Rattle.template_environment.specs.Isolated
 pub use Rattle.template_environment.specs.Views

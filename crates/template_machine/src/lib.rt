@@ -19,9 +19,11 @@
 //! - [`Environment::add_template`] adds a template in the place of one of that name, or refuses it and
 //!   changes nothing; [`Environment::get_template`] finds it, and [`Environment::remove_template`] takes it
 //!   away.
-//! - [`Template::render_captured_to`] renders it into a [`Sink`]: a `String`, a [`WriteWrapper`] over a
-//!   writer, or a [`NullWriter`]. [`Captured`] is what it leaves.
-//! - [`Environment::set_fuel`] bounds each render by its steps, and [`Captured::fuel_levels`] tells what one
+//! - [`Template::render`] gives its text over a context, and [`Template::render_captured_to`] writes it into a
+//!   [`Sink`]: a `String`, a [`WriteWrapper`] over a writer, or a [`NullWriter`]. [`Captured`] is what a render
+//!   leaves, with its [`State`], which knows the names that were stored.
+//! - [`Environment::render_str`] renders a source that does not stand.
+//! - [`Environment::set_fuel`] bounds each render by its steps, and [`State::fuel_levels`] tells what one
 //!   consumed; [`Environment::set_recursion_limit`] bounds how deep it may be.
 //! - [`Environment::set_undefined_behavior`] says what may be done with undefined values, and
 //!   [`Environment::set_syntax`] how templates are written.
@@ -42,7 +44,7 @@
 mod tests;
 
 pub use template_code_shapes::{Checked, StreamKind, certified_is_good, good_ends_well, verify};
-pub use template_environment::{Captured, Environment, Template};
+pub use template_environment::{Captured, Environment, State, Template};
 pub use template_machine_escape::{default_auto_escape_callback, one_rule};
 pub use template_machine_frames::{Context, Frame, LoopState};
 pub use template_machine_ids::StateIds;
@@ -51,7 +53,7 @@ pub use template_machine_loop::{Compiled, Templates, run_code};
 pub use template_machine_meaning::{every_run_ends, one_meaning};
 pub use template_machine_output::{NullWriter, Sink, SinkFault, WriteWrapper, write_text};
 pub use template_machine_perform::Rules;
-pub use template_machine_state::{Caller, State};
+pub use template_machine_state::{Caller, State as MachineState};
 pub use template_process::{enough_is_enough, fuel_adds_up, writes_beginning};
 pub use template_values_errors::{Error, ErrorKind};
 pub use template_values_modes::{AutoEscape, UndefinedBehavior};

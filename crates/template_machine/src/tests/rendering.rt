@@ -3,6 +3,7 @@ use crate::{
     Environment, Error, ErrorKind, NullWriter, StateIds, Template, UndefinedBehavior, WriteWrapper,
 };
 use std::alloc::Global;
+use std::collections::BTreeSet;
 use std::test::Fail;
 use template_values_core::Value;
 
@@ -194,16 +195,53 @@ fn a_full_writer_has_the_bytes_before(rt: HostRuntime) -> Result<(), Fail> {
     Ok(())
 }
 
+#[test]
+fn a_state_knows_what_was_stored(rt: HostRuntime) -> Result<(), Fail> {
+    let alloc = rt.alloc();
+    let mut ids = StateIds::new(0);
+    let mut environment = Environment::new(alloc, &mut ids)?;
+    environment.add_template("t.txt", "{% set x = 42 %}{% set _z = 2 %}Hello!")?;
+    let three = Value::from_int(3);
+    let context = Value::from_pairs(alloc, vec![in alloc; ("y", three)]?)?;
+    let template = environment.get_template("t.txt")?;
+    let mut sink = WriteWrapper::new(Vec::new(alloc));
+    let captured = template.render_captured_to(&mut ids, context, &mut sink)?;
+    assert!(rt; sink.w.as_slice() == b"Hello!".as_slice());
+    assert_eq!(rt; captured.output(), "");
+    let state = captured.state();
+    let x = state.lookup("x")?;
+    assert_eq!(rt; x.and_then(|value| value.as_int()), Some(42));
+    assert_eq!(rt; told(alloc, &state.exports()?)?.as_str(), "x ");
+    let known = told(alloc, &state.known_variables()?)?;
+    assert_eq!(rt; known.as_str(), "_z x y ");
+    Ok(())
+}
+
+#[test]
+fn sources_render_without_standing(rt: HostRuntime) -> Result<(), Fail> {
+    let mut ids = StateIds::new(0);
+    let environment = Environment::new(rt.alloc(), &mut ids)?;
+    let text = environment.render_str(HELLO, &mut ids, world(rt.alloc())?)?;
+    assert_eq!(rt; text.as_str(), "Hello World!");
+    let missing = environment.get_template("<string>").err();
+    assert!(rt; missing.is_some());
+    Ok(())
+}
+
+// Names, a space behind each.
+fn told(alloc: Global, names: &BTreeSet<String>) -> Result<String, Fail> {
+    let mut text = String::new(alloc);
+    for name in names {
+        text.push_str(name.as_str())?;
+        text.push_str(" ")?;
+    }
+    Ok(text)
+}
+
 // The names that a render of a template can want, a space behind each.
 fn names_of(alloc: Global, environment: &Environment<'static>, name: &str) -> Result<String, Fail> {
     let template = kind_of(environment.get_template(name))?;
-    let names = kind_of(environment.context_names(&template))?;
-    let mut told = String::new(alloc);
-    for name in &names {
-        told.push_str(name.as_str())?;
-        told.push_str(" ")?;
-    }
-    Ok(told)
+    told(alloc, &kind_of(environment.context_names(&template))?)
 }
 
 #[test]
