@@ -22,6 +22,7 @@
 //! - [`parse`] accepts exactly the texts that have a tree in the grammar, and gives that tree;
 //!   [`parse_expr`] does so for an expression. The nodes stand in [`ast`]; they borrow their texts from the
 //!   source, and each knows its [`ast::Span`].
+//!   [`Parser`] does both for one source, and keeps a refusal.
 //! - [`find_undeclared`] gives the names that a tree uses, which a context may be asked for;
 //!   [`add_undeclared`] adds them to a set.
 //! - [`is_runnable`] tells whether all constructs of a tree have a walk yet.
@@ -50,7 +51,7 @@ pub use template_compiled::{CompiledTemplate, CompiledTemplates, one_tree};
 pub use template_compiler_codegen::{expressions_perform, templates_perform};
 pub use template_compiler_expression_codegen::compile_expr;
 pub use template_compiler_runnable::is_runnable;
-pub use template_compiler_sources::{parse, parse_expr};
+pub use template_compiler_sources::{Parser, parse, parse_expr};
 pub use template_compiler_statement_codegen::compile_template;
 pub use template_compiler_statement_laws::{is_decided, one_template, reads_the_grammar};
 pub use template_compiler_syntax::{StartMarker, SyntaxConfig, SyntaxConfigBuilder};
