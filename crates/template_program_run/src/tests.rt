@@ -93,8 +93,8 @@ fn assert_answer<R: AllocGlobal + Abort>(
 /// Renders `{{ a }}` under a name over a context in JSON, and asserts what it writes.
 fn assert_written<R: AllocGlobal + Abort>(
     rt: &R,
-    name: &str,
-    json: &str,
+    name: &'static str,
+    json: &'static str,
     text: &str,
 ) -> Result<(), Fail> {
     let templates = [(name, "{{ a }}")];
@@ -301,24 +301,34 @@ fn refused_inputs_write_nothing(rt: HostRuntime) -> Result<(), Fail> {
         asked.json = json;
         assert_answer(&rt, asked, "", end)?;
     }
-    assert_answer(&rt, render_of(&[]), "", "template TemplateNotFound")
+    Ok(())
+}
+
+#[test]
+fn a_main_template_has_to_stand(rt: HostRuntime) -> Result<(), Fail> {
+    let none: [(&str, &str); 0] = [];
+    let asked = render_of(none.as_slice());
+    assert_answer(&rt, asked, "", "template TemplateNotFound")
+}
+
+/// Tells the names of the first of the templates, and asserts what is written.
+fn assert_names<'a, R: AllocGlobal + Abort>(
+    rt: &R,
+    templates: &'a [(&'a str, &'a str)],
+    text: &str,
+) -> Result<(), Fail> {
+    let mut asked = render_of(templates);
+    asked.command = Command::Names;
+    asked.json = "no JSON";
+    assert_answer(rt, asked, text, "done")
 }
 
 #[test]
 fn names_are_told_without_a_context(rt: HostRuntime) -> Result<(), Fail> {
     let stores = [("t", "{% set x = foo %}{{ x }}")];
+    assert_names(&rt, stores.as_slice(), "caller\nfoo\nloop\nself\nsuper\n")?;
     let two = [("t", "{{ a }}"), ("u", "{{ b }}")];
-    let rows = [
-        (stores.as_slice(), "caller\nfoo\nloop\nself\nsuper\n"),
-        (two.as_slice(), "a\nb\ncaller\nloop\nself\nsuper\n"),
-    ];
-    for (templates, text) in rows {
-        let mut asked = render_of(templates);
-        asked.command = Command::Names;
-        asked.json = "no JSON";
-        assert_answer(&rt, asked, text, "done")?;
-    }
-    Ok(())
+    assert_names(&rt, two.as_slice(), "a\nb\ncaller\nloop\nself\nsuper\n")
 }
 
 #[test]
