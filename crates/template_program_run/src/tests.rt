@@ -20,31 +20,13 @@ struct Asked<'a> {
 
 /// A render over an empty context, as an environment begins.
 fn render_of<'a>(templates: &'a [(&'a str, &'a str)]) -> Asked<'a> {
-    render_over(templates, "{}")
-}
-
-/// A render over a context in JSON, as an environment begins.
-fn render_over<'a>(templates: &'a [(&'a str, &'a str)], json: &'a str) -> Asked<'a> {
     Asked {
         templates,
-        json,
+        json: "{}",
         fuel: None,
         limit: 500,
         undefined: UndefinedBehavior::Lenient,
         command: Command::Render,
-        first_id: 0,
-    }
-}
-
-/// The names of a context, in place of which no JSON is given.
-fn names_of<'a>(templates: &'a [(&'a str, &'a str)]) -> Asked<'a> {
-    Asked {
-        templates,
-        json: "no JSON",
-        fuel: None,
-        limit: 500,
-        undefined: UndefinedBehavior::Lenient,
-        command: Command::Names,
         first_id: 0,
     }
 }
@@ -111,12 +93,14 @@ fn assert_answer<R: AllocGlobal + Abort>(
 /// Renders `{{ a }}` under a name over a context in JSON, and asserts what it writes.
 fn assert_written<R: AllocGlobal + Abort>(
     rt: &R,
-    name: &str,
-    json: &str,
+    name: &'static str,
+    json: &'static str,
     text: &str,
 ) -> Result<(), Fail> {
     let templates = [(name, "{{ a }}")];
-    assert_answer(rt, render_over(templates.as_slice(), json), text, "done")
+    let mut asked = render_of(templates.as_slice());
+    asked.json = json;
+    assert_answer(rt, asked, text, "done")
 }
 
 #[test]
@@ -301,36 +285,50 @@ fn the_last_of_a_name_stands(rt: HostRuntime) -> Result<(), Fail> {
     assert_answer(&rt, render_of(twice.as_slice()), "b", "done")
 }
 
-/// Renders a source over a context in JSON, and asserts that nothing is written and how it ends.
-fn assert_refused<R: AllocGlobal + Abort>(
-    rt: &R,
-    source: &str,
-    json: &str,
-    end: &str,
-) -> Result<(), Fail> {
-    let templates = [("t.txt", source)];
-    assert_answer(rt, render_over(templates.as_slice(), json), "", end)
+#[test]
+fn refused_inputs_write_nothing(rt: HostRuntime) -> Result<(), Fail> {
+    let rows = [
+        ("{{ x", "{}", "template SyntaxError"),
+        ("{{ \"\\ud800\" }}", "{}", "template BadEscape"),
+        ("{{ 1.5 }}", "{}", "template NoFloats"),
+        ("a{{ b }}", "{\"b\": 1.5}", "context NoFloats"),
+        ("a{{ b }}", "[]", "context InvalidOperation"),
+        ("a{{ b", "{", "context SyntaxError"),
+    ];
+    for (source, json, end) in rows {
+        let templates = [("t.txt", source)];
+        let mut asked = render_of(templates.as_slice());
+        asked.json = json;
+        assert_answer(&rt, asked, "", end)?;
+    }
+    Ok(())
 }
 
 #[test]
-fn refused_inputs_write_nothing(rt: HostRuntime) -> Result<(), Fail> {
-    assert_refused(&rt, "{{ x", "{}", "template SyntaxError")?;
-    assert_refused(&rt, "{{ \"\\ud800\" }}", "{}", "template BadEscape")?;
-    assert_refused(&rt, "{{ 1.5 }}", "{}", "template NoFloats")?;
-    assert_refused(&rt, "a{{ b }}", "{\"b\": 1.5}", "context NoFloats")?;
-    assert_refused(&rt, "a{{ b }}", "[]", "context InvalidOperation")?;
-    assert_refused(&rt, "a{{ b", "{", "context SyntaxError")?;
-    assert_answer(&rt, render_of(&[]), "", "template TemplateNotFound")
+fn a_main_template_has_to_stand(rt: HostRuntime) -> Result<(), Fail> {
+    let none: [(&str, &str); 0] = [];
+    let asked = render_of(none.as_slice());
+    assert_answer(&rt, asked, "", "template TemplateNotFound")
+}
+
+/// Tells the names of the first of the templates, and asserts what is written.
+fn assert_names<'a, R: AllocGlobal + Abort>(
+    rt: &R,
+    templates: &'a [(&'a str, &'a str)],
+    text: &str,
+) -> Result<(), Fail> {
+    let mut asked = render_of(templates);
+    asked.command = Command::Names;
+    asked.json = "no JSON";
+    assert_answer(rt, asked, text, "done")
 }
 
 #[test]
 fn names_are_told_without_a_context(rt: HostRuntime) -> Result<(), Fail> {
     let stores = [("t", "{% set x = foo %}{{ x }}")];
-    let listed = "caller\nfoo\nloop\nself\nsuper\n";
-    assert_answer(&rt, names_of(stores.as_slice()), listed, "done")?;
+    assert_names(&rt, stores.as_slice(), "caller\nfoo\nloop\nself\nsuper\n")?;
     let two = [("t", "{{ a }}"), ("u", "{{ b }}")];
-    let listed = "a\nb\ncaller\nloop\nself\nsuper\n";
-    assert_answer(&rt, names_of(two.as_slice()), listed, "done")
+    assert_names(&rt, two.as_slice(), "a\nb\ncaller\nloop\nself\nsuper\n")
 }
 
 #[test]
