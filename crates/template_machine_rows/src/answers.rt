@@ -86,9 +86,9 @@ fn write_price(captured: &Captured<'_, '_>, out: &mut String) -> Result<(), Erro
     Ok(())
 }
 
-fn write_names(
-    environment: &Environment<'_>,
-    template: &Template<'_, '_>,
+fn write_names<'source>(
+    environment: &Environment<'source>,
+    template: &Template<'_, 'source>,
     out: &mut String,
 ) -> Result<(), Error> {
     match environment.context_names(template) {
