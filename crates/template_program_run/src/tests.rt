@@ -90,46 +90,58 @@ fn assert_answer<R: AllocGlobal + Abort>(
     Ok(())
 }
 
-/// Renders `{{ a }}` under a name over a context in JSON, and asserts what it writes.
-fn assert_written<R: AllocGlobal + Abort>(
+/// Renders the first of the templates over a context in JSON, and asserts what is written and how it ends.
+fn assert_over<'a, R: AllocGlobal + Abort>(
     rt: &R,
-    name: &'static str,
-    json: &'static str,
+    templates: &'a [(&'a str, &'a str)],
+    json: &'a str,
     text: &str,
+    end: &str,
 ) -> Result<(), Fail> {
-    let templates = [(name, "{{ a }}")];
-    let mut asked = render_of(templates.as_slice());
+    let mut asked = render_of(templates);
     asked.json = json;
-    assert_answer(rt, asked, text, "done")
+    assert_answer(rt, asked, text, end)
 }
 
 #[test]
 fn names_decide_how_values_are_escaped(rt: HostRuntime) -> Result<(), Fail> {
-    let markup = "{\"a\": \"<b>\"}";
-    assert_written(&rt, "t.txt", markup, "<b>")?;
-    assert_written(&rt, "t.html", markup, "&lt;b&gt;")?;
-    assert_written(&rt, "t.html.j2", markup, "&lt;b&gt;")?;
-    assert_written(&rt, "t.json", markup, "\"<b>\"")?;
+    let rows = [
+        ("t.txt", "<b>"),
+        ("t.html", "&lt;b&gt;"),
+        ("t.html.j2", "&lt;b&gt;"),
+        ("t.json", "\"<b>\""),
+    ];
+    for (name, text) in rows {
+        let templates = [(name, "{{ a }}")];
+        let json = "{\"a\": \"<b>\"}";
+        assert_over(&rt, templates.as_slice(), json, text, "done")?;
+    }
     Ok(())
 }
 
 #[test]
 fn lists_and_maps_are_written(rt: HostRuntime) -> Result<(), Fail> {
     let nested = "{\"a\": {\"a\": [1, null]}}";
-    assert_written(&rt, "t.json", nested, "{\"a\":[1,null]}")?;
-    assert_written(&rt, "t.txt", nested, "{\"a\": [1, none]}")?;
     let quoted = "{\"a\": [1, \"x\\n\", {\"k\": true}]}";
-    assert_written(&rt, "t.txt", quoted, "[1, \"x\\n\", {\"k\": true}]")?;
-    let markup = "{\"a\": [\"<\"]}";
-    assert_written(&rt, "t.html", markup, "[&quot;&lt;&quot;]")?;
+    let rows = [
+        ("t.json", nested, "{\"a\":[1,null]}"),
+        ("t.txt", nested, "{\"a\": [1, none]}"),
+        ("t.txt", quoted, "[1, \"x\\n\", {\"k\": true}]"),
+        ("t.html", "{\"a\": [\"<\"]}", "[&quot;&lt;&quot;]"),
+    ];
+    for (name, json, text) in rows {
+        let templates = [(name, "{{ a }}")];
+        assert_over(&rt, templates.as_slice(), json, text, "done")?;
+    }
     Ok(())
 }
 
 #[test]
 fn an_undefined_name_is_nothing_or_null(rt: HostRuntime) -> Result<(), Fail> {
-    assert_written(&rt, "t.txt", "{}", "")?;
-    assert_written(&rt, "t.html", "{}", "")?;
-    assert_written(&rt, "t.json", "{}", "null")?;
+    for (name, text) in [("t.txt", ""), ("t.html", ""), ("t.json", "null")] {
+        let templates = [(name, "{{ a }}")];
+        assert_over(&rt, templates.as_slice(), "{}", text, "done")?;
+    }
     Ok(())
 }
 
@@ -297,9 +309,7 @@ fn refused_inputs_write_nothing(rt: HostRuntime) -> Result<(), Fail> {
     ];
     for (source, json, end) in rows {
         let templates = [("t.txt", source)];
-        let mut asked = render_of(templates.as_slice());
-        asked.json = json;
-        assert_answer(&rt, asked, "", end)?;
+        assert_over(&rt, templates.as_slice(), json, "", end)?;
     }
     Ok(())
 }
