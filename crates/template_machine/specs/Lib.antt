@@ -24,8 +24,6 @@ pub use Rattle.template_machine_meaning.specs.Meaning
 pub use Rattle.template_machine_meaning.specs.Laws
 pub use Rattle.template_machine_isolation.specs.Isolation
 pub use Rattle.template_machine_operations.specs.Outcomes
-pub use Rattle.template_machine_loop.specs.Programs
-pub use Rattle.template_machine_loop.specs.Runs
 pub use Rattle.template_machine_renders.specs.Renders
 pub use Rattle.template_environment.specs.Standing
 pub use Rattle.template_environment.specs.Renderings
