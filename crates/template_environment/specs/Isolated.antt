@@ -5,8 +5,10 @@ use Rattle.template_values_modes.specs.declared.AutoEscape.{AutoEscape}
 use Rattle.template_values_model.specs.Val.{Val}
 use Rattle.template_tree.specs.Tree.{Statements}
 use Rattle.template_process.specs.Fuel.{IsSameRun, under}
+use Rattle.template_process.specs.Trace.{Run}
 use Rattle.template_machine_isolation.specs.Isolation.{AgreesAt, IsContextName}
 use Rattle.template_machine_meaning.specs.Meaning.{rendered}
+use Rattle.template_machine_meaning.specs.World.{World}
 use Rattle.template_compiled.specs.Sources.{Source, tree_in}
 use Rattle.template_environment.specs.Standing.{setting_of}
 use Rattle.template_environment.specs.Renderings.{rendering}
@@ -40,7 +42,9 @@ IsSameRender t c d = IsSameRenderIn (environment_of t) t c d
 abbrev pub AgreeForSource : Environment → Source → Val → Val → Type 0
 AgreeForSource e source c d = (name : List ℕ) → IsContextName (setting_of e) (tree_in source) name → AgreesAt c d name
 
+abbrev pub source_rendering : Environment → Source → AutoEscape → ℕ → Val → Run World
+source_rendering e source escape n c = rendered (setting_of e) n (record { tree = tree_in source; escape = escape }) c
+
 abbrev pub IsSameForSource : Environment → Source → Val → Val → Type 0
-IsSameForSource e source c d =
-    (escape : AutoEscape) (n : ℕ) (fuel : Option ℕ) → IsSameRun (under fuel (rendered (setting_of e) n (record { tree = tree_in source; escape = escape }) c))
-    (under fuel (rendered (setting_of e) n (record { tree = tree_in source; escape = escape }) d))
+IsSameForSource e source c d = (escape : AutoEscape) (n : ℕ) (fuel : Option ℕ) →
+    IsSameRun (under fuel (source_rendering e source escape n c)) (under fuel (source_rendering e source escape n d))
