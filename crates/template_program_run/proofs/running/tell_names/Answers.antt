@@ -12,6 +12,10 @@ returns-in-Ok-write_lines-clause-told g c =
 pub returns-clause-told : goal.returns-clause-told
 returns-clause-told g c =
     let ordered : IsOrdered string_cmp c.in-Ok.names = search rules in
-    let told = c.in-Err-write_lines.ensures in
-    (c.in-Ok.names, (ordered, c.in-Ok.ensures.listed, c.in-Ok.ensures.isolated), told.want, told.beginning,
-    (Err c.in-Err-write_lines.error, refl, told.failures))
+    let told = c.in-Err-write_lines.ensures in (
+      c.in-Ok.names,
+      (ordered, c.in-Ok.ensures.listed, c.in-Ok.ensures.isolated),
+      told.want,
+      told.beginning,
+      (Err c.in-Err-write_lines.error, refl, told.failures),
+    )
