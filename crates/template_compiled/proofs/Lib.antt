@@ -1,4 +1,5 @@
 pub mod Trees
+pub mod Plain
 pub mod Accepting
 pub mod Updates
 pub mod Using

@@ -1,4 +1,5 @@
 pub mod Sources
 pub mod Compiled
 pub mod Names
+pub mod Plain
 pub mod Standing

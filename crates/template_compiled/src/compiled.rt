@@ -1,5 +1,5 @@
 //! Compiled templates.
-ghost use Rattle.std.specs.Prelude.{◌≡◌, IfOk, IfErr, OnOk};
+ghost use Rattle.std.specs.Prelude.{◌≡◌, IfOk, IfErr, OnOk, OnErr};
 ghost use Rattle.template_values_errors.specs.Memory.{NoMemory};
 ghost use Rattle.template_tree.specs.Tree.{Statements, template};
 ghost use Rattle.template_tree.specs.StatementView.{statement_of};
@@ -8,8 +8,10 @@ ghost use Rattle.template_compiler_syntax.specs.Syntax.{IsUsable};
 ghost use Rattle.template_compiler_sources.specs.Source.{IsSource};
 ghost use Rattle.template_machine_escape.specs.Rule.{IsRuleOf};
 ghost use Rattle.template_compiled.specs.Compiled.{IsFaithful, code_for};
-ghost use Rattle.template_names_undeclared.specs.Found.{Adds};
+ghost use Rattle.template_names_undeclared.specs.Found.{Adds, AddsSome};
 ghost use Rattle.template_compiled.specs.Names.{uses};
+ghost use Rattle.template_compiler_emission.specs.Puts.{NoRoom};
+ghost use Rattle.template_compiled.specs.Plain.{IsPlain, PlainStandsForItself};
 ghost use Rattle.template_compiled.specs.Sources.{IsRefusedWith, Source, tree_in};
 
 use std::alloc::Global;
@@ -75,8 +77,12 @@ impl<'source> CompiledTemplate<'source> {
         ensures source { IfOk result (λ t. t.source ≡ record { text = source.now; syntax = syntax.now }) }
         ensures faithful { IfOk result IsFaithful }
         ensures refused { IfErr result (IsRefusedWith (record { text = source.now; syntax = syntax.now })) }
+
+        // A source in which no marker starts is refused for its size or for want of memory alone.
+        ensures plain { IsPlain (record { text = source.now; syntax = syntax.now }) → IfErr result NoRoom }
     {
         usable(syntax);
+        plain_text();
         let tree = parse(alloc, source, name, syntax.clone()?)?;
         if !is_runnable(&tree) {
             return Err(Error::new(ErrorKind::SyntaxError));
@@ -136,9 +142,10 @@ impl<'source> CompiledTemplate<'source> {
     ///
     /// # Errors
     ///
-    /// [`ErrorKind::OutOfMemory`].
+    /// [`ErrorKind::OutOfMemory`]; some of the names may then have been added, and no others.
     pub fn add_undeclared(&self, alloc: Global, names: &mut BTreeSet<String>) -> Result<(), Error>
         ensures added { OnOk result (Adds (uses self.now) names.old names.new) }
+        ensures partial { OnErr result (AddsSome (uses self.now) names.old names.new) }
         ensures refused { IfErr result NoMemory }
     {
         let tree = self.tree(alloc)?;
@@ -166,4 +173,10 @@ fn usable(syntax: &SyntaxConfig)
 pub fn one_tree()
     ensures { (source : Source) (tree : Statements) → IsUsable source.syntax
         → IsSource source.syntax source.text (template tree) → tree_in source ≡ tree }
+{}
+
+/// A law: a source in which no marker starts is read to its text, and is refused for its size or for want of memory
+/// alone.
+pub fn plain_text()
+    ensures { PlainStandsForItself }
 {}

@@ -4,5 +4,5 @@
 mod compiled;
 mod templates;
 
-pub use compiled::{CompiledTemplate, one_tree};
+pub use compiled::{CompiledTemplate, one_tree, plain_text};
 pub use templates::CompiledTemplates;

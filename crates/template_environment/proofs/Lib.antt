@@ -1,4 +1,5 @@
 pub mod Rendering
 pub mod Naming
+pub mod Plain
 pub mod Sourced
 pub mod Listed

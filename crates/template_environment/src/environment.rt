@@ -8,6 +8,8 @@ ghost use Rattle.template_values_errors.specs.Memory.{NoMemory};
 ghost use Rattle.template_compiler_syntax.specs.Syntax.{default_syntax};
 ghost use Rattle.template_machine_escape.specs.Rule.{IsRuleOf};
 ghost use Rattle.template_compiled.specs.Sources.{IsAccepted, IsRefusedWith};
+ghost use Rattle.template_compiled.specs.Plain.{IsPlain, text_kept};
+ghost use Rattle.template_environment.specs.Plain.{IsRefusedForRoom, ReadGivesItself};
 ghost use Rattle.template_environment.specs.Standing.{greatest_limit};
 
 use crate::state::State;
@@ -111,6 +113,7 @@ impl<'source> Environment<'source> {
             → source_at self.new other ≡ (if bytes_eq name.now other then Some (read_under self.old source.now) else source_at self.old other)) }
         ensures settings { settings_of self.new ≡ settings_of self.old }
         ensures refused { IfErr result (IsRefusedWith (read_under self.old source.now)) }
+        ensures plain { IsPlain (read_under self.old source.now) → IfErr result IsRefusedForRoom }
         ensures unchanged { OnErr result (IsUnchanged self.old self.new) }
     {
         let compiled = CompiledTemplate::new(self.alloc, name, source, &self.syntax)?;
@@ -249,6 +252,7 @@ impl<'source> Environment<'source> {
         ensures escape { IfOk result (λ t. IsRuleOf unnamed (escape_of t)) }
         ensures here { IfOk result (λ t. environment_of t ≡ self.now) }
         ensures refused { IfErr result (IsRefusedWith (read_under self.now source.now)) }
+        ensures plain { IsPlain (read_under self.now source.now) → IfErr result IsRefusedForRoom }
     {
         self.template_from_named_str(UNNAMED, source)
     }
@@ -270,6 +274,7 @@ impl<'source> Environment<'source> {
         ensures escape { IfOk result (λ t. IsRuleOf name.now (escape_of t)) }
         ensures here { IfOk result (λ t. environment_of t ≡ self.now) }
         ensures refused { IfErr result (IsRefusedWith (read_under self.now source.now)) }
+        ensures plain { IsPlain (read_under self.now source.now) → IfErr result IsRefusedForRoom }
     {
         let own = CompiledTemplate::new(self.alloc, name, source, &self.syntax)?;
         Ok(Template {
@@ -311,6 +316,10 @@ impl<'source> Environment<'source> {
     ) -> Result<String, Error>
         ensures renders { RendersSource self.now unnamed source.now context ids.old ids.new (λ text. string_bytes text) result }
 
+        // Where no marker starts in the source, that is its text.
+        ensures plain { ids.old ≢ u64.MAX → IsPlain (read_under self.now source.now) →
+            ReadGivesItself (settings_of self.now).fuel (text_kept (read_under self.now source.now)) (λ text. string_bytes text) result }
+
         // Contexts that agree at the names that can matter make no difference.
         ensures isolated { (other : Val) → AgreeForSource self.now (read_under self.now source.now) context other →
             IsSameForSource self.now (read_under self.now source.now) context other }
@@ -333,6 +342,10 @@ impl<'source> Environment<'source> {
         context: Value,
     ) -> Result<String, Error>
         ensures renders { RendersSource self.now name.now source.now context ids.old ids.new (λ text. string_bytes text) result }
+
+        // Where no marker starts in the source, that is its text.
+        ensures plain { ids.old ≢ u64.MAX → IsPlain (read_under self.now source.now) →
+            ReadGivesItself (settings_of self.now).fuel (text_kept (read_under self.now source.now)) (λ text. string_bytes text) result }
 
         // Contexts that agree at the names that can matter make no difference.
         ensures isolated { (other : Val) → AgreeForSource self.now (read_under self.now source.now) context other →

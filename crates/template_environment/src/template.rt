@@ -8,11 +8,14 @@ ghost use Rattle.template_machine_going.specs.Paying.{Paid};
 ghost use Rattle.template_machine_escape.specs.Rule.{IsRuleOf};
 ghost use Rattle.template_machine_operations.specs.Outcomes.{TellsFailures};
 ghost use Rattle.template_machine_renders.specs.Renders.{Renders, leaves};
+ghost use Rattle.template_machine_meaning.specs.World.{first_world};
+ghost use Rattle.template_compiled.specs.Plain.{IsPlain, text_kept};
+ghost use Rattle.template_environment.specs.Plain.{GivesItself, WritesItself, text_run};
 ghost use Rattle.template_environment.specs.Renderings.{GivesText, left_of, rendering, set_of};
 
 use crate::environment::Environment;
 use crate::state::State;
-use template_compiled::CompiledTemplate;
+use template_compiled::{CompiledTemplate, plain_text};
 use template_machine_ids::StateIds;
 use template_machine_loop::run_code;
 use template_machine_output::Sink;
@@ -91,6 +94,16 @@ impl<'env, 'source> Template<'env, 'source> {
         let _code = self.compiled.get().instructions();
     }
 
+    /// A law, as the contract of a method that does nothing: a template in whose source no marker starts renders to
+    /// its text, at the price of one step, and to nothing where that is empty.
+    pub fn plain(&self)
+        ensures { IsPlain (source_of self.now) → (n : ℕ) (context : Val) →
+            render_of self.now n context ≡ text_run (text_kept (source_of self.now)) (first_world (escape_of self.now) context) }
+    {
+        plain_text();
+        let _code = self.compiled.get().instructions();
+    }
+
     /// A state of the template without frames, under its name and escape.
     ///
     /// # Errors
@@ -126,6 +139,10 @@ impl<'env, 'source> Template<'env, 'source> {
         ensures text { ids.old ≢ u64.MAX → (n : ℕ) → IsFinished (render_of self.now n context).end →
             GivesText (λ text. string_bytes text) result (under (fuel_of self.now) (render_of self.now n context)) }
 
+        // Where no marker starts in its source, that is its text.
+        ensures plain { ids.old ≢ u64.MAX → IsPlain (source_of self.now) →
+            GivesItself (fuel_of self.now) (text_kept (source_of self.now)) (λ text. string_bytes text) result }
+
         // Contexts that agree at the names that can matter make no difference.
         ensures isolated { (other : Val) → AgreeFor self.now context other → IsSameRender self.now context other }
         ensures no_write_failure { IfErr result (λ kinds. kinds ≢ ErrorKind.WriteFailure ∷ []) }
@@ -133,6 +150,7 @@ impl<'env, 'source> Template<'env, 'source> {
         ensures exhausted { ids.old ≡ u64.MAX → (result ≡ Err (ErrorKind.InvalidOperation ∷ [])) × (ids.new ≡ ids.old) }
     {
         self.isolated();
+        self.plain();
         let captured = self.render_captured(ids, context)?;
         Ok(captured.into_output())
     }
@@ -158,6 +176,10 @@ impl<'env, 'source> Template<'env, 'source> {
         ensures world { IfOk result (λ captured. (n : ℕ) → IsFinished (render_of self.now n context).end →
             world_of captured ≡ (under (fuel_of self.now) (render_of self.now n context)).after) }
 
+        // Where no marker starts in its source, that is its text.
+        ensures plain { ids.old ≢ u64.MAX → IsPlain (source_of self.now) →
+            GivesItself (fuel_of self.now) (text_kept (source_of self.now)) output_of result }
+
         // Contexts that agree at the names that can matter make no difference.
         ensures isolated { (other : Val) → AgreeFor self.now context other → IsSameRender self.now context other }
         ensures no_write_failure { IfErr result (λ kinds. kinds ≢ ErrorKind.WriteFailure ∷ []) }
@@ -169,6 +191,7 @@ impl<'env, 'source> Template<'env, 'source> {
         ensures exhausted { ids.old ≡ u64.MAX → (result ≡ Err (ErrorKind.InvalidOperation ∷ [])) × (ids.new ≡ ids.old) }
     {
         self.isolated();
+        self.plain();
         let id = ids.next()?;
         let mut output = String::new(self.environment.allocator());
         let (machine, fuel) = run(self.environment, self.compiled.get(), context, &mut output)?;
@@ -207,6 +230,10 @@ impl<'env, 'source> Template<'env, 'source> {
         ensures world { IfOk result (λ captured. (n : ℕ) → IsFinished (render_of self.now n context).end →
             world_of captured ≡ (under (fuel_of self.now) (render_of self.now n context)).after) }
 
+        // Where no marker starts in its source, that is its text.
+        ensures plain { ids.old ≢ u64.MAX → IsPlain (source_of self.now) →
+            WritesItself (fuel_of self.now) (text_kept (source_of self.now)) (S.taken sink.old) (S.taken sink.new) result }
+
         // Contexts that agree at the names that can matter make no difference.
         ensures isolated { (other : Val) → AgreeFor self.now context other → IsSameRender self.now context other }
         ensures failures { ids.old ≢ u64.MAX → TellsFailures result (S.failures sink.old) (S.failures sink.new) }
@@ -220,6 +247,7 @@ impl<'env, 'source> Template<'env, 'source> {
             × (ids.new ≡ ids.old) }
     {
         self.isolated();
+        self.plain();
         let id = ids.next()?;
         let (machine, fuel) = run(self.environment, self.compiled.get(), context, sink)?;
         Ok(Captured {

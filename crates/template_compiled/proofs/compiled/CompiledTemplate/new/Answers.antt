@@ -1,11 +1,12 @@
-use Rattle.std.proofs.Common.{◌≡◌, true, List, ◌++◌, length, inl, inr, ap, sym, subst, ◌∙◌, rules}
+use Rattle.std.proofs.Common.{◌≡◌, true, List, ◌++◌, length, inl, inr, ap, subst, ◌∙◌, rules}
 use Rattle.template_tree.specs.StatementView.{statement_of}
 use Rattle.template_code.specs.Code.{Code}
 use Rattle.template_compiler_codegen.specs.Statements.{no_ways, statements_code}
 use Rattle.template_compiler_statement_codegen.specs.Listed.{body_in}
 use Rattle.template_compiler_sources.specs.Source.{IsSource}
 use Rattle.template_compiler_syntax.specs.Syntax.{Syntax}
-use Rattle.template_compiled.proofs.Accepting.{kept, runs_tree, unsupported}
+use Rattle.template_compiled.proofs.Accepting.{kept, unsupported}
+use Rattle.template_compiled.proofs.Plain.{plain_room}
 use Rattle.template_compiled.proofs.compiled.CompiledTemplate.new.Goals as goal
 
 pub returns-then-not-is_runnable-clause-refused : goal.returns-then-not-is_runnable-clause-refused
@@ -17,6 +18,16 @@ returns-then-not-is_runnable-clause-refused c =
       unsupported (record { text = c.args.source.now; syntax = c.args.syntax.now }) (statement_of c.in_ok-tree.tree) is
           (λ h. let yes = c.is_runnable.ensures.1 h in let no = c.if-not-is_runnable.true in cc),
     ))
+
+pub returns-then-not-is_runnable-clause-plain : goal.returns-then-not-is_runnable-clause-plain
+returns-then-not-is_runnable-clause-plain c = λ plain.
+    (c.plain_text.ensures _ c.usable.ensures plain).refused _ (returns-then-not-is_runnable-clause-refused c)
+
+pub returns-in_err-tree-clause-plain : goal.returns-in_err-tree-clause-plain
+returns-in_err-tree-clause-plain c = λ plain.
+    let shared : c.in_ok-clone.field-0 ≡ c.args.syntax.now = search rules in
+    let room = plain_room c.args.syntax.now c.in_ok-clone.field-0 c.args.source.now shared c.usable.ensures plain c.in_err-tree.ensures.refused in
+    search rules
 
 pub invariant_of-result : goal.invariant_of-result
 invariant_of-result c =

@@ -1,0 +1,47 @@
+-- A source in which no marker starts is one data, and stands for itself.
+use Rattle.std.proofs.Common.{◌≡◌, ℕ, List, [], ◌∷◌, inl, inr, refl, sym, subst, ◌∙◌}
+use Rattle.template_values_errors.specs.declared.ErrorKind.{ErrorKind}
+use Rattle.template_tree.specs.Tree.{template}
+use Rattle.template_walk.specs.Runnable.{IsRunnableTemplate}
+use Rattle.template_compiler_segments.specs.Flat.{plain_tokens}
+use Rattle.template_compiler_segments.proofs.Theorems.{plain_text}
+use Rattle.template_compiler_statements.specs.Grammar.{IsTemplate, whole_template, statements_end, statements_next, text_statement}
+use Rattle.template_compiler_syntax.specs.Syntax.{Syntax, IsUsable}
+use Rattle.template_compiler_sources.specs.Source.{IsSource, RefusesSource, source_of}
+use Rattle.template_compiler_emission.specs.Puts.{NoRoom}
+use Rattle.template_compiled.specs.Plain.{IsPlain, StandsForItself, text_kept, text_tree}
+use Rattle.template_compiled.specs.Sources.{Source, IsRefusedWith}
+use Rattle.template_compiled.proofs.Trees.{one_tree}
+
+text_grammar : (text : List ℕ) → IsTemplate (plain_tokens text) (text_tree text)
+text_grammar [] = whole_template statements_end refl
+text_grammar (byte ∷ bytes) = whole_template (statements_next text_statement statements_end) refl
+
+text_runs : (text : List ℕ) → IsRunnableTemplate (text_tree text)
+text_runs [] = tt
+text_runs (byte ∷ bytes) = (tt, tt)
+
+plain_source : (source : Source) → IsPlain source → IsSource source.syntax source.text (template (text_tree (text_kept source)))
+plain_source source plain = source_of (plain_text source.syntax source.text plain) (text_grammar (text_kept source))
+
+plain_refused : (source : Source) → IsPlain source → (kinds : List ErrorKind) → IsUsable source.syntax → IsRefusedWith source kinds → NoRoom kinds
+plain_refused source plain kinds usable (inl (inl want)) = inr want
+plain_refused source plain kinds usable (inl (inr (inl (large, long)))) = inl large
+plain_refused source plain kinds usable (inl (inr (inr (fault, alone, faulty)))) = absurd (faulty.treeless _ (plain_source source plain))
+plain_refused source plain kinds usable (inr (inl (alone, (tree, is, refuses)))) =
+    let same : tree ≡ text_tree (text_kept source) = sym (one_tree source tree usable is) ∙ one_tree source _ usable (plain_source source plain) in
+    absurd (refuses (subst IsRunnableTemplate (sym same) (text_runs (text_kept source))))
+plain_refused source plain kinds usable (inr (inr room)) = room
+
+pub plain_stands : (source : Source) → IsUsable source.syntax → IsPlain source → StandsForItself source
+plain_stands source usable plain = record {
+  has_tree = (plain_source source plain, text_runs (text_kept source));
+  tree = one_tree source (text_tree (text_kept source)) usable (plain_source source plain);
+  refused = λ kinds. plain_refused source plain kinds usable;
+}
+
+-- a refusal of its text, read under the syntax itself
+pub plain_room : {kinds : List ErrorKind} (x y : Syntax) (text : List ℕ) → y ≡ x → IsUsable x → IsPlain (record { text = text; syntax = x })
+    → RefusesSource y text kinds → NoRoom kinds
+plain_room {kinds} x y text same usable plain refused =
+    (plain_stands (record { text = text; syntax = x }) usable plain).refused kinds (inl (subst (λ (z : Syntax). RefusesSource z text kinds) same refused))
