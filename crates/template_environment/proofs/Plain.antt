@@ -1,5 +1,5 @@
 -- A source in which no marker starts renders to its text.
-use Rattle.std.proofs.Common.{◌≡◌, ℕ, zero, suc, List, [], ◌∷◌, Option, None, Some, Result, Ok, Err, inl, inr, refl, ap, subst, ◌∙◌, append-nil}
+use Rattle.std.proofs.Common.{◌≡◌, ℕ, zero, suc, List, [], ◌∷◌, Option, None, Some, Result, Ok, Err, inl, inr, refl, sym, ap, subst, ◌∙◌, append-nil, arith}
 use Rattle.std.specs.Io.KnownBytes.{Appends}
 use Rattle.template_values_errors.specs.declared.ErrorKind.{ErrorKind}
 use Rattle.template_values_modes.specs.declared.AutoEscape.{AutoEscape}
@@ -7,12 +7,15 @@ use Rattle.template_values_model.specs.Val.{Val}
 use Rattle.template_process.specs.Approximants.{IsFinished}
 use Rattle.template_process.specs.Fuel.{under}
 use Rattle.template_process.specs.Trace.{Run}
+use Rattle.template_process.proofs.Fuels.{enough}
 use Rattle.template_machine_meaning.specs.Meaning.{Setting, Standing, rendered}
 use Rattle.template_machine_meaning.specs.World.{World, first_world}
 use Rattle.template_machine_renders.specs.Renders.{Renders, whole, broken}
+use Rattle.template_compiled.specs.Compiled.{Compiled}
 use Rattle.template_compiled.specs.Plain.{text_tree}
 use Rattle.template_environment.specs.Plain.{text_run, GivesItself, WritesItself}
-use Rattle.template_environment.specs.Renderings.{GivesText}
+use Rattle.template_environment.specs.Renderings.{GivesText, rendering}
+use Rattle.template_environment.specs.declared.environment.Environment.{Environment}
 
 -- the run of such a tree, under every bound
 text_runs : (setting : Setting) (n : ℕ) (bytes : List ℕ) (escape : AutoEscape) (context : Val)
@@ -29,43 +32,80 @@ pub text_finished : (bytes : List ℕ) (w : World) → IsFinished (text_run byte
 text_finished [] w = tt
 text_finished (byte ∷ bytes) w = tt
 
--- what a call gives of it, under a fuel
-pub gives_itself : {X : Type 0} (fuel : Option ℕ) (bytes : List ℕ) (w : World) (text : X → List ℕ) (result : Result X (List ErrorKind))
+-- all of it
+whole_gives : {X : Type 0} (fuel : Option ℕ) (bytes : List ℕ) (w : World) (text : X → List ℕ) (result : Result X (List ErrorKind))
+    → GivesText text result (text_run bytes w) → GivesItself fuel bytes text result
+whole_gives fuel [] w text (Ok x) gives = gives.1
+whole_gives fuel [] w text (Err kinds) (inl ended) = cc
+whole_gives fuel [] w text (Err kinds) (inr want) = inl want
+whole_gives fuel (byte ∷ bytes) w text (Ok x) gives = gives.1 ∙ append-nil (byte ∷ bytes)
+whole_gives fuel (byte ∷ bytes) w text (Err kinds) (inl ended) = cc
+whole_gives fuel (byte ∷ bytes) w text (Err kinds) (inr want) = inl want
+
+whole_writes : {X : Type 0} (fuel : Option ℕ) (bytes : List ℕ) (w : World) (before after : Option (List ℕ)) (result : Result X (List ErrorKind))
+    → Renders result before after (text_run bytes w) → WritesItself fuel bytes before after result
+whole_writes fuel [] w before after (Ok x) (whole ends text) = text
+whole_writes fuel [] w before after (Err kinds) (whole ends text) = cc
+whole_writes fuel (byte ∷ bytes) w before after (Ok x) (whole ends text) = subst (Appends before after) (append-nil (byte ∷ bytes)) text
+whole_writes fuel (byte ∷ bytes) w before after (Err kinds) (whole ends text) = cc
+whole_writes fuel bytes w before after (Ok x) (broken wants text) = absurd wants
+whole_writes fuel bytes w before after (Err kinds) (broken wants text) = inl wants
+
+-- a fuel that pays a step lets it through
+nothing_cut : (fuel : ℕ) (w : World) → under (Some fuel) (text_run [] w) ≡ text_run [] w
+nothing_cut fuel w = enough World 0 fuel (text_run [] w) (inl refl) (omega arith)
+
+not_cut : (fuel byte : ℕ) (bytes : List ℕ) (w : World) → under (Some (suc (suc fuel))) (text_run (byte ∷ bytes) w) ≡ text_run (byte ∷ bytes) w
+not_cut fuel byte bytes w = enough World 2 (suc (suc fuel)) (text_run (byte ∷ bytes) w) (inr (omega arith)) (omega arith)
+
+gives_itself : {X : Type 0} (fuel : Option ℕ) (bytes : List ℕ) (w : World) (text : X → List ℕ) (result : Result X (List ErrorKind))
     → GivesText text result (under fuel (text_run bytes w)) → GivesItself fuel bytes text result
-gives_itself None [] w text (Ok x) gives = gives.1
-gives_itself None [] w text (Err kinds) (inl ended) = cc
-gives_itself None [] w text (Err kinds) (inr want) = inl want
-gives_itself None (byte ∷ bytes) w text (Ok x) gives = gives.1 ∙ append-nil (byte ∷ bytes)
-gives_itself None (byte ∷ bytes) w text (Err kinds) (inl ended) = cc
-gives_itself None (byte ∷ bytes) w text (Err kinds) (inr want) = inl want
-gives_itself (Some fuel) [] w text (Ok x) gives = gives.1
-gives_itself (Some fuel) [] w text (Err kinds) (inl ended) = cc
-gives_itself (Some fuel) [] w text (Err kinds) (inr want) = inl want
+gives_itself None bytes w text result gives = whole_gives None bytes w text result gives
+gives_itself (Some fuel) [] w text result gives =
+    whole_gives (Some fuel) [] w text result (subst (GivesText text result) (nothing_cut fuel w) gives)
+gives_itself (Some (suc (suc fuel))) (byte ∷ bytes) w text result gives =
+    whole_gives (Some (suc (suc fuel))) (byte ∷ bytes) w text result (subst (GivesText text result) (not_cut fuel byte bytes w) gives)
 gives_itself (Some zero) (byte ∷ bytes) w text (Ok x) gives = absurd gives.0
-gives_itself (Some zero) (byte ∷ bytes) w text (Err kinds) (inl ended) = inr (cc, search)
+gives_itself (Some zero) (byte ∷ bytes) w text (Err kinds) (inl ended) = inr (cc, omega arith)
 gives_itself (Some zero) (byte ∷ bytes) w text (Err kinds) (inr want) = inl want
 gives_itself (Some (suc zero)) (byte ∷ bytes) w text (Ok x) gives = absurd gives.0
-gives_itself (Some (suc zero)) (byte ∷ bytes) w text (Err kinds) (inl ended) = inr (cc, search)
+gives_itself (Some (suc zero)) (byte ∷ bytes) w text (Err kinds) (inl ended) = inr (cc, omega arith)
 gives_itself (Some (suc zero)) (byte ∷ bytes) w text (Err kinds) (inr want) = inl want
-gives_itself (Some (suc (suc fuel))) (byte ∷ bytes) w text (Ok x) gives = gives.1 ∙ append-nil (byte ∷ bytes)
-gives_itself (Some (suc (suc fuel))) (byte ∷ bytes) w text (Err kinds) (inl ended) = cc
-gives_itself (Some (suc (suc fuel))) (byte ∷ bytes) w text (Err kinds) (inr want) = inl want
 
--- what it writes of it into a sink
-pub writes_itself : {X : Type 0} (fuel : Option ℕ) (bytes : List ℕ) (w : World) (before after : Option (List ℕ)) (result : Result X (List ErrorKind))
+writes_itself : {X : Type 0} (fuel : Option ℕ) (bytes : List ℕ) (w : World) (before after : Option (List ℕ)) (result : Result X (List ErrorKind))
     → Renders result before after (under fuel (text_run bytes w)) → WritesItself fuel bytes before after result
-writes_itself None [] w before after (Ok x) (whole ends text) = text
-writes_itself None [] w before after (Err kinds) (whole ends text) = cc
-writes_itself None (byte ∷ bytes) w before after (Ok x) (whole ends text) = subst (Appends before after) (append-nil (byte ∷ bytes)) text
-writes_itself None (byte ∷ bytes) w before after (Err kinds) (whole ends text) = cc
-writes_itself (Some fuel) [] w before after (Ok x) (whole ends text) = text
-writes_itself (Some fuel) [] w before after (Err kinds) (whole ends text) = cc
+writes_itself None bytes w before after result renders = whole_writes None bytes w before after result renders
+writes_itself (Some fuel) [] w before after result renders =
+    whole_writes (Some fuel) [] w before after result (subst (Renders result before after) (nothing_cut fuel w) renders)
+writes_itself (Some (suc (suc fuel))) (byte ∷ bytes) w before after result renders =
+    whole_writes (Some (suc (suc fuel))) (byte ∷ bytes) w before after result (subst (Renders result before after) (not_cut fuel byte bytes w) renders)
 writes_itself (Some zero) (byte ∷ bytes) w before after (Ok x) (whole ends text) = absurd ends
-writes_itself (Some zero) (byte ∷ bytes) w before after (Err kinds) (whole ends text) = inr (cc, search)
+writes_itself (Some zero) (byte ∷ bytes) w before after (Err kinds) (whole ends text) = inr (cc, omega arith)
+writes_itself (Some zero) (byte ∷ bytes) w before after (Ok x) (broken wants text) = absurd wants
+writes_itself (Some zero) (byte ∷ bytes) w before after (Err kinds) (broken wants text) = inl wants
 writes_itself (Some (suc zero)) (byte ∷ bytes) w before after (Ok x) (whole ends text) = absurd ends
-writes_itself (Some (suc zero)) (byte ∷ bytes) w before after (Err kinds) (whole ends text) = inr (cc, search)
-writes_itself (Some (suc (suc fuel))) (byte ∷ bytes) w before after (Ok x) (whole ends text) =
-    subst (Appends before after) (append-nil (byte ∷ bytes)) text
-writes_itself (Some (suc (suc fuel))) (byte ∷ bytes) w before after (Err kinds) (whole ends text) = cc
-writes_itself fuel bytes w before after (Ok x) (broken wants text) = absurd wants
-writes_itself fuel bytes w before after (Err kinds) (broken wants text) = inl wants
+writes_itself (Some (suc zero)) (byte ∷ bytes) w before after (Err kinds) (whole ends text) = inr (cc, omega arith)
+writes_itself (Some (suc zero)) (byte ∷ bytes) w before after (Ok x) (broken wants text) = absurd wants
+writes_itself (Some (suc zero)) (byte ∷ bytes) w before after (Err kinds) (broken wants text) = inl wants
+
+-- what calls that render it give and write
+abbrev pub IsOfText : Environment → Compiled → List ℕ → Type 0
+IsOfText e c bytes = (n : ℕ) (context : Val) → rendering e c n context ≡ text_run bytes (first_world c.escape context)
+
+pub plain_gives : {X : Type 0} (e : Environment) (c : Compiled) (bytes : List ℕ) (context : Val) (text : X → List ℕ) (result : Result X (List ErrorKind))
+    → IsOfText e c bytes
+    → ((n : ℕ) → IsFinished (rendering e c n context).end → GivesText text result (under e.fuel (rendering e c n context)))
+    → GivesItself e.fuel bytes text result
+plain_gives e c bytes context text result is gives =
+    let w = first_world c.escape context in
+    gives_itself e.fuel bytes w text result (subst (λ r. GivesText text result (under e.fuel r)) (is 0 context)
+    (gives 0 (subst (λ (r : Run World). IsFinished r.end) (sym (is 0 context)) (text_finished bytes w))))
+
+pub plain_writes : {X : Type 0} (e : Environment) (c : Compiled) (bytes : List ℕ) (context : Val) (before after : Option (List ℕ)) (result : Result X (List ErrorKind))
+    → IsOfText e c bytes
+    → ((n : ℕ) → IsFinished (rendering e c n context).end → Renders result before after (under e.fuel (rendering e c n context)))
+    → WritesItself e.fuel bytes before after result
+plain_writes e c bytes context before after result is renders =
+    let w = first_world c.escape context in
+    writes_itself e.fuel bytes w before after result (subst (λ r. Renders result before after (under e.fuel r)) (is 0 context)
+    (renders 0 (subst (λ (r : Run World). IsFinished r.end) (sym (is 0 context)) (text_finished bytes w))))
