@@ -4,3 +4,4 @@ pub mod Additions
 pub mod Environments
 pub mod Lines
 pub mod Answers
+pub mod Plain

@@ -1,11 +1,14 @@
 //! The run of a request.
-ghost use Rattle.std.specs.Prelude.{◌≡◌, option_copied, IfOk, IfErr};
+ghost use Rattle.std.specs.Prelude.{◌≡◌, ℕ, List, Some, option_copied, string_bytes, IfOk, IfErr};
 ghost use Rattle.template_program_context.specs.Context.{texts_in};
 ghost use Rattle.template_machine_escape.specs.Rule.{IsRuleOf};
 ghost use Rattle.template_compiled.specs.Compiled.{standing_of};
-ghost use Rattle.template_environment.specs.Views.{compiled_in, environment_of as place_of, name_of};
+ghost use Rattle.template_compiled.specs.Plain.{IsPlain, text_kept};
+ghost use Rattle.template_environment.specs.Views.{compiled_in, environment_of as place_of, name_of, source_of};
 ghost use Rattle.template_program_run.specs.Answers.{Answers, HasContext, IsRefusedContext, Rendered, Told, definitions_of};
+ghost use Rattle.template_program_run.specs.History.{source_for, standing};
 ghost use Rattle.template_program_run.specs.Ids.{behind_one, behind_request};
+ghost use Rattle.template_program_run.specs.Plain.{WritesOnDone, WritesOnRender};
 
 use crate::additions::environment_of;
 use crate::names::write_lines;
@@ -43,6 +46,10 @@ pub fn run<S: Sink>(
     ensures answers { Answers request.now (texts_in templates.now) (option_copied context.entry) ids.old result
         (S.taken sink.old) (S.taken sink.new) (S.failures sink.old) (S.failures sink.new) }
     ensures counted { ids.new ≡ behind_request request.now.command result ids.old }
+
+    // A main template in which no marker starts renders to its text, without the newline at its end.
+    ensures plain { (text : List ℕ) → standing (texts_in templates.now) (string_bytes request.now.main) ≡ Some text → IsPlain (source_for text) →
+        WritesOnRender request.now.command (S.taken sink.old) (S.taken sink.new) (text_kept (source_for text)) result }
 {
     let context = match context_of(alloc, request, context) {
         Ok(context) => context,
@@ -83,6 +90,7 @@ fn render<S: Sink>(
     ensures rendered { Rendered (place_of template.now) (standing_of (compiled_in template.now.compiled)) context ids.old result
         (S.taken sink.old) (S.taken sink.new) (S.failures sink.old) (S.failures sink.new) }
     ensures rule { IsRuleOf (name_of template.now) (compiled_in template.now.compiled).escape }
+    ensures plain { IsPlain (source_of template.now) → WritesOnDone (S.taken sink.old) (S.taken sink.new) (text_kept (source_of template.now)) result }
     ensures counted { ids.new ≡ behind_one ids.old }
 {
     let _escape = template.initial_auto_escape();
