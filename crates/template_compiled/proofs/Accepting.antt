@@ -15,9 +15,10 @@ use Rattle.template_compiler_runnable.specs.Runs.{RunsWhole}
 use Rattle.template_compiler_statement_codegen.specs.Listed.{IsRunnableTree, body_in}
 use Rattle.template_compiler_syntax.specs.Syntax.{Syntax, IsUsable}
 use Rattle.template_compiler_sources.specs.Source.{IsSource, RefusesSource, source_of}
-use Rattle.template_machine_escape.specs.Rule.{IsRuleOf}
+use Rattle.template_machine_escape.specs.Rule.{IsEscapeOf}
 use Rattle.template_compiled.specs.Compiled.{Compiled, IsFaithful}
-use Rattle.template_compiled.specs.Sources.{Source, HasTree, IsUnsupported, tree_in}
+use Rattle.template_compiled.specs.Sources.{Source, HasTree, IsUnsupported, read_by, tree_in}
+use Rattle.template_compiled.specs.declared.config.TemplateConfig.{TemplateConfig}
 use Rattle.template_compiled.proofs.Trees.{one_tree}
 
 -- a source's tree is a whole template
@@ -37,23 +38,24 @@ pub tree_is : (source : Source) (s : Statement) → IsUsable source.syntax → I
 tree_is source s usable (source_of {body = body} spelled is) = one_tree source body usable (source_of spelled is)
 
 pub faithful : (name : List ℕ) (source : Source) (escape : AutoEscape) (s : Statement) → IsUsable source.syntax → (2 ^ 32 ≤ length source.text → ⊥)
-    → IsSource source.syntax source.text s → RunsWhole s → IsRuleOf name escape → IsFaithful (record { name = name; source = source; escape = escape })
+    → IsSource source.syntax source.text s → RunsWhole s → IsEscapeOf source.escapes name escape → IsFaithful (record { name = name; source = source; escape = escape })
 faithful name source escape s usable fits is runs rule = record {
   usable = usable;
   fits = omega (arith, fits);
   has_tree = subst (HasTree source) (sym (tree_is source s usable is))
       (subst (IsSource source.syntax source.text) (source_body source s is) is, runs_body source s is runs);
-  is_rule = rule;
+  is_escape = rule;
 }
 
 -- what is kept of it
-pub kept : (name own : List ℕ) (text copied : List ℕ) (x y : Syntax) (escape : AutoEscape) (code : List Code) (s : Statement) → own ≡ name → copied ≡ text → y ≡ x
-    → IsUsable x → (2 ^ 32 ≤ length text → ⊥) → IsSource x text s → RunsWhole s → IsRuleOf name escape → code ≡ template_code (body_in s)
-    → IsFaithful (record { name = own; source = record { text = copied; syntax = y }; escape = escape }) × (code ≡ template_code (tree_in (record { text = copied; syntax = y })))
+pub kept : (name own : List ℕ) (text copied : List ℕ) (x y : TemplateConfig) (escape : AutoEscape) (code : List Code) (s : Statement) → own ≡ name → copied ≡ text
+    → y ≡ x → IsUsable x.syntax_config → (2 ^ 32 ≤ length text → ⊥) → IsSource x.syntax_config text s → RunsWhole s
+    → IsEscapeOf x.default_auto_escape name escape → code ≡ template_code (body_in s)
+    → IsFaithful (record { name = own; source = read_by y copied; escape = escape }) × (code ≡ template_code (tree_in (read_by y copied)))
 kept name own text copied x y escape code s named same shared usable fits is runs rule is_code =
-    let source : Source = record { text = text; syntax = x } in
-    let path : record { name = name; source = source; escape = escape } ≡ record { name = own; source = record { text = copied; syntax = y }; escape = escape } =
-    λ i. record { name = sym named i; source = record { text = sym same i; syntax = sym shared i }; escape = escape } in
+    let source : Source = read_by x text in
+    let path : record { name = name; source = source; escape = escape } ≡ record { name = own; source = read_by y copied; escape = escape } =
+    λ i. record { name = sym named i; source = read_by (sym shared i) (sym same i); escape = escape } in
     subst (λ (c : Compiled). IsFaithful c × (code ≡ template_code (tree_in c.source))) path
     (faithful name source escape s usable fits is runs rule, is_code ∙ ap template_code (sym (tree_is source s usable is)))
 

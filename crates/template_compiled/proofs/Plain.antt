@@ -40,8 +40,8 @@ plain_stands source usable plain = record {
   refused = λ kinds. plain_refused source plain kinds usable;
 }
 
--- a refusal of its text, read under the syntax itself
-pub plain_room : {kinds : List ErrorKind} (x y : Syntax) (text : List ℕ) → y ≡ x → IsUsable x → IsPlain (record { text = text; syntax = x })
-    → RefusesSource y text kinds → NoRoom kinds
-plain_room {kinds} x y text same usable plain refused =
-    (plain_stands (record { text = text; syntax = x }) usable plain).refused kinds (inl (subst (λ (z : Syntax). RefusesSource z text kinds) same refused))
+-- a refusal of it, read under its syntax
+pub plain_room : {kinds : List ErrorKind} (source : Source) (y : Syntax) → y ≡ source.syntax → IsUsable source.syntax → IsPlain source
+    → RefusesSource y source.text kinds → NoRoom kinds
+plain_room {kinds} source y same usable plain refused =
+    (plain_stands source usable plain).refused kinds (inl (subst (λ (z : Syntax). RefusesSource z source.text kinds) same refused))

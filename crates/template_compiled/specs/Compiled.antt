@@ -5,7 +5,7 @@ use Rattle.template_code.specs.Code.{Code}
 use Rattle.template_compiler_codegen.specs.Statements.{template_code}
 use Rattle.template_compiler_runnable.specs.Running.{statements_run}
 use Rattle.template_compiler_syntax.specs.Syntax.{IsUsable}
-use Rattle.template_machine_escape.specs.Rule.{IsRuleOf}
+use Rattle.template_machine_escape.specs.Rule.{IsEscapeOf}
 use Rattle.template_machine_meaning.specs.Meaning.{Standing}
 use Rattle.template_compiled.specs.Sources.{Source, HasTree, tree_in}
 
@@ -14,12 +14,12 @@ pub record Compiled : Type 0 where
   pub source : Source
   pub escape : AutoEscape
 
--- its source has a tree that runs, and its escape is that of its name
+-- its source has a tree that runs, and its escape is that of its name under the rule
 pub record IsFaithful (c : Compiled) : Type 0 where
   pub usable : IsUsable c.source.syntax
   pub fits : length c.source.text < 2 ^ 32
   pub has_tree : HasTree c.source (tree_in c.source)
-  pub is_rule : IsRuleOf c.name c.escape
+  pub is_escape : IsEscapeOf c.source.escapes c.name c.escape
 
 -- what it stands for
 abbrev pub standing_of : Compiled → Standing

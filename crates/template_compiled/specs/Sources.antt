@@ -10,11 +10,18 @@ use Rattle.template_compiler_segments.proofs.Theorems.{some_tokens}
 use Rattle.template_compiler_statements.specs.Reader.{template_of}
 use Rattle.template_compiler_sources.specs.Source.{IsSource, RefusesSource}
 use Rattle.template_compiler_emission.specs.Puts.{NoRoom}
+use Rattle.template_machine_escape.specs.declared.EscapeRule.{EscapeRule}
+use Rattle.template_compiled.specs.declared.config.TemplateConfig.{TemplateConfig}
 
--- a text, and the syntax that it is read under
+-- a text, the syntax that it is read under, and the rule that gives the escape
 pub record Source : Type 0 where
   pub text : List ℕ
   pub syntax : Syntax
+  pub escapes : EscapeRule
+
+-- a text, as it is read under a configuration
+abbrev pub read_by : TemplateConfig → List ℕ → Source
+read_by config text = record { text = text; syntax = config.syntax_config; escapes = config.default_auto_escape }
 
 -- the source's tree is made of these statements, and all its constructs run
 abbrev pub HasTree : Source → Statements → Type 0

@@ -6,14 +6,15 @@ ghost use Rattle.template_tree.specs.StatementView.{statement_of};
 ghost use Rattle.template_code.specs.Listing.{code_in};
 ghost use Rattle.template_compiler_syntax.specs.Syntax.{IsUsable};
 ghost use Rattle.template_compiler_sources.specs.Source.{IsSource};
-ghost use Rattle.template_machine_escape.specs.Rule.{IsRuleOf};
+ghost use Rattle.template_machine_escape.specs.Rule.{IsEscapeOf};
 ghost use Rattle.template_compiled.specs.Compiled.{IsFaithful, code_for};
 ghost use Rattle.template_names_undeclared.specs.Found.{Adds, AddsSome};
 ghost use Rattle.template_compiled.specs.Names.{uses};
 ghost use Rattle.template_compiler_emission.specs.Puts.{NoRoom};
 ghost use Rattle.template_compiled.specs.Plain.{IsPlain, PlainStandsForItself};
-ghost use Rattle.template_compiled.specs.Sources.{IsRefusedWith, Source, tree_in};
+ghost use Rattle.template_compiled.specs.Sources.{IsRefusedWith, Source, read_by, tree_in};
 
+use crate::config::TemplateConfig;
 use std::alloc::Global;
 use std::collections::BTreeSet;
 use std::marker::Model;
@@ -22,18 +23,17 @@ use template_compiler_runnable::is_runnable;
 use template_compiler_sources::parse;
 use template_compiler_statement_codegen::compile_template;
 use template_compiler_syntax::SyntaxConfig;
-use template_machine_escape::default_auto_escape_callback;
 use template_names_undeclared::add_undeclared;
 use template_tree::Stmt;
 use template_values_errors::{Error, ErrorKind};
 use template_values_modes::AutoEscape;
 
 /// A template whose source was accepted: its code, and the escape of its name. A contract sees both, with the name,
-/// the source and the syntax that it was read under.
+/// the source and what it was read under.
 #[derive(Drop)]
 pub struct CompiledTemplate<'source> {
     instructions: Instructions<'source>,
-    syntax: SyntaxConfig,
+    config: TemplateConfig,
     initial_auto_escape: AutoEscape,
 }
 
@@ -42,25 +42,25 @@ impl<'source> Model for CompiledTemplate<'source> {
     ghost use Rattle.template_code.specs.Listing.{code_in, name_in, source_in};
     ghost use Rattle.template_compiler_codegen.specs.Statements.{template_code};
     ghost use Rattle.template_compiled.specs.Compiled.{Compiled, IsFaithful};
-    ghost use Rattle.template_compiled.specs.Sources.{tree_in};
+    ghost use Rattle.template_compiled.specs.Sources.{read_by, tree_in};
 
     ghost Value = { Compiled };
 
     ghost view = { λ t. record {
       name = name_in t.instructions;
-      source = record { text = source_in t.instructions; syntax = t.syntax };
+      source = read_by t.config (source_in t.instructions);
       escape = t.initial_auto_escape;
     } };
 
     ghost invariant = { λ t. IsFaithful (record {
       name = name_in t.instructions;
-      source = record { text = source_in t.instructions; syntax = t.syntax };
+      source = read_by t.config (source_in t.instructions);
       escape = t.initial_auto_escape;
-    }) × (code_in t.instructions ≡ template_code (tree_in (record { text = source_in t.instructions; syntax = t.syntax }))) };
+    }) × (code_in t.instructions ≡ template_code (tree_in (read_by t.config (source_in t.instructions)))) };
 }
 
 impl<'source> CompiledTemplate<'source> {
-    /// Compiles a source that is read under a syntax, in time linear in its length, besides what the operators of
+    /// Compiles a source under a configuration, in time linear in its length, besides what the operators of
     /// constant trees cost.
     ///
     /// # Errors
@@ -71,19 +71,19 @@ impl<'source> CompiledTemplate<'source> {
         alloc: Global,
         name: &'source str,
         source: &'source str,
-        syntax: &SyntaxConfig,
+        config: &TemplateConfig,
     ) -> Result<CompiledTemplate<'source>, Error>
         ensures name { IfOk result (λ t. t.name ≡ name.now) }
-        ensures source { IfOk result (λ t. t.source ≡ record { text = source.now; syntax = syntax.now }) }
+        ensures source { IfOk result (λ t. t.source ≡ read_by config.now source.now) }
         ensures faithful { IfOk result IsFaithful }
-        ensures refused { IfErr result (IsRefusedWith (record { text = source.now; syntax = syntax.now })) }
+        ensures refused { IfErr result (IsRefusedWith (read_by config.now source.now)) }
 
         // A source in which no marker starts is refused for its size or for want of memory alone.
-        ensures plain { IsPlain (record { text = source.now; syntax = syntax.now }) → IfErr result NoRoom }
+        ensures plain { IsPlain (read_by config.now source.now) → IfErr result NoRoom }
     {
-        usable(syntax);
+        usable(&config.syntax_config);
         plain_text();
-        let tree = parse(alloc, source, name, syntax.clone()?)?;
+        let tree = parse(alloc, source, name, config.syntax_config.clone()?)?;
         if !is_runnable(&tree) {
             return Err(Error::new(ErrorKind::SyntaxError));
         }
@@ -91,8 +91,8 @@ impl<'source> CompiledTemplate<'source> {
         compile_template(alloc, &mut instructions, &tree)?;
         Ok(CompiledTemplate {
             instructions,
-            syntax: syntax.clone()?,
-            initial_auto_escape: default_auto_escape_callback(name),
+            config: config.clone()?,
+            initial_auto_escape: config.default_auto_escape.escape(name),
         })
     }
 
@@ -114,13 +114,13 @@ impl<'source> CompiledTemplate<'source> {
     pub fn syntax(&self) -> &SyntaxConfig
         ensures { result.now ≡ self.now.source.syntax }
     {
-        &self.syntax
+        &self.config.syntax_config
     }
 
     /// The escape of the template's name.
     pub fn initial_auto_escape(&self) -> AutoEscape
         ensures escape { result ≡ self.now.escape }
-        ensures rule { IsRuleOf self.now.name result }
+        ensures rule { IsEscapeOf self.now.source.escapes self.now.name result }
     {
         self.initial_auto_escape
     }
@@ -134,7 +134,12 @@ impl<'source> CompiledTemplate<'source> {
         ensures tree { IfOk result (λ tree. statement_of tree ≡ template (tree_in self.now.source)) }
         ensures refused { IfErr result NoMemory }
     {
-        parse(alloc, self.source(), self.name(), self.syntax.clone()?)
+        parse(
+            alloc,
+            self.source(),
+            self.name(),
+            self.config.syntax_config.clone()?,
+        )
     }
 
     /// Adds the names that the template uses to a set of names. Reads the source once more, in time linear in its

@@ -2,7 +2,9 @@
 #![tactic(auto)]
 
 mod compiled;
+mod config;
 mod templates;
 
 pub use compiled::{CompiledTemplate, one_tree, plain_text};
+pub use config::TemplateConfig;
 pub use templates::CompiledTemplates;

@@ -7,7 +7,7 @@
 //! ```text
 //! let syntax = SyntaxConfig::new();
 //! let tree = parse(alloc, "Hello {{ name }}!", "hello.txt", syntax)?;
-//! let compiled = CompiledTemplate::new(alloc, "hello.txt", "Hello {{ name }}!", &SyntaxConfig::new())?;
+//! let compiled = CompiledTemplate::new(alloc, "hello.txt", "Hello {{ name }}!", &TemplateConfig::new())?;
 //! let code = compiled.instructions();
 //! ```
 //!
@@ -47,7 +47,9 @@ pub use template_code::{
     CaptureMode, CompareOp, Instruction, Instructions, LOOP_FLAG_RECURSIVE,
     LOOP_FLAG_WITH_LOOP_VAR, LocalId, MACRO_CALLER, MAX_LOCALS, code_rises,
 };
-pub use template_compiled::{CompiledTemplate, CompiledTemplates, one_tree};
+pub use template_compiled::{
+    CompiledTemplate, CompiledTemplates, TemplateConfig, one_tree, plain_text,
+};
 pub use template_compiler_codegen::{expressions_perform, templates_perform};
 pub use template_compiler_expression_codegen::compile_expr;
 pub use template_compiler_runnable::is_runnable;

@@ -12,7 +12,7 @@ use Rattle.template_process.specs.Fuel.{under}
 use Rattle.template_process.specs.Trace.{Run, text_of}
 use Rattle.template_machine_meaning.specs.Meaning.{rendered}
 use Rattle.template_machine_meaning.specs.World.{World}
-use Rattle.template_machine_escape.specs.Rule.{IsRuleOf}
+use Rattle.template_machine_escape.specs.Rule.{IsEscapeOf}
 use Rattle.template_machine_renders.specs.Renders.{IsOver}
 use Rattle.template_compiled.specs.Compiled.{Compiled, standing_of}
 use Rattle.template_compiled.specs.Sources.{IsAccepted, IsRefusedWith}
@@ -53,5 +53,5 @@ pub record RendersText {X : Type 0} (e : Environment) (c : Compiled) (context : 
 abbrev pub RendersSource : {X : Type 0} → Environment → List ℕ → List ℕ → Val → ℕ → ℕ → (X → List ℕ) → Result X (List ErrorKind) → Type 0
 RendersSource e name source context id next text result =
     (IsErrAnd result (IsRefusedWith (read_under e source)) × (next ≡ id))
-    ⊎ (IsAccepted (read_under e source) × ((escape : AutoEscape) → IsRuleOf name escape
+    ⊎ (IsAccepted (read_under e source) × ((escape : AutoEscape) → IsEscapeOf e.config.default_auto_escape name escape
     → RendersText e (record { name = name; source = read_under e source; escape = escape }) context id next text result))

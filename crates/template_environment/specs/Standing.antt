@@ -3,10 +3,11 @@ use Rattle.std.specs.Prelude.{◌≡◌, ℕ, List, Option, codes}
 use Rattle.std.specs.Option.{option_map}
 use Rattle.template_values_modes.specs.declared.UndefinedBehavior.{UndefinedBehavior}
 use Rattle.template_compiler_syntax.specs.Syntax.{Syntax}
+use Rattle.template_machine_escape.specs.declared.EscapeRule.{EscapeRule}
 use Rattle.template_machine_meaning.specs.Meaning.{Setting}
 use Rattle.template_machine_loop.specs.Programs as units
 use Rattle.template_compiled.specs.Compiled.{Compiled, code_for, standing_of}
-use Rattle.template_compiled.specs.Sources.{Source}
+use Rattle.template_compiled.specs.Sources.{Source, read_by}
 use Rattle.template_compiled.specs.Standing.{compiled_at}
 use Rattle.template_environment.specs.declared.environment.Environment.{Environment}
 
@@ -14,9 +15,9 @@ use Rattle.template_environment.specs.declared.environment.Environment.{Environm
 abbrev pub source_at : Environment → List ℕ → Option Source
 source_at e name = option_map (λ c. c.source) (compiled_at e.templates name)
 
--- a text, under the syntax in force
+-- a text, under the syntax and the rule of escapes in force
 abbrev pub read_under : Environment → List ℕ → Source
-read_under e text = record { text = text; syntax = e.syntax }
+read_under e text = read_by e.config text
 
 -- the name of a template from a source without a name
 abbrev pub unnamed : List ℕ
@@ -30,12 +31,20 @@ greatest_limit = 500
 pub record Settings : Type 0 where
   pub id : ℕ
   pub syntax : Syntax
+  pub escapes : EscapeRule
   pub fuel : Option ℕ
   pub limit : ℕ
   pub undefined : UndefinedBehavior
 
 abbrev pub settings_of : Environment → Settings
-settings_of e = record { id = e.id; syntax = e.syntax; fuel = e.fuel; limit = e.recursion_limit; undefined = e.undefined_behavior }
+settings_of e = record {
+  id = e.id;
+  syntax = e.config.syntax_config;
+  escapes = e.config.default_auto_escape;
+  fuel = e.fuel;
+  limit = e.recursion_limit;
+  undefined = e.undefined_behavior;
+}
 
 -- nothing that a caller sees has changed
 pub record IsUnchanged (old new : Environment) : Type 0 where

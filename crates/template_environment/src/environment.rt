@@ -6,7 +6,7 @@ ghost use Rattle.std.specs.List.Sorted.{IsStrictlySortedBy};
 ghost use Rattle.std.specs.Ordering.{nat_cmp};
 ghost use Rattle.template_values_errors.specs.Memory.{NoMemory};
 ghost use Rattle.template_compiler_syntax.specs.Syntax.{default_syntax};
-ghost use Rattle.template_machine_escape.specs.Rule.{IsRuleOf};
+ghost use Rattle.template_machine_escape.specs.Rule.{IsEscapeOf};
 ghost use Rattle.template_compiled.specs.Sources.{IsAccepted, IsRefusedWith};
 ghost use Rattle.template_compiled.specs.Plain.{IsPlain, text_kept};
 ghost use Rattle.template_environment.specs.Plain.{IsRefusedForRoom, ReadGivesItself};
@@ -15,8 +15,9 @@ ghost use Rattle.template_environment.specs.Standing.{greatest_limit};
 use crate::state::State;
 use crate::template::{Template, TemplateCode};
 use std::alloc::Global;
-use template_compiled::{CompiledTemplate, CompiledTemplates};
+use template_compiled::{CompiledTemplate, CompiledTemplates, TemplateConfig};
 use template_compiler_syntax::SyntaxConfig;
+use template_machine_escape::EscapeRule;
 use template_machine_ids::StateIds;
 use template_machine_isolation::isolation;
 use template_machine_loop::{Compiled, Templates};
@@ -40,7 +41,7 @@ pub struct Environment<'source> {
     id: u64,
     alloc: Global,
     pub(crate) templates: CompiledTemplates<'source>,
-    syntax: SyntaxConfig,
+    config: TemplateConfig,
     fuel: Option<u64>,
     recursion_limit: usize,
     undefined_behavior: UndefinedBehavior,
@@ -70,8 +71,8 @@ impl<'source> Environment<'source> {
     ghost use Rattle.template_environment.specs.States.{environment_in, frameless, fuel_left_in, fuel_set_in, id_in, name_in, unknown, world_in};
     ghost use Rattle.template_environment.specs.Views.{environment_of, escape_of, name_of, source_of};
 
-    /// An environment without templates, under the default syntax, without fuel, with the greatest recursion
-    /// limit, where undefined values are lenient. It takes a state id as its own.
+    /// An environment without templates, under the default syntax and escapes by name, without fuel, with the greatest
+    /// recursion limit, where undefined values are lenient. It takes a state id as its own.
     ///
     /// # Errors
     ///
@@ -81,6 +82,55 @@ impl<'source> Environment<'source> {
         ensures settings { IfOk result (λ e. settings_of e ≡ record {
           id = ids.old;
           syntax = default_syntax;
+          escapes = EscapeRule.ByName;
+          fuel = None;
+          limit = greatest_limit;
+          undefined = UndefinedBehavior.Lenient;
+        }) }
+        ensures had_one { OnOk result (ids.old ≢ u64.MAX) }
+        ensures counted { OnOk result (ids.new ≡ ids.old + 1) }
+        ensures refused { IfErr result (λ kinds. (kinds ≡ ErrorKind.InvalidOperation ∷ []) × (ids.old ≡ u64.MAX) × (ids.new ≡ ids.old)) }
+    {
+        Environment::under(alloc, TemplateConfig::new(), ids)
+    }
+
+    /// The same with no escape, whatever a template's name is.
+    ///
+    /// # Errors
+    ///
+    /// As [`Environment::new`].
+    pub fn empty(alloc: Global, ids: &mut StateIds) -> Result<Environment<'source>, Error>
+        ensures empty { IfOk result (λ e. (name : List ℕ) → source_at e name ≡ None) }
+        ensures settings { IfOk result (λ e. settings_of e ≡ record {
+          id = ids.old;
+          syntax = default_syntax;
+          escapes = EscapeRule.Never;
+          fuel = None;
+          limit = greatest_limit;
+          undefined = UndefinedBehavior.Lenient;
+        }) }
+        ensures had_one { OnOk result (ids.old ≢ u64.MAX) }
+        ensures counted { OnOk result (ids.new ≡ ids.old + 1) }
+        ensures refused { IfErr result (λ kinds. (kinds ≡ ErrorKind.InvalidOperation ∷ []) × (ids.old ≡ u64.MAX) × (ids.new ≡ ids.old)) }
+    {
+        let config = TemplateConfig {
+            default_auto_escape: EscapeRule::Never,
+            ..TemplateConfig::new()
+        };
+        Environment::under(alloc, config, ids)
+    }
+
+    // An environment without templates, as new but for what its templates are compiled under.
+    fn under(
+        alloc: Global,
+        config: TemplateConfig,
+        ids: &mut StateIds,
+    ) -> Result<Environment<'source>, Error>
+        ensures empty { IfOk result (λ e. (name : List ℕ) → source_at e name ≡ None) }
+        ensures settings { IfOk result (λ e. settings_of e ≡ record {
+          id = ids.old;
+          syntax = config.syntax_config;
+          escapes = config.default_auto_escape;
           fuel = None;
           limit = greatest_limit;
           undefined = UndefinedBehavior.Lenient;
@@ -94,7 +144,7 @@ impl<'source> Environment<'source> {
             id,
             alloc,
             templates: CompiledTemplates::new(alloc),
-            syntax: SyntaxConfig::new(),
+            config,
             fuel: None,
             recursion_limit: MAX_RECURSION,
             undefined_behavior: UndefinedBehavior::Lenient,
@@ -116,7 +166,7 @@ impl<'source> Environment<'source> {
         ensures plain { IsPlain (read_under self.old source.now) → IfErr result IsRefusedForRoom }
         ensures unchanged { OnErr result (IsUnchanged self.old self.new) }
     {
-        let compiled = CompiledTemplate::new(self.alloc, name, source, &self.syntax)?;
+        let compiled = CompiledTemplate::new(self.alloc, name, source, &self.config)?;
         self.templates.insert(self.alloc, compiled)
     }
 
@@ -142,14 +192,14 @@ impl<'source> Environment<'source> {
         ensures sources { (name : List ℕ) → source_at self.new name ≡ source_at self.old name }
         ensures settings { settings_of self.new ≡ record (settings_of self.old) { syntax = syntax } }
     {
-        self.syntax = syntax;
+        self.config.syntax_config = syntax;
     }
 
     /// The syntax that templates are read under.
     pub fn syntax(&self) -> &SyntaxConfig
         ensures { result.now ≡ (settings_of self.now).syntax }
     {
-        &self.syntax
+        &self.config.syntax_config
     }
 
     /// Sets the fuel of each render from now on, or takes it away.
@@ -249,7 +299,7 @@ impl<'source> Environment<'source> {
         ensures accepted { OnOk result (IsAccepted (read_under self.now source.now)) }
         ensures source { IfOk result (λ t. source_of t ≡ read_under self.now source.now) }
         ensures named { IfOk result (λ t. name_of t ≡ unnamed) }
-        ensures escape { IfOk result (λ t. IsRuleOf unnamed (escape_of t)) }
+        ensures escape { IfOk result (λ t. IsEscapeOf (settings_of self.now).escapes unnamed (escape_of t)) }
         ensures here { IfOk result (λ t. environment_of t ≡ self.now) }
         ensures refused { IfErr result (IsRefusedWith (read_under self.now source.now)) }
         ensures plain { IsPlain (read_under self.now source.now) → IfErr result IsRefusedForRoom }
@@ -271,12 +321,12 @@ impl<'source> Environment<'source> {
         ensures accepted { OnOk result (IsAccepted (read_under self.now source.now)) }
         ensures source { IfOk result (λ t. source_of t ≡ read_under self.now source.now) }
         ensures named { IfOk result (λ t. name_of t ≡ name.now) }
-        ensures escape { IfOk result (λ t. IsRuleOf name.now (escape_of t)) }
+        ensures escape { IfOk result (λ t. IsEscapeOf (settings_of self.now).escapes name.now (escape_of t)) }
         ensures here { IfOk result (λ t. environment_of t ≡ self.now) }
         ensures refused { IfErr result (IsRefusedWith (read_under self.now source.now)) }
         ensures plain { IsPlain (read_under self.now source.now) → IfErr result IsRefusedForRoom }
     {
-        let own = CompiledTemplate::new(self.alloc, name, source, &self.syntax)?;
+        let own = CompiledTemplate::new(self.alloc, name, source, &self.config)?;
         Ok(Template {
             environment: self,
             compiled: TemplateCode::Owned(own),

@@ -5,7 +5,7 @@ ghost use Rattle.template_values_model.specs.Val.{Val};
 ghost use Rattle.template_process.specs.Approximants.{IsFinished};
 ghost use Rattle.template_process.specs.Fuel.{under};
 ghost use Rattle.template_machine_going.specs.Paying.{Paid};
-ghost use Rattle.template_machine_escape.specs.Rule.{IsRuleOf};
+ghost use Rattle.template_machine_escape.specs.Rule.{IsEscapeOf};
 ghost use Rattle.template_machine_operations.specs.Outcomes.{TellsFailures};
 ghost use Rattle.template_machine_renders.specs.Renders.{Renders, leaves};
 ghost use Rattle.template_machine_meaning.specs.World.{first_world};
@@ -80,7 +80,7 @@ impl<'env, 'source> Template<'env, 'source> {
 
     /// The escape of the template's name.
     pub fn initial_auto_escape(&self) -> AutoEscape
-        ensures rule { IsRuleOf (name_of self.now) result }
+        ensures rule { IsEscapeOf (source_of self.now).escapes (name_of self.now) result }
         ensures escape { result ≡ escape_of self.now }
     {
         self.compiled.get().initial_auto_escape()

@@ -45,7 +45,7 @@ mod tests;
 
 pub use template_code_shapes::{Checked, StreamKind, certified_is_good, good_ends_well, verify};
 pub use template_environment::{Captured, Environment, State, Template};
-pub use template_machine_escape::{default_auto_escape_callback, one_rule};
+pub use template_machine_escape::{EscapeRule, default_auto_escape_callback, one_escape, one_rule};
 pub use template_machine_frames::{Context, Frame, LoopState};
 pub use template_machine_ids::StateIds;
 pub use template_machine_isolation::isolation;

@@ -2,7 +2,9 @@
 use Rattle.std.proofs.Common.{◌≡◌, ◌∙◌, ℕ, suc, List, [], ◌∷◌, ◌++◌, get_or, reverse, ap, sym, subst, refl, inl, inr, codes, arith}
 use Rattle.std.proofs.lemmas.List.{append_cancel_right, reverse-append}
 use Rattle.template_values_modes.specs.declared.AutoEscape.{AutoEscape}
-use Rattle.template_machine_escape.specs.Rule.{IsExtensionOf, IsRuleOf, IsStemOf, LacksDots, rule_of_extension}
+use Rattle.template_machine_escape.specs.declared.EscapeRule.{EscapeRule}
+use Rattle.template_machine_escape.specs.declared.EscapeRule.TheVariants.{ByName, Never}
+use Rattle.template_machine_escape.specs.Rule.{IsEscapeOf, IsExtensionOf, IsRuleOf, IsStemOf, LacksDots, rule_of_extension}
 
 -- the ends of a name, read backwards
 backwards : (name s t a b : List ℕ) → name ≡ s ++ a → name ≡ t ++ b → reverse a ++ reverse s ≡ reverse b ++ reverse t
@@ -63,3 +65,8 @@ one_rule name rule other h k =
     let stem : h.0 ≡ k.0 = one_stem name h.0 k.0 h.2 k.2 in
     let extension = one_extension k.0 h.1 k.1 (subst (λ s. IsExtensionOf s h.1) stem h.3) k.3 in
     h.4 ∙ ap rule_of_extension extension ∙ sym k.4
+
+-- under each rule
+pub one_escape : (rule : EscapeRule) (name : List ℕ) (escape other : AutoEscape) → IsEscapeOf rule name escape → IsEscapeOf rule name other → escape ≡ other
+one_escape ByName name escape other h k = one_rule name escape other h k
+one_escape Never name escape other h k = h ∙ sym k

@@ -3,6 +3,8 @@ use Rattle.std.specs.Prelude.{◌≡◌, ◌≢◌, ℕ, ◌<◌, ◌||◌, if�
 use Rattle.std.specs.Str.{bytes_eq}
 use Rattle.template_values_modes.specs.declared.AutoEscape.{AutoEscape}
 use Rattle.template_values_modes.specs.declared.AutoEscape.TheVariants.{None, Html, Json}
+use Rattle.template_machine_escape.specs.declared.EscapeRule.{EscapeRule}
+use Rattle.template_machine_escape.specs.declared.EscapeRule.TheVariants.{ByName, Never}
 
 -- the text ends otherwise
 abbrev pub EndsOtherwise : List ℕ → List ℕ → Type 0
@@ -34,3 +36,8 @@ rule_of_extension e =
 abbrev pub IsRuleOf : List ℕ → AutoEscape → Type 0
 IsRuleOf name rule =
     (stem : List ℕ) × (extension : List ℕ) × IsStemOf name stem × IsExtensionOf stem extension × (rule ≡ rule_of_extension extension)
+
+-- the escape of a name under a rule
+abbrev pub IsEscapeOf : EscapeRule → List ℕ → AutoEscape → Type 0
+IsEscapeOf ByName name escape = IsRuleOf name escape
+IsEscapeOf Never name escape = escape ≡ None

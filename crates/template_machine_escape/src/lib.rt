@@ -2,9 +2,30 @@
 #![tactic(auto)]
 
 ghost use Rattle.std.specs.Prelude.{◌≡◌, ℕ, List};
-ghost use Rattle.template_machine_escape.specs.Rule.{IsExtensionOf, IsRuleOf, IsStemOf, rule_of_extension};
+ghost use Rattle.template_machine_escape.specs.Rule.{IsEscapeOf, IsExtensionOf, IsRuleOf, IsStemOf, rule_of_extension};
 
 use template_values_modes::AutoEscape;
+
+/// How the escape of a template comes of its name.
+#[derive(Clone, Copy, Debug, PartialEq, Eq)]
+pub enum EscapeRule {
+    /// The ending of the name decides, as [`default_auto_escape_callback`] says.
+    ByName,
+    /// There is none, whatever the name.
+    Never,
+}
+
+impl EscapeRule {
+    /// The escape of a name. Takes time linear in the name, and no memory.
+    pub fn escape(self, name: &str) -> AutoEscape
+        ensures { IsEscapeOf self name.now result }
+    {
+        match self {
+            EscapeRule::ByName => default_auto_escape_callback(name),
+            EscapeRule::Never => AutoEscape::None,
+        }
+    }
+}
 
 /// The escape of a template by its name: after one final `.j2`, `.jinja2` or `.jinja` is taken away,
 /// what follows the last dot decides (the whole name, where it has none). `html`, `htm` and `xml` are
@@ -19,6 +40,12 @@ pub fn default_auto_escape_callback(name: &str) -> AutoEscape
 /// A name has no two escapes.
 pub fn one_rule()
     ensures { (name : List ℕ) (rule other : AutoEscape) → IsRuleOf name rule → IsRuleOf name other → rule ≡ other }
+{}
+
+/// Nor has it under a rule.
+pub fn one_escape()
+    ensures { (rule : EscapeRule) (name : List ℕ) (escape other : AutoEscape) →
+        IsEscapeOf rule name escape → IsEscapeOf rule name other → escape ≡ other }
 {}
 
 // The name less one ending that says that it is a template.
@@ -82,6 +109,11 @@ mod tests {
         ];
         for (name, rule) in cases {
             assert!(rt; default_auto_escape_callback(name) == rule, "{name}");
+            assert!(rt; EscapeRule::ByName.escape(name) == rule, "{name}");
+            assert!(rt;
+                EscapeRule::Never.escape(name) == AutoEscape::None,
+                "{name}"
+            );
         }
     }
 }

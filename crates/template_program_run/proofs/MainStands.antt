@@ -2,7 +2,7 @@
 use Rattle.std.proofs.Common.{◌≡◌, ◌∙◌, sym, subst, ap, refl, ℕ, ◌+◌, List, Option, None, Some, inr, string_bytes}
 use Rattle.std.specs.Option.{option_map}
 use Rattle.template_values_model.specs.Val.{Val}
-use Rattle.template_machine_escape.specs.Rule.{IsRuleOf}
+use Rattle.template_machine_escape.specs.Rule.{IsEscapeOf}
 use Rattle.template_machine_meaning.specs.Meaning.{Standing}
 use Rattle.template_compiled.specs.Compiled.{Compiled, standing_of}
 use Rattle.template_compiled.specs.Sources.{Source, tree_in}
@@ -36,18 +36,24 @@ none_there (Some text) is = absurd (none_is (sym is))
 
 -- the main template is the one that was found
 found_there : (request : Request) (additions : List (List ℕ × List ℕ)) (e : Environment) (c : Compiled)
-    → IsMade request additions e → source_at e (string_bytes request.main) ≡ Some c.source → IsRuleOf (string_bytes request.main) c.escape
+    → IsMade request additions e → source_at e (string_bytes request.main) ≡ Some c.source → IsEscapeOf c.source.escapes (string_bytes request.main) c.escape
     → (text : List ℕ) × (standing additions (string_bytes request.main) ≡ Some text)
     × IsTemplateOf (string_bytes request.main) text (standing_of c)
 found_there request additions e c made found rule =
-    let there = text_there (standing additions (string_bytes request.main)) c.source (sym (made.sources (string_bytes request.main)) ∙ found) in
-    (there.0, there.1, record { tree = ap tree_in there.2; rule = rule })
+    let there = text_there (standing additions (string_bytes request.main)) c.source (sym (made.sources (string_bytes request.main)) ∙ found) in (
+      there.0,
+      there.1,
+      record {
+        tree = ap tree_in there.2;
+        rule = subst (λ (s : Source). IsEscapeOf s.escapes (string_bytes request.main) c.escape) there.2 rule;
+      },
+    )
 
 pub answers_done : (request : Request) (additions : List (List ℕ × List ℕ)) (json : Option (List ℕ)) (next : ℕ) (outcome : Outcome)
     (before after : Option (List ℕ)) (failed fails : ℕ)
     → (context : Val) → HasContext request.command json (definitions_of request) context
     → ¬ IsLastId next → AllAreAccepted additions → (e : Environment) → IsMade request additions e
-    → (c : Compiled) → source_at e (string_bytes request.main) ≡ Some c.source → IsRuleOf (string_bytes request.main) c.escape
+    → (c : Compiled) → source_at e (string_bytes request.main) ≡ Some c.source → IsEscapeOf c.source.escapes (string_bytes request.main) c.escape
     → (command : Command) → request.command ≡ command
     → Does command e (standing_of c) request json next outcome before after failed fails
     → Answers request additions json next outcome before after failed fails

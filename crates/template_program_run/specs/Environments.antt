@@ -1,6 +1,7 @@
 -- The environment that a request is answered in.
 use Rattle.std.specs.Prelude.{◌≡◌, ℕ, List, min}
 use Rattle.template_compiler_syntax.specs.Syntax.{default_syntax}
+use Rattle.template_machine_escape.specs.declared.EscapeRule.TheVariants.{ByName}
 use Rattle.template_environment.specs.Standing.{Settings, greatest_limit, settings_of, source_at}
 use Rattle.template_environment.specs.declared.environment.Environment.{Environment}
 use Rattle.template_program_run.specs.History.{source_standing}
@@ -9,6 +10,7 @@ use Rattle.template_program_run.specs.declared.request.Request.{Request}
 -- it is set to what the request asks for
 pub record HasSettings (request : Request) (s : Settings) : Type 0 where
   pub syntax : s.syntax ≡ default_syntax
+  pub escapes : s.escapes ≡ ByName
   pub fuel : s.fuel ≡ request.fuel
   pub limit : s.limit ≡ min request.limit greatest_limit
   pub undefined : s.undefined ≡ request.undefined

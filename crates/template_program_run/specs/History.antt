@@ -3,6 +3,7 @@ use Rattle.std.specs.Prelude.{ℕ, List, [], ◌∷◌, Option, None, Some, if�
 use Rattle.std.specs.Option.{option_map}
 use Rattle.std.specs.Str.{bytes_eq}
 use Rattle.template_compiler_syntax.specs.Syntax.{default_syntax}
+use Rattle.template_machine_escape.specs.declared.EscapeRule.TheVariants.{ByName}
 use Rattle.template_compiled.specs.Sources.{Source}
 
 -- the one given last under the name
@@ -13,9 +14,9 @@ last_under name before (addition ∷ later) = last_under name (if bytes_eq addit
 abbrev pub standing : List (List ℕ × List ℕ) → List ℕ → Option (List ℕ)
 standing additions name = last_under name None additions
 
--- a text, under the syntax of the program
+-- a text, under the syntax of the program, with escapes by name
 abbrev pub source_for : List ℕ → Source
-source_for text = record { text = text; syntax = default_syntax }
+source_for text = record { text = text; syntax = default_syntax; escapes = ByName }
 
 abbrev pub source_standing : List (List ℕ × List ℕ) → List ℕ → Option Source
 source_standing additions name = option_map source_for (standing additions name)

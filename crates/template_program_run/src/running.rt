@@ -1,7 +1,7 @@
 //! The run of a request.
 ghost use Rattle.std.specs.Prelude.{◌≡◌, ℕ, List, Some, option_copied, string_bytes, IfOk, IfErr};
 ghost use Rattle.template_program_context.specs.Context.{texts_in};
-ghost use Rattle.template_machine_escape.specs.Rule.{IsRuleOf};
+ghost use Rattle.template_machine_escape.specs.Rule.{IsEscapeOf};
 ghost use Rattle.template_compiled.specs.Compiled.{standing_of};
 ghost use Rattle.template_compiled.specs.Plain.{IsPlain, text_kept};
 ghost use Rattle.template_environment.specs.Views.{compiled_in, environment_of as place_of, name_of, source_of};
@@ -89,7 +89,7 @@ fn render<S: Sink>(
 ) -> Outcome
     ensures rendered { Rendered (place_of template.now) (standing_of (compiled_in template.now.compiled)) context ids.old result
         (S.taken sink.old) (S.taken sink.new) (S.failures sink.old) (S.failures sink.new) }
-    ensures rule { IsRuleOf (name_of template.now) (compiled_in template.now.compiled).escape }
+    ensures rule { IsEscapeOf (source_of template.now).escapes (name_of template.now) (compiled_in template.now.compiled).escape }
     ensures plain { IsPlain (source_of template.now) → WritesOnDone (S.taken sink.old) (S.taken sink.new) (text_kept (source_of template.now)) result }
     ensures counted { ids.new ≡ behind_one ids.old }
 {
@@ -109,7 +109,7 @@ fn tell_names<'source, S: Sink>(
 ) -> Outcome
     ensures told { Told environment.now (standing_of (compiled_in template.now.compiled)) result
         (S.taken sink.old) (S.taken sink.new) (S.failures sink.old) (S.failures sink.new) }
-    ensures rule { IsRuleOf (name_of template.now) (compiled_in template.now.compiled).escape }
+    ensures rule { IsEscapeOf (source_of template.now).escapes (name_of template.now) (compiled_in template.now.compiled).escape }
 {
     let _escape = template.initial_auto_escape();
     let names = match environment.context_names(template) {

@@ -1,7 +1,7 @@
 //! From texts to their code.
 use crate::{
     CompiledTemplate, CompiledTemplates, Error, ErrorKind, Instruction, Instructions, SyntaxConfig,
-    is_runnable, parse,
+    TemplateConfig, is_runnable, parse,
 };
 use std::alloc::Global;
 use std::test::Fail;
@@ -11,7 +11,7 @@ fn compiled<'a>(
     name: &'a str,
     source: &'a str,
 ) -> Result<CompiledTemplate<'a>, Error> {
-    CompiledTemplate::new(alloc, name, source, &SyntaxConfig::new())
+    CompiledTemplate::new(alloc, name, source, &TemplateConfig::new())
 }
 
 fn shown<'a>(instructions: &'a Instructions<'_>, index: u32) -> (&'static str, &'a str) {

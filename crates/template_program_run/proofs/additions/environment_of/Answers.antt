@@ -1,6 +1,8 @@
 use Rattle.std.proofs.Common.{◌≡◌, ◌∙◌, ℕ, List, ap, sym, subst, Some, inr, get_or, string_bytes, if◌then◌else◌, bytes_eq}
 use Rattle.std.proofs.lemmas.Result.{err_from_is_err_and}
 use Rattle.template_compiler_syntax.specs.Syntax.{Syntax, default_syntax}
+use Rattle.template_machine_escape.specs.declared.EscapeRule.{EscapeRule}
+use Rattle.template_machine_escape.specs.declared.EscapeRule.TheVariants.{ByName}
 use Rattle.template_compiled.specs.Sources.{IsAccepted, IsRefusedWith, Source}
 use Rattle.template_environment.specs.Standing.{Settings, read_under, source_at}
 use Rattle.template_program_run.specs.Environments.{HasSettings}
@@ -8,13 +10,14 @@ use Rattle.template_program_run.specs.History.{source_for}
 use Rattle.template_program_run.proofs.Histories.{accepted-next, refuses-at, source-next}
 use Rattle.template_program_run.proofs.additions.environment_of.Goals as goal
 
--- a text and a syntax make this source
-abbrev IsReadAs : List ℕ → Syntax → Source → Type 0
-IsReadAs given syntax source = record { text = given; syntax = syntax } ≡ source
+-- a text, a syntax and a rule of escapes make this source
+abbrev IsReadAs : List ℕ → Syntax → EscapeRule → Source → Type 0
+IsReadAs given syntax escapes source = record { text = given; syntax = syntax; escapes = escapes } ≡ source
 
 -- what is read is the source of the addition
-read_there : (given text : List ℕ) (syntax : Syntax) → syntax ≡ default_syntax → given ≡ text → IsReadAs given syntax (source_for text)
-read_there given text syntax same is = λ i. record { text = is i; syntax = same i }
+read_there : (given text : List ℕ) (syntax : Syntax) (escapes : EscapeRule) → syntax ≡ default_syntax → escapes ≡ ByName → given ≡ text
+    → IsReadAs given syntax escapes (source_for text)
+read_there given text syntax escapes same rule is = λ i. record { text = is i; syntax = same i; escapes = rule i }
 
 pub returns-in_err-add_template-clause-refused : goal.returns-in_err-add_template-clause-refused
 returns-in_err-add_template-clause-refused c =
@@ -23,7 +26,7 @@ returns-in_err-add_template-clause-refused c =
     let i = c.loop-name.name-index in
     let d = c.loop-name-item.result in
     let text : c.as_str-in-loop-name.result.now ≡ string_bytes (get_or xs i d).1 = c.as_str-in-loop-name.ensures.value ∙ ap (λ x. string_bytes x.1) c.loop-name-item.is in
-    let source = read_there _ _ _ c.loop-name.invariant.settings.syntax text in
+    let source = read_there _ _ _ _ c.loop-name.invariant.settings.syntax c.loop-name.invariant.settings.escapes text in
     let refused = subst (λ (s : Source). IsRefusedWith s c.in_err-add_template.field-0.0) source c.in_err-add_template.ensures.refused in
     rw (p.1, p.2) (inr (c.in_ok-environment.ensures.had_one, refuses-at xs i d c.loop-name-test.true c.in_err-add_template.field-0.0 c.loop-name.invariant.accepted refused))
 
@@ -34,7 +37,7 @@ loop-name-preserved c =
     let d = c.loop-name-item.result in
     let name : c.as_str.result.now ≡ string_bytes (get_or xs i d).0 = c.as_str.ensures.value ∙ ap (λ x. string_bytes x.0) c.loop-name-item.is in
     let text : c.as_str-in-loop-name.result.now ≡ string_bytes (get_or xs i d).1 = c.as_str-in-loop-name.ensures.value ∙ ap (λ x. string_bytes x.1) c.loop-name-item.is in
-    let source = read_there _ _ _ c.loop-name.invariant.settings.syntax text in
+    let source = read_there _ _ _ _ c.loop-name.invariant.settings.syntax c.loop-name.invariant.settings.escapes text in
     record {
       accepted = accepted-next xs i d c.loop-name-test.true c.loop-name.invariant.accepted (subst IsAccepted source c.in_ok-add_template.ensures.accepted);
       stands = λ q.

@@ -1,7 +1,7 @@
 use Rattle.std.proofs.Common.{◌∙◌, sym, subst, rules, List, ℕ, option_copied}
-use Rattle.template_machine_escape.specs.Rule.{IsRuleOf}
+use Rattle.template_machine_escape.specs.Rule.{IsEscapeOf}
 use Rattle.template_compiled.specs.Compiled.{standing_of}
-use Rattle.template_environment.specs.Views.{compiled_in, environment_of}
+use Rattle.template_environment.specs.Views.{compiled_in, environment_of, source_of}
 use Rattle.template_program_context.specs.Context.{texts_in}
 use Rattle.template_program_run.specs.Environments.{IsMade}
 use Rattle.template_program_run.specs.declared.request.Command.TheVariants as asked
@@ -17,7 +17,7 @@ returns-in-Render-clause-answers g c =
     let main = c.as_str.ensures.value in
     answers_done c.args.request.now (texts_in c.args.templates.now) (option_copied c.args.context) c.args.ids.now c.render.result _ _ _ _
     c.in-Ok.context c.in-Ok.ensures.has e.ensures.had_one e.ensures.accepted (environment_of t.template) made (compiled_in t.template.compiled)
-    (search rules) (subst (λ (n : List ℕ). IsRuleOf n (compiled_in t.template.compiled).escape) (t.ensures.named ∙ main) c.render.ensures.rule)
+    (search rules) (subst (λ (n : List ℕ). IsEscapeOf (source_of t.template).escapes n (compiled_in t.template.compiled).escape) (t.ensures.named ∙ main) c.render.ensures.rule)
     asked.Render (search rules)
     (rendered_does c.args.request.now (option_copied c.args.context) c.args.ids.now c.render.result _ _ _ _ c.in-Ok.context c.in-Ok.ensures.has (search rules)
     (environment_of t.template) (standing_of (compiled_in t.template.compiled)) c.environment_of.new.ids
@@ -30,7 +30,7 @@ returns-in-Names-clause-answers g c =
     let main = c.as_str.ensures.value in
     answers_done c.args.request.now (texts_in c.args.templates.now) (option_copied c.args.context) c.args.ids.now c.tell_names.result _ _ _ _
     c.in-Ok.context c.in-Ok.ensures.has e.ensures.had_one e.ensures.accepted e.environment e.ensures.made (compiled_in t.template.compiled)
-    (search rules) (subst (λ (n : List ℕ). IsRuleOf n (compiled_in t.template.compiled).escape) (t.ensures.named ∙ main) c.tell_names.ensures.rule)
+    (search rules) (subst (λ (n : List ℕ). IsEscapeOf (source_of t.template).escapes n (compiled_in t.template.compiled).escape) (t.ensures.named ∙ main) c.tell_names.ensures.rule)
     asked.Names (search rules) c.tell_names.ensures.told
 
 pub returns-in-Render-clause-counted : goal.returns-in-Render-clause-counted
