@@ -228,6 +228,45 @@ fn sources_render_without_standing(rt: HostRuntime) -> Result<(), Fail> {
     Ok(())
 }
 
+#[test]
+fn an_empty_environment_escapes_nothing(rt: HostRuntime) -> Result<(), Fail> {
+    let alloc = rt.alloc();
+    let mut ids = StateIds::new(0);
+    let mut environment = Environment::empty(alloc, &mut ids)?;
+    environment.add_template("t.html", "{{ x }}{% set x = 1 %}{% set _z = 2 %}")?;
+    let markup = Value::from_str(alloc, "<b>")?;
+    let three = Value::from_int(3);
+    let context = Value::from_pairs(alloc, vec![in alloc; ("x", markup), ("y", three)]?)?;
+    let template = environment.get_template("t.html")?;
+    let captured = template.render_captured(&mut ids, context)?;
+    assert_eq!(rt; captured.output(), "<b>");
+    assert_eq!(rt; told(alloc, &captured.state().exports()?)?.as_str(), "x ");
+    let known = told(alloc, &captured.state().known_variables()?)?;
+    assert_eq!(rt; known.as_str(), "_z x y ");
+    Ok(())
+}
+
+#[test]
+fn a_text_without_markers_renders_to_itself(rt: HostRuntime) -> Result<(), Fail> {
+    let mut ids = StateIds::new(0);
+    let mut environment = Environment::new(rt.alloc(), &mut ids)?;
+    for (source, text) in [
+        ("{ a } % # <b>\r\n", "{ a } % # <b>"),
+        ("\n", ""),
+        ("a\n\n", "a\n"),
+    ] {
+        let given = environment.render_named_str("t.html", source, &mut ids, Value::undefined())?;
+        assert_eq!(rt; given.as_str(), text);
+    }
+    environment.set_fuel(Some(2));
+    let paid = environment.render_str("a", &mut ids, Value::undefined())?;
+    assert_eq!(rt; paid.as_str(), "a");
+    environment.set_fuel(Some(1));
+    let cut = environment.render_str("a", &mut ids, Value::undefined());
+    assert!(rt; kind_of(cut).err() == Some(ErrorKind::OutOfFuel));
+    Ok(())
+}
+
 // Names, a space behind each.
 fn told(alloc: Global, names: &BTreeSet<String>) -> Result<String, Fail> {
     let mut text = String::new(alloc);
