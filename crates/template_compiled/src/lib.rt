@@ -1,8 +1,10 @@
-//! Templates that were accepted: their code, which is that of the tree of their source.
+//! Templates and expressions that were accepted: their code, which is that of the tree of their source.
 #![tactic(auto)]
 
 mod compiled;
+mod expression;
 mod templates;
 
 pub use compiled::{CompiledTemplate, one_tree};
+pub use expression::{CompiledExpression, one_expression};
 pub use templates::CompiledTemplates;
