@@ -1,11 +1,11 @@
-use Rattle.std.proofs.Common.{◌≡◌, true, List, ◌++◌, length, inl, inr, ap, subst, ◌∙◌, rules}
+use Rattle.std.proofs.Common.{◌≡◌, true, List, ◌++◌, length, inl, inr, ap, sym, subst, ◌∙◌, rules}
 use Rattle.template_tree.specs.StatementView.{statement_of}
 use Rattle.template_code.specs.Code.{Code}
 use Rattle.template_compiler_codegen.specs.Statements.{no_ways, statements_code}
 use Rattle.template_compiler_statement_codegen.specs.Listed.{body_in}
 use Rattle.template_compiler_sources.specs.Source.{IsSource}
 use Rattle.template_compiler_syntax.specs.Syntax.{Syntax}
-use Rattle.template_compiled.proofs.Accepting.{kept, unsupported}
+use Rattle.template_compiled.proofs.Accepting.{kept, runs_tree, unsupported}
 use Rattle.template_compiled.proofs.compiled.CompiledTemplate.new.Goals as goal
 
 pub returns-then-not-is_runnable-clause-refused : goal.returns-then-not-is_runnable-clause-refused

@@ -1,4 +1,4 @@
-use Rattle.std.proofs.Common.{◌≡◌, ◌∙◌, ap, List, ℕ, false, true, Some, cond, bytes_eq, string_bytes, rules}
+use Rattle.std.proofs.Common.{◌≡◌, ◌∙◌, ap, List, ℕ, false, true, Some, cond, Option, bytes_eq, string_bytes, rules}
 use Rattle.std.proofs.lemmas.Map.Text.{btree_map_updates_text}
 use Rattle.std.proofs.lemmas.Slice.Eq.{bytes_eq-Decides}
 use Rattle.std.specs.BTreeMap.{get_by_text}

@@ -1,4 +1,4 @@
-use Rattle.std.proofs.Common.{◌≡◌, false, true, None}
+use Rattle.std.proofs.Common.{◌≡◌, List, ℕ, false, true, None}
 use Rattle.std.proofs.lemmas.Map.Text.{btree_map_updates_text}
 use Rattle.template_compiler_runnable.specs.Running.{statements_run}
 use Rattle.template_compiled.specs.Sources.{tree_in}
