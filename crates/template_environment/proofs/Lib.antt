@@ -2,3 +2,4 @@ pub mod Rendering
 pub mod Naming
 pub mod Sourced
 pub mod Listed
+pub mod Evaluating

@@ -3,3 +3,4 @@ pub mod Renderings
 pub mod States
 pub mod Views
 pub mod Isolated
+pub mod Evaluations
