@@ -113,6 +113,6 @@ impl<'source> CompiledExpression<'source> {
 
 /// A law, as the contract of a function that does nothing: the expression that a source is, is the one that it is read
 /// to.
-pub fn one_expression()
+pub fn one_standalone_tree()
     ensures { (source : List ℕ) (e : Expression) → IsExpressionSource source e → expression_in source ≡ e }
 {}

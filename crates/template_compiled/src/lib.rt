@@ -6,5 +6,5 @@ mod expression;
 mod templates;
 
 pub use compiled::{CompiledTemplate, one_tree};
-pub use expression::{CompiledExpression, one_expression};
+pub use expression::{CompiledExpression, one_standalone_tree};
 pub use templates::CompiledTemplates;

@@ -30,8 +30,8 @@ pub struct Expression<'env, 'source> {
 impl<'source> Environment<'source> {
     ghost use Rattle.template_environment.specs.Evaluations.{environment_under, text_of};
 
-    /// An expression from its source, which the syntax does not change. Takes time linear in the source, besides what
-    /// the operators of constant trees cost.
+    /// Compiles the source of an expression, which is read alike under every syntax. Takes time linear in the source,
+    /// besides what the operators of constant trees cost.
     ///
     /// # Errors
     ///

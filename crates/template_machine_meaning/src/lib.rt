@@ -2,7 +2,8 @@
 //! template means.
 #![tactic(auto)]
 
-ghost use Rattle.template_machine_meaning.specs.Laws.{BoundsExtend, EvaluationsNeedNoBound, EveryEvaluationGives, EveryRunEnds, MeaningsExtend, OneMeaning};
+ghost use Rattle.template_machine_meaning.specs.Laws.{BoundsExtend, EveryRunEnds, MeaningsExtend, OneMeaning};
+ghost use Rattle.template_machine_meaning.specs.Laws.{EvaluationsNeedNoBound, EveryEvaluationGives};
 
 /// Under a greater bound a process that goes further gives a run that extends.
 pub fn bounds_extend()

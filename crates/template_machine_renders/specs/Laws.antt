@@ -31,6 +31,7 @@ StopsRender X = (setting : Setting) (tree : Statements) (w : World) (fuel : Opti
 
 -- What a run of an expression's code tells is what its tree means, cut by the fuel.
 abbrev pub ExpressionsEvaluate : Type 0
-ExpressionsEvaluate = (setting : Setting) (e : Expression) → IsRunnable e → (w after : World) (fuel left : Option ℕ) (before taken : Option (List ℕ))
-    (result : Result Val (List ErrorKind)) → Evaluates (codes_of setting) (standalone_code e) w fuel before result after left taken
+ExpressionsEvaluate = (setting : Setting) (e : Expression) → IsRunnable e → (w after : World) (fuel left : Option ℕ)
+    (before taken : Option (List ℕ)) (result : Result Val (List ErrorKind))
+    → Evaluates (codes_of setting) (standalone_code e) w fuel before result after left taken
     → GivesValue result (under fuel (evaluation setting e w))
