@@ -4,3 +4,4 @@ pub mod Accepting
 pub mod Updates
 pub mod Using
 pub mod Listing
+pub mod Alone

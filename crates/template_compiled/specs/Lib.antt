@@ -3,3 +3,4 @@ pub mod Compiled
 pub mod Names
 pub mod Plain
 pub mod Standing
+pub mod Expressions

@@ -1,10 +1,12 @@
-//! Templates that were accepted: their code, which is that of the tree of their source.
+//! Templates and expressions that were accepted: their code, which is that of the tree of their source.
 #![tactic(auto)]
 
 mod compiled;
 mod config;
+mod expression;
 mod templates;
 
 pub use compiled::{CompiledTemplate, one_tree, plain_text};
 pub use config::TemplateConfig;
+pub use expression::{CompiledExpression, one_standalone_tree};
 pub use templates::CompiledTemplates;

@@ -25,9 +25,11 @@
 //!   [`Parser`] does both for one source, and keeps a refusal.
 //! - [`find_undeclared`] gives the names that a tree uses, which a context may be asked for;
 //!   [`add_undeclared`] adds them to a set.
-//! - [`is_runnable`] tells whether all constructs of a tree have a walk yet.
+//! - [`is_runnable`] tells whether all constructs of a template's tree have a walk yet, [`is_runnable_expr`] of an
+//!   expression's.
 //! - [`compile_template`] puts the code of a tree behind what stands in [`Instructions`], [`compile_expr`]
-//!   that of an expression. [`CompiledTemplate::new`] does all of it: from a text to its code.
+//!   that of an expression. [`CompiledTemplate::new`] and [`CompiledExpression::new`] do all of it: from a text to its
+//!   code.
 //!
 //! # What is proved
 //!
@@ -36,7 +38,7 @@
 //! instructions. [`one_token`] says that at each place stands one token or fault, [`one_template`] and
 //! [`is_decided`] that tokens have one tree or none, [`templates_perform`] and [`expressions_perform`] that
 //! the code of every tree does exactly what the tree's walk does, whatever is answered, and [`one_tree`]
-//! which tree an accepted source has.
+//! and [`one_standalone_tree`] which tree an accepted source has.
 #![tactic(auto)]
 
 pub mod ast;
@@ -48,11 +50,12 @@ pub use template_code::{
     LOOP_FLAG_WITH_LOOP_VAR, LocalId, MACRO_CALLER, MAX_LOCALS, code_rises,
 };
 pub use template_compiled::{
-    CompiledTemplate, CompiledTemplates, TemplateConfig, one_tree, plain_text,
+    CompiledExpression, CompiledTemplate, CompiledTemplates, TemplateConfig, one_standalone_tree,
+    one_tree, plain_text,
 };
 pub use template_compiler_codegen::{expressions_perform, templates_perform};
 pub use template_compiler_expression_codegen::compile_expr;
-pub use template_compiler_runnable::is_runnable;
+pub use template_compiler_runnable::{is_runnable, is_runnable_expr};
 pub use template_compiler_sources::{Parser, parse, parse_expr};
 pub use template_compiler_statement_codegen::compile_template;
 pub use template_compiler_statement_laws::{is_decided, one_template, reads_the_grammar};

@@ -1,11 +1,18 @@
 //! Expressions. A tree is gone along its left parts in a loop; its other parts nest at most 150 deep.
-ghost use Rattle.std.specs.Prelude.{◌≡◌};
+ghost use Rattle.std.specs.Prelude.{◌≡◌, ◌↔◌, IsTrue};
 ghost use Rattle.template_tree.specs.View.{expression_of, expressions_in, links_in, optional_in};
-ghost use Rattle.template_walk.specs.Runnable.{is_kept_back};
+ghost use Rattle.template_walk.specs.Runnable.{IsRunnable, is_kept_back};
 ghost use Rattle.template_compiler_runnable.specs.Running.{runs, runs_beside, runs_if_given, all_run, chain_runs, links_run};
 
 use template_tree::{CompareOp, Expr};
 use template_tree_spines::left;
+
+/// Whether an expression's tree is one whose constructs all have a walk. Takes linear time.
+pub fn is_runnable_expr(expr: &Expr<'_>) -> bool
+    ensures { IsTrue result ↔ IsRunnable (expression_of expr.now) }
+{
+    expression_runs(expr)
+}
 
 // Whether the engine gives the name, in places, a value that is not there yet.
 fn is_kept_back(name: &str) -> bool

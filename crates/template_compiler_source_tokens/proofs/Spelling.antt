@@ -1,6 +1,6 @@
 -- The tokens of a text, from its front on.
-use Rattle.std.proofs.Common.{◌≡◌, ℕ, zero, suc, ◌+◌, ◌<◌, inl, inr, true, false, List, [], ◌∷◌, ◌++◌, map, Ok, Err, length, drop, slice_index, refl, sym, ap, ◌∙◌, subst, arith}
-use Rattle.std.proofs.lemmas.List.{get_or-drop}
+use Rattle.std.proofs.Common.{◌≡◌, ℕ, zero, suc, ◌+◌, ◌<◌, ◌≤◌, Bool, inl, inr, true, false, List, [], ◌∷◌, ◌++◌, map, Ok, Err, length, drop, slice_index, refl, sym, ap, ◌∙◌, subst, arith}
+use Rattle.std.proofs.lemmas.List.{get_or-drop, length-drop}
 use Rattle.std.specs.Char.{is_ascii_whitespace}
 use Rattle.std.specs.Str.{IsAsciiWhitespaceBelow, IsTrimAsciiStart}
 use Rattle.template_tree.specs.declared.span.Span.{Span}
@@ -8,9 +8,11 @@ use Rattle.template_values_errors.specs.declared.ErrorKind.{ErrorKind}
 use Rattle.template_compiler_tokens.specs.Token as spec
 use Rattle.template_compiler_tokens.specs.Token.{TokenFault, bad}
 use Rattle.template_compiler_tokens.specs.Left.{kind_of}
-use Rattle.template_compiler_tokens.specs.Lexical.{Begins, token_at}
-use Rattle.template_compiler_tokens.proofs.OneToken.{one_token}
+use Rattle.template_compiler_tokens.specs.Lexical.{no_sign, Class, name_class, number_class, text_class, sign_class, class_of, BeginsAs, Begins, IsToken, token_at}
+use Rattle.template_compiler_tokens.specs.Texts.{bad_text, open_text}
+use Rattle.template_compiler_tokens.proofs.OneToken.{one_token, some_token}
 use Rattle.template_compiler_segments.specs.Segments.{is_bad}
+use Rattle.template_compiler_segments.proofs.Bytes.{takes_bytes}
 use Rattle.template_compiler_tokens.specs.View.{token_of}
 use Rattle.template_compiler_tokens.specs.declared.token.Token.{Token}
 use Rattle.template_compiler_scanner.specs.Scans.{Scans}
@@ -92,3 +94,50 @@ one_spelled (b ∷ s) ts (u ∷ us) (spelled_bad {fault = f} some w h) (spelled_
     let same = one_front (b ∷ s) u (bad f) n 0 h' h in let bad_one = sym g ∙ ap is_bad same.0 in cc
 one_spelled (b ∷ s) ts us (spelled_bad {fault = f} some w h) (spelled_bad {fault = g} some' w' h') =
     ap (λ t. t ∷ []) ((one_front (b ∷ s) (bad f) (bad g) 0 0 h h').0)
+
+-- every text is spelled in some way
+none_taken : (k : Class) (s : List ℕ) (f : TokenFault) (n : ℕ) → BeginsAs k s (bad f) n → n ≡ 0
+none_taken name_class s f n (e, w) = cc
+none_taken number_class s f n (e, w) = w
+none_taken text_class s f n (bad_text h none) = refl
+none_taken text_class s f n (open_text none) = refl
+none_taken sign_class s f n (no_sign e h) = refl
+
+fault_in : (t : spec.Token) → is_bad t ≡ true → (f : TokenFault) × (t ≡ bad f)
+fault_in (bad f) e = (f, refl)
+fault_in _ e = cc
+
+begins_there : (s : List ℕ) → (t : spec.Token) × (n : ℕ) × Begins s t n
+begins_there s = at_front (some_token s 0)
+  where
+    at_front : ((t : spec.Token) × (n : ℕ) × IsToken s 0 t n) → (t : spec.Token) × (n : ℕ) × Begins s t n
+    at_front (t, n, token_at width begins e) = (t, width, begins)
+
+-- all that is shorter is spelled
+abbrev IsSpelledBelow : List ℕ → Type 0
+IsSpelledBelow s = (r : List ℕ) → length r < length s → (ts : List spec.Token) × IsSpelled r ts
+
+spelled_by_token : (b : ℕ) (s : List ℕ) → IsSpelledBelow (b ∷ s) → is_ascii_whitespace b ≡ false → (t : spec.Token) (n : ℕ) → Begins (b ∷ s) t n
+    → (none : Bool) → is_bad t ≡ none → (ts : List spec.Token) × IsSpelled (b ∷ s) ts
+spelled_by_token b s shorter black t n begins true none =
+    let fault = fault_in t none in
+    let here : Begins (b ∷ s) (bad fault.0) n = subst (λ u. Begins (b ∷ s) u n) fault.1 begins in
+    let nothing : n ≡ 0 = none_taken (class_of b) (b ∷ s) fault.0 n here in
+    (bad fault.0 ∷ [], spelled_bad (omega arith) black (subst (Begins (b ∷ s) (bad fault.0)) nothing here))
+spelled_by_token b s shorter black t n begins false good =
+    let long = takes_bytes (b ∷ s) 0 (0 + n) t (token_at n begins refl) good in
+    let rest = shorter (drop n (b ∷ s)) (omega (arith, long.0, length-drop n (b ∷ s))) in
+    (t ∷ rest.0, spelled_token n (omega arith) black begins good rest.1)
+
+spelled_by_byte : (b : ℕ) (s : List ℕ) → IsSpelledBelow (b ∷ s) → (blank : Bool) → is_ascii_whitespace b ≡ blank → (ts : List spec.Token) × IsSpelled (b ∷ s) ts
+spelled_by_byte b s shorter true blank = let rest = shorter s (omega arith) in (rest.0, spelled_blank blank rest.1)
+spelled_by_byte b s shorter false black =
+    let there = begins_there (b ∷ s) in spelled_by_token b s shorter black there.0 there.1 there.2 (is_bad there.0) refl
+
+spelled_within : (room : ℕ) (s : List ℕ) → length s ≤ room → (ts : List spec.Token) × IsSpelled s ts
+spelled_within room [] fits = ([], spelled_end)
+spelled_within zero (b ∷ s) fits = absurd (omega arith)
+spelled_within (suc room) (b ∷ s) fits = spelled_by_byte b s (λ r less. spelled_within room r (omega arith)) (is_ascii_whitespace b) refl
+
+pub some_spelled : (s : List ℕ) → (ts : List spec.Token) × IsSpelled s ts
+some_spelled s = spelled_within (length s) s (omega arith)

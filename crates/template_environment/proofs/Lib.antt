@@ -3,3 +3,4 @@ pub mod Naming
 pub mod Plain
 pub mod Sourced
 pub mod Listed
+pub mod Evaluating

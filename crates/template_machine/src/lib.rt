@@ -23,6 +23,8 @@
 //!   [`Sink`]: a `String`, a [`WriteWrapper`] over a writer, or a [`NullWriter`]. [`Captured`] is what a render
 //!   leaves, with its [`State`], which knows the names that were stored.
 //! - [`Environment::render_str`] renders a source that does not stand.
+//! - [`Environment::compile_expression`] compiles an expression that stands alone, and [`Expression::eval`] gives its
+//!   value over a context.
 //! - [`Environment::set_fuel`] bounds each render by its steps, and [`State::fuel_levels`] tells what one
 //!   consumed; [`Environment::set_recursion_limit`] bounds how deep it may be.
 //! - [`Environment::set_undefined_behavior`] says what may be done with undefined values, and
@@ -37,19 +39,20 @@
 //! and then a beginning of the text is written. [`every_run_ends`] and [`one_meaning`] say that every render
 //! ends, and in one way; [`isolation`] that it takes no more of its context than the names that are listed;
 //! [`enough_is_enough`], [`fuel_adds_up`] and [`writes_beginning`] are the laws of fuel, and
-//! [`good_ends_well`] that of verified instructions.
+//! [`good_ends_well`] that of verified instructions. An expression gives the value that its tree means under the fuel,
+//! or its fault, unless it wants memory; [`every_evaluation_gives`] says that it is one of the two.
 #![tactic(auto)]
 
 #[cfg(test)]
 mod tests;
 
 pub use template_code_shapes::{Checked, StreamKind, certified_is_good, good_ends_well, verify};
-pub use template_environment::{Captured, Environment, State, Template};
+pub use template_environment::{Captured, Environment, Expression, State, Template};
 pub use template_machine_escape::{EscapeRule, default_auto_escape_callback, one_escape, one_rule};
 pub use template_machine_frames::{Context, Frame, LoopState};
 pub use template_machine_ids::StateIds;
 pub use template_machine_isolation::isolation;
-pub use template_machine_meaning::{every_run_ends, one_meaning};
+pub use template_machine_meaning::{every_evaluation_gives, every_run_ends, one_meaning};
 pub use template_machine_output::{NullWriter, Sink, SinkFault, WriteWrapper, write_text};
 pub use template_machine_state::{Caller, State as MachineState};
 pub use template_process::{enough_is_enough, fuel_adds_up, writes_beginning};

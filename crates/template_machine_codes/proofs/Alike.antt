@@ -10,11 +10,11 @@ use Rattle.template_process.specs.Drive.{End, ends, faults, breaks, waits, mista
 use Rattle.template_process.specs.Trace.{paid, Reply, Run, run, behind, ended, go_on, replied}
 use Rattle.template_process.specs.Approximants.{IsFinished}
 use Rattle.template_process.proofs.Below.{below-trans}
-use Rattle.template_walk.specs.Statements.{template_walk}
+use Rattle.template_walk.specs.Statements.{standalone_walk, template_walk}
 use Rattle.template_code.specs.Steps.{exec}
 use Rattle.template_code.proofs.Rising.{exec_more}
-use Rattle.template_compiler_codegen.specs.Statements.{template_code}
-use Rattle.template_compiler_codegen.proofs.Whole.{templates_perform}
+use Rattle.template_compiler_codegen.specs.Statements.{standalone_code, template_code}
+use Rattle.template_compiler_codegen.proofs.Whole.{expressions_perform, templates_perform}
 use Rattle.template_machine_meaning.specs.World.{World, has_room}
 use Rattle.template_machine_meaning.specs.Replies.{refused}
 use Rattle.template_machine_meaning.specs.Includes.{Runner, choices_in, first_standing, told_of, include_levels, wrapped, included_run, included_by, included_from}
@@ -22,7 +22,7 @@ use Rattle.template_machine_meaning.specs.Surroundings.{Program, runners, answer
 use Rattle.template_machine_meaning.specs.Meaning.{Standing, Setting, walks_of}
 use Rattle.template_machine_meaning.proofs.Included.{found, with_runner, first_is, mapped}
 use Rattle.template_machine_codes.specs.Codes.{codes_of}
-use Rattle.template_machine_codes.specs.Laws.{CodeMeansTree}
+use Rattle.template_machine_codes.specs.Laws.{CodeMeansExpression, CodeMeansTree}
 
 -- how the walks and the codes run
 abbrev walk_unfinished : Setting → Standing → Runner
@@ -203,3 +203,14 @@ all_alike setting (suc n) =
 
 pub code_means_tree : CodeMeansTree
 code_means_tree setting tree w n finished = all_alike setting n (record { tree = tree; escape = w.escape }) w finished
+
+-- an expression's code, where it may run for long enough
+pub code_means_expression : CodeMeansExpression
+code_means_expression setting e w finished =
+    let same = run_alike setting 0 (λ k is. absurd (omega (arith, is))) (standalone_walk e) w finished in
+    let performed = expressions_perform e in (
+      same.0 + performed.0,
+      λ m le.
+          same.1 m (omega arith) (exec (standalone_code e) m 0 [])
+          (below-trans (standalone_walk e) (exec (standalone_code e) performed.0 0 []) (exec (standalone_code e) m 0 []) performed.1 (exec_more (standalone_code e) performed.0 m (omega arith) 0 [])),
+    )

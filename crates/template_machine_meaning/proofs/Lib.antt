@@ -8,3 +8,4 @@ pub mod Loops
 pub mod Included
 pub mod Statements
 pub mod Ends
+pub mod Evaluating

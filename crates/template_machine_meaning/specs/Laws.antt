@@ -1,13 +1,15 @@
 -- The laws of meanings under bounds.
-use Rattle.std.specs.Prelude.{◌≡◌, ℕ, ◌≤◌, List, ◌∷◌, Option, None, Some}
-use Rattle.template_tree.specs.Tree.{Statements}
+use Rattle.std.specs.Prelude.{◌≡◌, ℕ, ◌≤◌, List, [], ◌∷◌, Option, None, Some}
+use Rattle.template_tree.specs.Tree.{Expression, Statements}
 use Rattle.template_process.specs.Process.{Process, Below}
+use Rattle.template_process.specs.Drive.{End, ends, faults}
 use Rattle.template_process.specs.Trace.{run}
 use Rattle.template_process.specs.Approximants.{Extends, IsFinished}
-use Rattle.template_walk.specs.Runnable.{IsRunnableTemplate}
+use Rattle.template_walk.specs.Runnable.{IsRunnable, IsRunnableTemplate}
+use Rattle.template_walk.specs.Statements.{standalone_walk}
 use Rattle.template_machine_meaning.specs.World.{Frame, World}
 use Rattle.template_machine_meaning.specs.Surroundings.{Program, Programs, answer}
-use Rattle.template_machine_meaning.specs.Meaning.{Standing, Setting, meaning}
+use Rattle.template_machine_meaning.specs.Meaning.{Standing, Setting, walks_of, meaning, evaluation}
 
 -- the second goes further, under the same escape
 abbrev pub ProgramGoesFurther : Option Program → Option Program → Type 0
@@ -43,3 +45,18 @@ abbrev pub OneMeaning : Type 0
 OneMeaning = (setting : Setting) (n m : ℕ) (tree : Statements) (w : World)
     → IsFinished (meaning setting n tree w).end → IsFinished (meaning setting m tree w).end
     → meaning setting n tree w ≡ meaning setting m tree w
+
+-- the run leaves one value, or ends with a fault
+abbrev pub GivesOne : End → Type 0
+GivesOne (ends (v ∷ [])) = Unit {0}
+GivesOne (faults kinds) = Unit {0}
+GivesOne _ = ⊥
+
+-- Every expression comes to its value, or to a fault.
+abbrev pub EveryEvaluationGives : Type 0
+EveryEvaluationGives = (setting : Setting) (e : Expression) → IsRunnable e → (w : World) → GivesOne (evaluation setting e w).end
+
+-- Under every bound an expression does the same.
+abbrev pub EvaluationsNeedNoBound : Type 0
+EvaluationsNeedNoBound = (setting : Setting) (n : ℕ) (e : Expression) (w : World)
+    → run (answer (walks_of setting) n) (standalone_walk e) w ≡ evaluation setting e w

@@ -1,11 +1,12 @@
--- What a template means for a context, under a bound.
+-- What a template means for a context, under a bound; and what an expression does, without one.
 use Rattle.std.specs.Prelude.{ℕ, List, Option, option_map}
 use Rattle.template_values_modes.specs.declared.AutoEscape.{AutoEscape}
+use Rattle.template_values_modes.specs.declared.AutoEscape.TheVariants as escapes
 use Rattle.template_values_modes.specs.declared.UndefinedBehavior.{UndefinedBehavior}
 use Rattle.template_values_model.specs.Val.{Val}
-use Rattle.template_tree.specs.Tree.{Statements}
+use Rattle.template_tree.specs.Tree.{Expression, Statements}
 use Rattle.template_process.specs.Trace.{Run, run}
-use Rattle.template_walk.specs.Statements.{template_walk}
+use Rattle.template_walk.specs.Statements.{standalone_walk, template_walk}
 use Rattle.template_machine_meaning.specs.World.{World, first_world}
 use Rattle.template_machine_meaning.specs.Surroundings.{Program, Programs, answer}
 
@@ -39,3 +40,11 @@ meaning setting n tree w = run (answer (walks_of setting) n) (template_walk n tr
 -- a template that stands, over a context
 abbrev pub rendered : Setting → ℕ → Standing → Val → Run World
 rendered setting n t context = meaning setting n t.tree (first_world t.escape context)
+
+-- an expression from a world on, to its value; it has no rounds and starts no run within, so the least bound will do
+abbrev pub evaluation : Setting → Expression → World → Run World
+evaluation setting e w = run (answer (walks_of setting) 0) (standalone_walk e) w
+
+-- an expression over a context, under no escape
+abbrev pub evaluated : Setting → Expression → Val → Run World
+evaluated setting e context = evaluation setting e (first_world escapes.None context)

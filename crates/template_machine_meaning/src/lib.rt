@@ -3,6 +3,7 @@
 #![tactic(auto)]
 
 ghost use Rattle.template_machine_meaning.specs.Laws.{BoundsExtend, EveryRunEnds, MeaningsExtend, OneMeaning};
+ghost use Rattle.template_machine_meaning.specs.Laws.{EvaluationsNeedNoBound, EveryEvaluationGives};
 
 /// Under a greater bound a process that goes further gives a run that extends.
 pub fn bounds_extend()
@@ -23,4 +24,14 @@ pub fn every_run_ends()
 /// A run that is finished under two bounds is the same under both.
 pub fn one_meaning()
     ensures { OneMeaning }
+{}
+
+/// Every expression whose constructs have a walk comes to its value, or to a fault.
+pub fn every_evaluation_gives()
+    ensures { EveryEvaluationGives }
+{}
+
+/// An expression does the same under every bound.
+pub fn evaluations_need_no_bound()
+    ensures { EvaluationsNeedNoBound }
 {}

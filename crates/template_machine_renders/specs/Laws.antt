@@ -1,18 +1,20 @@
--- The laws from runs of code to renders.
-use Rattle.std.specs.Prelude.{ℕ, List, Option, Err}
+-- The laws from runs of code to renders and to values.
+use Rattle.std.specs.Prelude.{ℕ, List, Option, Result, Err}
 use Rattle.template_values_errors.specs.declared.ErrorKind.{ErrorKind}
-use Rattle.template_tree.specs.Tree.{Statements}
+use Rattle.template_values_model.specs.Val.{Val}
+use Rattle.template_tree.specs.Tree.{Expression, Statements}
 use Rattle.template_process.specs.Approximants.{IsFinished}
 use Rattle.template_process.specs.Fuel.{under}
-use Rattle.template_compiler_codegen.specs.Statements.{template_code}
+use Rattle.template_walk.specs.Runnable.{IsRunnable}
+use Rattle.template_compiler_codegen.specs.Statements.{standalone_code, template_code}
 use Rattle.template_machine_meaning.specs.World.{World}
 use Rattle.template_machine_meaning.specs.Surroundings.{answer}
-use Rattle.template_machine_meaning.specs.Meaning.{Setting, meaning}
+use Rattle.template_machine_meaning.specs.Meaning.{Setting, evaluation, meaning}
 use Rattle.template_machine_codes.specs.Codes.{codes_of}
 use Rattle.template_machine_going.specs.Spots.{Spot}
 use Rattle.template_machine_outcomes.specs.Outcomes.{Stops}
-use Rattle.template_machine_loop.specs.Runs.{EndsWith}
-use Rattle.template_machine_renders.specs.Renders.{at_start, IsDone, Renders}
+use Rattle.template_machine_loop.specs.Runs.{EndsWith, Evaluates}
+use Rattle.template_machine_renders.specs.Renders.{at_start, GivesValue, IsDone, Renders}
 
 -- A run of a template's code that came to its end is what its tree means.
 abbrev pub EndsRender : Type 0
@@ -26,3 +28,10 @@ StopsRender X = (setting : Setting) (tree : Statements) (w : World) (fuel : Opti
     (kinds : List ErrorKind) → Stops (answer (codes_of setting)) (template_code tree) (at_start w fuel before) y kinds
     → (n : ℕ) → IsFinished (meaning setting n tree w).end
     → Renders {X = X} (Err kinds) before y.taken (under fuel (meaning setting n tree w))
+
+-- What a run of an expression's code tells is what its tree means, cut by the fuel.
+abbrev pub ExpressionsEvaluate : Type 0
+ExpressionsEvaluate = (setting : Setting) (e : Expression) → IsRunnable e → (w after : World) (fuel left : Option ℕ)
+    (before taken : Option (List ℕ)) (result : Result Val (List ErrorKind))
+    → Evaluates (codes_of setting) (standalone_code e) w fuel before result after left taken
+    → GivesValue result (under fuel (evaluation setting e w))

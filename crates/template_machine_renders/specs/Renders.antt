@@ -1,8 +1,9 @@
--- How a render comes out.
-use Rattle.std.specs.Prelude.{◌≡◌, ℕ, ◌≤◌, List, [], Option, Result, Ok, Err, IsErrAnd}
+-- How a render comes out, and how an expression does.
+use Rattle.std.specs.Prelude.{◌≡◌, ℕ, ◌⊎◌, List, [], ◌∷◌, Option, Result, Ok, Err, IsErrAnd}
 use Rattle.std.specs.Io.KnownBytes.{Appends}
 use Rattle.std.specs.Option.{option_map}
 use Rattle.template_values_errors.specs.declared.ErrorKind.{ErrorKind}
+use Rattle.template_values_model.specs.Val.{Val}
 use Rattle.template_process.specs.Drive.{End, ends, faults}
 use Rattle.template_process.specs.Fuel.{remaining, under}
 use Rattle.template_process.specs.Trace.{Run, text_of}
@@ -42,3 +43,8 @@ pub record IsDone (fuel : Option ℕ) (r : Run World) (after : World) (left : Op
   pub text : Appends before taken (text_of (under fuel r).items)
   pub world : (under fuel r).after ≡ after
   pub left_is : left ≡ leaves fuel r
+
+-- The call tells the one value that the run leaves, or answers with the run's fault. Or a growth was refused, or the sink failed.
+abbrev pub GivesValue : {S : Type 0} → Result Val (List ErrorKind) → Run S → Type 0
+GivesValue (Ok v) r = r.end ≡ ends (v ∷ [])
+GivesValue (Err kinds) r = (r.end ≡ faults kinds) ⊎ IsWanting kinds

@@ -1,7 +1,7 @@
-//! How a render comes out, and the laws that lead there from a run of its code.
+//! How renders and expressions come out, and the laws that lead there from a run of their code.
 #![tactic(auto)]
 
-ghost use Rattle.template_machine_renders.specs.Laws.{EndsRender, StopsRender};
+ghost use Rattle.template_machine_renders.specs.Laws.{EndsRender, ExpressionsEvaluate, StopsRender};
 
 /// A run of a template's code that came to its end is the template's render: its text, its price and its world.
 pub fn ends_render()
@@ -12,4 +12,10 @@ pub fn ends_render()
 /// fuel ran out where the render's does, or memory or the sink stopped it.
 pub fn stops_render<X>()
     ensures { StopsRender X }
+{}
+
+/// What a run of an expression's code tells is the expression's value, or its fault, under the fuel; or memory or the sink
+/// stopped it.
+pub fn expressions_evaluate()
+    ensures { ExpressionsEvaluate }
 {}

@@ -1,0 +1,42 @@
+-- Sources of expressions, and what they stand for.
+use Rattle.std.specs.Prelude.{◌≡◌, ℕ, ◌<◌, ◌^◌, ◌⊎◌, List, [], ◌∷◌, length, Ok}
+use Rattle.template_values_errors.specs.declared.ErrorKind.{ErrorKind}
+use Rattle.template_values_errors.specs.declared.ErrorKind.TheVariants.{SyntaxError}
+use Rattle.template_values_model.specs.Val.{none}
+use Rattle.template_tree.specs.Tree.{Expression, constant}
+use Rattle.template_walk.specs.Runnable.{IsRunnable}
+use Rattle.template_compiler_reading.specs.Steps.{Read}
+use Rattle.template_compiler_expressions.specs.Reader.{expression_at}
+use Rattle.template_compiler_source_tokens.proofs.Spelling.{some_spelled}
+use Rattle.template_compiler_sources.specs.Source.{IsExpressionSource, RefusesExpression}
+use Rattle.template_compiler_emission.specs.Puts.{NoRoom}
+
+-- the source is this expression, and all its constructs run
+abbrev pub HasExpression : List ℕ → Expression → Type 0
+HasExpression source e = IsExpressionSource source e × IsRunnable e
+
+abbrev pub IsAcceptedExpression : List ℕ → Type 0
+IsAcceptedExpression source = (e : Expression) × HasExpression source e
+
+-- what was read, with nothing behind it; and a constant where that is none
+abbrev pub read_alone : Read Expression → Expression
+read_alone (Ok (e, [])) = e
+read_alone _ = constant none
+
+-- the expression of a source, whose tokens are read from the first to the last
+unfoldable pub expression_in : List ℕ → Expression
+expression_in source = read_alone (expression_at 150 (some_spelled source).0)
+
+-- the source is an expression, of which a construct does not run yet
+abbrev pub IsUnsupportedExpression : List ℕ → Type 0
+IsUnsupportedExpression source = (e : Expression) × IsExpressionSource source e × ¬ IsRunnable e
+
+-- why a source is refused: it is no expression or is too large; or a construct does not run yet; or there is no room for its code
+abbrev pub IsExpressionRefusedWith : List ℕ → List ErrorKind → Type 0
+IsExpressionRefusedWith source kinds =
+    RefusesExpression source kinds ⊎ (((kinds ≡ SyntaxError ∷ []) × IsUnsupportedExpression source) ⊎ NoRoom kinds)
+
+-- the source is an expression that runs
+pub record IsFaithfulExpression (source : List ℕ) : Type 0 where
+  pub fits : length source < 2 ^ 32
+  pub has_expression : HasExpression source (expression_in source)

@@ -1,0 +1,118 @@
+//! Compiled expressions.
+ghost use Rattle.std.specs.Prelude.{◌≡◌, ℕ, List, IfOk, IfErr, OnOk};
+ghost use Rattle.template_values_errors.specs.Memory.{NoMemory};
+ghost use Rattle.template_tree.specs.Tree.{Expression};
+ghost use Rattle.template_tree.specs.View.{expression_of};
+ghost use Rattle.template_code.specs.Listing.{code_in};
+ghost use Rattle.template_compiler_codegen.specs.Statements.{standalone_code};
+ghost use Rattle.template_compiler_sources.specs.Source.{IsExpressionSource};
+ghost use Rattle.template_names_undeclared.specs.Found.{Adds};
+ghost use Rattle.template_compiled.specs.Expressions.{IsExpressionRefusedWith, IsFaithfulExpression, expression_in};
+ghost use Rattle.template_compiled.specs.Names.{uses_alone};
+
+use std::alloc::Global;
+use std::collections::BTreeSet;
+use std::marker::Model;
+use template_code::Instructions;
+use template_compiler_expression_codegen::compile_expr;
+use template_compiler_runnable::is_runnable_expr;
+use template_compiler_sources::parse_expr;
+use template_names_undeclared::add_undeclared;
+use template_tree::{EmitExpr, Expr, Span, Spanned, Stmt};
+use template_values_errors::{Error, ErrorKind};
+
+// The name of each expression.
+const NAME: &str = "<expression>";
+
+/// An expression whose source was accepted: its code. A contract sees the source.
+#[derive(Drop)]
+pub struct CompiledExpression<'source> {
+    instructions: Instructions<'source>,
+}
+
+impl<'source> Model for CompiledExpression<'source> {
+    ghost use Rattle.std.specs.Prelude.{◌≡◌, ℕ, List};
+    ghost use Rattle.template_code.specs.Listing.{code_in, source_in};
+    ghost use Rattle.template_compiler_codegen.specs.Statements.{standalone_code};
+    ghost use Rattle.template_compiled.specs.Expressions.{IsFaithfulExpression, expression_in};
+
+    ghost Value = { List ℕ };
+
+    ghost view = { λ e. source_in e.instructions };
+
+    ghost invariant = { λ e. IsFaithfulExpression (source_in e.instructions)
+        × (code_in e.instructions ≡ standalone_code (expression_in (source_in e.instructions))) };
+}
+
+impl<'source> CompiledExpression<'source> {
+    /// Compiles the source of an expression, in time linear in its length, besides what the operators of constant trees
+    /// cost.
+    ///
+    /// # Errors
+    ///
+    /// Those of [`parse_expr`]; [`ErrorKind::SyntaxError`] for a construct that does not run yet;
+    /// [`ErrorKind::TooLarge`] for 2^32 instructions or more; [`ErrorKind::OutOfMemory`].
+    pub fn new(alloc: Global, source: &'source str) -> Result<CompiledExpression<'source>, Error>
+        ensures source { IfOk result (λ e. e ≡ source.now) }
+        ensures faithful { IfOk result IsFaithfulExpression }
+        ensures refused { IfErr result (IsExpressionRefusedWith source.now) }
+    {
+        let tree = parse_expr(alloc, source)?;
+        if !is_runnable_expr(&tree) {
+            return Err(Error::new(ErrorKind::SyntaxError));
+        }
+        let mut instructions = Instructions::new(alloc, NAME, source);
+        compile_expr(alloc, &mut instructions, &tree)?;
+        Ok(CompiledExpression { instructions })
+    }
+
+    /// The expression's source.
+    pub fn source(&self) -> &'source str
+        ensures { result.now ≡ self.now }
+    {
+        self.instructions.source()
+    }
+
+    /// The tree of the expression's source, which is read once more, in time linear in its length.
+    ///
+    /// # Errors
+    ///
+    /// [`ErrorKind::OutOfMemory`].
+    pub fn tree(&self, alloc: Global) -> Result<Expr<'source>, Error>
+        ensures tree { IfOk result (λ tree. expression_of tree ≡ expression_in self.now) }
+        ensures refused { IfErr result NoMemory }
+    {
+        parse_expr(alloc, self.instructions.source())
+    }
+
+    /// Adds the names that the expression uses to a set of names. Reads the source once more, in time linear in its
+    /// length, and takes a look-up for each place of use.
+    ///
+    /// # Errors
+    ///
+    /// [`ErrorKind::OutOfMemory`].
+    pub fn add_undeclared(&self, alloc: Global, names: &mut BTreeSet<String>) -> Result<(), Error>
+        ensures added { OnOk result (Adds (uses_alone self.now) names.old names.new) }
+        ensures refused { IfErr result NoMemory }
+    {
+        // A template that prints the expression uses the same names.
+        let expr = self.tree(alloc)?;
+        let print = Stmt::EmitExpr(Spanned::new(EmitExpr { expr }, Span::default()));
+        add_undeclared(alloc, names, &print)?;
+        Ok(())
+    }
+
+    /// The expression's code.
+    pub fn instructions(&self) -> &Instructions<'source>
+        ensures code { code_in result.now ≡ standalone_code (expression_in self.now) }
+        ensures faithful { IsFaithfulExpression self.now }
+    {
+        &self.instructions
+    }
+}
+
+/// A law, as the contract of a function that does nothing: the expression that a source is, is the one that it is read
+/// to.
+pub fn one_standalone_tree()
+    ensures { (source : List ℕ) (e : Expression) → IsExpressionSource source e → expression_in source ≡ e }
+{}

@@ -1,0 +1,34 @@
+-- Expressions of an environment, and what they mean.
+use Rattle.std.specs.Prelude.{◌≡◌, ℕ, ◌⊎◌, List, [], ◌∷◌, Option, Result, Ok, Err}
+use Rattle.template_values_errors.specs.declared.ErrorKind.{ErrorKind}
+use Rattle.template_values_errors.specs.Memory.{NoMemory}
+use Rattle.template_values_model.specs.Val.{Val}
+use Rattle.template_process.specs.Drive.{ends, faults}
+use Rattle.template_process.specs.Trace.{Run}
+use Rattle.template_machine_meaning.specs.Meaning.{evaluated}
+use Rattle.template_machine_meaning.specs.World.{World}
+use Rattle.template_compiled.specs.Expressions.{expression_in}
+use Rattle.template_environment.specs.Standing.{setting_of}
+use Rattle.template_environment.specs.declared.environment.Environment.{Environment}
+use Rattle.template_environment.specs.declared.expression.Expression.{Expression}
+
+-- the environment that it is an expression of
+abbrev pub environment_under : Expression → Environment
+environment_under e = e.environment.now
+
+-- its source
+abbrev pub text_of : Expression → List ℕ
+text_of e = e.compiled
+
+-- the fuel that each of its runs is given
+abbrev pub fuel_under : Expression → Option ℕ
+fuel_under e = (environment_under e).fuel
+
+-- what it means over a context
+abbrev pub evaluation_of : Expression → Val → Run World
+evaluation_of e context = evaluated (setting_of (environment_under e)) (expression_in (text_of e)) context
+
+-- The call gives the one value that the run leaves; else it answers with the run's fault. Or a growth was refused.
+abbrev pub Gives : {S : Type 0} → Result Val (List ErrorKind) → Run S → Type 0
+Gives (Ok v) r = r.end ≡ ends (v ∷ [])
+Gives (Err kinds) r = (r.end ≡ faults kinds) ⊎ NoMemory kinds

@@ -1,0 +1,111 @@
+//! Expressions of an environment, and their values.
+ghost use Rattle.std.specs.Prelude.{◌≡◌, ◌≢◌, ◌+◌, ◌∷◌, [], ℕ, List, IfOk, IfErr, OnOk, Err};
+ghost use Rattle.std.specs.BTreeSet.{contains_text};
+ghost use Rattle.template_values_errors.specs.Memory.{NoMemory};
+ghost use Rattle.template_process.specs.Fuel.{under};
+ghost use Rattle.template_machine_meaning.specs.Meaning.{evaluated};
+ghost use Rattle.template_compiled.specs.Expressions.{IsAcceptedExpression, IsExpressionRefusedWith, expression_in};
+ghost use Rattle.template_compiled.specs.Names.{uses_alone};
+ghost use Rattle.template_environment.specs.Evaluations.{Gives};
+ghost use Rattle.template_environment.specs.Standing.{setting_of};
+
+use crate::environment::Environment;
+use std::collections::BTreeSet;
+use template_compiled::CompiledExpression;
+use template_machine_ids::StateIds;
+use template_machine_loop::run_expression;
+use template_machine_output::NullWriter;
+use template_machine_state::State as MachineState;
+use template_values_core::Value;
+use template_values_errors::{Error, ErrorKind};
+use template_values_modes::AutoEscape;
+
+/// An expression that an environment compiled.
+#[derive(Drop)]
+pub struct Expression<'env, 'source> {
+    environment: &'env Environment<'source>,
+    compiled: CompiledExpression<'source>,
+}
+
+impl<'source> Environment<'source> {
+    ghost use Rattle.template_environment.specs.Evaluations.{environment_under, text_of};
+
+    /// Compiles the source of an expression, which is read alike under every syntax. Takes time linear in the source,
+    /// besides what the operators of constant trees cost.
+    ///
+    /// # Errors
+    ///
+    /// Those of [`CompiledExpression::new`].
+    pub fn compile_expression(&self, source: &'source str) -> Result<Expression<'_, 'source>, Error>
+        ensures accepted { OnOk result (IsAcceptedExpression source.now) }
+        ensures source { IfOk result (λ e. text_of e ≡ source.now) }
+        ensures here { IfOk result (λ e. environment_under e ≡ self.now) }
+        ensures refused { IfErr result (IsExpressionRefusedWith source.now) }
+    {
+        let compiled = CompiledExpression::new(self.allocator(), source)?;
+        Ok(Expression {
+            environment: self,
+            compiled,
+        })
+    }
+}
+
+impl<'env, 'source> Expression<'env, 'source> {
+    ghost use Rattle.template_environment.specs.Evaluations.{evaluation_of, fuel_under, text_of};
+
+    /// The value of the expression over a context, under no escape and the fuel of its environment. The templates that
+    /// stand there do so here.
+    ///
+    /// # Errors
+    ///
+    /// The fault that the expression ends with, as [`ErrorKind::OutOfFuel`]; [`ErrorKind::OutOfMemory`] where a growth
+    /// was refused; [`ErrorKind::InvalidOperation`] where no state id is left.
+    pub fn eval(&self, ids: &mut StateIds, context: Value) -> Result<Value, Error>
+        ensures value { ids.old ≢ u64.MAX → Gives result (under (fuel_under self.now) (evaluation_of self.now context)) }
+        ensures counted { ids.old ≢ u64.MAX → ids.new ≡ ids.old + 1 }
+        ensures exhausted { ids.old ≡ u64.MAX → (result ≡ Err (ErrorKind.InvalidOperation ∷ [])) × (ids.new ≡ ids.old) }
+    {
+        let _id = ids.next()?;
+        evaluate(self.environment, &self.compiled, context)
+    }
+
+    /// The names that the expression uses, each once, by order of their bytes. Reads the source once more, in time
+    /// linear in its length, and takes a look-up for each place of use.
+    ///
+    /// # Errors
+    ///
+    /// [`ErrorKind::OutOfMemory`].
+    pub fn undeclared_variables(&self) -> Result<BTreeSet<String>, Error>
+        ensures used { IfOk result (λ names. (name : List ℕ) → contains_text names name ≡ uses_alone (text_of self.now) name) }
+        ensures refused { IfErr result NoMemory }
+    {
+        let alloc = self.environment.allocator();
+        let mut names = BTreeSet::new(alloc);
+        self.compiled.add_undeclared(alloc, &mut names)?;
+        Ok(names)
+    }
+}
+
+// Runs the code of an expression over a context. It writes nothing.
+fn evaluate<'env, 'source>(
+    environment: &'env Environment<'source>,
+    compiled: &'env CompiledExpression<'source>,
+    context: Value,
+) -> Result<Value, Error>
+    ensures { Gives result (under environment.now.fuel (evaluated (setting_of environment.now) (expression_in compiled.now) context)) }
+{
+    let alloc = environment.allocator();
+    let mut state: MachineState<'env> = MachineState::new(alloc, AutoEscape::None, context)?;
+    let mut left = environment.fuel();
+    let mut scratch = String::new(alloc);
+    run_expression(
+        alloc,
+        environment.rules(),
+        environment,
+        compiled.instructions(),
+        &mut state,
+        &mut left,
+        &mut scratch,
+        &mut NullWriter,
+    )
+}
