@@ -3,6 +3,7 @@ ghost use Rattle.std.specs.Prelude.{◌≡◌, ◌↔◌, ℕ, List, IsTrue, IfO
 ghost use Rattle.std.specs.BTreeSet.{contains_text};
 ghost use Rattle.template_values_errors.specs.Memory.{NoMemory};
 ghost use Rattle.template_values_model.specs.Val.{Val};
+ghost use Rattle.template_names.specs.Names.{is_used};
 ghost use Rattle.template_machine_isolation.specs.Isolation.{IsContextName, is_given};
 ghost use Rattle.template_environment.specs.Isolated.{AgreeAmong, AgreeFor, IsSameRender, IsSameRenderIn, tree_of};
 ghost use Rattle.template_environment.specs.Standing.{setting_of};
@@ -43,6 +44,22 @@ impl<'source> Environment<'source> {
 }
 
 impl<'env, 'source> Template<'env, 'source> {
+    /// The names that the template uses where no store of theirs goes before, each once, by order of their bytes. Reads
+    /// the source once more, in time linear in its length, and takes a look-up for each place of use.
+    ///
+    /// # Errors
+    ///
+    /// [`ErrorKind::OutOfMemory`].
+    pub fn undeclared_variables(&self) -> Result<BTreeSet<String>, Error>
+        ensures used { IfOk result (λ names. (name : List ℕ) → contains_text names name ≡ is_used name (tree_of self.now)) }
+        ensures refused { IfErr result NoMemory }
+    {
+        let alloc = self.environment.allocator();
+        let mut names = BTreeSet::new(alloc);
+        self.compiled.get().add_undeclared(alloc, &mut names)?;
+        Ok(names)
+    }
+
     /// A law, as the contract of a method that does nothing: contexts that agree at the names that can matter make
     /// no difference to its renders.
     pub fn isolated(&self)

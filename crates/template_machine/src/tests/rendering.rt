@@ -292,3 +292,14 @@ fn names_of_all_that_stand(rt: HostRuntime) -> Result<(), Fail> {
     assert_eq!(rt; told.as_str(), "b caller loop name self super ");
     Ok(())
 }
+
+#[test]
+fn names_that_a_template_uses(rt: HostRuntime) -> Result<(), Fail> {
+    let mut ids = StateIds::new(0);
+    let environment = Environment::new(rt.alloc(), &mut ids)?;
+    let source = "{% set x = foo %}{{ x }}{{ bar.baz }}";
+    let template = environment.template_from_str(source)?;
+    let names = told(rt.alloc(), &template.undeclared_variables()?)?;
+    assert_eq!(rt; names.as_str(), "bar foo ");
+    Ok(())
+}
