@@ -2,6 +2,7 @@
 ghost use Rattle.std.specs.Prelude.{◌≡◌, ℕ, List, ◌||◌, [], is_some, IfErr, OnOk, OnErr, option_copied};
 ghost use Rattle.std.specs.BTreeSet.{contains_text};
 ghost use Rattle.std.specs.List.{find, position};
+ghost use Rattle.std.specs.Str.{bytes_eq};
 ghost use Rattle.template_values_errors.specs.Memory.{NoMemory};
 ghost use Rattle.template_machine_meaning.specs.World.{local_at, put_local};
 ghost use Rattle.template_machine_frames.specs.Locals.{is_named};
@@ -49,18 +50,34 @@ impl<'env> Local<'env> {
     }
 }
 
+// Whether two names are the same. Names are short, and mostly differ at once.
+fn is_same(name: &str, other: &str) -> bool
+    ensures { result ≡ bytes_eq name.now other.now }
+{
+    if name.len() != other.len() {
+        return false;
+    }
+    let others = other.as_bytes();
+    for (place, byte) in name.as_bytes().iter().enumerate() {
+        if *byte != others[place] {
+            return false;
+        }
+    }
+    true
+}
+
 // The local of a name.
 fn find<'a, 'env>(locals: &'a [Local<'env>], name: &str) -> Option<&'a Local<'env>>
     ensures { option_copied result ≡ find (is_named name.now) locals.now }
 {
-    locals.iter().find(|local| local.name == name)
+    locals.iter().find(|local| is_same(local.name, name))
 }
 
 // Where the local of a name stands.
 fn position(locals: &[Local<'_>], name: &str) -> Option<usize>
     ensures { result ≡ position (is_named name.now) locals.now }
 {
-    locals.iter().position(|local| local.name == name)
+    locals.iter().position(|local| is_same(local.name, name))
 }
 
 impl<'env> Locals<'env> {
@@ -90,6 +107,7 @@ impl<'env> Locals<'env> {
     /// [`ErrorKind::OutOfMemory`]; the names then have the values that they had.
     ///
     /// [`ErrorKind::OutOfMemory`]: template_values_errors::ErrorKind::OutOfMemory
+    #[inline(always)]
     pub fn insert(&mut self, name: &'env str, value: Value) -> Result<(), Error>
         ensures stored { OnOk result (self.new ≡ put_local name.now value self.old) }
         ensures refused { IfErr result NoMemory }
@@ -137,6 +155,7 @@ impl<'env> Locals<'env> {
     }
 
     /// No names any more.
+    #[inline(always)]
     pub fn clear(&mut self)
         ensures { self.new ≡ [] }
     {

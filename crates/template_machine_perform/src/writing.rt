@@ -17,6 +17,7 @@ use template_values_modes::UndefinedBehavior;
 use template_values_text::NoRecords;
 
 // Writes a text of the template.
+#[inline(always)]
 pub(crate) fn emit_raw<S: Sink>(text: &str, sink: &mut S) -> Result<(), Error>
     ensures steps { (s : Programs) (operands : List Operand) (w : World) →
         StepsWriting s (emit_raw text.now) operands w (S.taken sink.old) result suc operands w (S.taken sink.new) }
@@ -26,6 +27,7 @@ pub(crate) fn emit_raw<S: Sink>(text: &str, sink: &mut S) -> Result<(), Error>
 }
 
 // Takes a value, and prints it under the escape in force.
+#[inline(never)]
 pub(crate) fn emit<S: Sink>(
     mode: UndefinedBehavior,
     state: &State<'_>,
