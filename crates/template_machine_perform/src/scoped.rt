@@ -6,7 +6,6 @@ ghost use Rattle.template_machine_operands.specs.Operands.{operands_in};
 ghost use Rattle.template_machine_steps.specs.Performs.{Leads, ruled};
 ghost use Rattle.template_machine_perform.specs.Performs.{IsQuiet};
 
-use crate::at_once::perform_at_once;
 use crate::operands::{perform_on_operands, straight};
 use crate::rules::Rules;
 use std::alloc::Global;
@@ -21,28 +20,8 @@ use template_machine_steps::Way;
 use template_values_errors::Error;
 
 // Does what an instruction does that neither writes nor runs a template.
-#[inline(always)]
-pub(crate) fn perform_quietly<'env>(
-    alloc: Global,
-    rules: Rules,
-    instruction: &'env Instruction<'_>,
-    operands: &mut Operands,
-    state: &mut State<'env>,
-) -> Result<Way, Error>
-    requires { IsQuiet (code_of instruction.now) }
-    ensures { (program : ℕ → List ℕ → Option Program) →
-        Leads (ruled program rules.limit rules.undefined) (code_of instruction.now) (operands_in operands.old) state.old
-        result (operands_in operands.new) state.new }
-{
-    if let Some(done) = perform_at_once(instruction, operands, state) {
-        return done;
-    }
-    perform_at_length(alloc, rules, instruction, operands, state)
-}
-
-// The same, where the instruction is not done at once.
 #[inline(never)]
-fn perform_at_length<'env>(
+pub(crate) fn perform_quietly<'env>(
     alloc: Global,
     rules: Rules,
     instruction: &'env Instruction<'_>,

@@ -1,14 +1,55 @@
-use Rattle.std.proofs.Common.{subst}
+use Rattle.std.proofs.Common.{sym, ap, ◌∙◌}
+use Rattle.template_code.specs.Code as codes
 use Rattle.template_code.specs.View.{code_of}
-use Rattle.template_machine_operands.specs.Operands.{operands_in}
-use Rattle.template_machine_steps.specs.Performs.{Leads, ruled}
+use Rattle.template_machine_steps.specs.Performs.{ruled}
+use Rattle.template_machine_perform.proofs.Lifting.{straight_leads, leads_at}
+use Rattle.template_machine_perform.proofs.Left.{operands_left}
 use Rattle.template_machine_perform.proofs.scoped.perform_quietly.Goals as goal
 
-pub returns-in-Some : goal.returns-in-Some
-returns-in-Some c program = c.in-Some.ensures.done program c.args.rules.limit c.args.rules.undefined
+pub returns-in-Lookup : goal.returns-in-Lookup
+returns-in-Lookup c program =
+    straight_leads _ (codes.lookup _) _ _ _ _ _ _ _ (ap code_of c.in-Lookup.is ∙ ap (λ t. codes.lookup t) (sym c.as_str.ensures.value)) c.straight.ensures (c.lookup.ensures (ruled program c.args.rules.limit c.args.rules.undefined))
 
-pub returns : goal.returns
-returns c program =
-    subst (λ o. Leads (ruled program c.args.rules.limit c.args.rules.undefined) (code_of c.args.instruction.now) o c.args.state.now c.perform_at_length.result (operands_in c.perform_at_length.new.operands) c.perform_at_length.new.state) c.in_default.ensures.operands
-    (subst (λ w. Leads (ruled program c.args.rules.limit c.args.rules.undefined) (code_of c.args.instruction.now) (operands_in c.perform_at_once.new.operands) w c.perform_at_length.result (operands_in c.perform_at_length.new.operands) c.perform_at_length.new.state) c.in_default.ensures.state
-    (c.perform_at_length.ensures program))
+pub returns-in-StoreLocal : goal.returns-in-StoreLocal
+returns-in-StoreLocal c program =
+    straight_leads _ (codes.store_local _) _ _ _ _ _ _ _ (ap code_of c.in-StoreLocal.is ∙ ap (λ t. codes.store_local t) (sym c.as_str-in-StoreLocal.ensures.value)) c.straight-in-StoreLocal.ensures (c.store_local.ensures (ruled program c.args.rules.limit c.args.rules.undefined))
+
+pub returns-in-PushWith : goal.returns-in-PushWith
+returns-in-PushWith c program =
+    straight_leads _ codes.push_with _ _ _ _ _ _ _ (ap code_of c.in-PushWith.is) c.straight-in-PushWith.ensures (c.push_with.ensures program c.args.rules.undefined _)
+
+pub returns-in-PopFrame : goal.returns-in-PopFrame
+returns-in-PopFrame c program =
+    straight_leads _ codes.pop_frame _ _ _ _ _ _ _ (ap code_of c.in-PopFrame.is) c.straight-in-PopFrame.ensures (c.pop_frame.ensures (ruled program c.args.rules.limit c.args.rules.undefined) _)
+
+pub returns-in-PushLoop : goal.returns-in-PushLoop
+returns-in-PushLoop c program =
+    straight_leads _ (codes.push_loop _) _ _ _ _ _ _ _ (ap code_of c.in-PushLoop.is) c.straight-in-PushLoop.ensures (c.push_loop.ensures program _)
+
+pub returns-in-Iterate : goal.returns-in-Iterate
+returns-in-Iterate c program =
+    leads_at _ (codes.iterate _) _ _ _ _ _ _ (ap code_of c.in-Iterate.is) (c.iterate.ensures (ruled program c.args.rules.limit c.args.rules.undefined))
+
+pub returns-in-PushDidNotIterate : goal.returns-in-PushDidNotIterate
+returns-in-PushDidNotIterate c program =
+    straight_leads _ codes.push_did_not_iterate _ _ _ _ _ _ _ (ap code_of c.in-PushDidNotIterate.is) c.straight-in-PushDidNotIterate.ensures (c.push_did_not_iterate.ensures (ruled program c.args.rules.limit c.args.rules.undefined))
+
+pub returns-in-PopLoopFrame : goal.returns-in-PopLoopFrame
+returns-in-PopLoopFrame c program =
+    straight_leads _ codes.pop_loop_frame _ _ _ _ _ _ _ (ap code_of c.in-PopLoopFrame.is) c.straight-in-PopLoopFrame.ensures (c.pop_loop_frame.ensures (ruled program c.args.rules.limit c.args.rules.undefined) _)
+
+pub returns-in-PushAutoEscape : goal.returns-in-PushAutoEscape
+returns-in-PushAutoEscape c program =
+    straight_leads _ codes.push_auto_escape _ _ _ _ _ _ _ (ap code_of c.in-PushAutoEscape.is) c.straight-in-PushAutoEscape.ensures (c.push_auto_escape.ensures (ruled program c.args.rules.limit c.args.rules.undefined))
+
+pub returns-in-PopAutoEscape : goal.returns-in-PopAutoEscape
+returns-in-PopAutoEscape c program =
+    straight_leads _ codes.pop_auto_escape _ _ _ _ _ _ _ (ap code_of c.in-PopAutoEscape.is) c.straight-in-PopAutoEscape.ensures (c.pop_auto_escape.ensures (ruled program c.args.rules.limit c.args.rules.undefined) _)
+
+pub perform_on_operands-requires : goal.perform_on_operands-requires
+perform_on_operands-requires c =
+    let h = c.in_default in
+    operands_left c.args.instruction.now c.requires h.not-Lookup h.not-StoreLocal h.not-PushWith h.not-PopFrame h.not-PushLoop h.not-Iterate h.not-PushDidNotIterate h.not-PopLoopFrame h.not-PushAutoEscape h.not-PopAutoEscape
+
+pub returns-in_default : goal.returns-in_default
+returns-in_default c program = c.perform_on_operands.ensures program c.args.rules.limit c.args.state.now
