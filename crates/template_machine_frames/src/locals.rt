@@ -1,5 +1,5 @@
 //! The locals of a frame.
-ghost use Rattle.std.specs.Prelude.{◌≡◌, ℕ, List, ◌||◌, [], is_some, IfErr, OnOk, OnErr, option_copied};
+ghost use Rattle.std.specs.Prelude.{◌≡◌, ℕ, List, ◌||◌, [], ◌∷◌, ◌++◌, is_some, not, IsTrue, IfErr, OnOk, OnErr, option_copied};
 ghost use Rattle.std.specs.BTreeSet.{contains_text};
 ghost use Rattle.std.specs.List.{find, position};
 ghost use Rattle.std.specs.Str.{bytes_eq};
@@ -13,7 +13,7 @@ use std::alloc::Global;
 use std::collections::BTreeSet;
 use std::marker::Model;
 use template_values_core::Value;
-use template_values_errors::Error;
+use template_values_errors::{Error, ErrorKind};
 
 #[derive(Drop)]
 struct Local<'env> {
@@ -80,6 +80,34 @@ fn position(locals: &[Local<'_>], name: &str) -> Option<usize>
     locals.iter().position(|local| is_same(local.name, name))
 }
 
+// A local goes behind the others.
+#[inline(always)]
+fn push_local<'env>(locals: &mut Vec<Local<'env>>, local: Local<'env>) -> Result<(), Error>
+    ensures pushed { OnOk result (locals.new.items ≡ locals.old.items ++ local.entry ∷ []) }
+    ensures refused { IfErr result NoMemory }
+    ensures unchanged { OnErr result (locals.new.items ≡ locals.old.items) }
+{
+    if locals.len() < locals.capacity() {
+        locals.push_reserved(local);
+        return Ok(());
+    }
+    if push_growing(locals, local) {
+        Ok(())
+    } else {
+        Err(Error::new(ErrorKind::OutOfMemory))
+    }
+}
+
+// The same where there may be no room for one more; tells whether memory was given.
+#[cold]
+#[inline(never)]
+fn push_growing<'env>(locals: &mut Vec<Local<'env>>, local: Local<'env>) -> bool
+    ensures pushed { IsTrue result → locals.new.items ≡ locals.old.items ++ local.entry ∷ [] }
+    ensures unchanged { IsTrue (not result) → locals.new.items ≡ locals.old.items }
+{
+    locals.push(local).is_ok()
+}
+
 impl<'env> Locals<'env> {
     /// No names.
     pub fn new(alloc: Global) -> Locals<'env>
@@ -118,10 +146,7 @@ impl<'env> Locals<'env> {
                 self.locals[place].set(value);
                 Ok(())
             }
-            None => {
-                self.locals.push(Local { name, value })?;
-                Ok(())
-            }
+            None => push_local(&mut self.locals, Local { name, value }),
         }
     }
 
