@@ -1,7 +1,8 @@
 //! The locals of a frame.
-ghost use Rattle.std.specs.Prelude.{◌≡◌, ℕ, List, ◌||◌, [], is_some, IfErr, OnOk, OnErr, option_copied};
+ghost use Rattle.std.specs.Prelude.{◌≡◌, ℕ, List, ◌||◌, [], ◌∷◌, ◌++◌, is_some, not, IsTrue, IfErr, OnOk, OnErr, option_copied};
 ghost use Rattle.std.specs.BTreeSet.{contains_text};
 ghost use Rattle.std.specs.List.{find, position};
+ghost use Rattle.std.specs.Str.{bytes_eq};
 ghost use Rattle.template_values_errors.specs.Memory.{NoMemory};
 ghost use Rattle.template_machine_meaning.specs.World.{local_at, put_local};
 ghost use Rattle.template_machine_frames.specs.Locals.{is_named};
@@ -12,7 +13,7 @@ use std::alloc::Global;
 use std::collections::BTreeSet;
 use std::marker::Model;
 use template_values_core::Value;
-use template_values_errors::Error;
+use template_values_errors::{Error, ErrorKind};
 
 #[derive(Drop)]
 struct Local<'env> {
@@ -49,18 +50,62 @@ impl<'env> Local<'env> {
     }
 }
 
+// Whether two names are the same. Names are short, and mostly differ at once.
+fn is_same(name: &str, other: &str) -> bool
+    ensures { result ≡ bytes_eq name.now other.now }
+{
+    if name.len() != other.len() {
+        return false;
+    }
+    let others = other.as_bytes();
+    for (place, byte) in name.as_bytes().iter().enumerate() {
+        if *byte != others[place] {
+            return false;
+        }
+    }
+    true
+}
+
 // The local of a name.
 fn find<'a, 'env>(locals: &'a [Local<'env>], name: &str) -> Option<&'a Local<'env>>
     ensures { option_copied result ≡ find (is_named name.now) locals.now }
 {
-    locals.iter().find(|local| local.name == name)
+    locals.iter().find(|local| is_same(local.name, name))
 }
 
 // Where the local of a name stands.
 fn position(locals: &[Local<'_>], name: &str) -> Option<usize>
     ensures { result ≡ position (is_named name.now) locals.now }
 {
-    locals.iter().position(|local| local.name == name)
+    locals.iter().position(|local| is_same(local.name, name))
+}
+
+// A local goes behind the others.
+#[inline(always)]
+fn push_local<'env>(locals: &mut Vec<Local<'env>>, local: Local<'env>) -> Result<(), Error>
+    ensures pushed { OnOk result (locals.new.items ≡ locals.old.items ++ local.entry ∷ []) }
+    ensures refused { IfErr result NoMemory }
+    ensures unchanged { OnErr result (locals.new.items ≡ locals.old.items) }
+{
+    if locals.len() < locals.capacity() {
+        locals.push_reserved(local);
+        return Ok(());
+    }
+    if push_growing(locals, local) {
+        Ok(())
+    } else {
+        Err(Error::new(ErrorKind::OutOfMemory))
+    }
+}
+
+// The same where there may be no room for one more; tells whether memory was given.
+#[cold]
+#[inline(never)]
+fn push_growing<'env>(locals: &mut Vec<Local<'env>>, local: Local<'env>) -> bool
+    ensures pushed { IsTrue result → locals.new.items ≡ locals.old.items ++ local.entry ∷ [] }
+    ensures unchanged { IsTrue (not result) → locals.new.items ≡ locals.old.items }
+{
+    locals.push(local).is_ok()
 }
 
 impl<'env> Locals<'env> {
@@ -90,6 +135,7 @@ impl<'env> Locals<'env> {
     /// [`ErrorKind::OutOfMemory`]; the names then have the values that they had.
     ///
     /// [`ErrorKind::OutOfMemory`]: template_values_errors::ErrorKind::OutOfMemory
+    #[inline(always)]
     pub fn insert(&mut self, name: &'env str, value: Value) -> Result<(), Error>
         ensures stored { OnOk result (self.new ≡ put_local name.now value self.old) }
         ensures refused { IfErr result NoMemory }
@@ -100,10 +146,7 @@ impl<'env> Locals<'env> {
                 self.locals[place].set(value);
                 Ok(())
             }
-            None => {
-                self.locals.push(Local { name, value })?;
-                Ok(())
-            }
+            None => push_local(&mut self.locals, Local { name, value }),
         }
     }
 
@@ -137,6 +180,7 @@ impl<'env> Locals<'env> {
     }
 
     /// No names any more.
+    #[inline(always)]
     pub fn clear(&mut self)
         ensures { self.new ≡ [] }
     {

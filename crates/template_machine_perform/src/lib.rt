@@ -1,6 +1,7 @@
 //! What a machine does at each instruction but an include.
 #![tactic(auto)]
 
+mod at_once;
 mod operands;
 mod plain;
 mod rules;

@@ -22,6 +22,7 @@ use template_values_errors::{Error, ErrorKind};
 use template_values_modes::UndefinedBehavior;
 
 // Behind the instruction, where it was performed.
+#[inline(always)]
 pub(crate) fn straight(done: Result<(), Error>) -> Result<Way, Error>
     ensures { result ≡ straight done }
 {
@@ -94,6 +95,7 @@ fn build_tuple_of(alloc: Global, count: Option<usize>, operands: &mut Operands) 
 
 // Does what an instruction does that only takes and gives operands. One of a construct that is not there yet is
 // refused.
+#[inline(never)]
 pub(crate) fn perform_on_operands(
     alloc: Global,
     mode: UndefinedBehavior,

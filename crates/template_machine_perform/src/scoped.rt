@@ -20,6 +20,7 @@ use template_machine_steps::Way;
 use template_values_errors::Error;
 
 // Does what an instruction does that neither writes nor runs a template.
+#[inline(never)]
 pub(crate) fn perform_quietly<'env>(
     alloc: Global,
     rules: Rules,

@@ -17,6 +17,7 @@ use template_values_modes::UndefinedBehavior;
 use template_values_text::NoRecords;
 
 // Writes a text of the template.
+#[inline(always)]
 pub(crate) fn emit_raw<S: Sink>(text: &str, sink: &mut S) -> Result<(), Error>
     ensures steps { (s : Programs) (operands : List Operand) (w : World) →
         StepsWriting s (emit_raw text.now) operands w (S.taken sink.old) result suc operands w (S.taken sink.new) }

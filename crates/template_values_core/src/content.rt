@@ -54,6 +54,7 @@ pub enum Content<'a> {
 
 impl Value {
     /// The kind and the content of this value, borrowed from it.
+    #[inline(always)]
     pub fn content(&self) -> Content<'_>
         ensures { self.now ≡ value_of result }
     {
@@ -83,6 +84,7 @@ impl Value {
     /// Whether the value counts as true: all but undefined, none, false, 0 and empty texts, bytes,
     /// lists, tuples, maps and modules. An empty keyword map counts as true, and so does every record
     /// here, also an empty namespace: only its state knows what it holds.
+    #[inline(always)]
     #[tactic(auto, using(crate::proofs::ReadLemmas::reading))]
     pub fn is_true(&self) -> bool
         ensures { result ≡ is_true self.now }
@@ -102,6 +104,7 @@ impl Value {
     }
 
     /// The number, if this is a whole number and no truth value.
+    #[inline(always)]
     pub fn as_int(&self) -> Option<i128>
         ensures { result ≡ whole_number self.now }
     {
@@ -112,6 +115,7 @@ impl Value {
     }
 
     /// The number that this counts as in operators: a whole number, or 0 or 1 for a truth value.
+    #[inline(always)]
     pub fn as_number(&self) -> Option<i128>
         ensures { result ≡ number_of self.now }
     {

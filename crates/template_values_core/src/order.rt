@@ -124,6 +124,7 @@ fn compare(a: &Value, b: &Value) -> Ordering
     ensures { result ≡ val_cmp a.now b.now }
 {
     match (&a.repr, &b.repr) {
+        (Repr::Int(a), Repr::Int(b)) => a.cmp(b),
         (Repr::Text(a), Repr::Text(b)) => a.as_str().as_bytes().cmp(b.as_str().as_bytes()),
         _ => compare_parts(parts_of(a), parts_of(b)),
     }

@@ -235,6 +235,7 @@ impl Value {
     /// # Errors
     ///
     /// [`ErrorKind::OutOfMemory`]
+    #[inline(always)]
     pub fn copy(&self) -> Result<Value, Error>
         ensures same { IfOk result (λ v. v ≡ self.now) }
         ensures refused { IfErr result NoMemory }
@@ -266,6 +267,7 @@ impl Value {
 }
 
 impl Repr {
+    #[inline(always)]
     fn share(&self) -> Result<Repr, AllocError>
         ensures { IfOk result (λ r. IsShared self.now r) }
     {

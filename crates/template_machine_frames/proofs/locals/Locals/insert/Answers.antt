@@ -3,7 +3,7 @@ use Rattle.std.proofs.Common.{◌∙◌, sym, ap, refl}
 use Rattle.std.specs.List.{position}
 use Rattle.template_machine_meaning.specs.World.{put_local}
 use Rattle.template_machine_frames.specs.Locals.{locals_of, is_named}
-use Rattle.template_machine_frames.proofs.Named.{put_at, put_new}
+use Rattle.template_machine_frames.proofs.Named.{put_at, put_new, where_stored}
 use Rattle.template_machine_frames.proofs.locals.Locals.insert.Goals as goal
 
 pub returns-in-Some-clause-stored : goal.returns-in-Some-clause-stored
@@ -14,10 +14,11 @@ returns-in-Some-clause-stored c =
     c.index_mut.ensures.value (ap (λ n. n.now) c.set.ensures.name) c.set.ensures.value
     ∙ ap (put_local name c.args.value) c.self.view_is
 
-pub returns-in_ok-push-in-None-clause-stored : goal.returns-in_ok-push-in-None-clause-stored
-returns-in_ok-push-in-None-clause-stored c =
+pub returns-in-None-clause-stored : goal.returns-in-None-clause-stored
+returns-in-None-clause-stored c =
     let name = c.args.name.now in
-    ap locals_of c.in_ok-push-in-None.ensures.items
+    where_stored c.push_local.result _ _
+    (λ items. ap locals_of items
     ∙ put_new name c.args.value c.self.inside.locals.items (record { name = c.args.name; value = c.args.value })
     (ap (position (is_named name)) (sym c.as_slice.ensures.value) ∙ sym c.in-None.ensures) refl refl
-    ∙ ap (put_local name c.args.value) c.self.view_is
+    ∙ ap (put_local name c.args.value) c.self.view_is) c.push_local.ensures.pushed
