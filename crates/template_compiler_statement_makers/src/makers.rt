@@ -23,7 +23,7 @@ pub fn for_loop<'source>(
         tree.for_loop (expression_of node.entry.target) (expression_of node.entry.iter) (optional_in node.entry.filter_expr)
         node.entry.recursive (statements_in node.entry.body.items) (statements_in node.entry.else_body.items)) }
 {
-    Ok(Stmt::ForLoop(Spanned::new(Box::new(alloc, node)?, span)))
+    Ok(Stmt::ForLoop(Spanned::boxed(alloc, node, span)?))
 }
 
 /// `{% if expr %}true_body{% else %}false_body{% endif %}`.
@@ -37,7 +37,7 @@ pub fn if_condition<'source>(
         tree.if_condition (expression_of node.entry.expr) (statements_in node.entry.true_body.items)
         (statements_in node.entry.false_body.items)) }
 {
-    Ok(Stmt::IfCond(Spanned::new(Box::new(alloc, node)?, span)))
+    Ok(Stmt::IfCond(Spanned::boxed(alloc, node, span)?))
 }
 
 /// `{% with assignments %}body{% endwith %}`.
@@ -51,8 +51,8 @@ pub fn with_block<'source>(
     ensures { IfOk result (λ s. statement_of s ≡
         tree.with_block (assignments_in assignments.entry.items) (statements_in body.entry.items)) }
 {
-    let node = Box::new(alloc, WithBlock { assignments, body })?;
-    Ok(Stmt::WithBlock(Spanned::new(node, span)))
+    let node = Spanned::boxed(alloc, WithBlock { assignments, body }, span)?;
+    Ok(Stmt::WithBlock(node))
 }
 
 /// `{% set target filter %}body{% endset %}`.
@@ -67,15 +67,16 @@ pub fn set_block<'source>(
     ensures { IfOk result (λ s. statement_of s ≡
         tree.set_block (expression_of target.entry) (optional_in filter.entry) (statements_in body.entry.items)) }
 {
-    let node = Box::new(
+    let node = Spanned::boxed(
         alloc,
         SetBlock {
             target,
             filter,
             body,
         },
+        span,
     )?;
-    Ok(Stmt::SetBlock(Spanned::new(node, span)))
+    Ok(Stmt::SetBlock(node))
 }
 
 /// `{% autoescape enabled %}body{% endautoescape %}`.
@@ -89,8 +90,8 @@ pub fn auto_escape<'source>(
     ensures { IfOk result (λ s. statement_of s ≡
         tree.auto_escape (expression_of enabled.entry) (statements_in body.entry.items)) }
 {
-    let node = Box::new(alloc, AutoEscape { enabled, body })?;
-    Ok(Stmt::AutoEscape(Spanned::new(node, span)))
+    let node = Spanned::boxed(alloc, AutoEscape { enabled, body }, span)?;
+    Ok(Stmt::AutoEscape(node))
 }
 
 /// `{% filter filter %}body{% endfilter %}`.
@@ -104,8 +105,8 @@ pub fn filter_block<'source>(
     ensures { IfOk result (λ s. statement_of s ≡
         tree.filter_block (expression_of filter.entry) (statements_in body.entry.items)) }
 {
-    let node = Box::new(alloc, FilterBlock { filter, body })?;
-    Ok(Stmt::FilterBlock(Spanned::new(node, span)))
+    let node = Spanned::boxed(alloc, FilterBlock { filter, body }, span)?;
+    Ok(Stmt::FilterBlock(node))
 }
 
 /// `{% block name required %}body{% endblock %}`.
@@ -119,15 +120,16 @@ pub fn block<'source>(
 ) -> Result<Stmt<'source>, AllocError>
     ensures { IfOk result (λ s. statement_of s ≡ tree.block name.now required (statements_in body.entry.items)) }
 {
-    let node = Box::new(
+    let node = Spanned::boxed(
         alloc,
         Block {
             name,
             required,
             body,
         },
+        span,
     )?;
-    Ok(Stmt::Block(Spanned::new(node, span)))
+    Ok(Stmt::Block(node))
 }
 
 /// `{% macro name(args) %}body{% endmacro %}`.
@@ -141,7 +143,7 @@ pub fn macro_declared<'source>(
         tree.macro node.entry.name.now (expressions_in node.entry.args.items) (expressions_in node.entry.defaults.items)
         (statements_in node.entry.body.items)) }
 {
-    Ok(Stmt::Macro(Spanned::new(Box::new(alloc, node)?, span)))
+    Ok(Stmt::Macro(Spanned::boxed(alloc, node, span)?))
 }
 
 /// `{% call(args) call %}body{% endcall %}`.
@@ -157,9 +159,9 @@ pub fn call_block<'source>(
         (expressions_in node.entry.args.items) (expressions_in node.entry.defaults.items)
         (statements_in node.entry.body.items)) }
 {
-    let macro_decl = Spanned::new(Box::new(alloc, node)?, span);
-    let node = Box::new(alloc, CallBlock { call, macro_decl })?;
-    Ok(Stmt::CallBlock(Spanned::new(node, span)))
+    let macro_decl = Spanned::boxed(alloc, node, span)?;
+    let node = Spanned::boxed(alloc, CallBlock { call, macro_decl }, span)?;
+    Ok(Stmt::CallBlock(node))
 }
 
 /// A text that is written as it stands.
@@ -185,8 +187,8 @@ pub fn set<'source>(
 ) -> Result<Stmt<'source>, AllocError>
     ensures { IfOk result (λ s. statement_of s ≡ tree.set (expression_of target.entry) (expression_of expr.entry)) }
 {
-    let node = Box::new(alloc, Set { target, expr })?;
-    Ok(Stmt::Set(Spanned::new(node, span)))
+    let node = Spanned::boxed(alloc, Set { target, expr }, span)?;
+    Ok(Stmt::Set(node))
 }
 
 /// `{% import expr as name %}`.
@@ -198,8 +200,8 @@ pub fn import<'source>(
 ) -> Result<Stmt<'source>, AllocError>
     ensures { IfOk result (λ s. statement_of s ≡ tree.import (expression_of expr.entry) (expression_of name.entry)) }
 {
-    let node = Box::new(alloc, Import { expr, name })?;
-    Ok(Stmt::Import(Spanned::new(node, span)))
+    let node = Spanned::boxed(alloc, Import { expr, name }, span)?;
+    Ok(Stmt::Import(node))
 }
 
 /// `{% from expr import names %}`.
@@ -211,8 +213,8 @@ pub fn from_import<'source>(
 ) -> Result<Stmt<'source>, AllocError>
     ensures { IfOk result (λ s. statement_of s ≡ tree.from_import (expression_of expr.entry) (imports_in names.entry.items)) }
 {
-    let node = Box::new(alloc, FromImport { expr, names })?;
-    Ok(Stmt::FromImport(Spanned::new(node, span)))
+    let node = Spanned::boxed(alloc, FromImport { expr, names }, span)?;
+    Ok(Stmt::FromImport(node))
 }
 
 /// `{% extends name %}`.
@@ -231,14 +233,15 @@ pub fn include<'source>(
 ) -> Result<Stmt<'source>, AllocError>
     ensures { IfOk result (λ s. statement_of s ≡ tree.include (expression_of name.entry) ignore_missing) }
 {
-    let node = Box::new(
+    let node = Spanned::boxed(
         alloc,
         Include {
             name,
             ignore_missing,
         },
+        span,
     )?;
-    Ok(Stmt::Include(Spanned::new(node, span)))
+    Ok(Stmt::Include(node))
 }
 
 /// `{% do call %}`.

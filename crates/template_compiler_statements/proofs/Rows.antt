@@ -66,6 +66,13 @@ blocks :
 unfolding trim_start chars encode expect_word expect_assign print_end tag_end expect_tag more_step path_step stored_by path_by target_by one_target_by more_targets_by targets_by inner_targets value_by values_by assignment_by assignments_by word_by context_by missing_behind missing_by loop_filter_by alias_by import_by default_by parameter_by parameters_by optional_parameters_by body_by else_by for_body for_in for_by branch_by branch_step if_by with_by set_values set_body set_behind set_by autoescape_by filter_block_by end_name_by block_end_by block_body block_by import_statement_by from_by extends_by include_by macro_by only_call call_body call_by do_by in_loop opened_by opened_step statement_step statements_by deeper_parameters here_by deeper_body here statements_at template_behind template_of dotted_step name_of text_step paren_end bracket_end brace_end colon_end separated unless_closing primary_by dot_part part_step parts_by unary_by optional_arguments_by filter_by test_arguments_by test_by is_by filter_step filtered_by chain_step filter_chain_by power_behind power_by operand_behind operand_step binary_of terms_by not_in_link link_behind link_step comparison_by negation_by operand_by binary_by else_behind if_behind expression_by items_by pairs_by paren_behind paren_by list_by map_by bound_by step_by slice_by subscript_behind subscript_by named_argument argument_by few_arguments arguments_by deeper expression_at condition_at optional_arguments_at filter_at filter_chain_at and_then under goes_on many all
 blocks = (refl, refl, refl)
 
+-- what is opened is closed
+unclosed :
+    (statements_at 3 nothing_around (opens (codes "block") (identifier (codes "b") ∷ block_end ∷ template_data (codes "a") ∷ [])) ≡ Err bad_syntax) ×
+    (statements_at 3 nothing_around (opens (codes "if") (identifier (codes "a") ∷ block_end ∷ template_data (codes "b") ∷ [])) ≡ Err bad_syntax)
+unfolding trim_start chars encode expect_word expect_assign print_end tag_end expect_tag more_step path_step stored_by path_by target_by one_target_by more_targets_by targets_by inner_targets value_by values_by assignment_by assignments_by word_by context_by missing_behind missing_by loop_filter_by alias_by import_by default_by parameter_by parameters_by optional_parameters_by body_by else_by for_body for_in for_by branch_by branch_step if_by with_by set_values set_body set_behind set_by autoescape_by filter_block_by end_name_by block_end_by block_body block_by import_statement_by from_by extends_by include_by macro_by only_call call_body call_by do_by in_loop opened_by opened_step statement_step statements_by deeper_parameters here_by deeper_body here statements_at template_behind template_of dotted_step name_of text_step paren_end bracket_end brace_end colon_end separated unless_closing primary_by dot_part part_step parts_by unary_by optional_arguments_by filter_by test_arguments_by test_by is_by filter_step filtered_by chain_step filter_chain_by power_behind power_by operand_behind operand_step binary_of terms_by not_in_link link_behind link_step comparison_by negation_by operand_by binary_by else_behind if_behind expression_by items_by pairs_by paren_behind paren_by list_by map_by bound_by step_by slice_by subscript_behind subscript_by named_argument argument_by few_arguments arguments_by deeper expression_at condition_at optional_arguments_at filter_at filter_chain_at and_then under goes_on many all
+unclosed = (refl, refl)
+
 -- `with context` changes nothing
 other_templates :
     (statements_at 3 nothing_around (opens (codes "include") (identifier (codes "p") ∷ identifier (codes "with") ∷ identifier (codes "context") ∷ identifier (codes "ignore") ∷ identifier (codes "missing") ∷ block_end ∷ [])) ≡ Ok (statements_more (include (variable (codes "p")) true) no_statements, [])) ×

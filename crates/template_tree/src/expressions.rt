@@ -257,58 +257,69 @@ impl<'source> Expr<'source> {
 
 impl<'source> Drop for Expr<'source> {
     #[cycle(expr)]
-    fn drop(mut self) {
-        loop {
-            match self {
-                Expr::Var(_) => return,
-                Expr::Const(_) => return,
-                Expr::Slice(n) => {
-                    let Slice { expr, .. } = Box::into_inner(n.node);
-                    self = expr;
-                }
-                Expr::UnaryOp(n) => {
-                    let UnaryOp { expr, .. } = Box::into_inner(n.node);
-                    self = expr;
-                }
-                Expr::BinOp(n) => {
-                    let BinOp { left, .. } = Box::into_inner(n.node);
-                    self = left;
-                }
-                Expr::Compare(n) => {
-                    let Compare { expr, .. } = Box::into_inner(n.node);
-                    self = expr;
-                }
-                Expr::IfExpr(n) => {
-                    let IfExpr { true_expr, .. } = Box::into_inner(n.node);
-                    self = true_expr;
-                }
-                Expr::Filter(n) => {
-                    let Filter { expr, .. } = Box::into_inner(n.node);
-                    match expr {
-                        Some(expr) => self = expr,
-                        None => return,
-                    }
-                }
-                Expr::Test(n) => {
-                    let Test { expr, .. } = Box::into_inner(n.node);
-                    self = expr;
-                }
-                Expr::GetAttr(n) => {
-                    let GetAttr { expr, .. } = Box::into_inner(n.node);
-                    self = expr;
-                }
-                Expr::GetItem(n) => {
-                    let GetItem { expr, .. } = Box::into_inner(n.node);
-                    self = expr;
-                }
-                Expr::Call(n) => {
-                    let Call { expr, .. } = Box::into_inner(n.node);
-                    self = expr;
-                }
-                Expr::List(_) => return,
-                Expr::Tuple(_) => return,
-                Expr::Map(_) => return,
+    fn drop(self) {
+        let mut next = self.into_left();
+        while let Some(expr) = next {
+            next = expr.into_left();
+        }
+    }
+}
+
+impl<'source> Expr<'source> {
+    ghost use Rattle.std.specs.Prelude.{◌<◌, IfSome};
+    ghost use Rattle.template_tree.specs.declared.expressions.Expr.{size-Expr};
+
+    // The expression on the left of this one; its other parts are dropped.
+    #[cycle(expr)]
+    fn into_left(self) -> Option<Expr<'source>>
+        ensures { IfSome result (λ e. size-Expr e < size-Expr self.entry) }
+    {
+        match self {
+            Expr::Var(_) => None,
+            Expr::Const(_) => None,
+            Expr::Slice(n) => {
+                let Slice { expr, .. } = Box::into_inner(n.node);
+                Some(expr)
             }
+            Expr::UnaryOp(n) => {
+                let UnaryOp { expr, .. } = Box::into_inner(n.node);
+                Some(expr)
+            }
+            Expr::BinOp(n) => {
+                let BinOp { left, .. } = Box::into_inner(n.node);
+                Some(left)
+            }
+            Expr::Compare(n) => {
+                let Compare { expr, .. } = Box::into_inner(n.node);
+                Some(expr)
+            }
+            Expr::IfExpr(n) => {
+                let IfExpr { true_expr, .. } = Box::into_inner(n.node);
+                Some(true_expr)
+            }
+            Expr::Filter(n) => {
+                let Filter { expr, .. } = Box::into_inner(n.node);
+                expr
+            }
+            Expr::Test(n) => {
+                let Test { expr, .. } = Box::into_inner(n.node);
+                Some(expr)
+            }
+            Expr::GetAttr(n) => {
+                let GetAttr { expr, .. } = Box::into_inner(n.node);
+                Some(expr)
+            }
+            Expr::GetItem(n) => {
+                let GetItem { expr, .. } = Box::into_inner(n.node);
+                Some(expr)
+            }
+            Expr::Call(n) => {
+                let Call { expr, .. } = Box::into_inner(n.node);
+                Some(expr)
+            }
+            Expr::List(_) => None,
+            Expr::Tuple(_) => None,
+            Expr::Map(_) => None,
         }
     }
 }

@@ -30,7 +30,7 @@ impl<'source> Expr<'source> {
         ensures tree { IfOk result (λ e. expression_of e ≡ constant value) }
         ensures span { IfOk result (λ e. expression_span e ≡ span) }
     {
-        Ok(Expr::Const(Spanned::new(Box::new(alloc, Const { value })?, span)))
+        Ok(Expr::Const(Spanned::boxed(alloc, Const { value }, span)?))
     }
 
     /// `expr[start:stop:step]`.
@@ -47,7 +47,7 @@ impl<'source> Expr<'source> {
             (optional_in start.entry) (optional_in stop.entry) (optional_in step.entry)) }
         ensures span { IfOk result (λ e. expression_span e ≡ span) }
     {
-        let node = Box::new(
+        let node = Spanned::boxed(
             alloc,
             Slice {
                 expr,
@@ -55,8 +55,9 @@ impl<'source> Expr<'source> {
                 stop,
                 step,
             },
+            span,
         )?;
-        Ok(Expr::Slice(Spanned::new(node, span)))
+        Ok(Expr::Slice(node))
     }
 
     /// An operator before its operand.
@@ -69,8 +70,8 @@ impl<'source> Expr<'source> {
         ensures tree { IfOk result (λ e. expression_of e ≡ unary op (expression_of expr.entry)) }
         ensures span { IfOk result (λ e. expression_span e ≡ span) }
     {
-        let node = Box::new(alloc, UnaryOp { op, expr })?;
-        Ok(Expr::UnaryOp(Spanned::new(node, span)))
+        let node = Spanned::boxed(alloc, UnaryOp { op, expr }, span)?;
+        Ok(Expr::UnaryOp(node))
     }
 
     /// An operator between its operands.
@@ -84,8 +85,8 @@ impl<'source> Expr<'source> {
         ensures tree { IfOk result (λ e. expression_of e ≡ binary op (expression_of left.entry) (expression_of right.entry)) }
         ensures span { IfOk result (λ e. expression_span e ≡ span) }
     {
-        let node = Box::new(alloc, BinOp { op, left, right })?;
-        Ok(Expr::BinOp(Spanned::new(node, span)))
+        let node = Spanned::boxed(alloc, BinOp { op, left, right }, span)?;
+        Ok(Expr::BinOp(node))
     }
 
     /// Comparisons, one behind the other.
@@ -98,8 +99,8 @@ impl<'source> Expr<'source> {
         ensures tree { IfOk result (λ e. expression_of e ≡ chain (expression_of expr.entry) (links_in ops.entry.items)) }
         ensures span { IfOk result (λ e. expression_span e ≡ span) }
     {
-        let node = Box::new(alloc, Compare { expr, ops })?;
-        Ok(Expr::Compare(Spanned::new(node, span)))
+        let node = Spanned::boxed(alloc, Compare { expr, ops }, span)?;
+        Ok(Expr::Compare(node))
     }
 
     /// `true_expr if test_expr else false_expr`.
@@ -115,15 +116,16 @@ impl<'source> Expr<'source> {
             (expression_of true_expr.entry) (optional_in false_expr.entry)) }
         ensures span { IfOk result (λ e. expression_span e ≡ span) }
     {
-        let node = Box::new(
+        let node = Spanned::boxed(
             alloc,
             IfExpr {
                 test_expr,
                 true_expr,
                 false_expr,
             },
+            span,
         )?;
-        Ok(Expr::IfExpr(Spanned::new(node, span)))
+        Ok(Expr::IfExpr(node))
     }
 
     /// `expr|name(args)`.
@@ -138,8 +140,8 @@ impl<'source> Expr<'source> {
             (λ e. expression_of e ≡ filtered (cow_str_bytes name.entry) (optional_in expr.entry) (arguments_in args.entry.items)) }
         ensures span { IfOk result (λ e. expression_span e ≡ span) }
     {
-        let node = Box::new(alloc, Filter { name, expr, args })?;
-        Ok(Expr::Filter(Spanned::new(node, span)))
+        let node = Spanned::boxed(alloc, Filter { name, expr, args }, span)?;
+        Ok(Expr::Filter(node))
     }
 
     /// `expr is name(args)`.
@@ -154,8 +156,8 @@ impl<'source> Expr<'source> {
             (λ e. expression_of e ≡ tested (cow_str_bytes name.entry) (expression_of expr.entry) (arguments_in args.entry.items)) }
         ensures span { IfOk result (λ e. expression_span e ≡ span) }
     {
-        let node = Box::new(alloc, Test { name, expr, args })?;
-        Ok(Expr::Test(Spanned::new(node, span)))
+        let node = Spanned::boxed(alloc, Test { name, expr, args }, span)?;
+        Ok(Expr::Test(node))
     }
 
     /// `expr.name`.
@@ -168,8 +170,8 @@ impl<'source> Expr<'source> {
         ensures tree { IfOk result (λ e. expression_of e ≡ attribute (expression_of expr.entry) name.now) }
         ensures span { IfOk result (λ e. expression_span e ≡ span) }
     {
-        let node = Box::new(alloc, GetAttr { expr, name })?;
-        Ok(Expr::GetAttr(Spanned::new(node, span)))
+        let node = Spanned::boxed(alloc, GetAttr { expr, name }, span)?;
+        Ok(Expr::GetAttr(node))
     }
 
     /// `expr[subscript_expr]`.
@@ -182,14 +184,15 @@ impl<'source> Expr<'source> {
         ensures tree { IfOk result (λ e. expression_of e ≡ item (expression_of expr.entry) (expression_of subscript_expr.entry)) }
         ensures span { IfOk result (λ e. expression_span e ≡ span) }
     {
-        let node = Box::new(
+        let node = Spanned::boxed(
             alloc,
             GetItem {
                 expr,
                 subscript_expr,
             },
+            span,
         )?;
-        Ok(Expr::GetItem(Spanned::new(node, span)))
+        Ok(Expr::GetItem(node))
     }
 
     /// `expr(args)`.
@@ -202,8 +205,8 @@ impl<'source> Expr<'source> {
         ensures tree { IfOk result (λ e. expression_of e ≡ call (expression_of expr.entry) (arguments_in args.entry.items)) }
         ensures span { IfOk result (λ e. expression_span e ≡ span) }
     {
-        let node = Box::new(alloc, Call { expr, args })?;
-        Ok(Expr::Call(Spanned::new(node, span)))
+        let node = Spanned::boxed(alloc, Call { expr, args }, span)?;
+        Ok(Expr::Call(node))
     }
 
     /// `[items]`.
@@ -215,8 +218,8 @@ impl<'source> Expr<'source> {
         ensures tree { IfOk result (λ e. expression_of e ≡ list_literal (expressions_in items.entry.items)) }
         ensures span { IfOk result (λ e. expression_span e ≡ span) }
     {
-        let node = Box::new(alloc, List { items })?;
-        Ok(Expr::List(Spanned::new(node, span)))
+        let node = Spanned::boxed(alloc, List { items }, span)?;
+        Ok(Expr::List(node))
     }
 
     /// `(items)`.
@@ -228,8 +231,8 @@ impl<'source> Expr<'source> {
         ensures tree { IfOk result (λ e. expression_of e ≡ tuple_literal (expressions_in items.entry.items)) }
         ensures span { IfOk result (λ e. expression_span e ≡ span) }
     {
-        let node = Box::new(alloc, Tuple { items })?;
-        Ok(Expr::Tuple(Spanned::new(node, span)))
+        let node = Spanned::boxed(alloc, Tuple { items }, span)?;
+        Ok(Expr::Tuple(node))
     }
 
     /// `{keys: values}`.
@@ -243,7 +246,7 @@ impl<'source> Expr<'source> {
             (λ e. expression_of e ≡ map_literal (expressions_in keys.entry.items) (expressions_in values.entry.items)) }
         ensures span { IfOk result (λ e. expression_span e ≡ span) }
     {
-        let node = Box::new(alloc, Map { keys, values })?;
-        Ok(Expr::Map(Spanned::new(node, span)))
+        let node = Spanned::boxed(alloc, Map { keys, values }, span)?;
+        Ok(Expr::Map(node))
     }
 }

@@ -1,6 +1,8 @@
 //! Places in a source.
 
-ghost use Rattle.std.specs.Prelude.{◌≡◌};
+ghost use Rattle.std.specs.Prelude.{◌≡◌, IfOk};
+
+use std::alloc::{AllocError, Global};
 
 /// A stretch of a source: where it starts, and where it ends (the place behind its last character).
 /// A line is one more than the newlines before the place, a column the characters since the last of
@@ -29,5 +31,19 @@ impl<T> Spanned<T> {
         ensures span { result.span ≡ span }
     {
         Spanned { node, span }
+    }
+}
+
+impl<T: Drop> Spanned<Box<T>> {
+    /// A node in a box of its own, at a stretch of the source.
+    ///
+    /// # Errors
+    ///
+    /// The box's memory is refused; the node is dropped.
+    pub fn boxed(alloc: Global, node: T, span: Span) -> Result<Spanned<Box<T>>, AllocError>
+        ensures node { IfOk result (λ n. n.node.value ≡ node) }
+        ensures span { IfOk result (λ n. n.span ≡ span) }
+    {
+        Ok(Spanned::new(Box::new(alloc, node)?, span))
     }
 }

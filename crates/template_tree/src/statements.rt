@@ -238,36 +238,47 @@ impl<'source> Stmt<'source> {
 
 impl<'source> Drop for Stmt<'source> {
     #[cycle(stmt)]
-    fn drop(mut self) {
-        loop {
-            match self {
-                Stmt::IfCond(n) => {
-                    let IfCond { mut false_body, .. } = Box::into_inner(n.node);
-                    match false_body.pop() {
-                        Some(last) => self = last,
-                        None => return,
-                    }
-                }
-                Stmt::Template(_) => return,
-                Stmt::EmitExpr(_) => return,
-                Stmt::EmitRaw(_) => return,
-                Stmt::ForLoop(_) => return,
-                Stmt::WithBlock(_) => return,
-                Stmt::Set(_) => return,
-                Stmt::SetBlock(_) => return,
-                Stmt::AutoEscape(_) => return,
-                Stmt::FilterBlock(_) => return,
-                Stmt::Block(_) => return,
-                Stmt::Import(_) => return,
-                Stmt::FromImport(_) => return,
-                Stmt::Extends(_) => return,
-                Stmt::Include(_) => return,
-                Stmt::Macro(_) => return,
-                Stmt::CallBlock(_) => return,
-                Stmt::Continue(_) => return,
-                Stmt::Break(_) => return,
-                Stmt::Do(_) => return,
+    fn drop(self) {
+        let mut next = self.into_rest();
+        while let Some(statement) = next {
+            next = statement.into_rest();
+        }
+    }
+}
+
+impl<'source> Stmt<'source> {
+    ghost use Rattle.std.specs.Prelude.{◌<◌, IfSome};
+    ghost use Rattle.template_tree.specs.declared.statements.Stmt.{size-Stmt};
+
+    // The last statement of a condition's `false_body`, such as an `elif`; all else that stands here is dropped.
+    #[cycle(stmt)]
+    fn into_rest(self) -> Option<Stmt<'source>>
+        ensures { IfSome result (λ s. size-Stmt s < size-Stmt self.entry) }
+    {
+        match self {
+            Stmt::IfCond(n) => {
+                let IfCond { mut false_body, .. } = Box::into_inner(n.node);
+                false_body.pop()
             }
+            Stmt::Template(_) => None,
+            Stmt::EmitExpr(_) => None,
+            Stmt::EmitRaw(_) => None,
+            Stmt::ForLoop(_) => None,
+            Stmt::WithBlock(_) => None,
+            Stmt::Set(_) => None,
+            Stmt::SetBlock(_) => None,
+            Stmt::AutoEscape(_) => None,
+            Stmt::FilterBlock(_) => None,
+            Stmt::Block(_) => None,
+            Stmt::Import(_) => None,
+            Stmt::FromImport(_) => None,
+            Stmt::Extends(_) => None,
+            Stmt::Include(_) => None,
+            Stmt::Macro(_) => None,
+            Stmt::CallBlock(_) => None,
+            Stmt::Continue(_) => None,
+            Stmt::Break(_) => None,
+            Stmt::Do(_) => None,
         }
     }
 }

@@ -1,8 +1,8 @@
--- What is left to drop is no deeper than what was passed.
-use Rattle.std.proofs.Common.{◌≤◌}
+-- What is left to drop is smaller than what was passed.
+use Rattle.std.proofs.Common.{◌<◌}
+use Rattle.std.specs.Prelude.{IfSome}
 use Rattle.template_tree.specs.declared.expressions.Expr.{size-Expr}
 use Rattle.template_tree.proofs.+expr.Given as goal
 
-abbrev pub invariant-expressions::Expr::drop-loop-self :
-    goal.invariant-expressions::Expr::drop-loop-self
-invariant-expressions::Expr::drop-loop-self l = size-Expr l.self ≤ size-Expr l.initial.self
+abbrev pub invariant-expressions::Expr::drop-loop-next : goal.invariant-expressions::Expr::drop-loop-next
+invariant-expressions::Expr::drop-loop-next l = IfSome l.next (λ e. size-Expr e < size-Expr l.fn.self)
