@@ -59,9 +59,11 @@ impl<'env, 'source> Expression<'env, 'source> {
     /// # Errors
     ///
     /// The fault that the expression ends with, as [`ErrorKind::OutOfFuel`]; [`ErrorKind::OutOfMemory`] where a growth
-    /// was refused; [`ErrorKind::InvalidOperation`] where no state id is left.
+    /// was refused; [`ErrorKind::InvalidOperation`] where no state id is left. Never [`ErrorKind::WriteFailure`], since
+    /// it writes nothing.
     pub fn eval(&self, ids: &mut StateIds, context: Value) -> Result<Value, Error>
         ensures value { ids.old ≢ u64.MAX → Gives result (under (fuel_under self.now) (evaluation_of self.now context)) }
+        ensures no_write_failure { IfErr result (λ kinds. kinds ≢ ErrorKind.WriteFailure ∷ []) }
         ensures counted { ids.old ≢ u64.MAX → ids.new ≡ ids.old + 1 }
         ensures exhausted { ids.old ≡ u64.MAX → (result ≡ Err (ErrorKind.InvalidOperation ∷ [])) × (ids.new ≡ ids.old) }
     {
@@ -92,7 +94,8 @@ fn evaluate<'env, 'source>(
     compiled: &'env CompiledExpression<'source>,
     context: Value,
 ) -> Result<Value, Error>
-    ensures { Gives result (under environment.now.fuel (evaluated (setting_of environment.now) (expression_in compiled.now) context)) }
+    ensures value { Gives result (under environment.now.fuel (evaluated (setting_of environment.now) (expression_in compiled.now) context)) }
+    ensures no_write_failure { IfErr result (λ kinds. kinds ≢ ErrorKind.WriteFailure ∷ []) }
 {
     let alloc = environment.allocator();
     let mut state: MachineState<'env> = MachineState::new(alloc, AutoEscape::None, context)?;
