@@ -1,5 +1,5 @@
 //! What repetitions put together.
-ghost use Rattle.std.specs.Prelude.{◌≡◌, IfOk};
+ghost use Rattle.std.specs.Prelude.{◌≡◌, IfOk, [], ◌∷◌, ◌++◌};
 ghost use Rattle.template_compiler_expressions.specs.Trees.{and_pair, and_written};
 ghost use Rattle.template_compiler_expression_parts.specs.Parsed.{paired_in, written_in};
 ghost use Rattle.template_tree.specs.View.{argument_of, expression_of};
@@ -30,9 +30,8 @@ impl<'source> Pairs<'source> {
         ensures { IfOk result (λ _. paired_in self.new ≡ and_pair (paired_in self.old) (expression_of key.entry)
             (expression_of value.entry)) }
     {
-        self.keys.push(key)?;
-        self.values.push(value)?;
-        Ok(())
+        put(&mut self.keys, key)?;
+        put(&mut self.values, value)
     }
 }
 
@@ -50,11 +49,18 @@ impl<'source> Written<'source> {
         ensures { IfOk result (λ _. written_in self.new ≡ and_written (written_in self.old) (argument_of argument.entry)) }
     {
         match argument {
-            CallArg::Pos(expr) => self.by_place.push(CallArg::Pos(expr))?,
-            CallArg::PosSplat(expr) => self.by_place.push(CallArg::PosSplat(expr))?,
-            CallArg::Kwarg(name, expr) => self.by_keyword.push(CallArg::Kwarg(name, expr))?,
-            CallArg::KwargSplat(expr) => self.by_keyword.push(CallArg::KwargSplat(expr))?,
+            CallArg::Pos(expr) => put(&mut self.by_place, CallArg::Pos(expr)),
+            CallArg::PosSplat(expr) => put(&mut self.by_place, CallArg::PosSplat(expr)),
+            CallArg::Kwarg(name, expr) => put(&mut self.by_keyword, CallArg::Kwarg(name, expr)),
+            CallArg::KwargSplat(expr) => put(&mut self.by_keyword, CallArg::KwargSplat(expr)),
         }
-        Ok(())
     }
+}
+
+// Puts an item behind the others. Where memory is refused it is dropped here, so that no caller holds it.
+fn put<T: Drop>(items: &mut Vec<T>, item: T) -> Result<(), AllocError>
+    ensures { IfOk result (λ _. items.new.items ≡ items.old.items ++ item ∷ []) }
+{
+    items.push(item)?;
+    Ok(())
 }
