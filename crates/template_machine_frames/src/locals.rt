@@ -51,6 +51,7 @@ impl<'env> Local<'env> {
 }
 
 // Whether two names are the same. Names are short, and mostly differ at once.
+#[inline(always)]
 fn is_same(name: &str, other: &str) -> bool
     ensures { result ≡ bytes_eq name.now other.now }
 {
@@ -74,6 +75,7 @@ fn find<'a, 'env>(locals: &'a [Local<'env>], name: &str) -> Option<&'a Local<'en
 }
 
 // Where the local of a name stands.
+#[inline(always)]
 fn position(locals: &[Local<'_>], name: &str) -> Option<usize>
     ensures { result ≡ position (is_named name.now) locals.now }
 {

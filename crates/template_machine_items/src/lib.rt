@@ -62,6 +62,7 @@ impl Items {
     }
 
     /// The value at a place, from 0.
+    #[inline(always)]
     pub fn get(&self, place: usize) -> Option<&Value>
         ensures { option_copied result ≡ slice_get self.now place }
     {

@@ -3,6 +3,7 @@ ghost use Rattle.std.specs.Prelude.{◌≡◌, ◌<◌, ◌^◌, SomeIff};
 ghost use Rattle.template_values_numbers.specs.Numbers.{sum, difference, product, quotient, remainder, power, negation};
 
 /// The sum.
+#[inline(always)]
 pub fn sum(left: i128, right: i128) -> Option<i128>
     ensures { result ≡ sum left right }
 {
@@ -10,6 +11,7 @@ pub fn sum(left: i128, right: i128) -> Option<i128>
 }
 
 /// The difference.
+#[inline(always)]
 pub fn difference(left: i128, right: i128) -> Option<i128>
     ensures { result ≡ difference left right }
 {
@@ -17,6 +19,7 @@ pub fn difference(left: i128, right: i128) -> Option<i128>
 }
 
 /// The product.
+#[inline(always)]
 pub fn product(left: i128, right: i128) -> Option<i128>
     ensures { result ≡ product left right }
 {
@@ -24,6 +27,7 @@ pub fn product(left: i128, right: i128) -> Option<i128>
 }
 
 /// The Euclidean quotient; none at a zero divisor.
+#[inline(always)]
 pub fn quotient(left: i128, right: i128) -> Option<i128>
     ensures { result ≡ quotient left right }
 {
@@ -31,6 +35,7 @@ pub fn quotient(left: i128, right: i128) -> Option<i128>
 }
 
 /// The Euclidean remainder; none at a zero divisor.
+#[inline(always)]
 pub fn remainder(left: i128, right: i128) -> Option<i128>
     ensures { result ≡ remainder left right }
 {
