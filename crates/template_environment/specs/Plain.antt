@@ -9,6 +9,7 @@ use Rattle.template_process.specs.Trace.{Run, paid, written, behind, ended}
 use Rattle.template_machine_going.specs.Paying.{IsSpent}
 use Rattle.template_machine_operations.specs.Outcomes.{IsWant}
 use Rattle.template_machine_meaning.specs.World.{World}
+pub use Rattle.template_compiled.specs.Plain.{IsPlain, text_kept}
 
 -- a text alone is one step and the text; nothing where it is empty
 abbrev pub text_run : List ℕ → World → Run World

@@ -22,9 +22,9 @@ pub use Rattle.template_machine_meaning.specs.Includes
 pub use Rattle.template_machine_meaning.specs.Surroundings
 pub use Rattle.template_machine_meaning.specs.Meaning
 pub use Rattle.template_machine_meaning.specs.Laws
-pub use Rattle.template_machine_isolation.specs.Isolation
-pub use Rattle.template_machine_operations.specs.Outcomes
-pub use Rattle.template_machine_renders.specs.Renders
+pub use Rattle.template_environment.specs.Isolation
+pub use Rattle.template_environment.specs.Outcomes
+pub use Rattle.template_environment.specs.Renders
 pub use Rattle.template_environment.specs.Standing
 pub use Rattle.template_environment.specs.Renderings
 pub use Rattle.template_environment.specs.States

@@ -11,7 +11,7 @@ use Rattle.template_machine_output.specs.Writes.{AppendsBeginning}
 use Rattle.template_machine_meaning.specs.World.{World}
 use Rattle.template_machine_going.specs.Spots.{Spot}
 use Rattle.template_machine_outcomes.specs.Outcomes.{IsWanting}
-use Rattle.template_machine_steps.specs.Performs.{spot}
+use Rattle.template_machine_loop.specs.Performs.{spot}
 
 -- where the machine stands at the start of a run
 abbrev pub at_start : World → Option ℕ → Option (List ℕ) → Spot World

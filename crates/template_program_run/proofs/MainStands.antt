@@ -4,8 +4,8 @@ use Rattle.std.specs.Option.{option_map}
 use Rattle.template_values_model.specs.Val.{Val}
 use Rattle.template_machine_escape.specs.Rule.{IsEscapeOf}
 use Rattle.template_machine_meaning.specs.Meaning.{Standing}
-use Rattle.template_compiled.specs.Compiled.{Compiled, standing_of}
-use Rattle.template_compiled.specs.Sources.{Source, tree_in}
+use Rattle.template_environment.specs.Compiled.{Compiled, standing_of}
+use Rattle.template_environment.specs.Sources.{Source, tree_in}
 use Rattle.template_environment.specs.Standing.{source_at}
 use Rattle.template_environment.specs.declared.environment.Environment.{Environment}
 use Rattle.template_program_run.specs.Additions.{AllAreAccepted}

@@ -12,11 +12,11 @@ use Rattle.template_process.specs.Approximants.{IsFinished}
 use Rattle.template_process.specs.Fuel.{IsSameRun, under}
 use Rattle.template_machine_escape.specs.Rule.{IsRuleOf}
 use Rattle.template_machine_output.specs.Writes.{AppendsBeginning}
-use Rattle.template_machine_operations.specs.Outcomes.{IsWant, TellsFailures}
+use Rattle.template_environment.specs.Outcomes.{IsWant, TellsFailures}
 use Rattle.template_machine_meaning.specs.Meaning.{Standing, rendered}
-use Rattle.template_machine_isolation.specs.Isolation.{IsContextName}
-use Rattle.template_machine_renders.specs.Renders.{Renders}
-use Rattle.template_compiled.specs.Sources.{tree_in}
+use Rattle.template_environment.specs.Isolation.{IsContextName}
+use Rattle.template_environment.specs.Renders.{Renders}
+use Rattle.template_environment.specs.Sources.{tree_in}
 use Rattle.template_environment.specs.Isolated.{AgreeAmong}
 use Rattle.template_environment.specs.Standing.{setting_of}
 use Rattle.template_environment.specs.declared.environment.Environment.{Environment}

@@ -4,7 +4,7 @@ use Rattle.std.specs.Option.{option_map}
 use Rattle.std.specs.Str.{bytes_eq}
 use Rattle.template_compiler_syntax.specs.Syntax.{default_syntax}
 use Rattle.template_machine_escape.specs.declared.EscapeRule.TheVariants.{ByName}
-use Rattle.template_compiled.specs.Sources.{Source}
+use Rattle.template_environment.specs.Sources.{Source}
 
 -- the one given last under the name
 abbrev pub last_under : List ℕ → Option (List ℕ) → List (List ℕ × List ℕ) → Option (List ℕ)

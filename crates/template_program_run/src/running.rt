@@ -2,8 +2,8 @@
 ghost use Rattle.std.specs.Prelude.{◌≡◌, ℕ, List, Some, option_copied, string_bytes, IfOk, IfErr};
 ghost use Rattle.template_program_context.specs.Context.{texts_in};
 ghost use Rattle.template_machine_escape.specs.Rule.{IsEscapeOf};
-ghost use Rattle.template_compiled.specs.Compiled.{standing_of};
-ghost use Rattle.template_compiled.specs.Plain.{IsPlain, text_kept};
+ghost use Rattle.template_environment.specs.Compiled.{standing_of};
+ghost use Rattle.template_environment.specs.Plain.{IsPlain, text_kept};
 ghost use Rattle.template_environment.specs.Views.{compiled_in, environment_of as place_of, name_of, source_of};
 ghost use Rattle.template_program_run.specs.Answers.{Answers, HasContext, IsRefusedContext, Rendered, Told, definitions_of};
 ghost use Rattle.template_program_run.specs.History.{source_for, standing};

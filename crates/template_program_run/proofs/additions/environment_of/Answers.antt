@@ -3,7 +3,7 @@ use Rattle.std.proofs.lemmas.Result.{err_from_is_err_and}
 use Rattle.template_compiler_syntax.specs.Syntax.{Syntax, default_syntax}
 use Rattle.template_machine_escape.specs.declared.EscapeRule.{EscapeRule}
 use Rattle.template_machine_escape.specs.declared.EscapeRule.TheVariants.{ByName}
-use Rattle.template_compiled.specs.Sources.{IsAccepted, IsRefusedWith, Source}
+use Rattle.template_environment.specs.Sources.{IsAccepted, IsRefusedWith, Source}
 use Rattle.template_environment.specs.Standing.{Settings, read_under, source_at}
 use Rattle.template_program_run.specs.Environments.{HasSettings}
 use Rattle.template_program_run.specs.History.{source_for}

@@ -1,6 +1,6 @@
 use Rattle.std.proofs.Common.{◌∙◌, sym, subst, rules, List, ℕ, option_copied}
 use Rattle.template_machine_escape.specs.Rule.{IsEscapeOf}
-use Rattle.template_compiled.specs.Compiled.{standing_of}
+use Rattle.template_environment.specs.Compiled.{standing_of}
 use Rattle.template_environment.specs.Views.{compiled_in, environment_of, source_of}
 use Rattle.template_program_context.specs.Context.{texts_in}
 use Rattle.template_program_run.specs.Environments.{IsMade}
