@@ -3,3 +3,4 @@ pub mod Walks
 pub mod Turned
 pub mod Replies
 pub mod Isolated
+pub mod Evaluated

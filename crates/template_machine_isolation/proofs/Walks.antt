@@ -89,7 +89,7 @@ module _ (names : List ℕ → Type 0) (start : Known) where
     in_binary op left right f g go h = f _ (λ v. g _ (λ w. (tt, at_value k go h)))
 
     mutual
-      in_expression : (e : Expression) → Sees k (λ name. stands_in name e) → Keeps (expression_walk e)
+      pub in_expression : (e : Expression) → Sees k (λ name. stands_in name e) → Keeps (expression_walk e)
       in_expression (variable name) sees go h = (sees name ((bytes_eq-Decides name name).1 refl), at_value k go h)
       in_expression (constant v) sees go h = h v
       in_expression (unary op e) sees go h =

@@ -1,12 +1,12 @@
--- What a template's render takes of its context.
+-- What a template's render takes of its context, and an expression's evaluation.
 use Rattle.std.specs.Prelude.{◌≡◌, ℕ, ◌⊎◌, Bool, ◌||◌, IsTrue, List, Option, Some, codes}
 use Rattle.std.specs.Str.{bytes_eq}
 use Rattle.template_values_model.specs.Val.{Val}
 use Rattle.template_values_model.specs.Lookup.{value_at}
-use Rattle.template_tree.specs.Tree.{Statements}
-use Rattle.template_names.specs.Names.{is_used, is_stored_everywhere}
+use Rattle.template_tree.specs.Tree.{Expression, Statements}
+use Rattle.template_names.specs.Names.{is_used, is_stored_everywhere, stands_in}
 use Rattle.template_process.specs.Fuel.{IsSameRun, under}
-use Rattle.template_machine_meaning.specs.Meaning.{Standing, Setting, rendered}
+use Rattle.template_machine_meaning.specs.Meaning.{Standing, Setting, rendered, evaluated}
 
 -- the names that the engine gives, in places
 abbrev pub is_given : List ℕ → Bool
@@ -30,3 +30,10 @@ abbrev pub IsolatesNames : Type 0
 IsolatesNames = (setting : Setting) (t : Standing) (c d : Val)
     → ((name : List ℕ) → IsContextName setting t.tree name → AgreesAt c d name)
     → (n : ℕ) (fuel : Option ℕ) → IsSameRun (under fuel (rendered setting n t c)) (under fuel (rendered setting n t d))
+
+-- Over contexts that agree at the names that stand in an expression its evaluation leaves the same items and comes to the
+-- same end, under every fuel.
+abbrev pub IsolatesExpressions : Type 0
+IsolatesExpressions = (setting : Setting) (e : Expression) (c d : Val)
+    → ((name : List ℕ) → IsTrue (stands_in name e) → AgreesAt c d name)
+    → (fuel : Option ℕ) → IsSameRun (under fuel (evaluated setting e c)) (under fuel (evaluated setting e d))

@@ -1,10 +1,16 @@
-//! The law of isolation: what a template's render takes of its context.
+//! The laws of isolation: what a template's render takes of its context, and an expression's evaluation.
 #![tactic(auto)]
 
-ghost use Rattle.template_machine_isolation.specs.Isolation.{IsolatesNames};
+ghost use Rattle.template_machine_isolation.specs.Isolation.{IsolatesExpressions, IsolatesNames};
 
 /// Over two contexts that agree on the names that a template and the templates that stand use, and on
 /// those that the engine gives, a render leaves the same trace and comes to the same end.
 pub fn isolation()
     ensures { IsolatesNames }
+{}
+
+/// Over two contexts that agree on the names that stand in an expression, its evaluation leaves the same
+/// trace and comes to the same end.
+pub fn expression_isolation()
+    ensures { IsolatesExpressions }
 {}
