@@ -1,10 +1,13 @@
 -- Expressions of an environment, and what they mean.
-use Rattle.std.specs.Prelude.{◌≡◌, ℕ, ◌⊎◌, List, [], ◌∷◌, Option, Result, Ok, Err}
+use Rattle.std.specs.Prelude.{◌≡◌, ℕ, ◌⊎◌, List, [], ◌∷◌, Option, Result, Ok, Err, IsTrue}
 use Rattle.template_values_errors.specs.declared.ErrorKind.{ErrorKind}
 use Rattle.template_values_errors.specs.Memory.{NoMemory}
 use Rattle.template_values_model.specs.Val.{Val}
+use Rattle.template_names.specs.Names.{stands_in}
 use Rattle.template_process.specs.Drive.{ends, faults}
+use Rattle.template_process.specs.Fuel.{IsSameRun, under}
 use Rattle.template_process.specs.Trace.{Run}
+use Rattle.template_machine_isolation.specs.Isolation.{AgreesAt}
 use Rattle.template_machine_meaning.specs.Meaning.{evaluated}
 use Rattle.template_machine_meaning.specs.World.{World}
 use Rattle.template_compiled.specs.Expressions.{expression_in}
@@ -32,3 +35,11 @@ evaluation_of e context = evaluated (setting_of (environment_under e)) (expressi
 abbrev pub Gives : {S : Type 0} → Result Val (List ErrorKind) → Run S → Type 0
 Gives (Ok v) r = r.end ≡ ends (v ∷ [])
 Gives (Err kinds) r = (r.end ≡ faults kinds) ⊎ NoMemory kinds
+
+-- the contexts hold the same under each name that stands in the expression, or neither holds anything
+abbrev pub AgreeAlong : Expression → Val → Val → Type 0
+AgreeAlong e c d = (name : List ℕ) → IsTrue (stands_in name (expression_in (text_of e))) → AgreesAt c d name
+
+-- over the two contexts it takes the same steps at the same price, and comes to the same end, under every fuel
+abbrev pub IsSameEvaluation : Expression → Val → Val → Type 0
+IsSameEvaluation e c d = (fuel : Option ℕ) → IsSameRun (under fuel (evaluation_of e c)) (under fuel (evaluation_of e d))

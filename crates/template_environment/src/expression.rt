@@ -2,6 +2,7 @@
 ghost use Rattle.std.specs.Prelude.{◌≡◌, ◌≢◌, ◌+◌, ◌∷◌, [], ℕ, List, IfOk, IfErr, OnOk, Err};
 ghost use Rattle.std.specs.BTreeSet.{contains_text};
 ghost use Rattle.template_values_errors.specs.Memory.{NoMemory};
+ghost use Rattle.template_values_model.specs.Val.{Val};
 ghost use Rattle.template_process.specs.Fuel.{under};
 ghost use Rattle.template_machine_meaning.specs.Meaning.{evaluated};
 ghost use Rattle.template_compiled.specs.Expressions.{IsAcceptedExpression, IsExpressionRefusedWith, expression_in};
@@ -13,6 +14,7 @@ use crate::environment::Environment;
 use std::collections::BTreeSet;
 use template_compiled::CompiledExpression;
 use template_machine_ids::StateIds;
+use template_machine_isolation::expression_isolation;
 use template_machine_loop::run_expression;
 use template_machine_output::NullWriter;
 use template_machine_state::State as MachineState;
@@ -51,10 +53,10 @@ impl<'source> Environment<'source> {
 }
 
 impl<'env, 'source> Expression<'env, 'source> {
-    ghost use Rattle.template_environment.specs.Evaluations.{evaluation_of, fuel_under, text_of};
+    ghost use Rattle.template_environment.specs.Evaluations.{AgreeAlong, IsSameEvaluation, evaluation_of, fuel_under, text_of};
 
     /// The value of the expression over a context, under no escape and the fuel of its environment. The templates that
-    /// stand there do so here.
+    /// stand there do so here. Contexts that agree at the names that stand in the expression give the same.
     ///
     /// # Errors
     ///
@@ -66,7 +68,9 @@ impl<'env, 'source> Expression<'env, 'source> {
         ensures no_write_failure { IfErr result (λ kinds. kinds ≢ ErrorKind.WriteFailure ∷ []) }
         ensures counted { ids.old ≢ u64.MAX → ids.new ≡ ids.old + 1 }
         ensures exhausted { ids.old ≡ u64.MAX → (result ≡ Err (ErrorKind.InvalidOperation ∷ [])) × (ids.new ≡ ids.old) }
+        ensures isolated { (other : Val) → AgreeAlong self.now context other → IsSameEvaluation self.now context other }
     {
+        expression_isolation();
         let _id = ids.next()?;
         evaluate(self.environment, &self.compiled, context)
     }
