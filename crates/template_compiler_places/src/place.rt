@@ -1,8 +1,7 @@
 //! A place in a source.
 ghost use Rattle.std.specs.Prelude.{◌≡◌, ℕ, ◌+◌, ◌++◌, List, [], length, min, count_by, fold};
-ghost use Rattle.template_compiler_places.specs.Bytes.{is_newline, begins_character, next_column};
+ghost use Rattle.template_compiler_places.specs.Bytes.{is_newline, next_column};
 
-use memchr::memrchr;
 use template_tree::Span;
 
 /// A place in a source. Lines begin at 1, columns at 0; lines and columns stop at 65535, offsets at 2^32 - 1.
@@ -32,9 +31,10 @@ impl Place {
         ensures { (before : List ℕ) → IsBehind before self → IsBehind (before ++ text.now) result }
     {
         let bytes = text.as_bytes();
+        let Counts { newlines, column } = count(self.column, bytes);
         Place {
-            line: self.line.saturating_add(saturate(count_newlines(bytes))),
-            column: column_after(self.column, bytes),
+            line: self.line.saturating_add(saturate(newlines)),
+            column: saturate(column),
             offset: saturate_offset(self.offset, bytes.len()),
         }
     }
@@ -54,6 +54,13 @@ impl Place {
     }
 }
 
+// What a text counts for: its newlines, and the column behind it.
+#[derive(Clone, Copy)]
+struct Counts {
+    newlines: usize,
+    column: usize,
+}
+
 fn saturate(count: usize) -> u16
     ensures { result ≡ min count 65535 }
 {
@@ -66,26 +73,20 @@ fn saturate_offset(offset: u32, len: usize) -> u32
     offset.saturating_add(len.min(u32::MAX as usize) as u32)
 }
 
-fn count_newlines(bytes: &[u8]) -> usize
-    ensures { result ≡ count_by is_newline bytes.now }
+// From the column that the text begins at. Most texts are tokens of a few bytes, so they are gone over once.
+fn count(column: u16, bytes: &[u8]) -> Counts
+    ensures newlines { result.newlines ≡ count_by is_newline bytes.now }
+    ensures column { result.column ≡ fold next_column column bytes.now }
 {
-    bytes.iter().filter(|byte| **byte == b'\n').count()
-}
-
-fn count_characters(bytes: &[u8]) -> usize
-    ensures { result ≡ count_by begins_character bytes.now }
-{
-    bytes
-        .iter()
-        .filter(|byte| **byte < 0x80 || 0xc0 <= **byte)
-        .count()
-}
-
-fn column_after(column: u16, bytes: &[u8]) -> u16
-    ensures { result ≡ min (fold next_column column bytes.now) 65535 }
-{
-    match memrchr(b'\n', bytes) {
-        Some(newline) => saturate(count_characters(bytes.split_at(newline + 1).1)),
-        None => column.saturating_add(saturate(count_characters(bytes))),
+    let mut newlines = 0;
+    let mut column = column as usize;
+    for byte in bytes {
+        if *byte == b'\n' {
+            newlines += 1;
+            column = 0;
+        } else if *byte < 0x80 || 0xc0 <= *byte {
+            column += 1;
+        }
     }
+    Counts { newlines, column }
 }

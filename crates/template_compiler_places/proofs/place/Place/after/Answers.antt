@@ -10,12 +10,13 @@ unfolding column_behind
 returns c = λ before h.
     let t = c.args.text.now in
     let lines = lines_append before t in
-    let count = rw c.as_bytes-bytes.ensures.value at c.count_newlines.ensures in
+    let newlines = rw c.as_bytes-bytes.ensures.value at c.count-newlines.ensures.newlines in
+    let column = rw (c.as_bytes-bytes.ensures.value, h.column) at c.count-newlines.ensures.column in
     let len = length-append before t in
     record {
       line = omega (arith, c.saturating_add.ensures, c.saturate.ensures, h.line);
       column =
-          rw (c.as_bytes-bytes.ensures.value, h.column) at c.column_after.ensures ∙ capped (fold next_column 0 before) t ∙
+          c.saturate-2.ensures ∙ ap (λ n. min n 65535) column ∙ capped (fold next_column 0 before) t ∙
           ap (λ n. min n 65535) (sym (fold-append next_column 0 before t));
       offset = omega (arith, c.saturate_offset.ensures, c.as_bytes-bytes.ensures.len, h.offset);
     }
