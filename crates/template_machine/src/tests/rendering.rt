@@ -195,6 +195,32 @@ fn a_full_writer_has_the_bytes_before(rt: HostRuntime) -> Result<(), Fail> {
     Ok(())
 }
 
+// A page with a loop, branches, an include and escapes.
+const PAGE: &str =
+    "<ul>{% for x in [1, 2] %}<li>{{ x }}{% if x == 2 %}!{% else %}?{% endif %}{% include 'part.html' %}</li>{% endfor %}</ul>{{ name }}";
+
+#[test]
+fn a_page_is_cut_at_each_byte(rt: HostRuntime) -> Result<(), Fail> {
+    let mut ids = StateIds::new(0);
+    let mut environment = Environment::new(rt.alloc(), &mut ids)?;
+    environment.add_template("page.html", PAGE)?;
+    environment.add_template("part.html", "{{ '<' }}")?;
+    let template = kind_of(environment.get_template("page.html"))?;
+    let whole = b"<ul><li>1?&lt;</li><li>2!&lt;</li></ul>World";
+    for room in 0..=44usize {
+        let mut bytes = [0u8; 44];
+        let end = kind_of(written(rt.alloc(), &template, &mut ids, &mut bytes[..room]));
+        let answer = if room < 44 {
+            Err(ErrorKind::WriteFailure)
+        } else {
+            Ok(())
+        };
+        assert_eq!(rt; end, answer, "after {room} bytes");
+        assert_eq!(rt; &bytes[..room], &whole[..room], "after {room} bytes");
+    }
+    Ok(())
+}
+
 #[test]
 fn a_state_knows_what_was_stored(rt: HostRuntime) -> Result<(), Fail> {
     let alloc = rt.alloc();
