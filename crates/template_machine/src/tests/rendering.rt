@@ -289,7 +289,7 @@ fn a_text_without_markers_renders_to_itself(rt: HostRuntime) -> Result<(), Fail>
     assert_eq!(rt; paid.as_str(), "a");
     environment.set_fuel(Some(1));
     let cut = environment.render_str("a", &mut ids, Value::undefined());
-    assert!(rt; kind_of(cut).err() == Some(ErrorKind::OutOfFuel));
+    assert_eq!(rt; kind_of(cut).err(), Some(ErrorKind::OutOfFuel));
     Ok(())
 }
 
