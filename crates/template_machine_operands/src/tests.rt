@@ -47,8 +47,14 @@ fn pairs_are_taken_the_lowest_first(rt: HostRuntime) -> Result<(), Fail> {
 fn too_few_values_are_not_taken(rt: HostRuntime) -> Result<(), Fail> {
     let mut operands = numbers(rt.alloc(), 3)?;
     let many = operands.take_many(usize::MAX);
-    assert!(rt; matches!(&many, Err(error) if error.kind() == ErrorKind::BadStream));
+    assert_eq!(rt;
+        many.err().map(|error| error.kind()),
+        Some(ErrorKind::BadStream)
+    );
     let pairs = operands.take_pairs(rt.alloc(), 2);
-    assert!(rt; matches!(&pairs, Err(error) if error.kind() == ErrorKind::BadStream));
+    assert_eq!(rt;
+        pairs.err().map(|error| error.kind()),
+        Some(ErrorKind::BadStream)
+    );
     Ok(())
 }
