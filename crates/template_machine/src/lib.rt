@@ -37,7 +37,8 @@
 //! A render writes the text and ends as the meaning of the template's tree says, for the templates that
 //! stand, the context, the escape of its name and the fuel. It may also want memory or meet a failing sink,
 //! and then a beginning of the text is written. [`every_run_ends`] and [`one_meaning`] say that every render
-//! ends, and in one way; [`isolation`] that it takes no more of its context than the names that are listed;
+//! ends, and in one way; [`isolation`] that it takes no more of its context than the names that are listed,
+//! and [`expression_isolation`] that an expression takes no more than those that stand in it;
 //! [`enough_is_enough`], [`fuel_adds_up`] and [`writes_beginning`] are the laws of fuel, and
 //! [`good_ends_well`] that of verified instructions. An expression gives the value that its tree means under the fuel,
 //! or its fault, unless it wants memory; [`every_evaluation_gives`] says that it is one of the two.
@@ -51,7 +52,7 @@ pub use template_environment::{Captured, Environment, Expression, State, Templat
 pub use template_machine_escape::{EscapeRule, default_auto_escape_callback, one_escape, one_rule};
 pub use template_machine_frames::{Context, Frame, LoopState};
 pub use template_machine_ids::StateIds;
-pub use template_machine_isolation::isolation;
+pub use template_machine_isolation::{expression_isolation, isolation};
 pub use template_machine_meaning::{every_evaluation_gives, every_run_ends, one_meaning};
 pub use template_machine_output::{NullWriter, Sink, SinkFault, WriteWrapper, write_text};
 pub use template_machine_state::{Caller, State as MachineState};

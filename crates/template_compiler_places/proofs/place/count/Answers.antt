@@ -6,4 +6,4 @@ pub overflow_add-column : goal.overflow_add-column
 overflow_add-column c =
     let bound = column_bound c.args.column (take c.loop-byte.byte-index c.args.bytes.now) in
     let len = length-take c.loop-byte.byte-index c.args.bytes.now in
-    omega (arith, c.loop-byte.invariant.1, bound, len, c.type_inv.bytes, c.ranges.column.fits)
+    omega (arith, c.loop-byte.invariant.1, bound, len, c.ranges.column.fits)
