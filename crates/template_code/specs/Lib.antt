@@ -3,4 +3,5 @@ pub mod Prices
 pub mod Steps
 pub mod Laws
 pub mod View
+pub mod Told
 pub mod Listing

@@ -1,11 +1,15 @@
 //! The instructions.
 
-ghost use Rattle.std.specs.Prelude.{◌≡◌};
+ghost use Rattle.std.specs.Prelude.{◌≡◌, IfOk, IfErr};
+ghost use Rattle.std.specs.Cow.{cow_str_bytes};
+ghost use Rattle.template_values_errors.specs.Memory.{NoMemory};
 ghost use Rattle.template_code.specs.View.{code_of};
 ghost use Rattle.template_code.specs.Prices.{price_of};
 
+use std::alloc::Global;
 use std::borrow::CowStr;
 use template_values_core::Value;
+use template_values_errors::Error;
 
 /// The number under which a stream knows a filter or a test.
 pub type LocalId = u8;
@@ -216,4 +220,110 @@ impl<'source> Instruction<'source> {
             _ => 1,
         }
     }
+
+    /// The same with texts of its own, which are copied where they were borrowed.
+    ///
+    /// # Errors
+    ///
+    /// [`ErrorKind::OutOfMemory`](template_values_errors::ErrorKind::OutOfMemory).
+    pub fn into_owned<'owned>(self, alloc: Global) -> Result<Instruction<'owned>, Error>
+        ensures same { IfOk result (λ i. code_of i ≡ code_of self.entry) }
+        ensures refused { IfErr result NoMemory }
+    {
+        Ok(match self {
+            Instruction::EmitRaw(text) => Instruction::EmitRaw(owned(alloc, text)?),
+            Instruction::StoreLocal(text) => Instruction::StoreLocal(owned(alloc, text)?),
+            Instruction::Lookup(text) => Instruction::Lookup(owned(alloc, text)?),
+            Instruction::GetAttr(text) => Instruction::GetAttr(owned(alloc, text)?),
+            Instruction::SetAttr(text) => Instruction::SetAttr(owned(alloc, text)?),
+            Instruction::GetItem => Instruction::GetItem,
+            Instruction::Slice => Instruction::Slice,
+            Instruction::LoadConst(value) => Instruction::LoadConst(value),
+            Instruction::BuildMap(count) => Instruction::BuildMap(count),
+            Instruction::BuildKwargs(count) => Instruction::BuildKwargs(count),
+            Instruction::MergeKwargs(count) => Instruction::MergeKwargs(count),
+            Instruction::BuildList(count) => Instruction::BuildList(count),
+            Instruction::BuildTuple(count) => Instruction::BuildTuple(count),
+            Instruction::UnpackList(count) => Instruction::UnpackList(count),
+            Instruction::UnpackLists(count) => Instruction::UnpackLists(count),
+            Instruction::Add => Instruction::Add,
+            Instruction::Sub => Instruction::Sub,
+            Instruction::Mul => Instruction::Mul,
+            Instruction::Div => Instruction::Div,
+            Instruction::IntDiv => Instruction::IntDiv,
+            Instruction::Rem => Instruction::Rem,
+            Instruction::Pow => Instruction::Pow,
+            Instruction::Neg => Instruction::Neg,
+            Instruction::Eq => Instruction::Eq,
+            Instruction::Ne => Instruction::Ne,
+            Instruction::Gt => Instruction::Gt,
+            Instruction::Gte => Instruction::Gte,
+            Instruction::Lt => Instruction::Lt,
+            Instruction::Lte => Instruction::Lte,
+            Instruction::Not => Instruction::Not,
+            Instruction::StringConcat => Instruction::StringConcat,
+            Instruction::In => Instruction::In,
+            Instruction::CompareAndPreserve(op) => Instruction::CompareAndPreserve(op),
+            Instruction::ApplyFilter(text, count, id) => Instruction::ApplyFilter(
+                owned(alloc, text)?,
+                count,
+                id,
+            ),
+            Instruction::PerformTest(text, count, id) => Instruction::PerformTest(
+                owned(alloc, text)?,
+                count,
+                id,
+            ),
+            Instruction::Emit => Instruction::Emit,
+            Instruction::PushLoop(flags) => Instruction::PushLoop(flags),
+            Instruction::PushWith => Instruction::PushWith,
+            Instruction::Iterate(to) => Instruction::Iterate(to),
+            Instruction::PushDidNotIterate => Instruction::PushDidNotIterate,
+            Instruction::PopFrame => Instruction::PopFrame,
+            Instruction::PopLoopFrame => Instruction::PopLoopFrame,
+            Instruction::IsUndefined => Instruction::IsUndefined,
+            Instruction::Jump(to) => Instruction::Jump(to),
+            Instruction::JumpIfFalse(to) => Instruction::JumpIfFalse(to),
+            Instruction::JumpIfFalseOrPop(to) => Instruction::JumpIfFalseOrPop(to),
+            Instruction::JumpIfTrueOrPop(to) => Instruction::JumpIfTrueOrPop(to),
+            Instruction::PushAutoEscape => Instruction::PushAutoEscape,
+            Instruction::PopAutoEscape => Instruction::PopAutoEscape,
+            Instruction::BeginCapture(mode) => Instruction::BeginCapture(mode),
+            Instruction::EndCapture => Instruction::EndCapture,
+            Instruction::CallFunction(text, count) => Instruction::CallFunction(
+                owned(alloc, text)?,
+                count,
+            ),
+            Instruction::CallMethod(text, count) => Instruction::CallMethod(
+                owned(alloc, text)?,
+                count,
+            ),
+            Instruction::CallObject(count) => Instruction::CallObject(count),
+            Instruction::DupTop => Instruction::DupTop,
+            Instruction::DiscardTop => Instruction::DiscardTop,
+            Instruction::Swap => Instruction::Swap,
+            Instruction::FastSuper => Instruction::FastSuper,
+            Instruction::FastRecurse => Instruction::FastRecurse,
+            Instruction::CallBlock(text) => Instruction::CallBlock(owned(alloc, text)?),
+            Instruction::LoadBlocks => Instruction::LoadBlocks,
+            Instruction::Include(ignore_missing) => Instruction::Include(ignore_missing),
+            Instruction::ExportLocals => Instruction::ExportLocals,
+            Instruction::BuildMacro(text, to, flags) => Instruction::BuildMacro(
+                owned(alloc, text)?,
+                to,
+                flags,
+            ),
+            Instruction::Return => Instruction::Return,
+            Instruction::Enclose(text) => Instruction::Enclose(owned(alloc, text)?),
+            Instruction::GetClosure => Instruction::GetClosure,
+        })
+    }
+}
+
+// A text that is its own.
+pub(crate) fn owned<'owned>(alloc: Global, text: CowStr<'_>) -> Result<CowStr<'owned>, Error>
+    ensures same { IfOk result (λ t. cow_str_bytes t ≡ cow_str_bytes text.entry) }
+    ensures refused { IfErr result NoMemory }
+{
+    Ok(CowStr::Owned(text.into_owned(alloc)?))
 }

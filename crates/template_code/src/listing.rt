@@ -1,51 +1,88 @@
 //! The instructions of a template.
 
-ghost use Rattle.std.specs.Prelude.{◌≡◌, ◌^◌, ◌<◌, ◌++◌, ◌∷◌, [], ◌↔◌, IsTrue, IfOk, IfErr, OnOk, OnErr, IsErrAnd, length, slice_get, option_map, take};
+ghost use Rattle.std.specs.Prelude.{◌≡◌, ◌^◌, ◌<◌, ◌++◌, ◌∷◌, [], ◌↔◌, All, IsTrue, IfOk, IfErr, OnOk, OnErr, IsErrAnd, filter, length, ltb, map, slice_get, option_map, take};
 ghost use Rattle.std.proofs.Math.ListN.{set};
+ghost use Rattle.template_values_errors.specs.Memory.{NoMemory};
+ghost use Rattle.template_code_marks.specs.Marked.{marks_in};
+ghost use Rattle.template_code.specs.View.{code_of};
+ghost use Rattle.template_code.specs.Told.{told_span};
 
-use crate::instruction::Instruction;
+use crate::instruction::{Instruction, owned};
 use std::alloc::Global;
+use std::borrow::CowStr;
+use template_code_marks::{Mark, Marks};
+use template_tree::Span;
 use template_values_errors::{Error, ErrorKind};
 
-/// The instructions of a template, with its name and the source that they were compiled from. There
-/// are fewer than 2^32.
+/// The instructions of a template, with its name and the source that they were compiled from, and where they come from.
+/// There are fewer than 2^32.
 #[derive(Drop)]
 pub struct Instructions<'source> {
-    name: &'source str,
-    source: &'source str,
+    name: CowStr<'source>,
+    source: CowStr<'source>,
     code: Vec<Instruction<'source>>,
+    marks: Marks,
     ghost small: { length code.items < 2 ^ 32 },
+    ghost placed: { All (λ m. m.start < length code.items) (marks_in marks) },
 }
 
 impl<'source> Instructions<'source> {
-    ghost use Rattle.template_code.specs.View.{code_of};
-    ghost use Rattle.template_code.specs.Listing.{name_in, source_in, code_in, IsFull, TakesNoMore, IsSameTemplate};
+    ghost use Rattle.template_code.specs.Listing.{name_in, source_in, code_in, line_in, places_in, span_in, IsFull, TakesNoMore, IsSameTemplate, line_mark, span_mark};
 
     /// No instructions yet.
     pub fn new(alloc: Global, name: &'source str, source: &'source str) -> Instructions<'source>
         ensures name { name_in result ≡ name.now }
         ensures source { source_in result ≡ source.now }
         ensures empty { code_in result ≡ [] }
+        ensures places { places_in result ≡ [] }
     {
         Instructions {
-            name,
-            source,
+            name: CowStr::Borrowed(name),
+            source: CowStr::Borrowed(source),
             code: Vec::new(alloc),
+            marks: Marks::new(alloc),
         }
     }
 
+    /// The same with texts of their own, which are copied where they were borrowed. Takes time and memory linear in the
+    /// instructions and in those texts.
+    ///
+    /// # Errors
+    ///
+    /// [`ErrorKind::OutOfMemory`].
+    pub fn into_owned<'owned>(self, alloc: Global) -> Result<Instructions<'owned>, Error>
+        ensures name { IfOk result (λ i. name_in i ≡ name_in self.entry) }
+        ensures source { IfOk result (λ i. source_in i ≡ source_in self.entry) }
+        ensures code { IfOk result (λ i. code_in i ≡ code_in self.entry) }
+        ensures places { IfOk result (λ i. places_in i ≡ places_in self.entry) }
+        ensures refused { IfErr result NoMemory }
+    {
+        let Instructions {
+            name,
+            source,
+            code,
+            marks,
+        } = self;
+        Ok(Instructions {
+            name: owned(alloc, name)?,
+            source: owned(alloc, source)?,
+            code: owned_code(alloc, code)?,
+            marks,
+        })
+    }
+
     /// The name of the template.
-    pub fn name(&self) -> &'source str
+    pub fn name(&self) -> &str
         ensures { result.now ≡ name_in self.now }
     {
-        self.name
+        self.name.as_str()
     }
 
     /// The source of the template.
-    pub fn source(&self) -> &'source str
+    pub fn source(&self) -> &str
         ensures { result.now ≡ source_in self.now }
     {
-        self.source
+        self.source.as_str()
     }
 
     /// How many instructions there are.
@@ -70,6 +107,22 @@ impl<'source> Instructions<'source> {
         self.code.get(index as usize)
     }
 
+    /// The line of the last instruction at a place or before it that was added with a line or a span. A place behind
+    /// the last instruction counts as the last. Takes a search by halving.
+    pub fn get_line(&self, index: u32) -> Option<u16>
+        ensures { result ≡ line_in self.now index }
+    {
+        self.marks.line(index)
+    }
+
+    /// The span of that instruction; none where it was added with a line alone, or with the default span. Takes a search
+    /// by halving.
+    pub fn get_span(&self, index: u32) -> Option<Span>
+        ensures { result ≡ span_in self.now index }
+    {
+        self.marks.span(index)
+    }
+
     /// Puts an instruction behind the others, and answers its place.
     ///
     /// # Errors
@@ -80,6 +133,7 @@ impl<'source> Instructions<'source> {
         ensures place { IfOk result (λ place. place ≡ length (code_in self.old)) }
         ensures added { OnOk result (code_in self.new ≡ code_in self.old ++ code_of instruction.entry ∷ []) }
         ensures same { IsSameTemplate self.old self.new }
+        ensures places { places_in self.new ≡ places_in self.old }
         ensures refused { IfErr result (TakesNoMore (code_in self.old)) }
         ensures full { IsFull (code_in self.old) → IsErrAnd result (λ kinds. kinds ≡ ErrorKind.TooLarge ∷ []) }
         ensures unchanged { OnErr result (code_in self.new ≡ code_in self.old) }
@@ -94,10 +148,83 @@ impl<'source> Instructions<'source> {
         }
     }
 
+    /// The same for an instruction that comes from a line, the first of the source at 1.
+    ///
+    /// # Errors
+    ///
+    /// As [`Instructions::add`].
+    pub fn add_with_line(
+        &mut self,
+        instruction: Instruction<'source>,
+        line: u16,
+    ) -> Result<u32, Error>
+        ensures place { IfOk result (λ place. place ≡ length (code_in self.old)) }
+        ensures added { OnOk result (code_in self.new ≡ code_in self.old ++ code_of instruction.entry ∷ []) }
+        ensures marked { OnOk result (places_in self.new ≡ places_in self.old ++ line_mark (length (code_in self.old)) line ∷ []) }
+        ensures same { IsSameTemplate self.old self.new }
+        ensures refused { IfErr result (TakesNoMore (code_in self.old)) }
+        ensures full { IsFull (code_in self.old) → IsErrAnd result (λ kinds. kinds ≡ ErrorKind.TooLarge ∷ []) }
+        ensures unchanged { OnErr result (code_in self.new ≡ code_in self.old) }
+        ensures unmarked { OnErr result (places_in self.new ≡ places_in self.old) }
+    {
+        self.add_marked(instruction, line, None)
+    }
+
+    /// The same for an instruction that comes from a span. The default span stands for no span, and its line for the
+    /// line of any other.
+    ///
+    /// # Errors
+    ///
+    /// As [`Instructions::add`].
+    pub fn add_with_span(
+        &mut self,
+        instruction: Instruction<'source>,
+        span: Span,
+    ) -> Result<u32, Error>
+        ensures place { IfOk result (λ place. place ≡ length (code_in self.old)) }
+        ensures added { OnOk result (code_in self.new ≡ code_in self.old ++ code_of instruction.entry ∷ []) }
+        ensures marked { OnOk result (places_in self.new ≡ places_in self.old ++ span_mark (length (code_in self.old)) span ∷ []) }
+        ensures same { IsSameTemplate self.old self.new }
+        ensures refused { IfErr result (TakesNoMore (code_in self.old)) }
+        ensures full { IsFull (code_in self.old) → IsErrAnd result (λ kinds. kinds ≡ ErrorKind.TooLarge ∷ []) }
+        ensures unchanged { OnErr result (code_in self.new ≡ code_in self.old) }
+        ensures unmarked { OnErr result (places_in self.new ≡ places_in self.old) }
+    {
+        self.add_marked(instruction, span.start_line, told(span))
+    }
+
+    // Puts an instruction behind the others, with a mark of its own.
+    fn add_marked(
+        &mut self,
+        instruction: Instruction<'source>,
+        line: u16,
+        span: Option<Span>,
+    ) -> Result<u32, Error>
+        ensures place { IfOk result (λ place. place ≡ length (code_in self.old)) }
+        ensures added { OnOk result (code_in self.new ≡ code_in self.old ++ code_of instruction.entry ∷ []) }
+        ensures marked { OnOk result (places_in self.new
+            ≡ places_in self.old ++ (record { start = length (code_in self.old); line = line; span = span }) ∷ []) }
+        ensures same { IsSameTemplate self.old self.new }
+        ensures refused { IfErr result (TakesNoMore (code_in self.old)) }
+        ensures full { IsFull (code_in self.old) → IsErrAnd result (λ kinds. kinds ≡ ErrorKind.TooLarge ∷ []) }
+        ensures unchanged { OnErr result (code_in self.new ≡ code_in self.old) }
+        ensures unmarked { OnErr result (places_in self.new ≡ places_in self.old) }
+    {
+        let start = self.add(instruction)?;
+        match self.marks.push(Mark { start, line, span }) {
+            Ok(()) => Ok(start),
+            Err(_refused) => {
+                self.code.truncate(start as usize);
+                Err(Error::new(ErrorKind::OutOfMemory))
+            }
+        }
+    }
+
     /// Puts an instruction in the place of the one that stands there. Where none stands, nothing changes.
     pub fn replace(&mut self, index: u32, instruction: Instruction<'source>)
         ensures replaced { code_in self.new ≡ set (code_in self.old) index (code_of instruction.entry) }
         ensures same { IsSameTemplate self.old self.new }
+        ensures places { places_in self.new ≡ places_in self.old }
     {
         let index = index as usize;
         if index >= self.code.len() {
@@ -110,7 +237,34 @@ impl<'source> Instructions<'source> {
     pub fn truncate(&mut self, len: usize)
         ensures kept { code_in self.new ≡ take len (code_in self.old) }
         ensures same { IsSameTemplate self.old self.new }
+        ensures places { places_in self.new ≡ filter (λ m. ltb m.start len) (places_in self.old) }
     {
+        self.marks.truncate(len);
         self.code.truncate(len);
     }
+}
+
+// The span, unless it is the default one.
+fn told(span: Span) -> Option<Span>
+    ensures { result ≡ told_span span }
+{
+    if span == Span::default() {
+        return None;
+    }
+    Some(span)
+}
+
+// Instructions with texts of their own.
+fn owned_code<'owned>(
+    alloc: Global,
+    code: Vec<Instruction<'_>>,
+) -> Result<Vec<Instruction<'owned>>, Error>
+    ensures same { IfOk result (λ c. map code_of c.items ≡ map code_of code.entry.items) }
+    ensures refused { IfErr result NoMemory }
+{
+    let mut copies = Vec::with_capacity(alloc, code.len())?;
+    for instruction in code {
+        copies.push(instruction.into_owned(alloc)?)?;
+    }
+    Ok(copies)
 }

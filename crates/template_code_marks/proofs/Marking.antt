@@ -1,5 +1,5 @@
 -- A search by halving finds the last mark, and the marks that begin before a place.
-use Rattle.std.proofs.Common.{◌≡◌, ℕ, zero, suc, ◌<◌, ◌≤◌, Bool, true, false, leb, ltb, cond, List, [], ◌∷◌, length, take, filter, Option, None, Some, slice_get, ap, ap₂, ◌∙◌, refl, sym, arith}
+use Rattle.std.proofs.Common.{◌≡◌, ℕ, zero, suc, ◌<◌, ◌≤◌, true, false, leb, ltb, cond, List, [], ◌∷◌, length, take, filter, Option, None, Some, slice_get, ap₂, ◌∙◌, refl, sym, arith}
 use Rattle.std.specs.List.Sorted.{IsPartitionPoint}
 use Rattle.template_code_marks.specs.declared.marks.Mark.{Mark}
 use Rattle.template_code_marks.specs.Marked.{or_else, mark_at, last_before}

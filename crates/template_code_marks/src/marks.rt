@@ -89,13 +89,13 @@ impl Marks {
     }
 
     /// Drops the marks that begin at a place or behind it. Takes a search by halving.
-    pub fn truncate(&mut self, len: u32)
+    pub fn truncate(&mut self, len: usize)
         ensures { marks_in self.new ≡ filter (λ m. ltb m.start len) (marks_in self.old) }
     {
         let count = self
             .entries
             .as_slice()
-            .partition_point(|mark| mark.start < len);
+            .partition_point(|mark| (mark.start as usize) < len);
         self.entries.truncate(count);
     }
 }
