@@ -2,6 +2,7 @@ pub mod Certificates
 pub mod Leading
 pub mod Within
 pub mod Ending
+pub mod Going
 pub mod Passes
 pub mod OutlineLemmas
 pub mod Standing

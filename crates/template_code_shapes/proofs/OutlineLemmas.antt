@@ -1,11 +1,11 @@
 -- Outlines and the shapes that they stand for.
-use Rattle.std.proofs.Common.{◌≡◌, ℕ, zero, suc, ◌+◌, ◌-◌, ◌≤◌, ◌<◌, Bool, true, false, cond, List, [], ◌∷◌, ◌++◌, length, reverse, take, replicate, get_or, Option, None, Some, slice_get, refl, sym, ap, subst, ◌∙◌, arith}
+use Rattle.std.proofs.Common.{◌≡◌, ℕ, zero, suc, ◌+◌, ◌-◌, ◌≤◌, ◌<◌, true, false, cond, List, [], ◌∷◌, ◌++◌, length, reverse, take, replicate, get_or, None, Some, slice_get, refl, sym, ap, subst, ◌∙◌, arith}
 use Rattle.std.specs.Prelude.{option_and_then, nat_le}
 use Rattle.std.proofs.lemmas.Bool.{le-leb, lt-leb}
 use Rattle.std.proofs.Math.Seq.{take-suc}
 use Rattle.std.proofs.lemmas.List.{reverse-reverse, reverse-append, length-replicate, replicate-append-replicate}
 use Rattle.std.proofs.lemmas.Option.{get_or_from_slice_get, slice_get_within}
-use Rattle.template_code_shapes.specs.Shapes.{Form, single_form, Opened, with_frame, loop_frame, recursive_frame, Floor, Shape, floor_of, below_values, lowered, taken, given}
+use Rattle.template_code_shapes.specs.Shapes.{Form, single_form, Opened, Shape, floor_of, below_values, lowered, taken, given}
 use Rattle.template_code_shapes.specs.Outlines.{shape_of}
 use Rattle.template_code_shapes.specs.declared.outline.Outline.{Outline}
 

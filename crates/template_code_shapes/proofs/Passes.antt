@@ -1,13 +1,13 @@
 -- One ascending pass over a stream: the table of shapes that it fills, and what it knows of that table up to a place.
 use Rattle.std.proofs.Common.{◌≡◌, ℕ, suc, ◌<◌, ◌≤◌, ◌⊎◌, inl, inr, Bool, true, false, List, length, Option, None, Some, slice_get, refl, sym, subst, ◌∙◌, arith}
-use Rattle.std.specs.Prelude.{IsSome, IsSomeAnd, IfSome, nat_lt}
+use Rattle.std.specs.Prelude.{IsSome, IsSomeAnd, nat_lt}
 use Rattle.std.proofs.lemmas.Bool.{ltb-true, ltb-false}
 use Rattle.std.proofs.lemmas.Option.{slice_get_within}
 use Rattle.template_code.specs.Code.{Code}
 use Rattle.template_code_shapes.specs.declared.StreamKind.{StreamKind}
 use Rattle.template_code_shapes.specs.Shapes.{Opened, Shape, start}
 use Rattle.template_code_shapes.specs.Effects.{Effect, effect_of}
-use Rattle.template_code_shapes.specs.Streams.{Reached, begins, falls_to, jumps_to, end_of, IsGood, Leads, IsCertificate}
+use Rattle.template_code_shapes.specs.Streams.{Reached, begins, falls_to, jumps_to, end_of, IsGood, Leads}
 use Rattle.template_code_shapes.specs.Passes.{EachLoop, HasHome, IsPartial}
 use Rattle.template_code_shapes.proofs.Leading.{each_more, LeadsWell, leads}
 use Rattle.template_code_shapes.proofs.Within.{of_some}

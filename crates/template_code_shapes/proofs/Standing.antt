@@ -1,13 +1,13 @@
 -- How one pass over a stream goes on from a place, with the shapes that are noted and the one in hand; and where it refuses.
 use Rattle.std.proofs.Common.{◌≡◌, ℕ, zero, suc, ◌<◌, ◌≤◌, ◌⊎◌, inl, inr, Bool, true, false, cond, ◌==◌, List, [], ◌∷◌, length, Option, None, Some, slice_get, refl, sym, ap, subst, ◌∙◌, arith}
-use Rattle.std.specs.Prelude.{IsSome, nat_lt, option_and_then}
+use Rattle.std.specs.Prelude.{nat_lt, option_and_then}
 use Rattle.std.proofs.lemmas.Bool.{ltb-true, ltb-false, eqb-true, eqb-false}
 use Rattle.template_code.specs.Code.{Code}
 use Rattle.template_code_shapes.specs.declared.StreamKind.{StreamKind}
 use Rattle.template_code_shapes.specs.Shapes.{Shape, start}
 use Rattle.template_code_shapes.specs.Effects.{Effect, effect_of, is_iterate}
-use Rattle.template_code_shapes.specs.Streams.{Reached, falls_to, jumps_to, end_of, IsGood, Leads}
-use Rattle.template_code_shapes.specs.Passes.{EachLoop, HasHome, IsPartial, StandsAt, IsBad, Noted, Agree, joined, AgreesWith, home_of, effect_at}
+use Rattle.template_code_shapes.specs.Streams.{falls_to, jumps_to, end_of, IsGood}
+use Rattle.template_code_shapes.specs.Passes.{HasHome, IsPartial, StandsAt, IsBad, Noted, Agree, joined, AgreesWith, home_of, effect_at}
 use Rattle.template_code_shapes.proofs.Leading.{LeadsWell, leads}
 use Rattle.template_code_shapes.proofs.Within.{of_some}
 use Rattle.template_code_shapes.proofs.Passes.{Puts, begun, passed, visited, finished, falls_noted, jumps_noted, refused_instruction, refused_clash, refused_end}

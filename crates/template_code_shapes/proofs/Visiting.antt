@@ -1,17 +1,15 @@
 -- How the check of a stream goes on with what its parts answer.
-use Rattle.std.proofs.Common.{◌≡◌, ℕ, suc, ◌<◌, ◌≤◌, inl, inr, List, length, Option, None, Some, Result, Ok, Err, slice_get, refl, sym, ap, subst, ◌∙◌, arith}
-use Rattle.std.specs.Prelude.{IfSome, IsSomeAnd, IfOk, IsErrOf, option_map}
+use Rattle.std.proofs.Common.{◌≡◌, ℕ, suc, ◌<◌, ◌≤◌, inl, inr, List, length, Option, None, Some, Result, Ok, Err, refl, sym, ap, subst, ◌∙◌, arith}
+use Rattle.std.specs.Prelude.{IfSome, IsSomeAnd, IfOk, option_map}
 use Rattle.template_code.specs.Code.{Code}
 use Rattle.template_code_shapes.specs.declared.StreamKind.{StreamKind}
 use Rattle.template_code_shapes.specs.declared.outline.Outline.{Outline}
 use Rattle.template_code_shapes.specs.declared.notes.Stop.{Stop}
-use Rattle.template_code_shapes.specs.declared.notes.Stop.TheVariants.{Bad}
 use Rattle.template_code_shapes.specs.declared.ways.Jump.{Jump}
 use Rattle.template_code_shapes.specs.declared.ways.Ways.{Ways}
 use Rattle.template_code_shapes.specs.Shapes.{Shape}
-use Rattle.template_code_shapes.specs.Effects.{Effect, effect_of}
 use Rattle.template_code_shapes.specs.Outlines.{shape_of}
-use Rattle.template_code_shapes.specs.Streams.{end_of, IsGood}
+use Rattle.template_code_shapes.specs.Streams.{end_of}
 use Rattle.template_code_shapes.specs.Ways.{effect_in, jump_of}
 use Rattle.template_code_shapes.specs.Passes.{StandsAt, IsBad, Noted, Agree, joined, AgreesWith, effect_at}
 use Rattle.template_code_shapes.proofs.Standing.{VisitsAt, code_at, effect_is, leads_well, followed, bad_jump, fell, bad_fall, passes, bad_end}

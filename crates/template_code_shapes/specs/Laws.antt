@@ -1,5 +1,5 @@
 -- The laws of good streams.
-use Rattle.std.specs.Prelude.{◌≡◌, ℕ, List, length, map, Option}
+use Rattle.std.specs.Prelude.{◌≡◌, ℕ, zero, suc, ◌+◌, ◌*◌, ◌≤◌, List, length, map, Option}
 use Rattle.template_process.specs.Process.{Answer, Process, over, step, asks, amiss, cut_short, stuck}
 use Rattle.template_code.specs.Code.{Operand, Code}
 use Rattle.template_code.specs.Steps.{exec}
@@ -25,3 +25,20 @@ EndsWith n stuck = ⊥
 abbrev pub GoodEndsWell : Type 0
 GoodEndsWell = (kind : StreamKind) (code : List Code) → IsGood kind code → (bound place : ℕ) (s : Shape) (operands : List Operand)
     → Reached code place s → map form_of operands ≡ s.operands → EndsWith (length (end_of kind).operands) (exec code bound place operands)
+
+-- for so many answers, whatever they are, the process is not cut short
+abbrev pub LastsFor : ℕ → Process → Type 0
+LastsFor n (over values) = Unit {0}
+LastsFor n (step p) = LastsFor n p
+LastsFor zero (asks e k) = Unit {0}
+LastsFor (suc n) (asks e k) = (a : Answer) → LastsFor n (k a)
+LastsFor n amiss = Unit {0}
+LastsFor n cut_short = ⊥
+LastsFor n stuck = Unit {0}
+
+-- A good stream goes on from answer to answer: from any place that is reached, for so many answers, it is not cut short
+-- by a bound of one more than them times one more than its instructions.
+abbrev pub GoodGoesOn : Type 0
+GoodGoesOn = (kind : StreamKind) (code : List Code) → IsGood kind code → (answers bound place : ℕ) (s : Shape) (operands : List Operand)
+    → Reached code place s → map form_of operands ≡ s.operands → (answers + 1) * (length code + 1) ≤ bound
+    → LastsFor answers (exec code bound place operands)

@@ -1,5 +1,5 @@
 -- The effect that the ways on from an instruction stand for.
-use Rattle.std.specs.Prelude.{ℕ, Option, None, Some, option_map}
+use Rattle.std.specs.Prelude.{ℕ, option_map}
 use Rattle.template_code.specs.Code.{Code, push_with, pop_frame, pop_loop_frame, push_auto_escape, pop_auto_escape}
 use Rattle.template_code_shapes.specs.Shapes.{Shape}
 use Rattle.template_code_shapes.specs.Outlines.{shape_of}

@@ -2,7 +2,7 @@
 //! do nothing: each stands for the law in its contract.
 #![tactic(auto)]
 
-ghost use Rattle.template_code_shapes.specs.Laws.{CertifiedIsGood, GoodEndsWell};
+ghost use Rattle.template_code_shapes.specs.Laws.{CertifiedIsGood, GoodEndsWell, GoodGoesOn};
 
 mod notes;
 mod outline;
@@ -30,4 +30,10 @@ pub fn certified_is_good()
 /// value.
 pub fn good_ends_well()
     ensures { GoodEndsWell }
+{}
+
+/// A good stream goes on: it performs the asks that follow on so many answers, whatever they are, within one more than
+/// them times one more than its instructions.
+pub fn good_goes_on()
+    ensures { GoodGoesOn }
 {}

@@ -1,5 +1,6 @@
 //! Compiled templates.
 ghost use Rattle.std.specs.Prelude.{◌≡◌, IfOk, IfErr, OnOk, OnErr};
+ghost use Rattle.std.specs.Cow.{cow_str_bytes};
 ghost use Rattle.template_values_errors.specs.Memory.{NoMemory};
 ghost use Rattle.template_tree.specs.Tree.{Statements, template};
 ghost use Rattle.template_tree.specs.StatementView.{statement_of};
@@ -16,6 +17,7 @@ ghost use Rattle.template_compiled.specs.Sources.{IsRefusedWith, Source, read_by
 
 use crate::config::TemplateConfig;
 use std::alloc::Global;
+use std::borrow::CowStr;
 use std::collections::BTreeSet;
 use std::marker::Model;
 use template_code::Instructions;
@@ -96,15 +98,55 @@ impl<'source> CompiledTemplate<'source> {
         })
     }
 
+    /// The same of texts that need not outlive it: it keeps copies of them.
+    ///
+    /// # Errors
+    ///
+    /// As [`CompiledTemplate::new`].
+    pub fn from_owned(
+        alloc: Global,
+        name: CowStr<'_>,
+        source: CowStr<'_>,
+        config: &TemplateConfig,
+    ) -> Result<CompiledTemplate<'source>, Error>
+        ensures name { IfOk result (λ t. t.name ≡ cow_str_bytes name.entry) }
+        ensures source { IfOk result (λ t. t.source ≡ read_by config.now (cow_str_bytes source.entry)) }
+        ensures faithful { IfOk result IsFaithful }
+        ensures refused { IfErr result (IsRefusedWith (read_by config.now (cow_str_bytes source.entry))) }
+
+        // A source in which no marker starts is refused for its size or for want of memory alone.
+        ensures plain { IsPlain (read_by config.now (cow_str_bytes source.entry)) → IfErr result NoRoom }
+    {
+        let borrowed = CompiledTemplate::new(alloc, name.as_str(), source.as_str(), config)?;
+        Ok(borrowed.into_owned(alloc)?)
+    }
+
+    /// The same template with texts of its own, which are copied where they were borrowed. Takes time and memory linear
+    /// in its source and its code.
+    ///
+    /// # Errors
+    ///
+    /// [`ErrorKind::OutOfMemory`].
+    pub fn into_owned<'owned>(self, alloc: Global) -> Result<CompiledTemplate<'owned>, Error>
+        ensures same { IfOk result (λ t. t ≡ self.entry) }
+        ensures refused { IfErr result NoMemory }
+    {
+        Ok(CompiledTemplate {
+            instructions: self.instructions.into_owned(alloc)?,
+            config: self.config,
+            initial_auto_escape: self.initial_auto_escape,
+        })
+    }
+
     /// The template's name.
-    pub fn name(&self) -> &'source str
+    pub fn name(&self) -> &str
         ensures { result.now ≡ self.now.name }
     {
         self.instructions.name()
     }
 
     /// The template's source.
-    pub fn source(&self) -> &'source str
+    pub fn source(&self) -> &str
         ensures { result.now ≡ self.now.source.text }
     {
         self.instructions.source()
@@ -130,7 +172,7 @@ impl<'source> CompiledTemplate<'source> {
     /// # Errors
     ///
     /// [`ErrorKind::OutOfMemory`].
-    pub fn tree(&self, alloc: Global) -> Result<Stmt<'source>, Error>
+    pub fn tree(&self, alloc: Global) -> Result<Stmt<'_>, Error>
         ensures tree { IfOk result (λ tree. statement_of tree ≡ template (tree_in self.now.source)) }
         ensures refused { IfErr result NoMemory }
     {

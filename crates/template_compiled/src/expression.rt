@@ -1,5 +1,6 @@
 //! Compiled expressions.
 ghost use Rattle.std.specs.Prelude.{◌≡◌, ℕ, List, IfOk, IfErr, OnOk};
+ghost use Rattle.std.specs.Cow.{cow_str_bytes};
 ghost use Rattle.template_values_errors.specs.Memory.{NoMemory};
 ghost use Rattle.template_tree.specs.Tree.{Expression};
 ghost use Rattle.template_tree.specs.View.{expression_of};
@@ -11,6 +12,7 @@ ghost use Rattle.template_compiled.specs.Expressions.{IsExpressionRefusedWith, I
 ghost use Rattle.template_compiled.specs.Names.{uses_alone};
 
 use std::alloc::Global;
+use std::borrow::CowStr;
 use std::collections::BTreeSet;
 use std::marker::Model;
 use template_code::Instructions;
@@ -66,8 +68,40 @@ impl<'source> CompiledExpression<'source> {
         Ok(CompiledExpression { instructions })
     }
 
+    /// The same of a source that need not outlive it: it keeps a copy.
+    ///
+    /// # Errors
+    ///
+    /// As [`CompiledExpression::new`].
+    pub fn from_owned(
+        alloc: Global,
+        source: CowStr<'_>,
+    ) -> Result<CompiledExpression<'source>, Error>
+        ensures source { IfOk result (λ e. e ≡ cow_str_bytes source.entry) }
+        ensures faithful { IfOk result IsFaithfulExpression }
+        ensures refused { IfErr result (IsExpressionRefusedWith (cow_str_bytes source.entry)) }
+    {
+        let borrowed = CompiledExpression::new(alloc, source.as_str())?;
+        Ok(borrowed.into_owned(alloc)?)
+    }
+
+    /// The same expression with texts of its own, which are copied where they were borrowed. Takes time and memory linear
+    /// in its source and its code.
+    ///
+    /// # Errors
+    ///
+    /// [`ErrorKind::OutOfMemory`].
+    pub fn into_owned<'owned>(self, alloc: Global) -> Result<CompiledExpression<'owned>, Error>
+        ensures same { IfOk result (λ e. e ≡ self.entry) }
+        ensures refused { IfErr result NoMemory }
+    {
+        Ok(CompiledExpression {
+            instructions: self.instructions.into_owned(alloc)?,
+        })
+    }
+
     /// The expression's source.
-    pub fn source(&self) -> &'source str
+    pub fn source(&self) -> &str
         ensures { result.now ≡ self.now }
     {
         self.instructions.source()
@@ -78,7 +112,7 @@ impl<'source> CompiledExpression<'source> {
     /// # Errors
     ///
     /// [`ErrorKind::OutOfMemory`].
-    pub fn tree(&self, alloc: Global) -> Result<Expr<'source>, Error>
+    pub fn tree(&self, alloc: Global) -> Result<Expr<'_>, Error>
         ensures tree { IfOk result (λ tree. expression_of tree ≡ expression_in self.now) }
         ensures refused { IfErr result NoMemory }
     {

@@ -1,6 +1,7 @@
 //! Environments.
 ghost use Rattle.std.specs.Prelude.{◌≡◌, ◌+◌, ◌≢◌, ◌∷◌, [], ℕ, List, None, Some, Option, Err, IfOk, IfErr, OnOk, OnErr, bytes_eq, min, if◌then◌else◌, map, option_map, All, string_bytes};
 ghost use Rattle.std.specs.Cmp.Lexicographic.{slice_cmp};
+ghost use Rattle.std.specs.Cow.{cow_str_bytes};
 ghost use Rattle.std.specs.List.{find};
 ghost use Rattle.std.specs.List.Sorted.{IsStrictlySortedBy};
 ghost use Rattle.std.specs.Ordering.{nat_cmp};
@@ -15,6 +16,7 @@ ghost use Rattle.template_environment.specs.Standing.{greatest_limit};
 use crate::state::State;
 use crate::template::{Template, TemplateCode};
 use std::alloc::Global;
+use std::borrow::CowStr;
 use template_compiled::{CompiledTemplate, CompiledTemplates, TemplateConfig};
 use template_compiler_syntax::SyntaxConfig;
 use template_machine_escape::EscapeRule;
@@ -166,6 +168,26 @@ impl<'source> Environment<'source> {
         ensures unchanged { OnErr result (IsUnchanged self.old self.new) }
     {
         let compiled = CompiledTemplate::new(self.alloc, name, source, &self.config)?;
+        self.templates.insert(self.alloc, compiled)
+    }
+
+    /// The same of texts that need not outlive the environment: it keeps copies of them, which takes time and memory
+    /// linear in the source and its code.
+    ///
+    /// # Errors
+    ///
+    /// As [`Environment::add_template`].
+    pub fn add_template_owned(&mut self, name: CowStr<'_>, source: CowStr<'_>) -> Result<(), Error>
+        ensures accepted { OnOk result (IsAccepted (read_under self.old (cow_str_bytes source.entry))) }
+        ensures stands { OnOk result ((other : List ℕ)
+            → source_at self.new other
+            ≡ (if bytes_eq (cow_str_bytes name.entry) other then Some (read_under self.old (cow_str_bytes source.entry)) else source_at self.old other)) }
+        ensures settings { settings_of self.new ≡ settings_of self.old }
+        ensures refused { IfErr result (IsRefusedWith (read_under self.old (cow_str_bytes source.entry))) }
+        ensures plain { IsPlain (read_under self.old (cow_str_bytes source.entry)) → IfErr result IsRefusedForRoom }
+        ensures unchanged { OnErr result (IsUnchanged self.old self.new) }
+    {
+        let compiled = CompiledTemplate::from_owned(self.alloc, name, source, &self.config)?;
         self.templates.insert(self.alloc, compiled)
     }
 

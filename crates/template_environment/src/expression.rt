@@ -1,6 +1,7 @@
 //! Expressions of an environment, and their values.
 ghost use Rattle.std.specs.Prelude.{◌≡◌, ◌≢◌, ◌+◌, ◌∷◌, [], ℕ, List, IfOk, IfErr, OnOk, Err};
 ghost use Rattle.std.specs.BTreeSet.{contains_text};
+ghost use Rattle.std.specs.Cow.{cow_str_bytes};
 ghost use Rattle.template_values_errors.specs.Memory.{NoMemory};
 ghost use Rattle.template_values_model.specs.Val.{Val};
 ghost use Rattle.template_process.specs.Fuel.{under};
@@ -11,6 +12,7 @@ ghost use Rattle.template_environment.specs.Evaluations.{Gives};
 ghost use Rattle.template_environment.specs.Standing.{setting_of};
 
 use crate::environment::Environment;
+use std::borrow::CowStr;
 use std::collections::BTreeSet;
 use template_compiled::CompiledExpression;
 use template_machine_ids::StateIds;
@@ -45,6 +47,27 @@ impl<'source> Environment<'source> {
         ensures refused { IfErr result (IsExpressionRefusedWith source.now) }
     {
         let compiled = CompiledExpression::new(self.allocator(), source)?;
+        Ok(Expression {
+            environment: self,
+            compiled,
+        })
+    }
+
+    /// The same of a source that need not outlive the environment: the expression keeps a copy.
+    ///
+    /// # Errors
+    ///
+    /// As [`Environment::compile_expression`].
+    pub fn compile_expression_owned(
+        &self,
+        source: CowStr<'_>,
+    ) -> Result<Expression<'_, 'source>, Error>
+        ensures accepted { OnOk result (IsAcceptedExpression (cow_str_bytes source.entry)) }
+        ensures source { IfOk result (λ e. text_of e ≡ cow_str_bytes source.entry) }
+        ensures here { IfOk result (λ e. environment_under e ≡ self.now) }
+        ensures refused { IfErr result (IsExpressionRefusedWith (cow_str_bytes source.entry)) }
+    {
+        let compiled = CompiledExpression::from_owned(self.allocator(), source)?;
         Ok(Expression {
             environment: self,
             compiled,

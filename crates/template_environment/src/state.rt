@@ -19,7 +19,7 @@ use template_values_modes::{AutoEscape, UndefinedBehavior};
 pub struct State<'env, 'source> {
     pub(crate) id: u64,
     pub(crate) environment: &'env Environment<'source>,
-    pub(crate) name: &'source str,
+    pub(crate) name: &'env str,
     pub(crate) machine: MachineState<'env>,
     pub(crate) fuel: Option<(u64, u64)>,
 }
@@ -31,7 +31,7 @@ impl<'env, 'source> State<'env, 'source> {
     // A state without frames, under a name and an escape, that has consumed no fuel.
     pub(crate) fn without_frames(
         environment: &'env Environment<'source>,
-        name: &'source str,
+        name: &'env str,
         escape: AutoEscape,
         ids: &mut StateIds,
     ) -> Result<State<'env, 'source>, Error>
@@ -76,7 +76,7 @@ impl<'env, 'source> State<'env, 'source> {
     }
 
     /// The name of its template.
-    pub fn name(&self) -> &'source str
+    pub fn name(&self) -> &'env str
         ensures { result.now ≡ name_in self.now }
     {
         self.name

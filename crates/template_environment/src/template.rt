@@ -65,14 +65,14 @@ impl<'env, 'source> Template<'env, 'source> {
     ghost use Rattle.template_environment.specs.States.{environment_in, frameless, fuel_left_in, fuel_set_in, id_in, name_in, world_in};
 
     /// The template's name.
-    pub fn name(&self) -> &'source str
+    pub fn name(&self) -> &str
         ensures { result.now ≡ name_of self.now }
     {
         self.compiled.get().name()
     }
 
     /// The template's source.
-    pub fn source(&self) -> &'source str
+    pub fn source(&self) -> &str
         ensures { result.now ≡ (source_of self.now).text }
     {
         self.compiled.get().source()

@@ -1,4 +1,4 @@
-use Rattle.std.proofs.Common.{◌≡◌, ℕ, ◌≤◌, length, reverse, take}
+use Rattle.std.proofs.Common.{◌≡◌, ◌≤◌, length, reverse, take}
 use Rattle.template_code_shapes.specs.Shapes.{floor_of}
 use Rattle.template_code_shapes.proofs.outline.Outline.floor.Given as goal
 

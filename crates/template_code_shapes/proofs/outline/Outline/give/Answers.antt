@@ -1,4 +1,4 @@
-use Rattle.std.proofs.Common.{rules, arith}
+use Rattle.std.proofs.Common.{arith}
 use Rattle.std.proofs.lemmas.Grind.{common_steps}
 use Rattle.template_code_shapes.proofs.OutlineLemmas.{gives}
 use Rattle.template_code_shapes.proofs.outline.Outline.give.Goals as goal

@@ -1,4 +1,4 @@
-use Rattle.std.proofs.Common.{◌≡◌, ℕ, ◌≤◌, length, reverse, take}
+use Rattle.std.proofs.Common.{◌≡◌, ◌≤◌, length, reverse, take}
 use Rattle.template_code_shapes.specs.Shapes.{innermost_loop}
 use Rattle.template_code_shapes.proofs.outline.Outline.innermost_loop.Given as goal
 

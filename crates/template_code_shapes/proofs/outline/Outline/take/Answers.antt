@@ -1,4 +1,4 @@
-use Rattle.std.proofs.Common.{◌≡◌, ℕ, ◌-◌, ◌≤◌, ◌<◌, reverse, ap, arith}
+use Rattle.std.proofs.Common.{◌≡◌, reverse, ap, arith}
 use Rattle.template_code_shapes.specs.Shapes.{floor_of, Floor}
 use Rattle.template_code_shapes.proofs.OutlineLemmas.{takes, takes_too_many, takes_below_floor}
 use Rattle.template_code_shapes.proofs.outline.Outline.take.Goals as goal
