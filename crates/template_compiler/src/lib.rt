@@ -50,8 +50,8 @@ pub use template_code::{
     LOOP_FLAG_WITH_LOOP_VAR, LocalId, MACRO_CALLER, MAX_LOCALS, code_rises,
 };
 pub use template_compiled::{
-    CompiledExpression, CompiledTemplate, CompiledTemplates, TemplateConfig, one_standalone_tree,
-    one_tree, plain_text,
+    CompiledExpression, CompiledTemplate, CompiledTemplates, TemplateConfig, as_const,
+    one_standalone_tree, one_tree, plain_text,
 };
 pub use template_compiler_codegen::{expressions_perform, templates_perform};
 pub use template_compiler_expression_codegen::compile_expr;

@@ -187,8 +187,8 @@ impl<'source> Environment<'source> {
         ensures plain { IsPlain (read_under self.old (cow_str_bytes source.entry)) → IfErr result IsRefusedForRoom }
         ensures unchanged { OnErr result (IsUnchanged self.old self.new) }
     {
-        let compiled = CompiledTemplate::from_owned(self.alloc, name, source, &self.config)?;
-        self.templates.insert(self.alloc, compiled)
+        let copied = CompiledTemplate::from_owned(self.alloc, name, source, &self.config)?;
+        self.templates.insert(self.alloc, copied)
     }
 
     /// No template stands under the name any more. Takes a look-up among the names.

@@ -17,8 +17,8 @@
 //! # The main calls
 //!
 //! - [`Environment::add_template`] adds a template in the place of one of that name, or refuses it and
-//!   changes nothing; [`Environment::get_template`] finds it, and [`Environment::remove_template`] takes it
-//!   away.
+//!   changes nothing; [`Environment::add_template_owned`] keeps copies of its texts. [`Environment::get_template`]
+//!   finds it, and [`Environment::remove_template`] takes it away.
 //! - [`Template::render`] gives its text over a context, and [`Template::render_captured_to`] writes it into a
 //!   [`Sink`]: a `String`, a [`WriteWrapper`] over a writer, or a [`NullWriter`]. [`Captured`] is what a render
 //!   leaves, with its [`State`], which knows the names that were stored.
@@ -47,7 +47,9 @@
 #[cfg(test)]
 mod tests;
 
-pub use template_code_shapes::{Checked, StreamKind, certified_is_good, good_ends_well, verify};
+pub use template_code_shapes::{
+    Checked, StreamKind, certified_is_good, good_ends_well, good_goes_on, verify,
+};
 pub use template_environment::{Captured, Environment, Expression, State, Template};
 pub use template_machine_escape::{EscapeRule, default_auto_escape_callback, one_escape, one_rule};
 pub use template_machine_frames::{Context, Frame, LoopState};

@@ -1,9 +1,11 @@
 //! From texts to their code.
+use crate::ast::Span;
 use crate::{
     CompiledTemplate, CompiledTemplates, Error, ErrorKind, Instruction, Instructions, SyntaxConfig,
     TemplateConfig, is_runnable, parse,
 };
 use std::alloc::Global;
+use std::borrow::CowStr;
 use std::test::Fail;
 
 fn compiled<'a>(
@@ -82,5 +84,50 @@ fn the_last_of_a_name_stands(rt: HostRuntime) -> Result<(), Fail> {
     assert_eq!(rt; standing, Some("b"));
     templates.remove("t.txt");
     assert!(rt; templates.get("t.txt").is_none());
+    Ok(())
+}
+
+#[test]
+fn owned_code_is_that_of_the_text(rt: HostRuntime) -> Result<(), Fail> {
+    let source = String::from_str(rt.alloc(), "Hello {{ name }}!")?;
+    let template = CompiledTemplate::from_owned(
+        rt.alloc(),
+        CowStr::Borrowed("hello.txt"),
+        CowStr::Owned(source),
+        &TemplateConfig::new(),
+    )?;
+    assert_eq!(rt; template.name(), "hello.txt");
+    assert_eq!(rt; template.source(), "Hello {{ name }}!");
+    assert_eq!(rt; shown(template.instructions(), 0), ("raw", "Hello "));
+    assert_eq!(rt; shown(template.instructions(), 1), ("lookup", "name"));
+    assert_eq!(rt; shown(template.instructions(), 3), ("raw", "!"));
+    Ok(())
+}
+
+#[test]
+fn instructions_tell_where_they_come_from(rt: HostRuntime) -> Result<(), Fail> {
+    let span = Span {
+        start_line: 4,
+        ..Span::default()
+    };
+    let mut code = Instructions::new(rt.alloc(), "t.txt", "");
+    code.add(Instruction::Emit)?;
+    code.add_with_line(Instruction::Emit, 3)?;
+    code.add_with_span(Instruction::Emit, span)?;
+    code.add(Instruction::Emit)?;
+    code.add_with_span(Instruction::Emit, Span::default())?;
+    let code = code.into_owned(rt.alloc())?;
+    let rows = [
+        (0, None, None),
+        (1, Some(3), None),
+        (2, Some(4), Some(span)),
+        (3, Some(4), Some(span)),
+        (4, Some(0), None),
+        (9, Some(0), None),
+    ];
+    for (index, line, of) in rows {
+        assert_eq!(rt; code.get_line(index), line, "at {index}");
+        assert_eq!(rt; code.get_span(index), of, "at {index}");
+    }
     Ok(())
 }

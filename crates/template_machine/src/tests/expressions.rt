@@ -1,6 +1,7 @@
 //! The values of expressions, and their names.
 use crate::{Environment, Error, ErrorKind, StateIds, UndefinedBehavior};
 use std::alloc::Global;
+use std::borrow::CowStr;
 use std::test::Fail;
 use template_values_core::Value;
 
@@ -65,6 +66,17 @@ fn fuels_cut_values(rt: HostRuntime) {
         let found = kind_of(number(rt.alloc(), source, Some(fuel), UndefinedBehavior::Lenient));
         assert_eq!(rt; found, value, "{source} under {fuel}");
     }
+}
+
+#[test]
+fn an_owned_source_has_the_same_value(rt: HostRuntime) -> Result<(), Fail> {
+    let mut ids = StateIds::new(0);
+    let environment = Environment::new(rt.alloc(), &mut ids)?;
+    let source = String::from_str(rt.alloc(), "1 + 2")?;
+    let expression = environment.compile_expression_owned(CowStr::Owned(source))?;
+    let value = expression.eval(&mut ids, Value::undefined())?;
+    assert_eq!(rt; value.as_int(), Some(3));
+    Ok(())
 }
 
 #[test]

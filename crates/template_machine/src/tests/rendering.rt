@@ -3,6 +3,7 @@ use crate::{
     Environment, Error, ErrorKind, NullWriter, StateIds, Template, UndefinedBehavior, WriteWrapper,
 };
 use std::alloc::Global;
+use std::borrow::CowStr;
 use std::collections::BTreeSet;
 use std::test::Fail;
 use template_values_core::Value;
@@ -89,6 +90,24 @@ fn additions_replace_and_refuse(rt: HostRuntime) -> Result<(), Fail> {
     environment.remove_template("t.txt");
     let missing = stands(&environment, "t.txt", "a").err();
     assert_eq!(rt; missing, Some(ErrorKind::TemplateNotFound));
+    Ok(())
+}
+
+#[test]
+fn owned_texts_need_not_outlive_their_environment(rt: HostRuntime) -> Result<(), Fail> {
+    let mut ids = StateIds::new(0);
+    let mut environment = Environment::new(rt.alloc(), &mut ids)?;
+    {
+        let source = String::from_str(rt.alloc(), HELLO)?;
+        let lent = CowStr::Borrowed(source.as_str());
+        environment.add_template_owned(CowStr::Borrowed("t.txt"), lent)?;
+    }
+    let refused = environment.add_template_owned(CowStr::Borrowed("t.txt"), CowStr::Borrowed("{{"));
+    assert_eq!(rt; kind_of(refused), Err(ErrorKind::SyntaxError));
+    let text = environment
+        .get_template("t.txt")?
+        .render(&mut ids, world(rt.alloc())?)?;
+    assert_eq!(rt; text.as_str(), "Hello World!");
     Ok(())
 }
 
