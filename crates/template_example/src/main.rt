@@ -39,7 +39,8 @@ fn main(rt: HostRuntime) -> anyhow::Result<()> {
         Err(error) => println!(rt; "refused: {error}")?,
     }
     for template in environment.templates()? {
-        println!(rt; "stands: {}", template.name())?;
+        let name = template.name();
+        println!(rt; "stands: {name}")?;
     }
 
     let template = environment.template_from_str("{% set answer = 42 %}Hello again!")?;
