@@ -170,8 +170,8 @@ impl<'source> Instructions<'source> {
         self.add_marked(instruction, line, None)
     }
 
-    /// The same for an instruction that comes from a span. The default span stands for no span, and its line for the
-    /// line of any other.
+    /// The same for an instruction that comes from a span, with the line that this starts in. The default span tells
+    /// line 0 and no span.
     ///
     /// # Errors
     ///
