@@ -7,7 +7,7 @@ use Rattle.template_compiler_runnable.specs.Running.{statements_run}
 use Rattle.template_compiler_syntax.specs.Syntax.{IsUsable}
 use Rattle.template_machine_escape.specs.Rule.{IsEscapeOf}
 use Rattle.template_machine_meaning.specs.Meaning.{Standing}
-use Rattle.template_compiled.specs.Sources.{Source, HasTree, tree_in}
+use Rattle.template_compiled.specs.Sources.{Source, HasTree, tree_in, escaping_as}
 
 pub record Compiled : Type 0 where
   pub name : List ℕ
@@ -20,6 +20,10 @@ pub record IsFaithful (c : Compiled) : Type 0 where
   pub fits : length c.source.text < 2 ^ 32
   pub has_tree : HasTree c.source (tree_in c.source)
   pub is_escape : IsEscapeOf c.source.escapes c.name c.escape
+
+-- the same under an escape, whatever its name is
+abbrev pub escaped_as : AutoEscape → Compiled → Compiled
+escaped_as escape c = record { name = c.name; source = escaping_as escape c.source; escape = escape }
 
 -- what it stands for
 abbrev pub standing_of : Compiled → Standing

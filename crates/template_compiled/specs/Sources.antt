@@ -2,6 +2,7 @@
 use Rattle.std.specs.Prelude.{◌≡◌, ℕ, ◌⊎◌, List, [], ◌∷◌, Result, Ok, Err}
 use Rattle.template_values_errors.specs.declared.ErrorKind.{ErrorKind}
 use Rattle.template_values_errors.specs.declared.ErrorKind.TheVariants.{SyntaxError}
+use Rattle.template_values_modes.specs.declared.AutoEscape.{AutoEscape}
 use Rattle.template_tree.specs.Tree.{Statements, no_statements, template}
 use Rattle.template_walk.specs.Runnable.{IsRunnableTemplate}
 use Rattle.template_compiler_tokens.specs.Token.{TokenFault}
@@ -11,6 +12,7 @@ use Rattle.template_compiler_statements.specs.Reader.{template_of}
 use Rattle.template_compiler_sources.specs.Source.{IsSource, RefusesSource}
 use Rattle.template_compiler_emission.specs.Puts.{NoRoom}
 use Rattle.template_machine_escape.specs.declared.EscapeRule.{EscapeRule}
+use Rattle.template_machine_escape.specs.declared.EscapeRule.TheVariants.{Fixed}
 use Rattle.template_compiled.specs.declared.config.TemplateConfig.{TemplateConfig}
 
 -- a text, the syntax that it is read under, and the rule that gives the escape
@@ -22,6 +24,10 @@ pub record Source : Type 0 where
 -- a text, as it is read under a configuration
 abbrev pub read_by : TemplateConfig → List ℕ → Source
 read_by config text = record { text = text; syntax = config.syntax_config; escapes = config.default_auto_escape }
+
+-- the same under an escape, whatever the name is
+abbrev pub escaping_as : AutoEscape → Source → Source
+escaping_as escape source = record source { escapes = Fixed escape }
 
 -- the source's tree is made of these statements, and all its constructs run
 abbrev pub HasTree : Source → Statements → Type 0

@@ -8,7 +8,7 @@ ghost use Rattle.template_code.specs.Listing.{code_in};
 ghost use Rattle.template_compiler_syntax.specs.Syntax.{IsUsable};
 ghost use Rattle.template_compiler_sources.specs.Source.{IsSource};
 ghost use Rattle.template_machine_escape.specs.Rule.{IsEscapeOf};
-ghost use Rattle.template_compiled.specs.Compiled.{IsFaithful, code_for};
+ghost use Rattle.template_compiled.specs.Compiled.{IsFaithful, code_for, escaped_as};
 ghost use Rattle.template_names_undeclared.specs.Found.{Adds, AddsSome};
 ghost use Rattle.template_compiled.specs.Names.{uses};
 ghost use Rattle.template_compiler_emission.specs.Puts.{NoRoom};
@@ -25,6 +25,7 @@ use template_compiler_runnable::is_runnable;
 use template_compiler_sources::parse;
 use template_compiler_statement_codegen::compile_template;
 use template_compiler_syntax::SyntaxConfig;
+use template_machine_escape::EscapeRule;
 use template_names_undeclared::add_undeclared;
 use template_tree::Stmt;
 use template_values_errors::{Error, ErrorKind};
@@ -136,6 +137,20 @@ impl<'source> CompiledTemplate<'source> {
             config: self.config,
             initial_auto_escape: self.initial_auto_escape,
         })
+    }
+
+    /// The same template under an escape of its own, whatever its name is.
+    pub fn with_auto_escape(self, escape: AutoEscape) -> CompiledTemplate<'source>
+        ensures { result ≡ escaped_as escape self.entry }
+    {
+        CompiledTemplate {
+            instructions: self.instructions,
+            config: TemplateConfig {
+                syntax_config: self.config.syntax_config,
+                default_auto_escape: EscapeRule::Fixed(escape),
+            },
+            initial_auto_escape: escape,
+        }
     }
 
     /// The template's name.

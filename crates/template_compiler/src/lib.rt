@@ -29,7 +29,8 @@
 //!   expression's.
 //! - [`compile_template`] puts the code of a tree behind what stands in [`Instructions`], [`compile_expr`]
 //!   that of an expression. [`CompiledTemplate::new`] and [`CompiledExpression::new`] do all of it: from a text to its
-//!   code.
+//!   code. A [`CodeGenerator`] adds instructions one by one, with their lines and the jumps of blocks.
+//! - [`get_referenced_names`] gives the names that instructions before a place look up or store.
 //!
 //! # What is proved
 //!
@@ -49,12 +50,14 @@ pub use template_code::{
     CaptureMode, CompareOp, Instruction, Instructions, LOOP_FLAG_RECURSIVE,
     LOOP_FLAG_WITH_LOOP_VAR, LocalId, MACRO_CALLER, MAX_LOCALS, code_rises,
 };
+pub use template_code_references::get_referenced_names;
 pub use template_compiled::{
     CompiledExpression, CompiledTemplate, CompiledTemplates, TemplateConfig, as_const,
     one_standalone_tree, one_tree, plain_text,
 };
 pub use template_compiler_codegen::{expressions_perform, templates_perform};
 pub use template_compiler_expression_codegen::compile_expr;
+pub use template_compiler_generator::{CodeGenerator, blocks_generate};
 pub use template_compiler_runnable::{is_runnable, is_runnable_expr};
 pub use template_compiler_sources::{Parser, parse, parse_expr};
 pub use template_compiler_statement_codegen::compile_template;

@@ -18,7 +18,7 @@ use Rattle.template_machine_renders.proofs.Coming.{expressions_evaluate}
 use Rattle.template_compiled.specs.Expressions.{IsFaithfulExpression, expression_in}
 use Rattle.template_environment.specs.Evaluations.{Gives}
 use Rattle.template_environment.specs.Standing.{setting_of}
-use Rattle.template_environment.specs.declared.environment.Environment.{Environment}
+use Rattle.template_environment.specs.declared.registry.Registry.{Registry}
 
 -- a sink that cannot fail is no cause
 gives : (result : Result Val (List ErrorKind)) (r : Run World) (failures : ℕ) → TellsFailures result failures failures → GivesValue result r → Gives result r
@@ -28,7 +28,7 @@ gives (Err kinds) r failures quiet (inr (inl want)) = inr want
 gives (Err kinds) r failures (inl failed) (inr (inr failure)) = absurd (omega (arith, failed.1))
 gives (Err kinds) r failures (inr quiet) (inr (inr failure)) = absurd (quiet.0 failure)
 
-pub evaluates : (e : Environment) (source : List ℕ) (context : Val) (s : Programs) (code : List Code) (w after : World) (fuel left : Option ℕ)
+pub evaluates : (e : Registry) (source : List ℕ) (context : Val) (s : Programs) (code : List Code) (w after : World) (fuel left : Option ℕ)
     (before taken : Option (List ℕ)) (failures : ℕ) (result : Result Val (List ErrorKind)) → IsFaithfulExpression source → s ≡ codes_of (setting_of e)
     → code ≡ standalone_code (expression_in source) → w ≡ first_world escapes.None context → fuel ≡ e.fuel
     → TellsFailures result failures failures → Evaluates s code w fuel before result after left taken

@@ -11,13 +11,13 @@ use Rattle.template_compiled.specs.Names.{uses}
 use Rattle.template_compiled.specs.Standing.{IsUsedByOne, compiled_at}
 use Rattle.template_compiled.proofs.Using.{either}
 use Rattle.template_environment.specs.Standing.{setting_of}
-use Rattle.template_environment.specs.declared.environment.Environment.{Environment}
+use Rattle.template_environment.specs.declared.registry.Registry.{Registry}
 
 under_map : {X Y : Type 0} (f : X → Y) (o : Option X) (y : Y) → option_map f o ≡ Some y → (x : X) × (o ≡ Some x) × (f x ≡ y)
 under_map f None y h = cc
 under_map f (Some x) y h = (x, refl, cc)
 
-pub used_by_one : (e : Environment) (name : List ℕ) → IsUsedByOne e.templates name ↔ isolation.IsUsedByOne (setting_of e) name
+pub used_by_one : (e : Registry) (name : List ℕ) → IsUsedByOne e.templates name ↔ isolation.IsUsedByOne (setting_of e) name
 used_by_one e name = (
   λ u. (u.0, standing_of u.1, ap (option_map standing_of) u.2, u.3),
   λ u.
@@ -25,7 +25,7 @@ used_by_one e name = (
       (u.0, under.0, under.1, subst (λ (t : Standing). IsTrue (is_used name t.tree)) (sym under.2) u.3),
 )
 
-pub listed : (e : Environment) (c : Compiled) (name : List ℕ) (given own : Bool) (Has : Type 0) → given ≡ is_given name → own ≡ (given || uses c name)
+pub listed : (e : Registry) (c : Compiled) (name : List ℕ) (given own : Bool) (Has : Type 0) → given ≡ is_given name → own ≡ (given || uses c name)
     → Has ↔ (IsTrue own ⊎ IsUsedByOne e.templates name) → Has ↔ IsContextName (setting_of e) (standing_of c).tree name
 listed e c name given own Has at_first then all =
     let both = either given (uses c name) in (

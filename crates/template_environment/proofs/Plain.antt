@@ -15,7 +15,7 @@ use Rattle.template_compiled.specs.Compiled.{Compiled}
 use Rattle.template_compiled.specs.Plain.{text_tree}
 use Rattle.template_environment.specs.Plain.{text_run, GivesItself, WritesItself}
 use Rattle.template_environment.specs.Renderings.{GivesText, rendering}
-use Rattle.template_environment.specs.declared.environment.Environment.{Environment}
+use Rattle.template_environment.specs.declared.registry.Registry.{Registry}
 
 -- the run of such a tree, under every bound
 text_runs : (setting : Setting) (n : ℕ) (bytes : List ℕ) (escape : AutoEscape) (context : Val)
@@ -89,10 +89,10 @@ writes_itself (Some (suc zero)) (byte ∷ bytes) w before after (Ok x) (broken w
 writes_itself (Some (suc zero)) (byte ∷ bytes) w before after (Err kinds) (broken wants text) = inl wants
 
 -- what calls that render it give and write
-abbrev pub IsOfText : Environment → Compiled → List ℕ → Type 0
+abbrev pub IsOfText : Registry → Compiled → List ℕ → Type 0
 IsOfText e c bytes = (n : ℕ) (context : Val) → rendering e c n context ≡ text_run bytes (first_world c.escape context)
 
-pub plain_gives : {X : Type 0} (e : Environment) (c : Compiled) (bytes : List ℕ) (context : Val) (text : X → List ℕ) (result : Result X (List ErrorKind))
+pub plain_gives : {X : Type 0} (e : Registry) (c : Compiled) (bytes : List ℕ) (context : Val) (text : X → List ℕ) (result : Result X (List ErrorKind))
     → IsOfText e c bytes
     → ((n : ℕ) → IsFinished (rendering e c n context).end → GivesText text result (under e.fuel (rendering e c n context)))
     → GivesItself e.fuel bytes text result
@@ -101,7 +101,7 @@ plain_gives e c bytes context text result is gives =
     gives_itself e.fuel bytes w text result (subst (λ r. GivesText text result (under e.fuel r)) (is 0 context)
     (gives 0 (subst (λ (r : Run World). IsFinished r.end) (sym (is 0 context)) (text_finished bytes w))))
 
-pub plain_writes : {X : Type 0} (e : Environment) (c : Compiled) (bytes : List ℕ) (context : Val) (before after : Option (List ℕ)) (result : Result X (List ErrorKind))
+pub plain_writes : {X : Type 0} (e : Registry) (c : Compiled) (bytes : List ℕ) (context : Val) (before after : Option (List ℕ)) (result : Result X (List ErrorKind))
     → IsOfText e c bytes
     → ((n : ℕ) → IsFinished (rendering e c n context).end → Renders result before after (under e.fuel (rendering e c n context)))
     → WritesItself e.fuel bytes before after result

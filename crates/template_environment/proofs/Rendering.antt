@@ -26,14 +26,14 @@ use Rattle.template_compiled.specs.Sources.{tree_in}
 use Rattle.template_compiled.specs.Standing.{compiled_at}
 use Rattle.template_environment.specs.Renderings.{rendering}
 use Rattle.template_environment.specs.Standing.{setting_of, unit_of, units_of}
-use Rattle.template_environment.specs.declared.environment.Environment.{Environment}
+use Rattle.template_environment.specs.declared.registry.Registry.{Registry}
 
 same_unit : (n : ℕ) (o : Option Compiled) → option_map (program_of n) (option_map unit_of o) ≡ option_map (coded n) (option_map standing_of o)
 same_unit n None = refl
 same_unit n (Some c) = refl
 
 -- the programs that a machine runs are the codes of the setting
-pub same_programs : (e : Environment) → programs_of (units_of e) e.recursion_limit e.undefined_behavior ≡ codes_of (setting_of e)
+pub same_programs : (e : Registry) → programs_of (units_of e) e.recursion_limit e.undefined_behavior ≡ codes_of (setting_of e)
 same_programs e = λ i. record {
   program = λ n name. same_unit n (compiled_at e.templates name) i;
   limit = e.recursion_limit;
@@ -41,17 +41,17 @@ same_programs e = λ i. record {
 }
 
 -- as the environment's rules have them
-pub ruled_programs : (e : Environment) (limit : ℕ) (mode : UndefinedBehavior) → limit ≡ e.recursion_limit → mode ≡ e.undefined_behavior
+pub ruled_programs : (e : Registry) (limit : ℕ) (mode : UndefinedBehavior) → limit ≡ e.recursion_limit → mode ≡ e.undefined_behavior
     → programs_of (units_of e) limit mode ≡ codes_of (setting_of e)
 ruled_programs e limit mode l m = (λ i. programs_of (units_of e) (l i) (m i)) ∙ same_programs e
 
 -- what a machine runs: the programs, the code, and the world at its start
-pub record IsRunOf (e : Environment) (c : Compiled) (context : Val) (s : Programs) (code : List Code) (w : World) : Type 0 where
+pub record IsRunOf (e : Registry) (c : Compiled) (context : Val) (s : Programs) (code : List Code) (w : World) : Type 0 where
   pub programs : s ≡ codes_of (setting_of e)
   pub is_code : code ≡ code_for c
   pub start : w ≡ first_world c.escape context
 
-pub render_done : {X : Type 0} (v : X) (e : Environment) (c : Compiled) (context : Val) (s : Programs) (code : List Code) (w after : World) (set fuel left : Option ℕ)
+pub render_done : {X : Type 0} (v : X) (e : Registry) (c : Compiled) (context : Val) (s : Programs) (code : List Code) (w after : World) (set fuel left : Option ℕ)
     (before taken : Option (List ℕ)) → fuel ≡ set → IsRunOf e c context s code w → Runs s code w fuel before (Ok v) after left taken
     → (n : ℕ) → IsFinished (rendering e c n context).end → IsDone set (rendering e c n context) after left before taken
 render_done v e c context s code w after set fuel left before taken same of runs n finished =
@@ -62,7 +62,7 @@ render_done v e c context s code w after set fuel left before taken same of runs
     (subst (λ (p : Programs). EndsWith (answer p) code (at_start w fuel before) after left taken) of.programs runs)))
     n finished)
 
-pub render_stopped : (X : Type 0) (e : Environment) (c : Compiled) (context : Val) (s : Programs) (code : List Code) (w after : World) (set fuel left : Option ℕ)
+pub render_stopped : (X : Type 0) (e : Registry) (c : Compiled) (context : Val) (s : Programs) (code : List Code) (w after : World) (set fuel left : Option ℕ)
     (before taken : Option (List ℕ)) (kinds : List ErrorKind) → fuel ≡ set → IsRunOf e c context s code w → Runs {X = X} s code w fuel before (Err kinds) after left taken
     → (n : ℕ) → IsFinished (rendering e c n context).end → Renders {X = X} (Err kinds) before taken (under set (rendering e c n context))
 render_stopped X e c context s code w after set fuel left before taken kinds same of runs n finished =
@@ -74,7 +74,7 @@ render_stopped X e c context s code w after set fuel left before taken kinds sam
     n finished)
 
 -- all that stands runs
-abbrev AllRun : Environment → Type 0
+abbrev AllRun : Registry → Type 0
 AllRun e = (name : List ℕ) (c : Compiled) → compiled_at e.templates name ≡ Some c → statements_run false (tree_in c.source) ≡ true
 
 never : {t : Standing} → None ≡ Some t → ⊥
@@ -89,11 +89,11 @@ runs_there None running t at = absurd (never at)
 runs_there (Some c) running t at =
     subst (λ (u : Standing). IsRunnableTemplate u.tree) (one at) ((Decides-statements_run false (tree_in c.source)).0 (running c refl))
 
-pub all_run : (e : Environment) → AllRun e → AreAllRunnable (setting_of e)
+pub all_run : (e : Registry) → AllRun e → AreAllRunnable (setting_of e)
 all_run e running name t at = runs_there (compiled_at e.templates name) (running name) t at
 
 -- every render ends
-pub render_ends : (e : Environment) (c : Compiled) (context : Val) → AllRun e → IsRunnableTemplate (tree_in c.source)
+pub render_ends : (e : Registry) (c : Compiled) (context : Val) → AllRun e → IsRunnableTemplate (tree_in c.source)
     → (n : ℕ) × IsFinished (rendering e c n context).end
 render_ends e c context running runs =
     every_run_ends (setting_of e) (all_run e running) (tree_in c.source) runs (first_world c.escape context) _ _ refl

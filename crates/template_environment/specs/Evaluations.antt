@@ -11,35 +11,38 @@ use Rattle.template_machine_isolation.specs.Isolation.{AgreesAt}
 use Rattle.template_machine_meaning.specs.Meaning.{evaluated}
 use Rattle.template_machine_meaning.specs.World.{World}
 use Rattle.template_compiled.specs.Expressions.{expression_in}
+use Rattle.template_environment.specs.Reading.{registry_of}
 use Rattle.template_environment.specs.Standing.{setting_of}
 use Rattle.template_environment.specs.declared.environment.Environment.{Environment}
 use Rattle.template_environment.specs.declared.expression.Expression.{Expression}
 
--- the environment that it is an expression of
-abbrev pub environment_under : Expression → Environment
-environment_under e = e.environment.now
+module _ {R : Type 0} where
+  -- the environment that it is an expression of
+  abbrev pub environment_under : Expression R → Environment R
+  environment_under e = e.environment.now
 
--- its source
-abbrev pub text_of : Expression → List ℕ
-text_of e = e.compiled
+  -- its source
+  abbrev pub text_of : Expression R → List ℕ
+  text_of e = e.compiled
 
--- the fuel that each of its runs is given
-abbrev pub fuel_under : Expression → Option ℕ
-fuel_under e = (environment_under e).fuel
+  -- the fuel that each of its runs is given
+  abbrev pub fuel_under : Expression R → Option ℕ
+  fuel_under e = (registry_of (environment_under e)).fuel
 
--- what it means over a context
-abbrev pub evaluation_of : Expression → Val → Run World
-evaluation_of e context = evaluated (setting_of (environment_under e)) (expression_in (text_of e)) context
+  -- what it means over a context
+  abbrev pub evaluation_of : Expression R → Val → Run World
+  evaluation_of e context = evaluated (setting_of (registry_of (environment_under e))) (expression_in (text_of e)) context
 
 -- The call gives the one value that the run leaves; else it answers with the run's fault. Or a growth was refused.
 abbrev pub Gives : {S : Type 0} → Result Val (List ErrorKind) → Run S → Type 0
 Gives (Ok v) r = r.end ≡ ends (v ∷ [])
 Gives (Err kinds) r = (r.end ≡ faults kinds) ⊎ NoMemory kinds
 
--- the contexts hold the same under each name that stands in the expression, or neither holds anything
-abbrev pub AgreeAlong : Expression → Val → Val → Type 0
-AgreeAlong e c d = (name : List ℕ) → IsTrue (stands_in name (expression_in (text_of e))) → AgreesAt c d name
+module _ {R : Type 0} where
+  -- the contexts hold the same under each name that stands in the expression, or neither holds anything
+  abbrev pub AgreeAlong : Expression R → Val → Val → Type 0
+  AgreeAlong e c d = (name : List ℕ) → IsTrue (stands_in name (expression_in (text_of e))) → AgreesAt c d name
 
--- over the two contexts it takes the same steps at the same price, and comes to the same end, under every fuel
-abbrev pub IsSameEvaluation : Expression → Val → Val → Type 0
-IsSameEvaluation e c d = (fuel : Option ℕ) → IsSameRun (under fuel (evaluation_of e c)) (under fuel (evaluation_of e d))
+  -- over the two contexts it takes the same steps at the same price, and comes to the same end, under every fuel
+  abbrev pub IsSameEvaluation : Expression R → Val → Val → Type 0
+  IsSameEvaluation e c d = (fuel : Option ℕ) → IsSameRun (under fuel (evaluation_of e c)) (under fuel (evaluation_of e d))

@@ -1,4 +1,5 @@
 pub mod Standing
+pub mod Reading
 pub mod Renderings
 pub mod States
 pub mod Views

@@ -15,12 +15,12 @@ use Rattle.template_machine_meaning.specs.World.{World}
 use Rattle.template_machine_escape.specs.Rule.{IsEscapeOf}
 use Rattle.template_machine_renders.specs.Renders.{IsOver}
 use Rattle.template_compiled.specs.Compiled.{Compiled, standing_of}
-use Rattle.template_compiled.specs.Sources.{IsAccepted, IsRefusedWith}
-use Rattle.template_environment.specs.Standing.{read_under, setting_of}
-use Rattle.template_environment.specs.declared.environment.Environment.{Environment}
+use Rattle.template_compiled.specs.Sources.{IsAccepted, IsRefusedWith, Source}
+use Rattle.template_environment.specs.Standing.{setting_of}
+use Rattle.template_environment.specs.declared.registry.Registry.{Registry}
 
 -- a template of an environment over a context, under a bound
-abbrev pub rendering : Environment → Compiled → ℕ → Val → Run World
+abbrev pub rendering : Registry → Compiled → ℕ → Val → Run World
 rendering e c n context = rendered (setting_of e) n (standing_of c) context
 
 -- of what was consumed and what remains: the fuel that was set, and what is left of it
@@ -41,7 +41,7 @@ abbrev pub last_id : ℕ
 last_id = 2 ^ 64 - 1
 
 -- a call that renders a template to a text, and the numbers that come next before it and after it
-pub record RendersText {X : Type 0} (e : Environment) (c : Compiled) (context : Val) (id next : ℕ) (text : X → List ℕ)
+pub record RendersText {X : Type 0} (e : Registry) (c : Compiled) (context : Val) (id next : ℕ) (text : X → List ℕ)
     (result : Result X (List ErrorKind)) : Type 0 where
   pub gives : id ≢ last_id → (n : ℕ) → IsFinished (rendering e c n context).end
       → GivesText text result (under e.fuel (rendering e c n context))
@@ -50,8 +50,8 @@ pub record RendersText {X : Type 0} (e : Environment) (c : Compiled) (context : 
   pub exhausted : id ≡ last_id → (result ≡ Err (InvalidOperation ∷ [])) × (next ≡ id)
 
 -- The source is refused, and takes no number; or it is accepted, and rendered as a template of the name.
-abbrev pub RendersSource : {X : Type 0} → Environment → List ℕ → List ℕ → Val → ℕ → ℕ → (X → List ℕ) → Result X (List ErrorKind) → Type 0
+abbrev pub RendersSource : {X : Type 0} → Registry → List ℕ → Source → Val → ℕ → ℕ → (X → List ℕ) → Result X (List ErrorKind) → Type 0
 RendersSource e name source context id next text result =
-    (IsErrAnd result (IsRefusedWith (read_under e source)) × (next ≡ id))
-    ⊎ (IsAccepted (read_under e source) × ((escape : AutoEscape) → IsEscapeOf e.config.default_auto_escape name escape
-    → RendersText e (record { name = name; source = read_under e source; escape = escape }) context id next text result))
+    (IsErrAnd result (IsRefusedWith source) × (next ≡ id))
+    ⊎ (IsAccepted source × ((escape : AutoEscape) → IsEscapeOf source.escapes name escape
+    → RendersText e (record { name = name; source = source; escape = escape }) context id next text result))

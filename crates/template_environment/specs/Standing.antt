@@ -1,5 +1,5 @@
 -- What stands in an environment, and what it means.
-use Rattle.std.specs.Prelude.{◌≡◌, ℕ, List, Option, codes}
+use Rattle.std.specs.Prelude.{ℕ, List, Option, codes}
 use Rattle.std.specs.Option.{option_map}
 use Rattle.template_values_modes.specs.declared.UndefinedBehavior.{UndefinedBehavior}
 use Rattle.template_compiler_syntax.specs.Syntax.{Syntax}
@@ -7,17 +7,13 @@ use Rattle.template_machine_escape.specs.declared.EscapeRule.{EscapeRule}
 use Rattle.template_machine_meaning.specs.Meaning.{Setting}
 use Rattle.template_machine_loop.specs.Programs as units
 use Rattle.template_compiled.specs.Compiled.{Compiled, code_for, standing_of}
-use Rattle.template_compiled.specs.Sources.{Source, read_by}
+use Rattle.template_compiled.specs.Sources.{Source}
 use Rattle.template_compiled.specs.Standing.{compiled_at}
-use Rattle.template_environment.specs.declared.environment.Environment.{Environment}
+use Rattle.template_environment.specs.declared.registry.Registry.{Registry}
 
 -- the source that stands under a name
-abbrev pub source_at : Environment → List ℕ → Option Source
+abbrev pub source_at : Registry → List ℕ → Option Source
 source_at e name = option_map (λ c. c.source) (compiled_at e.templates name)
-
--- a text, under the syntax and the rule of escapes in force
-abbrev pub read_under : Environment → List ℕ → Source
-read_under e text = read_by e.config text
 
 -- the name of a template from a source without a name
 abbrev pub unnamed : List ℕ
@@ -27,7 +23,7 @@ unnamed = codes "<string>"
 abbrev pub greatest_limit : ℕ
 greatest_limit = 500
 
--- what an environment is set to beside its templates
+-- what an environment is set to beside its templates and a rule of escapes of its own
 pub record Settings : Type 0 where
   pub id : ℕ
   pub syntax : Syntax
@@ -36,7 +32,7 @@ pub record Settings : Type 0 where
   pub limit : ℕ
   pub undefined : UndefinedBehavior
 
-abbrev pub settings_of : Environment → Settings
+abbrev pub settings_of : Registry → Settings
 settings_of e = record {
   id = e.id;
   syntax = e.config.syntax_config;
@@ -46,13 +42,8 @@ settings_of e = record {
   undefined = e.undefined_behavior;
 }
 
--- nothing that a caller sees has changed
-pub record IsUnchanged (old new : Environment) : Type 0 where
-  pub sources : (name : List ℕ) → source_at new name ≡ source_at old name
-  pub settings : settings_of new ≡ settings_of old
-
 -- the setting that its renders have
-abbrev pub setting_of : Environment → Setting
+abbrev pub setting_of : Registry → Setting
 setting_of e = record {
   templates = λ name. option_map standing_of (compiled_at e.templates name);
   limit = e.recursion_limit;
@@ -63,5 +54,5 @@ setting_of e = record {
 abbrev pub unit_of : Compiled → units.Standing
 unit_of c = record { code = code_for c; escape = c.escape }
 
-abbrev pub units_of : Environment → List ℕ → Option units.Standing
+abbrev pub units_of : Registry → List ℕ → Option units.Standing
 units_of e name = option_map unit_of (compiled_at e.templates name)

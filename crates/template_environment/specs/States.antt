@@ -6,27 +6,28 @@ use Rattle.template_environment.specs.Renderings.{left_of, set_of}
 use Rattle.template_environment.specs.declared.environment.Environment.{Environment}
 use Rattle.template_environment.specs.declared.state.State.{State}
 
-abbrev pub environment_in : State → Environment
-environment_in s = s.environment.now
+module _ {R : Type 0} where
+  abbrev pub environment_in : State R → Environment R
+  environment_in s = s.environment.now
 
--- the name of its template
-abbrev pub name_in : State → List ℕ
-name_in s = s.name.now
+  -- the name of its template
+  abbrev pub name_in : State R → List ℕ
+  name_in s = s.name.now
 
--- its frames, and the escape in force
-abbrev pub world_in : State → World
-world_in s = s.machine
+  -- its frames, and the escape in force
+  abbrev pub world_in : State R → World
+  world_in s = s.machine
 
--- the fuel that was set, and what is left of it
-abbrev pub fuel_set_in : State → Option ℕ
-fuel_set_in s = set_of s.fuel
+  -- the fuel that was set, and what is left of it
+  abbrev pub fuel_set_in : State R → Option ℕ
+  fuel_set_in s = set_of s.fuel
 
-abbrev pub fuel_left_in : State → Option ℕ
-fuel_left_in s = left_of s.fuel
+  abbrev pub fuel_left_in : State R → Option ℕ
+  fuel_left_in s = left_of s.fuel
 
--- its number
-abbrev pub id_in : State → ℕ
-id_in s = s.id
+  -- its number
+  abbrev pub id_in : State R → ℕ
+  id_in s = s.id
 
 -- no frame, under an escape
 abbrev pub frameless : AutoEscape → World

@@ -20,43 +20,44 @@ abbrev pub compiled_in : TemplateCode → Compiled
 compiled_in (Borrowed c) = c.now
 compiled_in (Owned c) = c
 
--- the environment that it is a template of
-abbrev pub environment_of : Template → Environment
-environment_of t = t.environment.now
+module _ {R : Type 0} where
+  -- the environment that it is a template of
+  abbrev pub environment_of : Template R → Environment R
+  environment_of t = t.environment.now
 
-abbrev pub name_of : Template → List ℕ
-name_of t = (compiled_in t.compiled).name
+  abbrev pub name_of : Template R → List ℕ
+  name_of t = (compiled_in t.compiled).name
 
-abbrev pub source_of : Template → Source
-source_of t = (compiled_in t.compiled).source
+  abbrev pub source_of : Template R → Source
+  source_of t = (compiled_in t.compiled).source
 
--- the escape that it runs under
-abbrev pub escape_of : Template → AutoEscape
-escape_of t = (compiled_in t.compiled).escape
+  -- the escape that it runs under
+  abbrev pub escape_of : Template R → AutoEscape
+  escape_of t = (compiled_in t.compiled).escape
 
--- the fuel that each of its renders is given
-abbrev pub fuel_of : Template → Option ℕ
-fuel_of t = t.environment.now.fuel
+  -- the fuel that each of its renders is given
+  abbrev pub fuel_of : Template R → Option ℕ
+  fuel_of t = t.environment.now.registry.fuel
 
--- what its render over a context means, under a bound
-abbrev pub render_of : Template → ℕ → Val → Run World
-render_of t n context = rendering t.environment.now (compiled_in t.compiled) n context
+  -- what its render over a context means, under a bound
+  abbrev pub render_of : Template R → ℕ → Val → Run World
+  render_of t n context = rendering t.environment.now.registry (compiled_in t.compiled) n context
 
--- what a render left: its text, and its state with the world, the fuel that was set and what is left of it, and its number
-abbrev pub output_of : Captured → List ℕ
-output_of captured = string_bytes captured.output
+  -- what a render left: its text, and its state with the world, the fuel that was set and what is left of it, and its number
+  abbrev pub output_of : Captured R → List ℕ
+  output_of captured = string_bytes captured.output
 
-abbrev pub state_of : Captured → State
-state_of captured = captured.state
+  abbrev pub state_of : Captured R → State R
+  state_of captured = captured.state
 
-abbrev pub world_of : Captured → World
-world_of captured = world_in captured.state
+  abbrev pub world_of : Captured R → World
+  world_of captured = world_in captured.state
 
-abbrev pub fuel_set : Captured → Option ℕ
-fuel_set captured = fuel_set_in captured.state
+  abbrev pub fuel_set : Captured R → Option ℕ
+  fuel_set captured = fuel_set_in captured.state
 
-abbrev pub fuel_left : Captured → Option ℕ
-fuel_left captured = fuel_left_in captured.state
+  abbrev pub fuel_left : Captured R → Option ℕ
+  fuel_left captured = fuel_left_in captured.state
 
-abbrev pub id_of : Captured → ℕ
-id_of captured = id_in captured.state
+  abbrev pub id_of : Captured R → ℕ
+  id_of captured = id_in captured.state

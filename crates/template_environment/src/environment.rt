@@ -8,21 +8,22 @@ ghost use Rattle.std.specs.Ordering.{nat_cmp};
 ghost use Rattle.template_values_errors.specs.Memory.{NoMemory};
 ghost use Rattle.template_compiler_syntax.specs.Syntax.{default_syntax};
 ghost use Rattle.template_machine_escape.specs.Rule.{IsEscapeOf};
+ghost use Rattle.template_compiled.specs.Compiled.{IsFaithful};
 ghost use Rattle.template_compiled.specs.Sources.{IsAccepted, IsRefusedWith};
 ghost use Rattle.template_compiled.specs.Plain.{IsPlain, text_kept};
 ghost use Rattle.template_environment.specs.Plain.{IsRefusedForRoom, ReadGivesItself};
 ghost use Rattle.template_environment.specs.Standing.{greatest_limit};
 
+use crate::registry::Registry;
 use crate::state::State;
 use crate::template::{Template, TemplateCode};
 use std::alloc::Global;
 use std::borrow::CowStr;
 use template_compiled::{CompiledTemplate, CompiledTemplates, TemplateConfig};
 use template_compiler_syntax::SyntaxConfig;
-use template_machine_escape::EscapeRule;
+use template_machine_escape::{AutoEscapeRule, EscapeRule, NoRule};
 use template_machine_ids::StateIds;
 use template_machine_isolation::isolation;
-use template_machine_loop::{Compiled, Rules, Templates};
 use template_values_core::Value;
 use template_values_errors::{Error, ErrorKind};
 use template_values_modes::{AutoEscape, UndefinedBehavior};
@@ -38,39 +39,14 @@ const UNKNOWN: &str = "<unknown>";
 
 /// The templates that stand, by name, and what each render keeps to.
 #[derive(Drop)]
-pub struct Environment<'source> {
-    id: u64,
-    alloc: Global,
-    pub(crate) templates: CompiledTemplates<'source>,
-    config: TemplateConfig,
-    fuel: Option<u64>,
-    recursion_limit: usize,
-    undefined_behavior: UndefinedBehavior,
-}
-
-impl<'source> Templates for Environment<'source> {
-    ghost use Rattle.template_environment.specs.Standing.{units_of};
-
-    ghost standing = { units_of };
-
-    fn get(&self, name: &str) -> Option<Compiled<'_>> {
-        match self.templates.get(name) {
-            Some(template) => Some(Compiled {
-                code: template.instructions(),
-                escape: template.initial_auto_escape(),
-            }),
-            None => None,
-        }
-    }
+pub struct Environment<'source, R: AutoEscapeRule = NoRule> {
+    pub(crate) registry: Registry<'source>,
+    callback: Option<R>,
 }
 
 impl<'source> Environment<'source> {
-    ghost use Rattle.template_environment.specs.Standing.{IsUnchanged, read_under, settings_of, source_at, unnamed};
-    ghost use Rattle.template_values_model.specs.Val.{Val};
-    ghost use Rattle.template_environment.specs.Isolated.{AgreeForSource, IsSameForSource};
-    ghost use Rattle.template_environment.specs.Renderings.{RendersSource};
-    ghost use Rattle.template_environment.specs.States.{environment_in, frameless, fuel_left_in, fuel_set_in, id_in, name_in, unknown, world_in};
-    ghost use Rattle.template_environment.specs.Views.{environment_of, escape_of, name_of, source_of};
+    ghost use Rattle.template_environment.specs.Standing.{settings_of, source_at};
+    ghost use Rattle.template_environment.specs.Reading.{callback_of, registry_of};
 
     /// An environment without templates, under the default syntax and escapes by name, without fuel, with the greatest
     /// recursion limit, where undefined values are lenient. It takes a state id as its own.
@@ -79,8 +55,8 @@ impl<'source> Environment<'source> {
     ///
     /// [`ErrorKind::InvalidOperation`] where no state id is left.
     pub fn new(alloc: Global, ids: &mut StateIds) -> Result<Environment<'source>, Error>
-        ensures empty { IfOk result (λ e. (name : List ℕ) → source_at e name ≡ None) }
-        ensures settings { IfOk result (λ e. settings_of e ≡ record {
+        ensures empty { IfOk result (λ e. (name : List ℕ) → source_at (registry_of e) name ≡ None) }
+        ensures settings { IfOk result (λ e. settings_of (registry_of e) ≡ record {
           id = ids.old;
           syntax = default_syntax;
           escapes = EscapeRule.ByName;
@@ -88,11 +64,12 @@ impl<'source> Environment<'source> {
           limit = greatest_limit;
           undefined = UndefinedBehavior.Lenient;
         }) }
+        ensures callback { IfOk result (λ e. callback_of e ≡ None) }
         ensures had_one { OnOk result (ids.old ≢ u64.MAX) }
         ensures counted { OnOk result (ids.new ≡ ids.old + 1) }
         ensures refused { IfErr result (λ kinds. (kinds ≡ ErrorKind.InvalidOperation ∷ []) × (ids.old ≡ u64.MAX) × (ids.new ≡ ids.old)) }
     {
-        Environment::under(alloc, TemplateConfig::new(), ids)
+        Environment::under(alloc, TemplateConfig::new(), None, ids)
     }
 
     /// The same with no escape, whatever a template's name is.
@@ -101,8 +78,8 @@ impl<'source> Environment<'source> {
     ///
     /// As [`Environment::new`].
     pub fn empty(alloc: Global, ids: &mut StateIds) -> Result<Environment<'source>, Error>
-        ensures empty { IfOk result (λ e. (name : List ℕ) → source_at e name ≡ None) }
-        ensures settings { IfOk result (λ e. settings_of e ≡ record {
+        ensures empty { IfOk result (λ e. (name : List ℕ) → source_at (registry_of e) name ≡ None) }
+        ensures settings { IfOk result (λ e. settings_of (registry_of e) ≡ record {
           id = ids.old;
           syntax = default_syntax;
           escapes = EscapeRule.Never;
@@ -110,6 +87,7 @@ impl<'source> Environment<'source> {
           limit = greatest_limit;
           undefined = UndefinedBehavior.Lenient;
         }) }
+        ensures callback { IfOk result (λ e. callback_of e ≡ None) }
         ensures had_one { OnOk result (ids.old ≢ u64.MAX) }
         ensures counted { OnOk result (ids.new ≡ ids.old + 1) }
         ensures refused { IfErr result (λ kinds. (kinds ≡ ErrorKind.InvalidOperation ∷ []) × (ids.old ≡ u64.MAX) × (ids.new ≡ ids.old)) }
@@ -118,17 +96,57 @@ impl<'source> Environment<'source> {
             default_auto_escape: EscapeRule::Never,
             ..TemplateConfig::new()
         };
-        Environment::under(alloc, config, ids)
+        Environment::under(alloc, config, None, ids)
+    }
+}
+
+impl<'source, R: AutoEscapeRule> Environment<'source, R> {
+    ghost use Rattle.template_environment.specs.Standing.{settings_of, source_at, unnamed};
+    ghost use Rattle.template_environment.specs.Reading.{IsUnchanged, callback_of, read_under, registry_of, rule_for};
+    ghost use Rattle.template_values_model.specs.Val.{Val};
+    ghost use Rattle.template_environment.specs.Isolated.{AgreeForSource, IsSameForSource};
+    ghost use Rattle.template_environment.specs.Renderings.{RendersSource};
+    ghost use Rattle.template_environment.specs.States.{environment_in, frameless, fuel_left_in, fuel_set_in, id_in, name_in, unknown, world_in};
+    ghost use Rattle.template_environment.specs.Views.{environment_of, escape_of, name_of, source_of};
+
+    /// The same as [`Environment::new`] makes, with a rule of the caller's own, which gives the escape of each template
+    /// that is added or read by its name.
+    ///
+    /// # Errors
+    ///
+    /// As [`Environment::new`].
+    pub fn with_auto_escape_callback(
+        alloc: Global,
+        rule: R,
+        ids: &mut StateIds,
+    ) -> Result<Environment<'source, R>, Error>
+        ensures empty { IfOk result (λ e. (name : List ℕ) → source_at (registry_of e) name ≡ None) }
+        ensures settings { IfOk result (λ e. settings_of (registry_of e) ≡ record {
+          id = ids.old;
+          syntax = default_syntax;
+          escapes = EscapeRule.ByName;
+          fuel = None;
+          limit = greatest_limit;
+          undefined = UndefinedBehavior.Lenient;
+        }) }
+        ensures callback { IfOk result (λ e. callback_of e ≡ Some rule) }
+        ensures had_one { OnOk result (ids.old ≢ u64.MAX) }
+        ensures counted { OnOk result (ids.new ≡ ids.old + 1) }
+        ensures refused { IfErr result (λ kinds. (kinds ≡ ErrorKind.InvalidOperation ∷ []) × (ids.old ≡ u64.MAX) × (ids.new ≡ ids.old)) }
+    {
+        Environment::under(alloc, TemplateConfig::new(), Some(rule), ids)
     }
 
-    // An environment without templates, as new but for what its templates are compiled under.
+    // An environment without templates, as new but for what its templates are compiled under and
+    // for a rule of its own.
     fn under(
         alloc: Global,
         config: TemplateConfig,
+        callback: Option<R>,
         ids: &mut StateIds,
-    ) -> Result<Environment<'source>, Error>
-        ensures empty { IfOk result (λ e. (name : List ℕ) → source_at e name ≡ None) }
-        ensures settings { IfOk result (λ e. settings_of e ≡ record {
+    ) -> Result<Environment<'source, R>, Error>
+        ensures empty { IfOk result (λ e. (name : List ℕ) → source_at (registry_of e) name ≡ None) }
+        ensures settings { IfOk result (λ e. settings_of (registry_of e) ≡ record {
           id = ids.old;
           syntax = config.syntax_config;
           escapes = config.default_auto_escape;
@@ -136,19 +154,23 @@ impl<'source> Environment<'source> {
           limit = greatest_limit;
           undefined = UndefinedBehavior.Lenient;
         }) }
+        ensures callback { IfOk result (λ e. callback_of e ≡ callback) }
         ensures had_one { OnOk result (ids.old ≢ u64.MAX) }
         ensures counted { OnOk result (ids.new ≡ ids.old + 1) }
         ensures refused { IfErr result (λ kinds. (kinds ≡ ErrorKind.InvalidOperation ∷ []) × (ids.old ≡ u64.MAX) × (ids.new ≡ ids.old)) }
     {
         let id = ids.next()?;
         Ok(Environment {
-            id,
-            alloc,
-            templates: CompiledTemplates::new(alloc),
-            config,
-            fuel: None,
-            recursion_limit: MAX_RECURSION,
-            undefined_behavior: UndefinedBehavior::Lenient,
+            registry: Registry {
+                id,
+                alloc,
+                templates: CompiledTemplates::new(alloc),
+                config,
+                fuel: None,
+                recursion_limit: MAX_RECURSION,
+                undefined_behavior: UndefinedBehavior::Lenient,
+            },
+            callback,
         })
     }
 
@@ -159,16 +181,19 @@ impl<'source> Environment<'source> {
     ///
     /// Those of [`CompiledTemplate::new`]. After a refusal all is as before.
     pub fn add_template(&mut self, name: &'source str, source: &'source str) -> Result<(), Error>
-        ensures accepted { OnOk result (IsAccepted (read_under self.old source.now)) }
-        ensures stands { OnOk result ((other : List ℕ)
-            → source_at self.new other ≡ (if bytes_eq name.now other then Some (read_under self.old source.now) else source_at self.old other)) }
-        ensures settings { settings_of self.new ≡ settings_of self.old }
-        ensures refused { IfErr result (IsRefusedWith (read_under self.old source.now)) }
-        ensures plain { IsPlain (read_under self.old source.now) → IfErr result IsRefusedForRoom }
+        ensures accepted { OnOk result (IsAccepted (read_under R.answer self.old name.now source.now)) }
+        ensures stands { OnOk result ((other : List ℕ) → source_at (registry_of self.new) other
+            ≡ (if bytes_eq name.now other then Some (read_under R.answer self.old name.now source.now)
+            else source_at (registry_of self.old) other)) }
+        ensures settings { settings_of (registry_of self.new) ≡ settings_of (registry_of self.old) }
+        ensures callback { callback_of self.new ≡ callback_of self.old }
+        ensures refused { IfErr result (IsRefusedWith (read_under R.answer self.old name.now source.now)) }
+        ensures plain { IsPlain (read_under R.answer self.old name.now source.now) → IfErr result IsRefusedForRoom }
         ensures unchanged { OnErr result (IsUnchanged self.old self.new) }
     {
-        let compiled = CompiledTemplate::new(self.alloc, name, source, &self.config)?;
-        self.templates.insert(self.alloc, compiled)
+        let compiled = self.compile(name, source)?;
+        let alloc = self.registry.alloc;
+        self.registry.templates.insert(alloc, compiled)
     }
 
     /// The same of texts that need not outlive the environment: it keeps copies of them, which takes time and memory
@@ -178,94 +203,153 @@ impl<'source> Environment<'source> {
     ///
     /// As [`Environment::add_template`].
     pub fn add_template_owned(&mut self, name: CowStr<'_>, source: CowStr<'_>) -> Result<(), Error>
-        ensures accepted { OnOk result (IsAccepted (read_under self.old (cow_str_bytes source.entry))) }
-        ensures stands { OnOk result ((other : List ℕ)
-            → source_at self.new other
-            ≡ (if bytes_eq (cow_str_bytes name.entry) other then Some (read_under self.old (cow_str_bytes source.entry)) else source_at self.old other)) }
-        ensures settings { settings_of self.new ≡ settings_of self.old }
-        ensures refused { IfErr result (IsRefusedWith (read_under self.old (cow_str_bytes source.entry))) }
-        ensures plain { IsPlain (read_under self.old (cow_str_bytes source.entry)) → IfErr result IsRefusedForRoom }
+        ensures accepted { OnOk result (IsAccepted (read_under R.answer self.old (cow_str_bytes name.entry) (cow_str_bytes source.entry))) }
+        ensures stands { OnOk result ((other : List ℕ) → source_at (registry_of self.new) other
+            ≡ (if bytes_eq (cow_str_bytes name.entry) other
+            then Some (read_under R.answer self.old (cow_str_bytes name.entry) (cow_str_bytes source.entry))
+            else source_at (registry_of self.old) other)) }
+        ensures settings { settings_of (registry_of self.new) ≡ settings_of (registry_of self.old) }
+        ensures callback { callback_of self.new ≡ callback_of self.old }
+        ensures refused { IfErr result
+            (IsRefusedWith (read_under R.answer self.old (cow_str_bytes name.entry) (cow_str_bytes source.entry))) }
+        ensures plain { IsPlain (read_under R.answer self.old (cow_str_bytes name.entry) (cow_str_bytes source.entry)) →
+            IfErr result IsRefusedForRoom }
         ensures unchanged { OnErr result (IsUnchanged self.old self.new) }
     {
-        let copied = CompiledTemplate::from_owned(self.alloc, name, source, &self.config)?;
-        self.templates.insert(self.alloc, copied)
+        let alloc = self.registry.alloc;
+        let copied = CompiledTemplate::from_owned(alloc, name, source, &self.registry.config)?;
+        let ruled = self.ruled(copied);
+        self.registry.templates.insert(alloc, ruled)
+    }
+
+    // A source compiled under what the environment is set to, as a template of a name.
+    fn compile(
+        &self,
+        name: &'source str,
+        source: &'source str,
+    ) -> Result<CompiledTemplate<'source>, Error>
+        ensures name { IfOk result (λ t. t.name ≡ name.now) }
+        ensures source { IfOk result (λ t. t.source ≡ read_under R.answer self.now name.now source.now) }
+        ensures faithful { IfOk result IsFaithful }
+        ensures refused { IfErr result (IsRefusedWith (read_under R.answer self.now name.now source.now)) }
+        ensures plain { IsPlain (read_under R.answer self.now name.now source.now) → IfErr result IsRefusedForRoom }
+    {
+        let alloc = self.registry.alloc;
+        let compiled = CompiledTemplate::new(alloc, name, source, &self.registry.config)?;
+        Ok(self.ruled(compiled))
+    }
+
+    // What was compiled, under the escape that the environment's own rule gives its name, if there is one.
+    fn ruled<'text>(&self, compiled: CompiledTemplate<'text>) -> CompiledTemplate<'text>
+        ensures name { result.name ≡ compiled.entry.name }
+        ensures text { result.source.text ≡ compiled.entry.source.text }
+        ensures syntax { result.source.syntax ≡ compiled.entry.source.syntax }
+        ensures escapes { result.source.escapes
+            ≡ rule_for R.answer compiled.entry.source.escapes (callback_of self.now) compiled.entry.name }
+        ensures faithful { IsFaithful result }
+    {
+        match &self.callback {
+            Some(callback) => {
+                let escape = callback.rule(compiled.name());
+                compiled.with_auto_escape(escape)
+            }
+            None => compiled,
+        }
     }
 
     /// No template stands under the name any more. Takes a look-up among the names.
     pub fn remove_template(&mut self, name: &str)
-        ensures removed { (other : List ℕ)
-            → source_at self.new other ≡ (if bytes_eq name.now other then None else source_at self.old other) }
-        ensures settings { settings_of self.new ≡ settings_of self.old }
+        ensures removed { (other : List ℕ) → source_at (registry_of self.new) other
+            ≡ (if bytes_eq name.now other then None else source_at (registry_of self.old) other) }
+        ensures settings { settings_of (registry_of self.new) ≡ settings_of (registry_of self.old) }
+        ensures callback { callback_of self.new ≡ callback_of self.old }
     {
-        self.templates.remove(name);
+        self.registry.templates.remove(name);
     }
 
     /// No template stands any more.
     pub fn clear_templates(&mut self)
-        ensures empty { (name : List ℕ) → source_at self.new name ≡ None }
-        ensures settings { settings_of self.new ≡ settings_of self.old }
+        ensures empty { (name : List ℕ) → source_at (registry_of self.new) name ≡ None }
+        ensures settings { settings_of (registry_of self.new) ≡ settings_of (registry_of self.old) }
+        ensures callback { callback_of self.new ≡ callback_of self.old }
     {
-        self.templates.clear();
+        self.registry.templates.clear();
     }
 
     /// Sets the syntax that templates are read under from now on.
     pub fn set_syntax(&mut self, syntax: SyntaxConfig)
-        ensures sources { (name : List ℕ) → source_at self.new name ≡ source_at self.old name }
-        ensures settings { settings_of self.new ≡ record (settings_of self.old) { syntax = syntax } }
+        ensures sources { (name : List ℕ) → source_at (registry_of self.new) name ≡ source_at (registry_of self.old) name }
+        ensures settings { settings_of (registry_of self.new) ≡ record (settings_of (registry_of self.old)) { syntax = syntax } }
+        ensures callback { callback_of self.new ≡ callback_of self.old }
     {
-        self.config.syntax_config = syntax;
+        self.registry.config.syntax_config = syntax;
     }
 
     /// The syntax that templates are read under.
     pub fn syntax(&self) -> &SyntaxConfig
-        ensures { result.now ≡ (settings_of self.now).syntax }
+        ensures { result.now ≡ (settings_of (registry_of self.now)).syntax }
     {
-        &self.config.syntax_config
+        &self.registry.config.syntax_config
     }
 
     /// Sets the fuel of each render from now on, or takes it away.
     pub fn set_fuel(&mut self, fuel: Option<u64>)
-        ensures sources { (name : List ℕ) → source_at self.new name ≡ source_at self.old name }
-        ensures settings { settings_of self.new ≡ record (settings_of self.old) { fuel = fuel } }
+        ensures sources { (name : List ℕ) → source_at (registry_of self.new) name ≡ source_at (registry_of self.old) name }
+        ensures settings { settings_of (registry_of self.new) ≡ record (settings_of (registry_of self.old)) { fuel = fuel } }
+        ensures callback { callback_of self.new ≡ callback_of self.old }
     {
-        self.fuel = fuel;
+        self.registry.fuel = fuel;
     }
 
     /// The fuel of each render, if one is set.
     pub fn fuel(&self) -> Option<u64>
-        ensures { result ≡ (settings_of self.now).fuel }
+        ensures { result ≡ (settings_of (registry_of self.now)).fuel }
     {
-        self.fuel
+        self.registry.fuel
     }
 
     /// Sets how deep a render may be from now on: 500 at most.
     pub fn set_recursion_limit(&mut self, level: usize)
-        ensures sources { (name : List ℕ) → source_at self.new name ≡ source_at self.old name }
-        ensures settings { settings_of self.new ≡ record (settings_of self.old) { limit = min level greatest_limit } }
+        ensures sources { (name : List ℕ) → source_at (registry_of self.new) name ≡ source_at (registry_of self.old) name }
+        ensures settings { settings_of (registry_of self.new)
+            ≡ record (settings_of (registry_of self.old)) { limit = min level greatest_limit } }
+        ensures callback { callback_of self.new ≡ callback_of self.old }
     {
-        self.recursion_limit = level.min(MAX_RECURSION);
+        self.registry.recursion_limit = level.min(MAX_RECURSION);
     }
 
     /// How deep a render may be.
     pub fn recursion_limit(&self) -> usize
-        ensures { result ≡ (settings_of self.now).limit }
+        ensures { result ≡ (settings_of (registry_of self.now)).limit }
     {
-        self.recursion_limit
+        self.registry.recursion_limit
     }
 
     /// Sets what may be done with undefined values from now on.
     pub fn set_undefined_behavior(&mut self, behavior: UndefinedBehavior)
-        ensures sources { (name : List ℕ) → source_at self.new name ≡ source_at self.old name }
-        ensures settings { settings_of self.new ≡ record (settings_of self.old) { undefined = behavior } }
+        ensures sources { (name : List ℕ) → source_at (registry_of self.new) name ≡ source_at (registry_of self.old) name }
+        ensures settings { settings_of (registry_of self.new) ≡ record (settings_of (registry_of self.old)) { undefined = behavior } }
+        ensures callback { callback_of self.new ≡ callback_of self.old }
     {
-        self.undefined_behavior = behavior;
+        self.registry.undefined_behavior = behavior;
     }
 
     /// What may be done with undefined values.
     pub fn undefined_behavior(&self) -> UndefinedBehavior
-        ensures { result ≡ (settings_of self.now).undefined }
+        ensures { result ≡ (settings_of (registry_of self.now)).undefined }
     {
-        self.undefined_behavior
+        self.registry.undefined_behavior
+    }
+
+    /// Sets the rule that from now on gives the escape of each template that is added or read, by its name. One that
+    /// was set before is dropped.
+    pub fn set_auto_escape_callback(&mut self, rule: R)
+        ensures sources { (name : List ℕ) → source_at (registry_of self.new) name ≡ source_at (registry_of self.old) name }
+        ensures settings { settings_of (registry_of self.new) ≡ settings_of (registry_of self.old) }
+        ensures callback { callback_of self.new ≡ Some rule }
+        ensures escapes { (name text : List ℕ) → (read_under R.answer self.new name text).escapes ≡ EscapeRule.Fixed (R.answer rule name) }
+    {
+        self.callback = Some(rule);
     }
 
     /// The template that stands under a name. Takes a look-up among the names, and no memory.
@@ -273,13 +357,14 @@ impl<'source> Environment<'source> {
     /// # Errors
     ///
     /// [`ErrorKind::TemplateNotFound`] where none stands.
-    pub fn get_template(&self, name: &str) -> Result<Template<'_, 'source>, Error>
-        ensures found { IfOk result (λ t. source_at self.now name.now ≡ Some (source_of t)) }
+    pub fn get_template(&self, name: &str) -> Result<Template<'_, 'source, R>, Error>
+        ensures found { IfOk result (λ t. source_at (registry_of self.now) name.now ≡ Some (source_of t)) }
         ensures named { IfOk result (λ t. name_of t ≡ name.now) }
         ensures here { IfOk result (λ t. environment_of t ≡ self.now) }
-        ensures missing { IfErr result (λ kinds. (kinds ≡ ErrorKind.TemplateNotFound ∷ []) × (source_at self.now name.now ≡ None)) }
+        ensures missing { IfErr result (λ kinds. (kinds ≡ ErrorKind.TemplateNotFound ∷ [])
+            × (source_at (registry_of self.now) name.now ≡ None)) }
     {
-        match self.templates.get(name) {
+        match self.registry.templates.get(name) {
             Some(compiled) => Ok(Template {
                 environment: self,
                 compiled: TemplateCode::Borrowed(compiled),
@@ -293,15 +378,15 @@ impl<'source> Environment<'source> {
     /// # Errors
     ///
     /// [`ErrorKind::OutOfMemory`]
-    pub fn templates(&self) -> Result<Vec<Template<'_, 'source>>, Error>
-        ensures listed { IfOk result (λ list. (name : List ℕ) → source_at self.now name
+    pub fn templates(&self) -> Result<Vec<Template<'_, 'source, R>>, Error>
+        ensures listed { IfOk result (λ list. (name : List ℕ) → source_at (registry_of self.now) name
             ≡ option_map source_of (find (λ t. bytes_eq name (name_of t)) list.items)) }
         ensures ordered { IfOk result (λ list. IsStrictlySortedBy (slice_cmp nat_cmp) (map name_of list.items)) }
         ensures here { IfOk result (λ list. All (λ t. environment_of t ≡ self.now) list.items) }
         ensures refused { IfErr result NoMemory }
     {
-        let mut listed = Vec::new(self.alloc);
-        for compiled in self.templates.values() {
+        let mut listed = Vec::new(self.registry.alloc);
+        for compiled in self.registry.templates.values() {
             listed.push(Template {
                 environment: self,
                 compiled: TemplateCode::Borrowed(compiled),
@@ -316,14 +401,14 @@ impl<'source> Environment<'source> {
     /// # Errors
     ///
     /// Those of [`Environment::add_template`].
-    pub fn template_from_str(&self, source: &'source str) -> Result<Template<'_, 'source>, Error>
-        ensures accepted { OnOk result (IsAccepted (read_under self.now source.now)) }
-        ensures source { IfOk result (λ t. source_of t ≡ read_under self.now source.now) }
+    pub fn template_from_str(&self, source: &'source str) -> Result<Template<'_, 'source, R>, Error>
+        ensures accepted { OnOk result (IsAccepted (read_under R.answer self.now unnamed source.now)) }
+        ensures source { IfOk result (λ t. source_of t ≡ read_under R.answer self.now unnamed source.now) }
         ensures named { IfOk result (λ t. name_of t ≡ unnamed) }
-        ensures escape { IfOk result (λ t. IsEscapeOf (settings_of self.now).escapes unnamed (escape_of t)) }
+        ensures escape { IfOk result (λ t. IsEscapeOf (source_of t).escapes unnamed (escape_of t)) }
         ensures here { IfOk result (λ t. environment_of t ≡ self.now) }
-        ensures refused { IfErr result (IsRefusedWith (read_under self.now source.now)) }
-        ensures plain { IsPlain (read_under self.now source.now) → IfErr result IsRefusedForRoom }
+        ensures refused { IfErr result (IsRefusedWith (read_under R.answer self.now unnamed source.now)) }
+        ensures plain { IsPlain (read_under R.answer self.now unnamed source.now) → IfErr result IsRefusedForRoom }
     {
         self.template_from_named_str(UNNAMED, source)
     }
@@ -338,16 +423,16 @@ impl<'source> Environment<'source> {
         &self,
         name: &'source str,
         source: &'source str,
-    ) -> Result<Template<'_, 'source>, Error>
-        ensures accepted { OnOk result (IsAccepted (read_under self.now source.now)) }
-        ensures source { IfOk result (λ t. source_of t ≡ read_under self.now source.now) }
+    ) -> Result<Template<'_, 'source, R>, Error>
+        ensures accepted { OnOk result (IsAccepted (read_under R.answer self.now name.now source.now)) }
+        ensures source { IfOk result (λ t. source_of t ≡ read_under R.answer self.now name.now source.now) }
         ensures named { IfOk result (λ t. name_of t ≡ name.now) }
-        ensures escape { IfOk result (λ t. IsEscapeOf (settings_of self.now).escapes name.now (escape_of t)) }
+        ensures escape { IfOk result (λ t. IsEscapeOf (source_of t).escapes name.now (escape_of t)) }
         ensures here { IfOk result (λ t. environment_of t ≡ self.now) }
-        ensures refused { IfErr result (IsRefusedWith (read_under self.now source.now)) }
-        ensures plain { IsPlain (read_under self.now source.now) → IfErr result IsRefusedForRoom }
+        ensures refused { IfErr result (IsRefusedWith (read_under R.answer self.now name.now source.now)) }
+        ensures plain { IsPlain (read_under R.answer self.now name.now source.now) → IfErr result IsRefusedForRoom }
     {
-        let own = CompiledTemplate::new(self.alloc, name, source, &self.config)?;
+        let own = self.compile(name, source)?;
         Ok(Template {
             environment: self,
             compiled: TemplateCode::Owned(own),
@@ -359,12 +444,12 @@ impl<'source> Environment<'source> {
     /// # Errors
     ///
     /// [`ErrorKind::OutOfMemory`]; [`ErrorKind::InvalidOperation`] where no state id is left.
-    pub fn empty_state(&self, ids: &mut StateIds) -> Result<State<'_, 'source>, Error>
+    pub fn empty_state(&self, ids: &mut StateIds) -> Result<State<'_, 'source, R>, Error>
         ensures here { IfOk result (λ s. environment_in s ≡ self.now) }
         ensures named { IfOk result (λ s. name_in s ≡ unknown) }
         ensures world { IfOk result (λ s. world_in s ≡ frameless AutoEscape.None) }
-        ensures given { IfOk result (λ s. fuel_set_in s ≡ (settings_of self.now).fuel) }
-        ensures remains { IfOk result (λ s. fuel_left_in s ≡ (settings_of self.now).fuel) }
+        ensures given { IfOk result (λ s. fuel_set_in s ≡ (settings_of (registry_of self.now)).fuel) }
+        ensures remains { IfOk result (λ s. fuel_left_in s ≡ (settings_of (registry_of self.now)).fuel) }
         ensures id { IfOk result (λ s. id_in s ≡ ids.old) }
         ensures refused { ids.old ≢ u64.MAX → IfErr result NoMemory }
         ensures counted { ids.old ≢ u64.MAX → ids.new ≡ ids.old + 1 }
@@ -385,15 +470,18 @@ impl<'source> Environment<'source> {
         ids: &mut StateIds,
         context: Value,
     ) -> Result<String, Error>
-        ensures renders { RendersSource self.now unnamed source.now context ids.old ids.new (λ text. string_bytes text) result }
+        ensures renders { RendersSource (registry_of self.now) unnamed (read_under R.answer self.now unnamed source.now)
+            context ids.old ids.new (λ text. string_bytes text) result }
 
         // Where no marker starts in the source, that is its text.
-        ensures plain { ids.old ≢ u64.MAX → IsPlain (read_under self.now source.now) →
-            ReadGivesItself (settings_of self.now).fuel (text_kept (read_under self.now source.now)) (λ text. string_bytes text) result }
+        ensures plain { ids.old ≢ u64.MAX → IsPlain (read_under R.answer self.now unnamed source.now) →
+            ReadGivesItself (settings_of (registry_of self.now)).fuel (text_kept (read_under R.answer self.now unnamed source.now))
+            (λ text. string_bytes text) result }
 
         // Contexts that agree at the names that can matter make no difference.
-        ensures isolated { (other : Val) → AgreeForSource self.now (read_under self.now source.now) context other →
-            IsSameForSource self.now (read_under self.now source.now) context other }
+        ensures isolated { (other : Val) →
+            AgreeForSource (registry_of self.now) (read_under R.answer self.now unnamed source.now) context other →
+            IsSameForSource (registry_of self.now) (read_under R.answer self.now unnamed source.now) context other }
     {
         self.render_named_str(UNNAMED, source, ids, context)
     }
@@ -412,15 +500,18 @@ impl<'source> Environment<'source> {
         ids: &mut StateIds,
         context: Value,
     ) -> Result<String, Error>
-        ensures renders { RendersSource self.now name.now source.now context ids.old ids.new (λ text. string_bytes text) result }
+        ensures renders { RendersSource (registry_of self.now) name.now (read_under R.answer self.now name.now source.now)
+            context ids.old ids.new (λ text. string_bytes text) result }
 
         // Where no marker starts in the source, that is its text.
-        ensures plain { ids.old ≢ u64.MAX → IsPlain (read_under self.now source.now) →
-            ReadGivesItself (settings_of self.now).fuel (text_kept (read_under self.now source.now)) (λ text. string_bytes text) result }
+        ensures plain { ids.old ≢ u64.MAX → IsPlain (read_under R.answer self.now name.now source.now) →
+            ReadGivesItself (settings_of (registry_of self.now)).fuel (text_kept (read_under R.answer self.now name.now source.now))
+            (λ text. string_bytes text) result }
 
         // Contexts that agree at the names that can matter make no difference.
-        ensures isolated { (other : Val) → AgreeForSource self.now (read_under self.now source.now) context other →
-            IsSameForSource self.now (read_under self.now source.now) context other }
+        ensures isolated { (other : Val) →
+            AgreeForSource (registry_of self.now) (read_under R.answer self.now name.now source.now) context other →
+            IsSameForSource (registry_of self.now) (read_under R.answer self.now name.now source.now) context other }
     {
         isolation();
         let template = self.template_from_named_str(name, source)?;
@@ -429,17 +520,6 @@ impl<'source> Environment<'source> {
 
     // What its renders take their memory from.
     pub(crate) fn allocator(&self) -> Global {
-        self.alloc
-    }
-
-    // What its renders keep to.
-    pub(crate) fn rules(&self) -> Rules
-        ensures limit { result.limit ≡ self.now.recursion_limit }
-        ensures undefined { result.undefined ≡ self.now.undefined_behavior }
-    {
-        Rules {
-            limit: self.recursion_limit,
-            undefined: self.undefined_behavior,
-        }
+        self.registry.alloc
     }
 }

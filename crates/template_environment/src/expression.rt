@@ -12,9 +12,11 @@ ghost use Rattle.template_environment.specs.Evaluations.{Gives};
 ghost use Rattle.template_environment.specs.Standing.{setting_of};
 
 use crate::environment::Environment;
+use crate::registry::Registry;
 use std::borrow::CowStr;
 use std::collections::BTreeSet;
 use template_compiled::CompiledExpression;
+use template_machine_escape::{AutoEscapeRule, NoRule};
 use template_machine_ids::StateIds;
 use template_machine_isolation::expression_isolation;
 use template_machine_loop::run_expression;
@@ -26,12 +28,12 @@ use template_values_modes::AutoEscape;
 
 /// An expression that an environment compiled.
 #[derive(Drop)]
-pub struct Expression<'env, 'source> {
-    environment: &'env Environment<'source>,
+pub struct Expression<'env, 'source, R: AutoEscapeRule = NoRule> {
+    environment: &'env Environment<'source, R>,
     compiled: CompiledExpression<'source>,
 }
 
-impl<'source> Environment<'source> {
+impl<'source, R: AutoEscapeRule> Environment<'source, R> {
     ghost use Rattle.template_environment.specs.Evaluations.{environment_under, text_of};
 
     /// Compiles the source of an expression, which is read alike under every syntax. Takes time linear in the source,
@@ -40,7 +42,10 @@ impl<'source> Environment<'source> {
     /// # Errors
     ///
     /// Those of [`CompiledExpression::new`].
-    pub fn compile_expression(&self, source: &'source str) -> Result<Expression<'_, 'source>, Error>
+    pub fn compile_expression(
+        &self,
+        source: &'source str,
+    ) -> Result<Expression<'_, 'source, R>, Error>
         ensures accepted { OnOk result (IsAcceptedExpression source.now) }
         ensures source { IfOk result (λ e. text_of e ≡ source.now) }
         ensures here { IfOk result (λ e. environment_under e ≡ self.now) }
@@ -61,7 +66,7 @@ impl<'source> Environment<'source> {
     pub fn compile_expression_owned(
         &self,
         source: CowStr<'_>,
-    ) -> Result<Expression<'_, 'source>, Error>
+    ) -> Result<Expression<'_, 'source, R>, Error>
         ensures accepted { OnOk result (IsAcceptedExpression (cow_str_bytes source.entry)) }
         ensures source { IfOk result (λ e. text_of e ≡ cow_str_bytes source.entry) }
         ensures here { IfOk result (λ e. environment_under e ≡ self.now) }
@@ -75,7 +80,7 @@ impl<'source> Environment<'source> {
     }
 }
 
-impl<'env, 'source> Expression<'env, 'source> {
+impl<'env, 'source, R: AutoEscapeRule> Expression<'env, 'source, R> {
     ghost use Rattle.template_environment.specs.Evaluations.{AgreeAlong, IsSameEvaluation, evaluation_of, fuel_under, text_of};
 
     /// The value of the expression over a context, under no escape and the fuel of its environment. The templates that
@@ -95,7 +100,7 @@ impl<'env, 'source> Expression<'env, 'source> {
     {
         expression_isolation();
         let _id = ids.next()?;
-        evaluate(self.environment, &self.compiled, context)
+        evaluate(&self.environment.registry, &self.compiled, context)
     }
 
     /// The names that the expression uses, each once, by order of their bytes. Reads the source once more, in time
@@ -117,21 +122,21 @@ impl<'env, 'source> Expression<'env, 'source> {
 
 // Runs the code of an expression over a context. It writes nothing.
 fn evaluate<'env, 'source>(
-    environment: &'env Environment<'source>,
+    registry: &'env Registry<'source>,
     compiled: &'env CompiledExpression<'source>,
     context: Value,
 ) -> Result<Value, Error>
-    ensures value { Gives result (under environment.now.fuel (evaluated (setting_of environment.now) (expression_in compiled.now) context)) }
+    ensures value { Gives result (under registry.now.fuel (evaluated (setting_of registry.now) (expression_in compiled.now) context)) }
     ensures no_write_failure { IfErr result (λ kinds. kinds ≢ ErrorKind.WriteFailure ∷ []) }
 {
-    let alloc = environment.allocator();
+    let alloc = registry.alloc;
     let mut state: MachineState<'env> = MachineState::new(alloc, AutoEscape::None, context)?;
-    let mut left = environment.fuel();
+    let mut left = registry.fuel;
     let mut scratch = String::new(alloc);
     run_expression(
         alloc,
-        environment.rules(),
-        environment,
+        registry.rules(),
+        registry,
         compiled.instructions(),
         &mut state,
         &mut left,

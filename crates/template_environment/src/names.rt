@@ -6,17 +6,19 @@ ghost use Rattle.template_values_model.specs.Val.{Val};
 ghost use Rattle.template_names.specs.Names.{is_used};
 ghost use Rattle.template_machine_isolation.specs.Isolation.{IsContextName, is_given};
 ghost use Rattle.template_environment.specs.Isolated.{AgreeAmong, AgreeFor, IsSameRender, IsSameRenderIn, tree_of};
+ghost use Rattle.template_environment.specs.Reading.{registry_of};
 ghost use Rattle.template_environment.specs.Standing.{setting_of};
 
 use crate::environment::Environment;
 use crate::template::Template;
 use std::alloc::Global;
 use std::collections::BTreeSet;
+use template_machine_escape::AutoEscapeRule;
 use template_machine_isolation::isolation;
 use template_names_undeclared::add_name;
 use template_values_errors::Error;
 
-impl<'source> Environment<'source> {
+impl<'source, R: AutoEscapeRule> Environment<'source, R> {
     /// The names of a context that can matter to a render of a template of this environment: `caller`, `loop`,
     /// `self`, `super`, and the names that it uses, or a template that stands. Reads the source of each once more,
     /// in time linear in their length, and takes a look-up for each place of use.
@@ -24,26 +26,28 @@ impl<'source> Environment<'source> {
     /// # Errors
     ///
     /// [`ErrorKind::OutOfMemory`].
-    pub fn context_names(&self, template: &Template<'_, 'source>) -> Result<BTreeSet<String>, Error>
+    pub fn context_names(
+        &self,
+        template: &Template<'_, 'source, R>,
+    ) -> Result<BTreeSet<String>, Error>
         ensures listed { IfOk result (λ names. (name : List ℕ) → IsTrue (contains_text names name)
-            ↔ IsContextName (setting_of self.now) (tree_of template.now) name) }
+            ↔ IsContextName (setting_of (registry_of self.now)) (tree_of template.now) name) }
 
         // Contexts that agree at these names make no difference to its renders here.
-        ensures isolated { IfOk result (λ names. (c d : Val) → AgreeAmong names c d → IsSameRenderIn self.now template.now c d) }
+        ensures isolated { IfOk result (λ names. (c d : Val) → AgreeAmong names c d →
+            IsSameRenderIn (registry_of self.now) template.now c d) }
         ensures refused { IfErr result NoMemory }
     {
-        let mut names = given_names(self.allocator())?;
-        template
-            .compiled
-            .get()
-            .add_undeclared(self.allocator(), &mut names)?;
-        self.templates.add_undeclared(self.allocator(), &mut names)?;
+        let alloc = self.allocator();
+        let mut names = given_names(alloc)?;
+        template.compiled.get().add_undeclared(alloc, &mut names)?;
+        self.registry.templates.add_undeclared(alloc, &mut names)?;
         isolation();
         Ok(names)
     }
 }
 
-impl<'env, 'source> Template<'env, 'source> {
+impl<'env, 'source, R: AutoEscapeRule> Template<'env, 'source, R> {
     /// The names that the template uses where no store of theirs goes before, each once, by order of their bytes. Reads
     /// the source once more, in time linear in its length, and takes a look-up for each place of use.
     ///

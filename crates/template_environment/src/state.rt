@@ -8,6 +8,7 @@ ghost use Rattle.template_environment.specs.Renderings.{left_of, set_of};
 
 use crate::environment::Environment;
 use std::collections::BTreeSet;
+use template_machine_escape::{AutoEscapeRule, NoRule};
 use template_machine_ids::StateIds;
 use template_machine_state::State as MachineState;
 use template_values_core::Value;
@@ -16,30 +17,31 @@ use template_values_modes::{AutoEscape, UndefinedBehavior};
 
 /// What surrounds a template: as a render of it left it, or without any frame.
 #[derive(Drop)]
-pub struct State<'env, 'source> {
+pub struct State<'env, 'source, R: AutoEscapeRule = NoRule> {
     pub(crate) id: u64,
-    pub(crate) environment: &'env Environment<'source>,
+    pub(crate) environment: &'env Environment<'source, R>,
     pub(crate) name: &'env str,
     pub(crate) machine: MachineState<'env>,
     pub(crate) fuel: Option<(u64, u64)>,
 }
 
-impl<'env, 'source> State<'env, 'source> {
+impl<'env, 'source, R: AutoEscapeRule> State<'env, 'source, R> {
     ghost use Rattle.template_environment.specs.Standing.{settings_of};
+    ghost use Rattle.template_environment.specs.Reading.{registry_of};
     ghost use Rattle.template_environment.specs.States.{environment_in, frameless, fuel_left_in, fuel_set_in, id_in, name_in, world_in};
 
     // A state without frames, under a name and an escape, that has consumed no fuel.
     pub(crate) fn without_frames(
-        environment: &'env Environment<'source>,
+        environment: &'env Environment<'source, R>,
         name: &'env str,
         escape: AutoEscape,
         ids: &mut StateIds,
-    ) -> Result<State<'env, 'source>, Error>
+    ) -> Result<State<'env, 'source, R>, Error>
         ensures here { IfOk result (λ s. environment_in s ≡ environment.now) }
         ensures named { IfOk result (λ s. name_in s ≡ name.now) }
         ensures world { IfOk result (λ s. world_in s ≡ frameless escape) }
-        ensures given { IfOk result (λ s. fuel_set_in s ≡ environment.now.fuel) }
-        ensures remains { IfOk result (λ s. fuel_left_in s ≡ environment.now.fuel) }
+        ensures given { IfOk result (λ s. fuel_set_in s ≡ (registry_of environment.now).fuel) }
+        ensures remains { IfOk result (λ s. fuel_left_in s ≡ (registry_of environment.now).fuel) }
         ensures id { IfOk result (λ s. id_in s ≡ ids.old) }
         ensures refused { ids.old ≢ u64.MAX → IfErr result NoMemory }
         ensures counted { ids.old ≢ u64.MAX → ids.new ≡ ids.old + 1 }
@@ -69,7 +71,7 @@ impl<'env, 'source> State<'env, 'source> {
     }
 
     /// The environment of its template.
-    pub fn env(&self) -> &'env Environment<'source>
+    pub fn env(&self) -> &'env Environment<'source, R>
         ensures { result.now ≡ environment_in self.now }
     {
         self.environment
@@ -91,7 +93,7 @@ impl<'env, 'source> State<'env, 'source> {
 
     /// What may be done with undefined values.
     pub fn undefined_behavior(&self) -> UndefinedBehavior
-        ensures { result ≡ (settings_of (environment_in self.now)).undefined }
+        ensures { result ≡ (settings_of (registry_of (environment_in self.now))).undefined }
     {
         self.environment.undefined_behavior()
     }

@@ -14,8 +14,10 @@ ghost use Rattle.template_environment.specs.Plain.{GivesItself, WritesItself, te
 ghost use Rattle.template_environment.specs.Renderings.{GivesText, left_of, rendering, set_of};
 
 use crate::environment::Environment;
+use crate::registry::Registry;
 use crate::state::State;
 use template_compiled::{CompiledTemplate, plain_text};
+use template_machine_escape::{AutoEscapeRule, NoRule};
 use template_machine_ids::StateIds;
 use template_machine_loop::run_code;
 use template_machine_output::Sink;
@@ -27,8 +29,8 @@ use template_values_modes::AutoEscape;
 /// A template of an environment: one that stands there, or one of its own, that was read under the environment's
 /// syntax and does not stand there.
 #[derive(Drop)]
-pub struct Template<'env, 'source> {
-    pub(crate) environment: &'env Environment<'source>,
+pub struct Template<'env, 'source, R: AutoEscapeRule = NoRule> {
+    pub(crate) environment: &'env Environment<'source, R>,
     pub(crate) compiled: TemplateCode<'env, 'source>,
 }
 
@@ -54,12 +56,12 @@ impl<'env, 'source> TemplateCode<'env, 'source> {
 
 /// What a render leaves behind.
 #[derive(Drop)]
-pub struct Captured<'env, 'source> {
+pub struct Captured<'env, 'source, R: AutoEscapeRule = NoRule> {
     output: String,
-    state: State<'env, 'source>,
+    state: State<'env, 'source, R>,
 }
 
-impl<'env, 'source> Template<'env, 'source> {
+impl<'env, 'source, R: AutoEscapeRule> Template<'env, 'source, R> {
     ghost use Rattle.template_environment.specs.Isolated.{AgreeFor, IsSameRender};
     ghost use Rattle.template_environment.specs.Views.{environment_of, escape_of, fuel_left, fuel_of, fuel_set, id_of, name_of, output_of, render_of, source_of, state_of, world_of};
     ghost use Rattle.template_environment.specs.States.{environment_in, frameless, fuel_left_in, fuel_set_in, id_in, name_in, world_in};
@@ -109,7 +111,7 @@ impl<'env, 'source> Template<'env, 'source> {
     /// # Errors
     ///
     /// [`ErrorKind::OutOfMemory`]; [`ErrorKind::InvalidOperation`] where no state id is left.
-    pub fn new_state(&self, ids: &mut StateIds) -> Result<State<'_, 'source>, Error>
+    pub fn new_state(&self, ids: &mut StateIds) -> Result<State<'_, 'source, R>, Error>
         ensures here { IfOk result (λ s. environment_in s ≡ environment_of self.now) }
         ensures named { IfOk result (λ s. name_in s ≡ name_of self.now) }
         ensures world { IfOk result (λ s. world_in s ≡ frameless (escape_of self.now)) }
@@ -167,7 +169,7 @@ impl<'env, 'source> Template<'env, 'source> {
         &self,
         ids: &mut StateIds,
         context: Value,
-    ) -> Result<Captured<'_, 'source>, Error>
+    ) -> Result<Captured<'_, 'source, R>, Error>
         // Under each bound where its meaning is finished, its text is the one that the call gives.
         ensures text { ids.old ≢ u64.MAX → (n : ℕ) → IsFinished (render_of self.now n context).end →
             GivesText output_of result (under (fuel_of self.now) (render_of self.now n context)) }
@@ -194,7 +196,8 @@ impl<'env, 'source> Template<'env, 'source> {
         self.plain();
         let id = ids.next()?;
         let mut output = String::new(self.environment.allocator());
-        let (machine, fuel) = run(self.environment, self.compiled.get(), context, &mut output)?;
+        let registry = &self.environment.registry;
+        let (machine, fuel) = run(registry, self.compiled.get(), context, &mut output)?;
         Ok(Captured {
             output,
             state: State {
@@ -221,7 +224,7 @@ impl<'env, 'source> Template<'env, 'source> {
         ids: &mut StateIds,
         context: Value,
         sink: &mut S,
-    ) -> Result<Captured<'_, 'source>, Error>
+    ) -> Result<Captured<'_, 'source, R>, Error>
         // Under each bound where its meaning is finished, it is what the call does.
         ensures renders { ids.old ≢ u64.MAX → (n : ℕ) → IsFinished (render_of self.now n context).end →
             Renders result (S.taken sink.old) (S.taken sink.new) (under (fuel_of self.now) (render_of self.now n context)) }
@@ -249,7 +252,8 @@ impl<'env, 'source> Template<'env, 'source> {
         self.isolated();
         self.plain();
         let id = ids.next()?;
-        let (machine, fuel) = run(self.environment, self.compiled.get(), context, sink)?;
+        let registry = &self.environment.registry;
+        let (machine, fuel) = run(registry, self.compiled.get(), context, sink)?;
         Ok(Captured {
             output: String::new(self.environment.allocator()),
             state: State {
@@ -265,33 +269,33 @@ impl<'env, 'source> Template<'env, 'source> {
 
 // Runs the code of a template over a context, and tells the state that it left and what it took of its fuel.
 fn run<'env, 'source, S: Sink>(
-    environment: &'env Environment<'source>,
+    registry: &'env Registry<'source>,
     compiled: &'env CompiledTemplate<'source>,
     context: Value,
     sink: &mut S,
 ) -> Result<(MachineState<'env>, Option<(u64, u64)>), Error>
-    ensures renders { (n : ℕ) → IsFinished (rendering environment.now compiled.now n context).end →
-        Renders result (S.taken sink.old) (S.taken sink.new) (under environment.now.fuel (rendering environment.now compiled.now n context)) }
-    ensures left { IfOk result (λ r. (n : ℕ) → IsFinished (rendering environment.now compiled.now n context).end →
-        left_of r.1 ≡ leaves environment.now.fuel (rendering environment.now compiled.now n context)) }
-    ensures world { IfOk result (λ r. (n : ℕ) → IsFinished (rendering environment.now compiled.now n context).end →
-        r.0 ≡ (under environment.now.fuel (rendering environment.now compiled.now n context)).after) }
+    ensures renders { (n : ℕ) → IsFinished (rendering registry.now compiled.now n context).end →
+        Renders result (S.taken sink.old) (S.taken sink.new) (under registry.now.fuel (rendering registry.now compiled.now n context)) }
+    ensures left { IfOk result (λ r. (n : ℕ) → IsFinished (rendering registry.now compiled.now n context).end →
+        left_of r.1 ≡ leaves registry.now.fuel (rendering registry.now compiled.now n context)) }
+    ensures world { IfOk result (λ r. (n : ℕ) → IsFinished (rendering registry.now compiled.now n context).end →
+        r.0 ≡ (under registry.now.fuel (rendering registry.now compiled.now n context)).after) }
     ensures failures { TellsFailures result (S.failures sink.old) (S.failures sink.new) }
-    ensures set { IfOk result (λ r. set_of r.1 ≡ environment.now.fuel) }
+    ensures set { IfOk result (λ r. set_of r.1 ≡ registry.now.fuel) }
 {
-    let alloc = environment.allocator();
+    let alloc = registry.alloc;
     let mut state: MachineState<'env> = MachineState::new(
         alloc,
         compiled.initial_auto_escape(),
         context,
     )?;
-    let fuel = environment.fuel();
+    let fuel = registry.fuel;
     let mut left = fuel;
     let mut scratch = String::new(alloc);
     run_code(
         alloc,
-        environment.rules(),
-        environment,
+        registry.rules(),
+        registry,
         compiled.instructions(),
         &mut state,
         &mut left,
@@ -301,7 +305,7 @@ fn run<'env, 'source, S: Sink>(
     Ok((state, levels(fuel, left)))
 }
 
-impl<'env, 'source> Captured<'env, 'source> {
+impl<'env, 'source, R: AutoEscapeRule> Captured<'env, 'source, R> {
     ghost use Rattle.template_environment.specs.Views.{fuel_left, fuel_set, id_of, output_of, state_of};
 
     /// The text that the render gave; empty where it went into a sink.
@@ -320,7 +324,7 @@ impl<'env, 'source> Captured<'env, 'source> {
     }
 
     /// The state that the render left.
-    pub fn state(&self) -> &State<'env, 'source>
+    pub fn state(&self) -> &State<'env, 'source, R>
         ensures { result.now ≡ state_of self.now }
     {
         &self.state

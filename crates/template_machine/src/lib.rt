@@ -28,7 +28,8 @@
 //! - [`Environment::set_fuel`] bounds each render by its steps, and [`State::fuel_levels`] tells what one
 //!   consumed; [`Environment::set_recursion_limit`] bounds how deep it may be.
 //! - [`Environment::set_undefined_behavior`] says what may be done with undefined values, and
-//!   [`Environment::set_syntax`] how templates are written.
+//!   [`Environment::set_syntax`] how templates are written. [`Environment::set_auto_escape_callback`] takes an
+//!   [`AutoEscapeRule`] of the caller's own, which gives the escape of each name from then on.
 //! - [`Environment::context_names`] gives the names of a context that can matter to a render.
 //! - [`verify`] accepts instructions from anywhere that never lack an operand, a frame or a loop.
 //!
@@ -51,7 +52,9 @@ pub use template_code_shapes::{
     Checked, StreamKind, certified_is_good, good_ends_well, good_goes_on, verify,
 };
 pub use template_environment::{Captured, Environment, Expression, State, Template};
-pub use template_machine_escape::{EscapeRule, default_auto_escape_callback, one_escape, one_rule};
+pub use template_machine_escape::{
+    AutoEscapeRule, EscapeRule, NoRule, default_auto_escape_callback, one_escape, one_rule,
+};
 pub use template_machine_frames::{Context, Frame, LoopState};
 pub use template_machine_ids::StateIds;
 pub use template_machine_isolation::{expression_isolation, isolation};

@@ -3,7 +3,7 @@ use Rattle.std.proofs.Common.{◌≡◌, ◌∙◌, ℕ, suc, List, [], ◌∷�
 use Rattle.std.proofs.lemmas.List.{append_cancel_right, reverse-append}
 use Rattle.template_values_modes.specs.declared.AutoEscape.{AutoEscape}
 use Rattle.template_machine_escape.specs.declared.EscapeRule.{EscapeRule}
-use Rattle.template_machine_escape.specs.declared.EscapeRule.TheVariants.{ByName, Never}
+use Rattle.template_machine_escape.specs.declared.EscapeRule.TheVariants.{ByName, Never, Fixed}
 use Rattle.template_machine_escape.specs.Rule.{IsEscapeOf, IsExtensionOf, IsRuleOf, IsStemOf, LacksDots, rule_of_extension}
 
 -- the ends of a name, read backwards
@@ -70,3 +70,4 @@ one_rule name rule other h k =
 pub one_escape : (rule : EscapeRule) (name : List ℕ) (escape other : AutoEscape) → IsEscapeOf rule name escape → IsEscapeOf rule name other → escape ≡ other
 one_escape ByName name escape other h k = one_rule name escape other h k
 one_escape Never name escape other h k = h ∙ sym k
+one_escape (Fixed fixed) name escape other h k = h ∙ sym k

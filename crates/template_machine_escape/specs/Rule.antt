@@ -4,7 +4,7 @@ use Rattle.std.specs.Str.{bytes_eq}
 use Rattle.template_values_modes.specs.declared.AutoEscape.{AutoEscape}
 use Rattle.template_values_modes.specs.declared.AutoEscape.TheVariants.{None, Html, Json}
 use Rattle.template_machine_escape.specs.declared.EscapeRule.{EscapeRule}
-use Rattle.template_machine_escape.specs.declared.EscapeRule.TheVariants.{ByName, Never}
+use Rattle.template_machine_escape.specs.declared.EscapeRule.TheVariants.{ByName, Never, Fixed}
 
 -- the text ends otherwise
 abbrev pub EndsOtherwise : List ℕ → List ℕ → Type 0
@@ -41,3 +41,4 @@ IsRuleOf name rule =
 abbrev pub IsEscapeOf : EscapeRule → List ℕ → AutoEscape → Type 0
 IsEscapeOf ByName name escape = IsRuleOf name escape
 IsEscapeOf Never name escape = escape ≡ None
+IsEscapeOf (Fixed fixed) name escape = escape ≡ fixed

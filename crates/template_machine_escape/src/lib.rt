@@ -13,6 +13,8 @@ pub enum EscapeRule {
     ByName,
     /// There is none, whatever the name.
     Never,
+    /// It is this one, whatever the name.
+    Fixed(AutoEscape),
 }
 
 impl EscapeRule {
@@ -23,7 +25,34 @@ impl EscapeRule {
         match self {
             EscapeRule::ByName => default_auto_escape_callback(name),
             EscapeRule::Never => AutoEscape::None,
+            EscapeRule::Fixed(escape) => escape,
         }
+    }
+}
+
+/// A rule of a caller's own that gives the escape of a name. Its answer is a function of the name alone.
+pub trait AutoEscapeRule: Drop {
+    ghost use Rattle.template_values_modes.specs.declared.AutoEscape.{AutoEscape};
+
+    /// The answer for each name.
+    ghost answer: { Self → List ℕ → AutoEscape };
+
+    /// The escape of a template by its name.
+    fn rule(&self, name: &str) -> AutoEscape
+        ensures { result ≡ answer self.now name.now };
+}
+
+/// No rule of a caller's own: it has no values.
+#[derive(Drop)]
+pub enum NoRule {}
+
+impl AutoEscapeRule for NoRule {
+    ghost use Rattle.template_values_modes.specs.declared.AutoEscape.TheVariants as escapes;
+
+    ghost answer = { λ rule name. escapes.None };
+
+    fn rule(&self, _name: &str) -> AutoEscape {
+        AutoEscape::None
     }
 }
 
@@ -112,6 +141,10 @@ mod tests {
             assert!(rt; EscapeRule::ByName.escape(name) == rule, "{name}");
             assert!(rt;
                 EscapeRule::Never.escape(name) == AutoEscape::None,
+                "{name}"
+            );
+            assert!(rt;
+                EscapeRule::Fixed(AutoEscape::Json).escape(name) == AutoEscape::Json,
                 "{name}"
             );
         }

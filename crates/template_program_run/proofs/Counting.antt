@@ -3,7 +3,7 @@ use Rattle.std.proofs.Common.{◌≡◌, ◌∙◌, ap, sym, refl, ℕ, ◌+◌,
 use Rattle.std.proofs.lemmas.Bool.Decides.{eqb_tells}
 use Rattle.template_values_model.specs.Val.{Val}
 use Rattle.template_machine_meaning.specs.Meaning.{Standing}
-use Rattle.template_environment.specs.declared.environment.Environment.{Environment}
+use Rattle.template_environment.specs.declared.registry.Registry.{Registry}
 use Rattle.template_program_run.specs.Answers.{Rendered, Told}
 use Rattle.template_program_run.specs.Ids.{IsLastId, behind_one, behind_request, last_id}
 use Rattle.template_program_run.specs.declared.outcome.Outcome.{Outcome}
@@ -21,7 +21,7 @@ one_more next more = elim (eqb_tells next last_id) [
 ]
 
 -- a render ends done or with an error of the render
-takes_two : (e : Environment) (t : Standing) (context : Val) (id : ℕ) (outcome : Outcome) (before after : Option (List ℕ)) (failed fails : ℕ)
+takes_two : (e : Registry) (t : Standing) (context : Val) (id : ℕ) (outcome : Outcome) (before after : Option (List ℕ)) (failed fails : ℕ)
     → Rendered e t context id outcome before after failed fails
     → (next : ℕ) → behind_request asked.Render outcome next ≡ behind_one (behind_one next)
 takes_two e t context id Done before after failed fails rendered next = refl
@@ -36,7 +36,7 @@ takes_two e t context id (Template kinds) before after failed fails rendered nex
 ]
 
 -- and so does a telling of names
-takes_one : (e : Environment) (t : Standing) (outcome : Outcome) (before after : Option (List ℕ)) (failed fails : ℕ)
+takes_one : (e : Registry) (t : Standing) (outcome : Outcome) (before after : Option (List ℕ)) (failed fails : ℕ)
     → Told e t outcome before after failed fails
     → (next : ℕ) → behind_request asked.Names outcome next ≡ behind_one next
 takes_one e t Done before after failed fails told next = refl
@@ -44,7 +44,7 @@ takes_one e t (Render kinds) before after failed fails told next = refl
 takes_one e t (Context kinds) before after failed fails told next = absurd told
 takes_one e t (Template kinds) before after failed fails told next = refl
 
-pub rendered_counts : (e : Environment) (t : Standing) (context : Val) (id : ℕ) (outcome : Outcome) (before after : Option (List ℕ)) (failed fails : ℕ)
+pub rendered_counts : (e : Registry) (t : Standing) (context : Val) (id : ℕ) (outcome : Outcome) (before after : Option (List ℕ)) (failed fails : ℕ)
     → Rendered e t context id outcome before after failed fails
     → (command : Command) → command ≡ asked.Render → (next end : ℕ) → id ≡ behind_one next → end ≡ behind_one id
     → end ≡ behind_request command outcome next
@@ -52,7 +52,7 @@ rendered_counts e t context id outcome before after failed fails rendered comman
     second ∙ ap behind_one first ∙ sym (takes_two e t context id outcome before after failed fails rendered next)
     ∙ ap (λ (c : Command). behind_request c outcome next) (sym is)
 
-pub told_counts : (e : Environment) (t : Standing) (outcome : Outcome) (before after : Option (List ℕ)) (failed fails : ℕ)
+pub told_counts : (e : Registry) (t : Standing) (outcome : Outcome) (before after : Option (List ℕ)) (failed fails : ℕ)
     → Told e t outcome before after failed fails
     → (command : Command) → command ≡ asked.Names → (next end : ℕ) → end ≡ behind_one next
     → end ≡ behind_request command outcome next

@@ -7,7 +7,7 @@ use Rattle.template_machine_meaning.specs.Meaning.{Standing}
 use Rattle.template_environment.specs.Compiled.{Compiled, standing_of}
 use Rattle.template_environment.specs.Sources.{Source, tree_in}
 use Rattle.template_environment.specs.Standing.{source_at}
-use Rattle.template_environment.specs.declared.environment.Environment.{Environment}
+use Rattle.template_environment.specs.declared.registry.Registry.{Registry}
 use Rattle.template_program_run.specs.Additions.{AllAreAccepted}
 use Rattle.template_program_run.specs.Environments.{IsMade}
 use Rattle.template_program_run.specs.History.{source_for, standing}
@@ -35,7 +35,7 @@ none_there None is = refl
 none_there (Some text) is = absurd (none_is (sym is))
 
 -- the main template is the one that was found
-found_there : (request : Request) (additions : List (List ℕ × List ℕ)) (e : Environment) (c : Compiled)
+found_there : (request : Request) (additions : List (List ℕ × List ℕ)) (e : Registry) (c : Compiled)
     → IsMade request additions e → source_at e (string_bytes request.main) ≡ Some c.source → IsEscapeOf c.source.escapes (string_bytes request.main) c.escape
     → (text : List ℕ) × (standing additions (string_bytes request.main) ≡ Some text)
     × IsTemplateOf (string_bytes request.main) text (standing_of c)
@@ -52,7 +52,7 @@ found_there request additions e c made found rule =
 pub answers_done : (request : Request) (additions : List (List ℕ × List ℕ)) (json : Option (List ℕ)) (next : ℕ) (outcome : Outcome)
     (before after : Option (List ℕ)) (failed fails : ℕ)
     → (context : Val) → HasContext request.command json (definitions_of request) context
-    → ¬ IsLastId next → AllAreAccepted additions → (e : Environment) → IsMade request additions e
+    → ¬ IsLastId next → AllAreAccepted additions → (e : Registry) → IsMade request additions e
     → (c : Compiled) → source_at e (string_bytes request.main) ≡ Some c.source → IsEscapeOf c.source.escapes (string_bytes request.main) c.escape
     → (command : Command) → request.command ≡ command
     → Does command e (standing_of c) request json next outcome before after failed fails
@@ -64,7 +64,7 @@ answers_done request additions json next outcome before after failed fails conte
 
 pub rendered_does : (request : Request) (json : Option (List ℕ)) (next : ℕ) (outcome : Outcome) (before after : Option (List ℕ)) (failed fails : ℕ)
     → (context : Val) → HasContext request.command json (definitions_of request) context → request.command ≡ asked.Render
-    → (e : Environment) (t : Standing) (id : ℕ) → id ≡ next + 1 → Rendered e t context id outcome before after failed fails
+    → (e : Registry) (t : Standing) (id : ℕ) → id ≡ next + 1 → Rendered e t context id outcome before after failed fails
     → Does asked.Render e t request json next outcome before after failed fails
 rendered_does request json next outcome before after failed fails context has is e t id counted rendered =
     let read = subst (λ (command : Command). HasContext command json (definitions_of request) context) is has in

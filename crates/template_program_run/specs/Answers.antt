@@ -19,7 +19,7 @@ use Rattle.template_environment.specs.Renders.{Renders}
 use Rattle.template_environment.specs.Sources.{tree_in}
 use Rattle.template_environment.specs.Isolated.{AgreeAmong}
 use Rattle.template_environment.specs.Standing.{setting_of}
-use Rattle.template_environment.specs.declared.environment.Environment.{Environment}
+use Rattle.template_environment.specs.declared.registry.Registry.{Registry}
 use Rattle.template_program_context.specs.Context.{fault_of_json, IsContext, texts_in}
 use Rattle.template_values_json.specs.Json.{IsRefusal}
 use Rattle.template_program_run.specs.Additions.{AllAreAccepted, IsRefusedAddition}
@@ -64,14 +64,14 @@ pub record IsTemplateOf (name text : List ℕ) (t : Standing) : Type 0 where
 
 -- Its render ends: it is finished under some bound. Under each bound where it is, it decides, with the fuel, the text
 -- and the end.
-pub record IsRendered (e : Environment) (t : Standing) (context : Val) (result : Result (Unit {0}) (List ErrorKind))
+pub record IsRendered (e : Registry) (t : Standing) (context : Val) (result : Result (Unit {0}) (List ErrorKind))
     (before after : Option (List ℕ)) : Type 0 where
   pub finished : (n : ℕ) × IsFinished (rendered (setting_of e) n t context).end
   pub renders : (n : ℕ) → IsFinished (rendered (setting_of e) n t context).end
       → Renders result before after (under e.fuel (rendered (setting_of e) n t context))
 
 -- A template that stands is rendered over the context. The render is refused where no state id is left.
-abbrev pub Rendered : Environment → Standing → Val → ℕ → Outcome → Option (List ℕ) → Option (List ℕ) → ℕ → ℕ → Type 0
+abbrev pub Rendered : Registry → Standing → Val → ℕ → Outcome → Option (List ℕ) → Option (List ℕ) → ℕ → ℕ → Type 0
 Rendered e t context next outcome before after failed fails =
     (IsLastId next → (outcome ≡ Render (InvalidOperation ∷ [])) × IsUntouched before after failed fails)
     × (¬ IsLastId next → (result : Result (Unit {0}) (List ErrorKind)) × EndsWith outcome result
@@ -79,7 +79,7 @@ Rendered e t context next outcome before after failed fails =
 
 -- The set has just the names that can matter to a render of the template: contexts that agree at these make no difference, at
 -- no bound and under no fuel.
-abbrev pub HasNames : Environment → Standing → BTreeSet (String Global) → Type 0
+abbrev pub HasNames : Registry → Standing → BTreeSet (String Global) → Type 0
 HasNames e t names = IsOrdered string_cmp names
     × ((name : List ℕ) → IsTrue (contains_text names name) ↔ IsContextName (setting_of e) t.tree name)
     × ((c d : Val) → AgreeAmong names c d → (n : ℕ) (fuel : Option ℕ)
@@ -87,7 +87,7 @@ HasNames e t names = IsOrdered string_cmp names
 
 -- The names that can matter are written in their order, one a line; or a beginning of that, for want of
 -- memory or of a sink that works. Where they cannot be found for want of memory, nothing is written.
-abbrev pub Told : Environment → Standing → Outcome → Option (List ℕ) → Option (List ℕ) → ℕ → ℕ → Type 0
+abbrev pub Told : Registry → Standing → Outcome → Option (List ℕ) → Option (List ℕ) → ℕ → ℕ → Type 0
 Told e t Done before after failed fails =
     (names : BTreeSet (String Global)) × HasNames e t names × Appends before after (lines_of names.keys) × (fails ≡ failed)
 Told e t (Render kinds) before after failed fails =
@@ -99,7 +99,7 @@ Told e t (Template kinds) before after failed fails =
 Told e t _ before after failed fails = ⊥
 
 -- what is done with the main template
-abbrev pub Does : Command → Environment → Standing → Request → Option (List ℕ) → ℕ → Outcome
+abbrev pub Does : Command → Registry → Standing → Request → Option (List ℕ) → ℕ → Outcome
     → Option (List ℕ) → Option (List ℕ) → ℕ → ℕ → Type 0
 Does asked.Render e t request json next outcome before after failed fails =
     (context : Val) × IsContext json (definitions_of request) context
@@ -111,7 +111,7 @@ Does asked.Names e t request json next outcome before after failed fails =
 abbrev pub Performed : Command → Request → List (List ℕ × List ℕ) → Option (List ℕ) → ℕ → Outcome
     → Option (List ℕ) → Option (List ℕ) → ℕ → ℕ → Type 0
 Performed command request additions json next outcome before after failed fails =
-    (e : Environment) × IsMade request additions e
+    (e : Registry) × IsMade request additions e
     × ((text : List ℕ) × (standing additions (string_bytes request.main) ≡ Some text)
     × ((t : Standing) × IsTemplateOf (string_bytes request.main) text t
     × Does command e t request json next outcome before after failed fails))

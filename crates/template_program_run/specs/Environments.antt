@@ -3,7 +3,7 @@ use Rattle.std.specs.Prelude.{◌≡◌, ℕ, List, min}
 use Rattle.template_compiler_syntax.specs.Syntax.{default_syntax}
 use Rattle.template_machine_escape.specs.declared.EscapeRule.TheVariants.{ByName}
 use Rattle.template_environment.specs.Standing.{Settings, greatest_limit, settings_of, source_at}
-use Rattle.template_environment.specs.declared.environment.Environment.{Environment}
+use Rattle.template_environment.specs.declared.registry.Registry.{Registry}
 use Rattle.template_program_run.specs.History.{source_standing}
 use Rattle.template_program_run.specs.declared.request.Request.{Request}
 
@@ -16,6 +16,6 @@ pub record HasSettings (request : Request) (s : Settings) : Type 0 where
   pub undefined : s.undefined ≡ request.undefined
 
 -- the additions stand in it
-pub record IsMade (request : Request) (additions : List (List ℕ × List ℕ)) (e : Environment) : Type 0 where
+pub record IsMade (request : Request) (additions : List (List ℕ × List ℕ)) (e : Registry) : Type 0 where
   pub sources : (name : List ℕ) → source_at e name ≡ source_standing additions name
   pub settings : HasSettings request (settings_of e)

@@ -1,5 +1,6 @@
 //! The templates, added in order.
 ghost use Rattle.std.specs.Prelude.{◌≡◌, ◌+◌, ℕ, List, [], ◌∷◌, None, IfOk, IfErr, OnOk};
+ghost use Rattle.template_environment.specs.Reading.{callback_of, registry_of};
 ghost use Rattle.template_environment.specs.Standing.{settings_of, source_at};
 ghost use Rattle.template_program_context.specs.Context.{texts_in};
 ghost use Rattle.template_program_run.specs.Additions.{AllAreAccepted, IsRefusedAddition};
@@ -25,7 +26,7 @@ pub(crate) fn environment_of<'source>(
     ids: &mut StateIds,
 ) -> Result<Environment<'source>, Error>
     ensures accepted { IfOk result (λ e. AllAreAccepted (texts_in templates.entry.now)) }
-    ensures made { IfOk result (IsMade request.now (texts_in templates.entry.now)) }
+    ensures made { IfOk result (λ e. IsMade request.now (texts_in templates.entry.now) (registry_of e)) }
     ensures had_one { OnOk result (¬ IsLastId ids.old) }
     ensures counted { ids.new ≡ behind_one ids.old }
     ensures refused { IfErr result (IsRefusedAddition (texts_in templates.entry.now) ids.old) }
@@ -43,8 +44,9 @@ fn set_up<'source>(
     request: &Request,
     ids: &mut StateIds,
 ) -> Result<Environment<'source>, Error>
-    ensures empty { IfOk result (λ e. (name : List ℕ) → source_at e name ≡ None) }
-    ensures settings { IfOk result (λ e. HasSettings request.now (settings_of e)) }
+    ensures empty { IfOk result (λ e. (name : List ℕ) → source_at (registry_of e) name ≡ None) }
+    ensures settings { IfOk result (λ e. HasSettings request.now (settings_of (registry_of e))) }
+    ensures callback { IfOk result (λ e. callback_of e ≡ None) }
     ensures had_one { OnOk result (¬ IsLastId ids.old) }
     ensures counted { ids.new ≡ behind_one ids.old }
     ensures refused { IfErr result (λ kinds. IsLastId ids.old × (kinds ≡ ErrorKind.InvalidOperation ∷ [])) }

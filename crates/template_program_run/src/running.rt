@@ -4,6 +4,7 @@ ghost use Rattle.template_program_context.specs.Context.{texts_in};
 ghost use Rattle.template_machine_escape.specs.Rule.{IsEscapeOf};
 ghost use Rattle.template_environment.specs.Compiled.{standing_of};
 ghost use Rattle.template_environment.specs.Plain.{IsPlain, text_kept};
+ghost use Rattle.template_environment.specs.Reading.{registry_of};
 ghost use Rattle.template_environment.specs.Views.{compiled_in, environment_of as place_of, name_of, source_of};
 ghost use Rattle.template_program_run.specs.Answers.{Answers, HasContext, IsRefusedContext, Rendered, Told, definitions_of};
 ghost use Rattle.template_program_run.specs.History.{source_for, standing};
@@ -87,7 +88,7 @@ fn render<S: Sink>(
     ids: &mut StateIds,
     sink: &mut S,
 ) -> Outcome
-    ensures rendered { Rendered (place_of template.now) (standing_of (compiled_in template.now.compiled)) context ids.old result
+    ensures rendered { Rendered (registry_of (place_of template.now)) (standing_of (compiled_in template.now.compiled)) context ids.old result
         (S.taken sink.old) (S.taken sink.new) (S.failures sink.old) (S.failures sink.new) }
     ensures rule { IsEscapeOf (source_of template.now).escapes (name_of template.now) (compiled_in template.now.compiled).escape }
     ensures plain { IsPlain (source_of template.now) → WritesOnDone (S.taken sink.old) (S.taken sink.new) (text_kept (source_of template.now)) result }
@@ -107,7 +108,7 @@ fn tell_names<'source, S: Sink>(
     template: &Template<'_, 'source>,
     sink: &mut S,
 ) -> Outcome
-    ensures told { Told environment.now (standing_of (compiled_in template.now.compiled)) result
+    ensures told { Told (registry_of environment.now) (standing_of (compiled_in template.now.compiled)) result
         (S.taken sink.old) (S.taken sink.new) (S.failures sink.old) (S.failures sink.new) }
     ensures rule { IsEscapeOf (source_of template.now).escapes (name_of template.now) (compiled_in template.now.compiled).escape }
 {

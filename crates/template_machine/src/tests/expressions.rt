@@ -56,6 +56,7 @@ fn fuels_cut_values(rt: HostRuntime) {
     let out = Err(ErrorKind::OutOfFuel);
     let rows = [
         ("1", 0, Ok(Some(1))),
+        ("1", 1, Ok(Some(1))),
         ("1 + 2", 0, Ok(Some(3))),
         ("a", 1, out),
         ("a", 2, Ok(Some(2))),

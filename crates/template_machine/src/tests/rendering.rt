@@ -1,6 +1,7 @@
 //! Additions, renders and the names of contexts.
 use crate::{
-    Environment, Error, ErrorKind, NullWriter, StateIds, Template, UndefinedBehavior, WriteWrapper,
+    AutoEscape, AutoEscapeRule, Environment, Error, ErrorKind, NullWriter, StateIds, Template,
+    UndefinedBehavior, WriteWrapper,
 };
 use std::alloc::Global;
 use std::borrow::CowStr;
@@ -86,7 +87,12 @@ fn additions_replace_and_refuse(rt: HostRuntime) -> Result<(), Fail> {
     assert_eq!(rt; add(&mut environment, "{{"), Err(ErrorKind::SyntaxError));
     assert!(rt; stands(&environment, "t.txt", HELLO)?);
     assert_eq!(rt; add(&mut environment, "a"), Ok(()));
+    assert_eq!(rt; add(&mut environment, "{{"), Err(ErrorKind::SyntaxError));
     assert!(rt; stands(&environment, "t.txt", "a")?);
+    let text = environment
+        .get_template("t.txt")?
+        .render(&mut ids, Value::undefined())?;
+    assert_eq!(rt; text.as_str(), "a");
     environment.remove_template("t.txt");
     let missing = stands(&environment, "t.txt", "a").err();
     assert_eq!(rt; missing, Some(ErrorKind::TemplateNotFound));
@@ -288,6 +294,62 @@ fn an_empty_environment_escapes_nothing(rt: HostRuntime) -> Result<(), Fail> {
     assert_eq!(rt; told(alloc, &captured.state().exports()?)?.as_str(), "x ");
     let known = told(alloc, &captured.state().known_variables()?)?;
     assert_eq!(rt; known.as_str(), "_z x y ");
+    Ok(())
+}
+
+// Escapes under names of fewer bytes.
+#[derive(Drop)]
+struct ShortNames {
+    length: usize,
+}
+
+impl AutoEscapeRule for ShortNames {
+    ghost use Rattle.std.specs.Prelude.{if◌then◌else◌, length, ltb};
+    ghost use Rattle.template_values_modes.specs.declared.AutoEscape.TheVariants as escapes;
+
+    ghost answer = { λ it name. if ltb (length name) it.length then escapes.Html else escapes.None };
+
+    fn rule(&self, name: &str) -> AutoEscape {
+        if name.len() < self.length {
+            AutoEscape::Html
+        } else {
+            AutoEscape::None
+        }
+    }
+}
+
+// What a template of a name makes of `<`.
+fn signed(
+    alloc: Global,
+    environment: &Environment<'static, ShortNames>,
+    ids: &mut StateIds,
+    name: &str,
+) -> Result<String, Error> {
+    let sign = Value::from_str(alloc, "<")?;
+    let context = Value::from_pairs(alloc, vec![in alloc; ("sign", sign)]?)?;
+    environment.get_template(name)?.render(ids, context)
+}
+
+#[test]
+fn a_rule_of_ones_own_decides_from_then_on(rt: HostRuntime) -> Result<(), Fail> {
+    let mut ids = StateIds::new(0);
+    let rule = ShortNames { length: 6 };
+    let mut environment = Environment::with_auto_escape_callback(rt.alloc(), rule, &mut ids)?;
+    environment.add_template("short", "{{ sign }}")?;
+    environment.add_template_owned(
+        CowStr::Borrowed("long.html"),
+        CowStr::Borrowed("{{ sign }}"),
+    )?;
+    {
+        let read = environment.template_from_named_str("t.txt", "{{ sign }}")?;
+        assert!(rt; read.initial_auto_escape() == AutoEscape::Html);
+    }
+    environment.set_auto_escape_callback(ShortNames { length: 0 });
+    environment.add_template("last", "{{ sign }}")?;
+    for (name, text) in [("short", "&lt;"), ("long.html", "<"), ("last", "<")] {
+        let out = signed(rt.alloc(), &environment, &mut ids, name)?;
+        assert_eq!(rt; out.as_str(), text, "{name}");
+    }
     Ok(())
 }
 

@@ -1,4 +1,4 @@
-use Rattle.std.proofs.Common.{sym, ap, ◌∙◌}
+use Rattle.std.proofs.Common.{refl, sym, ap, ◌∙◌}
 use Rattle.std.proofs.lemmas.Result.{err_from_is_err_and}
 use Rattle.template_values_modes.specs.declared.AutoEscape.{AutoEscape}
 use Rattle.template_machine_meaning.specs.World.{first_world}
@@ -10,18 +10,18 @@ pub returns-in_err-run_code-clause-renders : goal.returns-in_err-run_code-clause
 returns-in_err-run_code-clause-renders g c = λ n finished.
     let p = err_from_is_err_and c.from_residual-in_err-run_code.result c.from_residual-in_err-run_code.ensures.1 in
     rw (p.1, p.2)
-    (render_stopped _ c.args.environment.now c.args.compiled.now c.args.context _ _ _ _ c.args.environment.now.fuel _ _ _ _ _ c.fuel-fuel.ensures
+    (render_stopped _ c.args.registry.now c.args.compiled.now c.args.context _ _ _ _ c.args.registry.now.fuel _ _ _ _ _ refl
     (record {
-      programs = ruled_programs c.args.environment.now c.rules.result.limit c.rules.result.undefined c.rules.ensures.limit c.rules.ensures.undefined;
+      programs = ruled_programs c.args.registry.now c.rules.result.limit c.rules.result.undefined c.rules.ensures.limit c.rules.ensures.undefined;
       is_code = c.instructions.ensures.code;
       start = c.in_ok-state.ensures.made ∙ ap (λ (e : AutoEscape). first_world e c.args.context) c.initial_auto_escape.ensures.escape;
     }) c.in_err-run_code.ensures.runs n finished)
 
 pub returns-clause-renders : goal.returns-clause-renders
 returns-clause-renders g c = λ n finished.
-    let done = render_done (tt {0}) c.args.environment.now c.args.compiled.now c.args.context _ _ _ _ c.args.environment.now.fuel _ _ _ _ c.fuel-fuel.ensures
+    let done = render_done (tt {0}) c.args.registry.now c.args.compiled.now c.args.context _ _ _ _ c.args.registry.now.fuel _ _ _ _ refl
     (record {
-      programs = ruled_programs c.args.environment.now c.rules.result.limit c.rules.result.undefined c.rules.ensures.limit c.rules.ensures.undefined;
+      programs = ruled_programs c.args.registry.now c.rules.result.limit c.rules.result.undefined c.rules.ensures.limit c.rules.ensures.undefined;
       is_code = c.instructions.ensures.code;
       start = c.in_ok-state.ensures.made ∙ ap (λ (e : AutoEscape). first_world e c.args.context) c.initial_auto_escape.ensures.escape;
     }) c.in_ok-run_code.ensures.runs n finished in
@@ -29,9 +29,9 @@ returns-clause-renders g c = λ n finished.
 
 pub returns-clause-left : goal.returns-clause-left
 returns-clause-left g c = λ n finished.
-    let done = render_done (tt {0}) c.args.environment.now c.args.compiled.now c.args.context _ _ _ _ c.args.environment.now.fuel _ _ _ _ c.fuel-fuel.ensures
+    let done = render_done (tt {0}) c.args.registry.now c.args.compiled.now c.args.context _ _ _ _ c.args.registry.now.fuel _ _ _ _ refl
     (record {
-      programs = ruled_programs c.args.environment.now c.rules.result.limit c.rules.result.undefined c.rules.ensures.limit c.rules.ensures.undefined;
+      programs = ruled_programs c.args.registry.now c.rules.result.limit c.rules.result.undefined c.rules.ensures.limit c.rules.ensures.undefined;
       is_code = c.instructions.ensures.code;
       start = c.in_ok-state.ensures.made ∙ ap (λ (e : AutoEscape). first_world e c.args.context) c.initial_auto_escape.ensures.escape;
     }) c.in_ok-run_code.ensures.runs n finished in
@@ -39,9 +39,9 @@ returns-clause-left g c = λ n finished.
 
 pub returns-clause-world : goal.returns-clause-world
 returns-clause-world g c = λ n finished.
-    let done = render_done (tt {0}) c.args.environment.now c.args.compiled.now c.args.context _ _ _ _ c.args.environment.now.fuel _ _ _ _ c.fuel-fuel.ensures
+    let done = render_done (tt {0}) c.args.registry.now c.args.compiled.now c.args.context _ _ _ _ c.args.registry.now.fuel _ _ _ _ refl
     (record {
-      programs = ruled_programs c.args.environment.now c.rules.result.limit c.rules.result.undefined c.rules.ensures.limit c.rules.ensures.undefined;
+      programs = ruled_programs c.args.registry.now c.rules.result.limit c.rules.result.undefined c.rules.ensures.limit c.rules.ensures.undefined;
       is_code = c.instructions.ensures.code;
       start = c.in_ok-state.ensures.made ∙ ap (λ (e : AutoEscape). first_world e c.args.context) c.initial_auto_escape.ensures.escape;
     }) c.in_ok-run_code.ensures.runs n finished in

@@ -1,10 +1,12 @@
-use Rattle.std.proofs.Common.{◌≡◌, ◌∙◌, ℕ, List, ap, sym, subst, Some, inr, get_or, string_bytes, if◌then◌else◌, bytes_eq}
+use Rattle.std.proofs.Common.{◌≡◌, ◌∙◌, ℕ, List, ap, sym, subst, Option, None, Some, inr, get_or, string_bytes, if◌then◌else◌, bytes_eq}
 use Rattle.std.proofs.lemmas.Result.{err_from_is_err_and}
+use Rattle.template_values_modes.specs.declared.AutoEscape.{AutoEscape}
 use Rattle.template_compiler_syntax.specs.Syntax.{Syntax, default_syntax}
 use Rattle.template_machine_escape.specs.declared.EscapeRule.{EscapeRule}
 use Rattle.template_machine_escape.specs.declared.EscapeRule.TheVariants.{ByName}
 use Rattle.template_environment.specs.Sources.{IsAccepted, IsRefusedWith, Source}
-use Rattle.template_environment.specs.Standing.{Settings, read_under, source_at}
+use Rattle.template_environment.specs.Reading.{registry_of, rule_for}
+use Rattle.template_environment.specs.Standing.{Settings, source_at}
 use Rattle.template_program_run.specs.Environments.{HasSettings}
 use Rattle.template_program_run.specs.History.{source_for}
 use Rattle.template_program_run.proofs.Histories.{accepted-next, refuses-at, source-next}
@@ -18,6 +20,13 @@ IsReadAs given syntax escapes source = record { text = given; syntax = syntax; e
 read_there : (given text : List ℕ) (syntax : Syntax) (escapes : EscapeRule) → syntax ≡ default_syntax → escapes ≡ ByName → given ≡ text
     → IsReadAs given syntax escapes (source_for text)
 read_there given text syntax escapes same rule is = λ i. record { text = is i; syntax = same i; escapes = rule i }
+
+-- also under the rule for its name, where the caller has none
+ruled_there : {R : Type 0} (answer : R → List ℕ → AutoEscape) (callback : Option R) (name given text : List ℕ) (syntax : Syntax) (escapes : EscapeRule)
+    → callback ≡ None → syntax ≡ default_syntax → escapes ≡ ByName → given ≡ text
+    → IsReadAs given syntax (rule_for answer escapes callback name) (source_for text)
+ruled_there answer callback name given text syntax escapes unset same rule is =
+    read_there given text syntax (rule_for answer escapes callback name) same (ap (λ o. rule_for answer escapes o name) unset ∙ rule) is
 
 pub returns-in_err-add_template-clause-refused : goal.returns-in_err-add_template-clause-refused
 returns-in_err-add_template-clause-refused c =
@@ -38,13 +47,16 @@ loop-name-preserved c =
     let name : c.as_str.result.now ≡ string_bytes (get_or xs i d).0 = c.as_str.ensures.value ∙ ap (λ x. string_bytes x.0) c.loop-name-item.is in
     let text : c.as_str-in-loop-name.result.now ≡ string_bytes (get_or xs i d).1 = c.as_str-in-loop-name.ensures.value ∙ ap (λ x. string_bytes x.1) c.loop-name-item.is in
     let source = read_there _ _ _ _ c.loop-name.invariant.settings.syntax c.loop-name.invariant.settings.escapes text in
+    let ruled = ruled_there _ _ _ _ _ _ _ c.loop-name.invariant.callback c.loop-name.invariant.settings.syntax c.loop-name.invariant.settings.escapes text in
+    let before = registry_of c.loop-name.environment in
     record {
       accepted = accepted-next xs i d c.loop-name-test.true c.loop-name.invariant.accepted (subst IsAccepted source c.in_ok-add_template.ensures.accepted);
       stands = λ q.
           c.in_ok-add_template.ensures.stands q
-          ∙ ap (λ n. if bytes_eq n q then Some (read_under c.loop-name.environment c.as_str-in-loop-name.result.now) else source_at c.loop-name.environment q) name
-          ∙ ap (λ s. if bytes_eq (string_bytes (get_or xs i d).0) q then Some s else source_at c.loop-name.environment q) source
+          ∙ ap (λ s. if bytes_eq c.as_str.result.now q then Some s else source_at before q) ruled
+          ∙ ap (λ n. if bytes_eq n q then Some (source_for (string_bytes (get_or xs i d).1)) else source_at before q) name
           ∙ ap (λ o. if bytes_eq (string_bytes (get_or xs i d).0) q then Some (source_for (string_bytes (get_or xs i d).1)) else o) (c.loop-name.invariant.stands q)
           ∙ sym (source-next xs i d c.loop-name-test.true q);
       settings = subst (λ (s : Settings). HasSettings c.args.request.now s) (sym c.in_ok-add_template.ensures.settings) c.loop-name.invariant.settings;
+      callback = c.in_ok-add_template.ensures.callback ∙ c.loop-name.invariant.callback;
     }

@@ -1,6 +1,7 @@
 use Rattle.std.proofs.Common.{◌∙◌, sym, subst, rules, List, ℕ, option_copied}
 use Rattle.template_machine_escape.specs.Rule.{IsEscapeOf}
 use Rattle.template_environment.specs.Compiled.{standing_of}
+use Rattle.template_environment.specs.Reading.{registry_of}
 use Rattle.template_environment.specs.Views.{compiled_in, environment_of, source_of}
 use Rattle.template_program_context.specs.Context.{texts_in}
 use Rattle.template_program_run.specs.Environments.{IsMade}
@@ -13,14 +14,14 @@ pub returns-in-Render-clause-answers : goal.returns-in-Render-clause-answers
 returns-in-Render-clause-answers g c =
     let e = c.in-Ok-environment_of in
     let t = c.in-Ok-get_template in
-    let made = subst (IsMade c.args.request.now (texts_in c.args.templates.now)) (sym t.ensures.here) e.ensures.made in
+    let made = subst (λ x. IsMade c.args.request.now (texts_in c.args.templates.now) (registry_of x)) (sym t.ensures.here) e.ensures.made in
     let main = c.as_str.ensures.value in
     answers_done c.args.request.now (texts_in c.args.templates.now) (option_copied c.args.context) c.args.ids.now c.render.result _ _ _ _
-    c.in-Ok.context c.in-Ok.ensures.has e.ensures.had_one e.ensures.accepted (environment_of t.template) made (compiled_in t.template.compiled)
+    c.in-Ok.context c.in-Ok.ensures.has e.ensures.had_one e.ensures.accepted (registry_of (environment_of t.template)) made (compiled_in t.template.compiled)
     (search rules) (subst (λ (n : List ℕ). IsEscapeOf (source_of t.template).escapes n (compiled_in t.template.compiled).escape) (t.ensures.named ∙ main) c.render.ensures.rule)
     asked.Render (search rules)
     (rendered_does c.args.request.now (option_copied c.args.context) c.args.ids.now c.render.result _ _ _ _ c.in-Ok.context c.in-Ok.ensures.has (search rules)
-    (environment_of t.template) (standing_of (compiled_in t.template.compiled)) c.environment_of.new.ids
+    (registry_of (environment_of t.template)) (standing_of (compiled_in t.template.compiled)) c.environment_of.new.ids
     (e.ensures.counted ∙ one_more c.args.ids.now e.ensures.had_one) c.render.ensures.rendered)
 
 pub returns-in-Names-clause-answers : goal.returns-in-Names-clause-answers
@@ -29,17 +30,17 @@ returns-in-Names-clause-answers g c =
     let t = c.in-Ok-get_template in
     let main = c.as_str.ensures.value in
     answers_done c.args.request.now (texts_in c.args.templates.now) (option_copied c.args.context) c.args.ids.now c.tell_names.result _ _ _ _
-    c.in-Ok.context c.in-Ok.ensures.has e.ensures.had_one e.ensures.accepted e.environment e.ensures.made (compiled_in t.template.compiled)
+    c.in-Ok.context c.in-Ok.ensures.has e.ensures.had_one e.ensures.accepted (registry_of e.environment) e.ensures.made (compiled_in t.template.compiled)
     (search rules) (subst (λ (n : List ℕ). IsEscapeOf (source_of t.template).escapes n (compiled_in t.template.compiled).escape) (t.ensures.named ∙ main) c.tell_names.ensures.rule)
     asked.Names (search rules) c.tell_names.ensures.told
 
 pub returns-in-Render-clause-counted : goal.returns-in-Render-clause-counted
 returns-in-Render-clause-counted g c =
     let t = c.in-Ok-get_template.template in
-    rendered_counts (environment_of t) (standing_of (compiled_in t.compiled)) c.in-Ok.context c.environment_of.new.ids c.render.result _ _ _ _ c.render.ensures.rendered
+    rendered_counts (registry_of (environment_of t)) (standing_of (compiled_in t.compiled)) c.in-Ok.context c.environment_of.new.ids c.render.result _ _ _ _ c.render.ensures.rendered
     c.args.request.now.command (search rules) c.args.ids.now c.render.new.ids c.in-Ok-environment_of.ensures.counted c.render.ensures.counted
 
 pub returns-in-Names-clause-counted : goal.returns-in-Names-clause-counted
 returns-in-Names-clause-counted g c =
-    told_counts c.in-Ok-environment_of.environment (standing_of (compiled_in c.in-Ok-get_template.template.compiled)) c.tell_names.result _ _ _ _ c.tell_names.ensures.told
+    told_counts (registry_of c.in-Ok-environment_of.environment) (standing_of (compiled_in c.in-Ok-get_template.template.compiled)) c.tell_names.result _ _ _ _ c.tell_names.ensures.told
     c.args.request.now.command (search rules) c.args.ids.now c.environment_of.new.ids c.in-Ok-environment_of.ensures.counted

@@ -8,13 +8,13 @@ use Rattle.template_environment.proofs.Naming.{listed}
 use Rattle.template_environment.proofs.environment.Environment.context_names.Goals as goal
 
 pub returns-clause-listed : goal.returns-clause-listed
-returns-clause-listed c = λ name.
+returns-clause-listed g c = λ name.
     let given = c.in_ok-names.names in
     let own = c.in_ok-add_undeclared.ensures.added name ∙ ap (λ (k : Compiled). contains_text given name || uses k name) c.get.ensures in
-    listed c.args.self.now (compiled_in c.args.template.now.compiled) name (contains_text given name) _ _ (c.in_ok-names.ensures.given name) own
+    listed c.args.self.now.registry (compiled_in c.args.template.now.compiled) name (contains_text given name) _ _ (c.in_ok-names.ensures.given name) own
     (c.in_ok-add_undeclared-2.ensures.added name)
 
 pub returns-clause-isolated : goal.returns-clause-isolated
-returns-clause-isolated c = λ x d agree n fuel.
-    c.isolation.ensures (setting_of c.args.self.now) (standing_of (compiled_in c.args.template.now.compiled)) x d
-    (λ name can_matter. agree name ((returns-clause-listed c name).1 can_matter)) n fuel
+returns-clause-isolated g c = λ x d agree n fuel.
+    c.isolation.ensures (setting_of c.args.self.now.registry) (standing_of (compiled_in c.args.template.now.compiled)) x d
+    (λ name can_matter. agree name ((returns-clause-listed g c name).1 can_matter)) n fuel

@@ -1,19 +1,21 @@
-use Rattle.std.proofs.Common.{inr, string_bytes}
-use Rattle.template_compiled.specs.Sources.{tree_in}
-use Rattle.template_environment.specs.Standing.{read_under, setting_of}
+use Rattle.std.proofs.Common.{ap, inr, string_bytes, subst}
+use Rattle.template_machine_escape.specs.Rule.{IsEscapeOf}
+use Rattle.template_compiled.specs.Sources.{Source}
+use Rattle.template_environment.specs.Reading.{registry_of}
 use Rattle.template_environment.specs.Views.{compiled_in}
-use Rattle.template_environment.proofs.Sourced.{renders_source}
+use Rattle.template_environment.proofs.Sourced.{isolates_source, renders_source}
 use Rattle.template_environment.proofs.environment.Environment.render_named_str.Goals as goal
 
 pub returns-clause-renders : goal.returns-clause-renders
-returns-clause-renders c =
+returns-clause-renders g c =
     let template = c.in_ok-template.template in
     let read = c.in_ok-template.ensures in
     let rendered = c.render.ensures in
+    let rule = subst (λ (s : Source). IsEscapeOf s.escapes c.args.name.now (compiled_in template.compiled).escape) read.source read.escape in
     inr (
       read.accepted,
-      renders_source template.environment.now c.args.self.now (compiled_in template.compiled) c.args.name.now (read_under c.args.self.now c.args.source.now)
-          c.args.context c.args.ids.now c.render.new.ids (λ text. string_bytes text) c.render.result read.here read.named read.source read.escape
+      renders_source template.environment.now.registry c.args.self.now.registry (compiled_in template.compiled) c.args.name.now _
+          c.args.context c.args.ids.now c.render.new.ids (λ text. string_bytes text) c.render.result (ap registry_of read.here) read.named read.source rule
           (record {
             gives = rendered.text;
             no_write_failure = rendered.no_write_failure;
@@ -23,9 +25,9 @@ returns-clause-renders c =
     )
 
 pub returns-in_err-template-clause-isolated : goal.returns-in_err-template-clause-isolated
-returns-in_err-template-clause-isolated c = λ other agree escape n fuel.
-    c.isolation.ensures (setting_of c.args.self.now) (record { tree = tree_in (read_under c.args.self.now c.args.source.now); escape = escape }) c.args.context other agree n fuel
+returns-in_err-template-clause-isolated g c = λ other agree.
+    isolates_source c.isolation.ensures c.args.self.now.registry _ c.args.context other agree
 
 pub returns-clause-isolated : goal.returns-clause-isolated
-returns-clause-isolated c = λ other agree escape n fuel.
-    c.isolation.ensures (setting_of c.args.self.now) (record { tree = tree_in (read_under c.args.self.now c.args.source.now); escape = escape }) c.args.context other agree n fuel
+returns-clause-isolated g c = λ other agree.
+    isolates_source c.isolation.ensures c.args.self.now.registry _ c.args.context other agree

@@ -17,10 +17,10 @@ use Rattle.template_environment.proofs.environment.Environment.templates.Goals a
 
 -- one more template
 pub loop-compiled-preserved : goal.loop-compiled-preserved
-loop-compiled-preserved c =
+loop-compiled-preserved g c =
     let listed = c.loop-compiled.listed.items in
-    let own = λ (t : Template). compiled_in t.compiled in
-    let here = λ (t : Template). environment_of t ≡ c.args.self.now in
+    let own = λ (t : Template _). compiled_in t.compiled in
+    let here = λ (t : Template _). environment_of t ≡ c.args.self.now in
     record {
       same = ap (map own) c.in_ok-push.ensures.items ∙ map-append own listed _
           ∙ ap (λ (ks : List Compiled). ks ++ c.in-Some.compiled.now ∷ []) c.loop-compiled.invariant.same
@@ -30,24 +30,24 @@ loop-compiled-preserved c =
 
 -- all templates
 pub returns-clause-listed : goal.returns-clause-listed
-returns-clause-listed c = λ name.
+returns-clause-listed g c = λ name.
     let ended =
-    iter_end deref (all_in c.args.self.now.templates) c.loop-compiled.yielded c.into_iter-compiled-iterator.result c.loop-compiled.compiled-iterator
+    iter_end deref (all_in c.args.self.now.registry.templates) c.loop-compiled.yielded c.into_iter-compiled-iterator.result c.loop-compiled.compiled-iterator
     c.next.new.self c.next.result (c.into_iter-compiled-iterator.ensures.into_iter_gives ∙ c.values-compiled-items.ensures.rest) c.loop-compiled.yielded_by c.in-None.is
     c.next.ensures.steps in
     let same = c.loop-compiled.invariant.same ∙ ended.0 in
     ap (λ (o : Option Compiled). option_map (λ k. k.source) o)
     (sym (c.values-compiled-items.ensures.found name) ∙ ap (λ (ks : List Compiled). find (λ k. bytes_eq name k.name) ks) (sym same))
-    ∙ found_by (λ (t : Template). compiled_in t.compiled) (λ k. k.source) (λ k. bytes_eq name k.name) c.loop-compiled.listed.items
+    ∙ found_by (λ (t : Template _). compiled_in t.compiled) (λ k. k.source) (λ k. bytes_eq name k.name) c.loop-compiled.listed.items
 
 pub returns-clause-ordered : goal.returns-clause-ordered
-returns-clause-ordered c =
+returns-clause-ordered g c =
     let ended =
-    iter_end deref (all_in c.args.self.now.templates) c.loop-compiled.yielded c.into_iter-compiled-iterator.result c.loop-compiled.compiled-iterator
+    iter_end deref (all_in c.args.self.now.registry.templates) c.loop-compiled.yielded c.into_iter-compiled-iterator.result c.loop-compiled.compiled-iterator
     c.next.new.self c.next.result (c.into_iter-compiled-iterator.ensures.into_iter_gives ∙ c.values-compiled-items.ensures.rest) c.loop-compiled.yielded_by c.in-None.is
     c.next.ensures.steps in
     let same = c.loop-compiled.invariant.same ∙ ended.0 in
     subst (λ (names : List (List ℕ)). IsStrictlySortedBy (slice_cmp nat_cmp) names)
     (ap (λ (ks : List Compiled). map (λ k. k.name) ks) (sym same)
-    ∙ map_twice (λ (t : Template). compiled_in t.compiled) (λ k. k.name) c.loop-compiled.listed.items)
+    ∙ map_twice (λ (t : Template _). compiled_in t.compiled) (λ k. k.name) c.loop-compiled.listed.items)
     c.values-compiled-items.ensures.ordered

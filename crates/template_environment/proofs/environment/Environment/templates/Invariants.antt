@@ -6,7 +6,7 @@ use Rattle.template_environment.proofs.environment.Environment.templates.Given a
 
 -- the templates so far are listed
 abbrev pub invariant-loop-compiled : goal.invariant-loop-compiled
-invariant-loop-compiled l = record {
-  same : map (λ (t : Template). compiled_in t.compiled) l.listed.items ≡ map deref l.yielded;
-  here : All (λ (t : Template). environment_of t ≡ l.self) l.listed.items;
+invariant-loop-compiled g l = record {
+  same : map (λ (t : Template _). compiled_in t.compiled) l.listed.items ≡ map deref l.yielded;
+  here : All (λ (t : Template _). environment_of t ≡ l.self) l.listed.items;
 }

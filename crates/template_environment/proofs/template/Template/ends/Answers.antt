@@ -6,7 +6,7 @@ use Rattle.template_environment.proofs.Rendering.{render_ends}
 use Rattle.template_environment.proofs.template.Template.ends.Goals as goal
 
 pub returns : goal.returns
-returns c = λ context.
-    let environment = c.args.self.now.environment.now in
+returns g c = λ context.
+    let environment = c.args.self.now.environment.now.registry in
     subst (λ (t : Compiled). (n : ℕ) × IsFinished (rendering environment t n context).end) c.get.ensures
     (render_ends environment c.get.result.now context environment.templates.running c.instructions-code.ensures.faithful.has_tree.1)

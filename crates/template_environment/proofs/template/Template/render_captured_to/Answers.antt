@@ -19,7 +19,7 @@ returns-in_err-machine-clause-renders g c = search rules
 pub returns-in_err-machine-clause-plain : goal.returns-in_err-machine-clause-plain
 returns-in_err-machine-clause-plain g c = λ live plain.
     let self = c.args.self.now in
-    plain_writes self.environment.now (compiled_in self.compiled) (text_kept (source_of self)) c.args.context _ _ _ (c.plain.ensures plain)
+    plain_writes self.environment.now.registry (compiled_in self.compiled) (text_kept (source_of self)) c.args.context _ _ _ (c.plain.ensures plain)
     (returns-in_err-machine-clause-renders g c live)
 
 pub returns-clause-renders : goal.returns-clause-renders
@@ -28,5 +28,5 @@ returns-clause-renders g c = search rules
 pub returns-clause-plain : goal.returns-clause-plain
 returns-clause-plain g c = λ live plain.
     let self = c.args.self.now in
-    plain_writes self.environment.now (compiled_in self.compiled) (text_kept (source_of self)) c.args.context _ _ (Ok _) (c.plain.ensures plain)
+    plain_writes self.environment.now.registry (compiled_in self.compiled) (text_kept (source_of self)) c.args.context _ _ (Ok _) (c.plain.ensures plain)
     (returns-clause-renders g c live)

@@ -1,0 +1,3 @@
+pub mod Drafts
+pub mod View
+pub mod Laws

@@ -1,0 +1,449 @@
+//! The generator.
+ghost use Rattle.std.specs.Prelude.{◌≡◌, ◌*◌, ◌↔◌, [], IfOk, IfErr, OnOk, OnErr, IsTrue, length, reverse, drop, min, slice_get, sum_by};
+ghost use Rattle.std.specs.Option.{option_map_or};
+ghost use Rattle.template_values_errors.specs.Memory.{NoMemory};
+ghost use Rattle.template_code.specs.Listing.{name_in, source_in, code_in, places_in, TakesNoMore};
+ghost use Rattle.template_code.specs.View.{code_of};
+ghost use Rattle.template_tree.specs.StatementView.{statement_of};
+ghost use Rattle.template_tree.specs.View.{expression_of};
+ghost use Rattle.template_walk.specs.Runnable.{IsRunnable, IsTarget};
+ghost use Rattle.template_compiler_codegen.specs.Expressions.{expression_code};
+ghost use Rattle.template_compiler_codegen.specs.Statements.{no_ways, statements_code, target_code};
+ghost use Rattle.template_compiler_emission.specs.Puts.{NoRoom};
+ghost use Rattle.template_compiler_statement_codegen.specs.Listed.{IsRunnableTree, body_in};
+ghost use Rattle.template_compiler_generator.specs.Drafts.{Generates, is_branch, is_choice, is_loop, jumps_of, leap_of, loop_flags, next_jump, raw_length, span_on, with_block, with_blocks, with_choice, with_choice_end, with_chosen, with_code, with_code_from, with_else, with_end, with_if, with_jump, with_line, with_loop, with_loop_end, with_span, with_told, without_span};
+ghost use Rattle.template_compiler_generator.specs.View.{draft_of, open_of};
+
+use crate::blocks::{Block, Jump};
+use std::alloc::Global;
+use template_code::{Instruction, Instructions, LOOP_FLAG_RECURSIVE, LOOP_FLAG_WITH_LOOP_VAR};
+use template_compiler_emission::Leap;
+use template_compiler_expression_codegen::compile_expr;
+use template_compiler_statement_codegen::{compile_assignment, compile_template};
+use template_tree::{Expr, Span, Stmt};
+use template_values_errors::Error;
+
+/// Instructions that are generated one behind the other, with the blocks that are open, the current line, and the spans
+/// that are open.
+#[derive(Drop)]
+pub struct CodeGenerator<'source> {
+    alloc: Global,
+    code: Instructions<'source>,
+    blocks: Vec<Block>,
+    line: u16,
+    spans: Vec<Span>,
+}
+
+impl<'source> CodeGenerator<'source> {
+    /// Nothing is generated yet, for a template with a name and its source.
+    pub fn new(alloc: Global, file: &'source str, source: &'source str) -> CodeGenerator<'source>
+        ensures { draft_of result
+            ≡ record { name = file.now; source = source.now; code = []; marks = []; blocks = []; line = 0; spans = [] } }
+    {
+        CodeGenerator {
+            alloc,
+            code: Instructions::new(alloc, file, source),
+            blocks: Vec::new(alloc),
+            line: 0,
+            spans: Vec::new(alloc),
+        }
+    }
+
+    /// What is added from now on comes from a line.
+    pub fn set_line(&mut self, line: u16)
+        ensures { draft_of self.new ≡ with_line line (draft_of self.old) }
+    {
+        self.line = line;
+    }
+
+    /// What is added from now on comes from the line that a span starts in.
+    pub fn set_line_from_span(&mut self, span: Span)
+        ensures { draft_of self.new ≡ with_line span.start_line (draft_of self.old) }
+    {
+        self.set_line(span.start_line);
+    }
+
+    /// Opens a span, from whose line what is added from now on comes.
+    ///
+    /// # Errors
+    ///
+    /// [`ErrorKind::OutOfMemory`](template_values_errors::ErrorKind::OutOfMemory); then all stays as it was.
+    pub fn push_span(&mut self, span: Span) -> Result<(), Error>
+        ensures opened { OnOk result (draft_of self.new ≡ with_span span (draft_of self.old)) }
+        ensures refused { IfErr result NoMemory }
+        ensures unchanged { OnErr result (draft_of self.new ≡ draft_of self.old) }
+    {
+        self.spans.push(span)?;
+        self.set_line_from_span(span);
+        Ok(())
+    }
+
+    /// Closes the innermost open span, if there is one. The line stays.
+    pub fn pop_span(&mut self)
+        ensures { draft_of self.new ≡ without_span (draft_of self.old) }
+    {
+        self.spans.pop();
+    }
+
+    /// Adds an instruction, and answers its place. It comes from the innermost open span, where that starts on the
+    /// current line, and else from that line.
+    ///
+    /// # Errors
+    ///
+    /// Those of [`Instructions::add`]; then all stays as it was.
+    pub fn add(&mut self, instruction: Instruction<'source>) -> Result<u32, Error>
+        ensures place { IfOk result (λ place. place ≡ length (draft_of self.old).code) }
+        ensures added { OnOk result (draft_of self.new ≡ with_code (code_of instruction.entry) (draft_of self.old)) }
+        ensures refused { IfErr result (TakesNoMore (draft_of self.old).code) }
+        ensures unchanged { OnErr result (draft_of self.new ≡ draft_of self.old) }
+    {
+        match self.span() {
+            Some(span) => self.code.add_with_span(instruction, span),
+            None => self.code.add_with_line(instruction, self.line),
+        }
+    }
+
+    /// The same for an instruction that comes from a span.
+    ///
+    /// # Errors
+    ///
+    /// As [`CodeGenerator::add`].
+    pub fn add_with_span(
+        &mut self,
+        instruction: Instruction<'source>,
+        span: Span,
+    ) -> Result<u32, Error>
+        ensures place { IfOk result (λ place. place ≡ length (draft_of self.old).code) }
+        ensures added { OnOk result (draft_of self.new ≡ with_code_from span (code_of instruction.entry) (draft_of self.old)) }
+        ensures refused { IfErr result (TakesNoMore (draft_of self.old).code) }
+        ensures unchanged { OnErr result (draft_of self.new ≡ draft_of self.old) }
+    {
+        self.code.add_with_span(instruction, span)
+    }
+
+    // The innermost open span, where it starts on the current line.
+    fn span(&self) -> Option<Span>
+        ensures { result ≡ span_on (draft_of self.now).line (draft_of self.now).spans }
+    {
+        let span = *self.spans.as_slice().last()?;
+        if span.start_line == self.line {
+            Some(span)
+        } else {
+            None
+        }
+    }
+
+    /// The place of the next instruction.
+    pub fn next_instruction(&self) -> u32
+        ensures { result ≡ length (draft_of self.now).code }
+    {
+        self.code.len() as u32
+    }
+
+    // Adds a jump that is told later where it leads.
+    fn reserve(&mut self, leap: Leap) -> Result<Jump, Error>
+        ensures jump { IfOk result (λ jump. jump ≡ next_jump leap (draft_of self.old)) }
+        ensures added { OnOk result (draft_of self.new ≡ with_jump leap (draft_of self.old)) }
+        ensures refused { IfErr result NoRoom }
+    {
+        let place = self.add(leap.to(0))?;
+        Ok(Jump { place, leap })
+    }
+
+    // Tells a jump that it leads behind the last instruction.
+    fn tell(&mut self, jump: Jump)
+        ensures { draft_of self.new ≡ with_told jump (draft_of self.old) }
+    {
+        let target = self.next_instruction();
+        self.code.replace(jump.place, jump.leap.to(target));
+    }
+
+    // Opens a block.
+    fn enter(&mut self, block: Block) -> Result<(), Error>
+        ensures entered { OnOk result (draft_of self.new ≡ with_block (open_of block) (draft_of self.old)) }
+        ensures refused { IfErr result NoRoom }
+    {
+        self.blocks.push(block)?;
+        Ok(())
+    }
+
+    /// Whether the innermost open block is a branch.
+    pub fn is_in_branch(&self) -> bool
+        ensures { result ≡ is_branch (draft_of self.now).blocks }
+    {
+        match self.blocks.as_slice().last() {
+            Some(Block::Branch(_)) => true,
+            Some(Block::Loop(_)) => false,
+            Some(Block::Choice(_)) => false,
+            None => false,
+        }
+    }
+
+    /// Opens a branch, which is leapt over where the value on top, which is taken, is false.
+    ///
+    /// # Errors
+    ///
+    /// Those of [`Instructions::add`]; then the generator is of no further use.
+    pub fn start_if(&mut self) -> Result<(), Error>
+        ensures started { OnOk result (draft_of self.new ≡ with_if (draft_of self.old)) }
+        ensures refused { IfErr result NoRoom }
+    {
+        let jump = self.reserve(Leap::IfFalse)?;
+        self.enter(Block::Branch(jump))
+    }
+
+    /// Closes the branch, and opens another one, which runs where that one was leapt over.
+    ///
+    /// # Errors
+    ///
+    /// Those of [`Instructions::add`]; then the generator is of no further use.
+    pub fn start_else(&mut self) -> Result<(), Error>
+        requires { IsTrue (is_branch (draft_of self.old).blocks) }
+        ensures started { OnOk result (draft_of self.new ≡ with_else (draft_of self.old)) }
+        ensures refused { IfErr result NoRoom }
+    {
+        let jump = self.reserve(Leap::Always)?;
+        self.end_if();
+        self.enter(Block::Branch(jump))
+    }
+
+    /// Closes the branch: what leaps over it goes on here.
+    pub fn end_if(&mut self)
+        requires { IsTrue (is_branch (draft_of self.old).blocks) }
+        ensures { draft_of self.new ≡ with_end (draft_of self.old) }
+    {
+        match self.blocks.pop() {
+            Some(Block::Branch(jump)) => self.tell(jump),
+            Some(Block::Loop(_)) => unreachable!(),
+            Some(Block::Choice(_)) => unreachable!(),
+            None => unreachable!(),
+        }
+    }
+
+    /// Whether the innermost open block is a loop.
+    pub fn is_in_loop(&self) -> bool
+        ensures { result ≡ is_loop (draft_of self.now).blocks }
+    {
+        match self.blocks.as_slice().last() {
+            Some(Block::Loop(_)) => true,
+            Some(Block::Branch(_)) => false,
+            Some(Block::Choice(_)) => false,
+            None => false,
+        }
+    }
+
+    /// Opens a loop over the value on top, which is taken, with its variable or without it, and its rounds, each of which
+    /// begins with the next item on top.
+    ///
+    /// # Errors
+    ///
+    /// As [`CodeGenerator::start_if`].
+    pub fn start_for_loop(&mut self, with_loop_var: bool, recursive: bool) -> Result<(), Error>
+        ensures started { OnOk result (draft_of self.new ≡ with_loop with_loop_var recursive (draft_of self.old)) }
+        ensures refused { IfErr result NoRoom }
+    {
+        self.add(Instruction::PushLoop(loop_flags(with_loop_var, recursive)))?;
+        let asks = self.reserve(Leap::Iterate)?;
+        self.enter(Block::Loop(asks.place))
+    }
+
+    /// Closes the rounds and the loop: behind the last item it goes on here, where wanted with whether there was none.
+    ///
+    /// # Errors
+    ///
+    /// As [`CodeGenerator::start_if`].
+    pub fn end_for_loop(&mut self, push_did_not_iterate: bool) -> Result<(), Error>
+        requires { IsTrue (is_loop (draft_of self.old).blocks) }
+        ensures ended { OnOk result (draft_of self.new ≡ with_loop_end push_did_not_iterate (draft_of self.old)) }
+        ensures refused { IfErr result NoRoom }
+    {
+        let asks = match self.blocks.pop() {
+            Some(Block::Loop(asks)) => asks,
+            Some(Block::Branch(_)) => unreachable!(),
+            Some(Block::Choice(_)) => unreachable!(),
+            None => unreachable!(),
+        };
+        self.add(Instruction::Jump(asks))?;
+        self.tell(Jump {
+            place: asks,
+            leap: Leap::Iterate,
+        });
+        if push_did_not_iterate {
+            self.add(Instruction::PushDidNotIterate)?;
+        }
+        self.add(Instruction::PopLoopFrame)?;
+        Ok(())
+    }
+
+    /// Whether the innermost open block is a choice.
+    pub fn is_in_choice(&self) -> bool
+        ensures { result ≡ is_choice (draft_of self.now).blocks }
+    {
+        match self.blocks.as_slice().last() {
+            Some(Block::Choice(_)) => true,
+            Some(Block::Branch(_)) => false,
+            Some(Block::Loop(_)) => false,
+            None => false,
+        }
+    }
+
+    /// Opens a choice, which `and` and `or` make.
+    ///
+    /// # Errors
+    ///
+    /// As [`CodeGenerator::start_if`].
+    pub fn start_sc_bool(&mut self) -> Result<(), Error>
+        ensures started { OnOk result (draft_of self.new ≡ with_choice (draft_of self.old)) }
+        ensures refused { IfErr result NoRoom }
+    {
+        self.enter(Block::Choice(Vec::new(self.alloc)))
+    }
+
+    /// Leaves the choice where the value on top is false, for `and`, or true, for `or`; else takes that value.
+    ///
+    /// # Errors
+    ///
+    /// As [`CodeGenerator::start_if`].
+    pub fn sc_bool(&mut self, and: bool) -> Result<(), Error>
+        requires { IsTrue (is_choice (draft_of self.old).blocks) }
+        ensures added { OnOk result (draft_of self.new ≡ with_chosen and (draft_of self.old)) }
+        ensures refused { IfErr result NoRoom }
+    {
+        let jump = self.reserve(leap_of(and))?;
+        let mut jumps = self.leave_choice();
+        jumps.push(jump)?;
+        self.enter(Block::Choice(jumps))
+    }
+
+    /// Closes the choice: what leaves it goes on here.
+    pub fn end_sc_bool(&mut self)
+        requires { IsTrue (is_choice (draft_of self.old).blocks) }
+        ensures { draft_of self.new ≡ with_choice_end (draft_of self.old) }
+    {
+        let mut jumps = self.leave_choice();
+        while let Some(jump) = jumps.pop() {
+            self.tell(jump);
+        }
+    }
+
+    // Closes a choice, and answers its jumps.
+    fn leave_choice(&mut self) -> Vec<Jump>
+        requires { IsTrue (is_choice (draft_of self.old).blocks) }
+        ensures left { draft_of self.new ≡ with_blocks (drop 1 (draft_of self.old).blocks) (draft_of self.old) }
+        ensures jumps { reverse result.items ≡ jumps_of (draft_of self.old).blocks }
+    {
+        match self.blocks.pop() {
+            Some(Block::Choice(jumps)) => jumps,
+            Some(Block::Branch(_)) => unreachable!(),
+            Some(Block::Loop(_)) => unreachable!(),
+            None => unreachable!(),
+        }
+    }
+
+    /// Adds the instructions of an expression, which gives its value. Their lines are not told.
+    ///
+    /// # Errors
+    ///
+    /// As [`CodeGenerator::start_if`].
+    pub fn compile_expr(&mut self, expr: &Expr<'source>) -> Result<(), Error>
+        requires { IsRunnable (expression_of expr.now) }
+        ensures added { OnOk result (Generates (expression_code (expression_of expr.now)) (draft_of self.old) (draft_of self.new)) }
+        ensures refused { IfErr result NoRoom }
+    {
+        compile_expr(self.alloc, &mut self.code, expr)
+    }
+
+    /// Adds the instructions of a whole template. Their lines are not told.
+    ///
+    /// # Errors
+    ///
+    /// As [`CodeGenerator::start_if`].
+    pub fn compile_stmt(&mut self, tree: &Stmt<'source>) -> Result<(), Error>
+        requires { IsRunnableTree (statement_of tree.now) }
+        ensures added { OnOk result
+            (Generates (statements_code no_ways (body_in (statement_of tree.now))) (draft_of self.old) (draft_of self.new)) }
+        ensures refused { IfErr result NoRoom }
+    {
+        compile_template(self.alloc, &mut self.code, tree)
+    }
+
+    /// Adds the instructions that store the value on top in a target. Their lines are not told.
+    ///
+    /// # Errors
+    ///
+    /// As [`CodeGenerator::start_if`].
+    pub fn compile_assignment(&mut self, target: &Expr<'source>) -> Result<(), Error>
+        requires { IsTarget (expression_of target.now) }
+        ensures added { OnOk result (Generates (target_code (expression_of target.now)) (draft_of self.old) (draft_of self.new)) }
+        ensures refused { IfErr result NoRoom }
+    {
+        compile_assignment(&mut self.code, target)
+    }
+
+    /// How much room for the output is worth asking for: twice the bytes of the template's texts, as far as a `usize`
+    /// goes. Linear in the instructions.
+    pub fn buffer_size_hint(&self) -> usize
+        ensures { result ≡ min (2 * sum_by raw_length (draft_of self.now).code) usize.MAX }
+    {
+        let mut raw: usize = 0;
+        for place in 0..self.next_instruction() {
+            raw = raw.saturating_add(raw_length(&self.code, place));
+        }
+        raw.saturating_mul(2)
+    }
+
+    /// Whether no block is open.
+    pub fn is_closed(&self) -> bool
+        ensures { IsTrue result ↔ ((draft_of self.now).blocks ≡ []) }
+    {
+        self.blocks.is_empty()
+    }
+
+    /// The instructions, where no block is open.
+    pub fn finish(self) -> Instructions<'source>
+        requires { (draft_of self).blocks ≡ [] }
+        ensures name { name_in result ≡ (draft_of self.entry).name }
+        ensures source { source_in result ≡ (draft_of self.entry).source }
+        ensures code { code_in result ≡ (draft_of self.entry).code }
+        ensures places { places_in result ≡ (draft_of self.entry).marks }
+    {
+        self.code
+    }
+}
+
+// The flags of a loop.
+fn loop_flags(with_loop_var: bool, recursive: bool) -> u8
+    ensures { result ≡ loop_flags with_loop_var recursive }
+{
+    let own = if with_loop_var {
+        LOOP_FLAG_WITH_LOOP_VAR
+    } else {
+        0
+    };
+    if recursive {
+        own + LOOP_FLAG_RECURSIVE
+    } else {
+        own
+    }
+}
+
+// How a choice is left.
+fn leap_of(and: bool) -> Leap
+    ensures { result ≡ leap_of and }
+{
+    if and {
+        Leap::IfFalseOrPop
+    } else {
+        Leap::IfTrueOrPop
+    }
+}
+
+// How many bytes of text the instruction at a place writes as it stands.
+fn raw_length(code: &Instructions<'_>, place: u32) -> usize
+    ensures { result ≡ option_map_or raw_length (slice_get (code_in code.now) place) 0 }
+{
+    match code.get(place) {
+        Some(Instruction::EmitRaw(text)) => text.as_str().len(),
+        _ => 0,
+    }
+}

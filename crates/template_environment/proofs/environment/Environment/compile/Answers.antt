@@ -1,0 +1,9 @@
+use Rattle.template_environment.proofs.Sourced.{read_so}
+use Rattle.template_environment.proofs.environment.Environment.compile.Goals as goal
+
+pub returns-clause-source : goal.returns-clause-source
+returns-clause-source g c =
+    let made = c.in_ok-compiled.ensures in
+    let kept = c.ruled.ensures in
+    read_so _ c.args.self.now.callback c.args.self.now.registry.config c.in_ok-compiled.compiled c.ruled.result.source c.args.name.now c.args.source.now
+    made.name made.source kept.text kept.syntax kept.escapes

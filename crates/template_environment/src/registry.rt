@@ -1,0 +1,48 @@
+//! What renders see of an environment.
+use std::alloc::Global;
+use template_compiled::{CompiledTemplates, TemplateConfig};
+use template_machine_loop::{Compiled, Rules, Templates};
+use template_values_modes::UndefinedBehavior;
+
+/// The templates that stand, by name, and what each render keeps to: all of an environment but its own rule of escapes.
+#[derive(Drop)]
+pub struct Registry<'source> {
+    pub(crate) id: u64,
+    pub(crate) alloc: Global,
+    pub(crate) templates: CompiledTemplates<'source>,
+    pub(crate) config: TemplateConfig,
+    pub(crate) fuel: Option<u64>,
+    pub(crate) recursion_limit: usize,
+    pub(crate) undefined_behavior: UndefinedBehavior,
+}
+
+impl<'source> Templates for Registry<'source> {
+    ghost use Rattle.template_environment.specs.Standing.{units_of};
+
+    ghost standing = { units_of };
+
+    fn get(&self, name: &str) -> Option<Compiled<'_>> {
+        match self.templates.get(name) {
+            Some(template) => Some(Compiled {
+                code: template.instructions(),
+                escape: template.initial_auto_escape(),
+            }),
+            None => None,
+        }
+    }
+}
+
+impl<'source> Registry<'source> {
+    ghost use Rattle.std.specs.Prelude.{◌≡◌};
+
+    // What its renders keep to.
+    pub(crate) fn rules(&self) -> Rules
+        ensures limit { result.limit ≡ self.now.recursion_limit }
+        ensures undefined { result.undefined ≡ self.now.undefined_behavior }
+    {
+        Rules {
+            limit: self.recursion_limit,
+            undefined: self.undefined_behavior,
+        }
+    }
+}
