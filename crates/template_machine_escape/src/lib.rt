@@ -42,9 +42,9 @@ pub trait AutoEscapeRule: Drop {
         ensures { result ≡ answer self.now name.now };
 }
 
-/// No rule of a caller's own: it has no values.
+/// The rule where a caller has none of its own: nothing is escaped, whatever the name.
 #[derive(Drop)]
-pub enum NoRule {}
+pub struct NoRule;
 
 impl AutoEscapeRule for NoRule {
     ghost use Rattle.template_values_modes.specs.declared.AutoEscape.TheVariants as escapes;
