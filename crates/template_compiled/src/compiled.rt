@@ -1,5 +1,6 @@
 //! Compiled templates.
-ghost use Rattle.std.specs.Prelude.{◌≡◌, IfOk, IfErr, OnOk, OnErr};
+ghost use Rattle.std.specs.Prelude.{◌≡◌, ◌↔◌, ℕ, List, IsTrue, IfOk, IfErr, OnOk, OnErr};
+ghost use Rattle.std.specs.BTreeSet.{contains_text};
 ghost use Rattle.std.specs.Cow.{cow_str_bytes};
 ghost use Rattle.template_values_errors.specs.Memory.{NoMemory};
 ghost use Rattle.template_tree.specs.Tree.{Statements, template};
@@ -9,6 +10,7 @@ ghost use Rattle.template_compiler_syntax.specs.Syntax.{IsUsable};
 ghost use Rattle.template_compiler_sources.specs.Source.{IsSource};
 ghost use Rattle.template_machine_escape.specs.Rule.{IsEscapeOf};
 ghost use Rattle.template_compiled.specs.Compiled.{IsFaithful, code_for, escaped_as};
+ghost use Rattle.template_names.specs.Names.{IsTold};
 ghost use Rattle.template_names_undeclared.specs.Found.{Adds, AddsSome};
 ghost use Rattle.template_compiled.specs.Names.{uses};
 ghost use Rattle.template_compiler_emission.specs.Puts.{NoRoom};
@@ -26,7 +28,7 @@ use template_compiler_sources::parse;
 use template_compiler_statement_codegen::compile_template;
 use template_compiler_syntax::SyntaxConfig;
 use template_machine_escape::EscapeRule;
-use template_names_undeclared::add_undeclared;
+use template_names_undeclared::{add_undeclared, find_undeclared};
 use template_tree::Stmt;
 use template_values_errors::{Error, ErrorKind};
 use template_values_modes::AutoEscape;
@@ -213,6 +215,22 @@ impl<'source> CompiledTemplate<'source> {
         let tree = self.tree(alloc)?;
         add_undeclared(alloc, names, &tree)?;
         Ok(())
+    }
+
+    /// The names that the template uses, each once, by order of their bytes; where `nested`, each with the dotted names
+    /// that stand directly behind it. Reads the source once more, in time linear in its length, and takes a look-up
+    /// for each place of use.
+    ///
+    /// # Errors
+    ///
+    /// [`ErrorKind::OutOfMemory`].
+    pub fn undeclared(&self, alloc: Global, nested: bool) -> Result<BTreeSet<String>, Error>
+        ensures told { IfOk result (λ names. (text : List ℕ) → IsTrue (contains_text names text)
+            ↔ IsTold nested text (tree_in self.now.source)) }
+        ensures refused { IfErr result NoMemory }
+    {
+        let tree = self.tree(alloc)?;
+        Ok(find_undeclared(alloc, &tree, nested)?)
     }
 
     /// The template's code.

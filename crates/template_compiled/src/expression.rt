@@ -1,5 +1,6 @@
 //! Compiled expressions.
-ghost use Rattle.std.specs.Prelude.{◌≡◌, ℕ, List, IfOk, IfErr, OnOk};
+ghost use Rattle.std.specs.Prelude.{◌≡◌, ◌↔◌, ℕ, List, IsTrue, IfOk, IfErr};
+ghost use Rattle.std.specs.BTreeSet.{contains_text};
 ghost use Rattle.std.specs.Cow.{cow_str_bytes};
 ghost use Rattle.template_values_errors.specs.Memory.{NoMemory};
 ghost use Rattle.template_tree.specs.Tree.{Expression};
@@ -7,9 +8,8 @@ ghost use Rattle.template_tree.specs.View.{expression_of};
 ghost use Rattle.template_code.specs.Listing.{code_in};
 ghost use Rattle.template_compiler_codegen.specs.Statements.{standalone_code};
 ghost use Rattle.template_compiler_sources.specs.Source.{IsExpressionSource};
-ghost use Rattle.template_names_undeclared.specs.Found.{Adds};
+ghost use Rattle.template_names.specs.Names.{IsToldAlone};
 ghost use Rattle.template_compiled.specs.Expressions.{IsExpressionRefusedWith, IsFaithfulExpression, expression_in};
-ghost use Rattle.template_compiled.specs.Names.{uses_alone};
 
 use std::alloc::Global;
 use std::borrow::CowStr;
@@ -19,7 +19,7 @@ use template_code::Instructions;
 use template_compiler_expression_codegen::compile_expr;
 use template_compiler_runnable::is_runnable_expr;
 use template_compiler_sources::parse_expr;
-use template_names_undeclared::add_undeclared;
+use template_names_undeclared::find_undeclared;
 use template_tree::{EmitExpr, Expr, Span, Spanned, Stmt};
 use template_values_errors::{Error, ErrorKind};
 
@@ -119,21 +119,22 @@ impl<'source> CompiledExpression<'source> {
         parse_expr(alloc, self.instructions.source())
     }
 
-    /// Adds the names that the expression uses to a set of names. Reads the source once more, in time linear in its
-    /// length, and takes a look-up for each place of use.
+    /// The names that the expression uses, each once, by order of their bytes; where `nested`, each with the dotted
+    /// names that stand directly behind it. Reads the source once more, in time linear in its length, and takes a
+    /// look-up for each place of use.
     ///
     /// # Errors
     ///
     /// [`ErrorKind::OutOfMemory`].
-    pub fn add_undeclared(&self, alloc: Global, names: &mut BTreeSet<String>) -> Result<(), Error>
-        ensures added { OnOk result (Adds (uses_alone self.now) names.old names.new) }
+    pub fn undeclared(&self, alloc: Global, nested: bool) -> Result<BTreeSet<String>, Error>
+        ensures told { IfOk result (λ names. (text : List ℕ) → IsTrue (contains_text names text)
+            ↔ IsToldAlone nested text (expression_in self.now)) }
         ensures refused { IfErr result NoMemory }
     {
         // A template that prints the expression uses the same names.
         let expr = self.tree(alloc)?;
         let print = Stmt::EmitExpr(Spanned::new(EmitExpr { expr }, Span::default()));
-        add_undeclared(alloc, names, &print)?;
-        Ok(())
+        Ok(find_undeclared(alloc, &print, nested)?)
     }
 
     /// The expression's code.

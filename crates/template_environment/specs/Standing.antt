@@ -1,7 +1,8 @@
 -- What stands in an environment, and what it means.
-use Rattle.std.specs.Prelude.{ℕ, List, Option, codes}
+use Rattle.std.specs.Prelude.{ℕ, List, Option, None, codes}
 use Rattle.std.specs.Option.{option_map}
 use Rattle.template_values_modes.specs.declared.UndefinedBehavior.{UndefinedBehavior}
+use Rattle.template_values_modes.specs.declared.UndefinedBehavior.TheVariants.{Lenient}
 use Rattle.template_compiler_syntax.specs.Syntax.{Syntax}
 use Rattle.template_machine_escape.specs.declared.EscapeRule.{EscapeRule}
 use Rattle.template_machine_meaning.specs.Meaning.{Setting}
@@ -31,6 +32,17 @@ pub record Settings : Type 0 where
   pub fuel : Option ℕ
   pub limit : ℕ
   pub undefined : UndefinedBehavior
+
+-- those of a new one: without fuel, with the greatest limit, where undefined values are lenient
+abbrev pub new_settings : ℕ → Syntax → EscapeRule → Settings
+new_settings id syntax escapes = record {
+  id = id;
+  syntax = syntax;
+  escapes = escapes;
+  fuel = None;
+  limit = greatest_limit;
+  undefined = Lenient;
+}
 
 abbrev pub settings_of : Registry → Settings
 settings_of e = record {

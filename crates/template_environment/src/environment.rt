@@ -12,7 +12,7 @@ ghost use Rattle.template_compiled.specs.Compiled.{IsFaithful};
 ghost use Rattle.template_compiled.specs.Sources.{IsAccepted, IsRefusedWith};
 ghost use Rattle.template_compiled.specs.Plain.{IsPlain, text_kept};
 ghost use Rattle.template_environment.specs.Plain.{IsRefusedForRoom, ReadGivesItself};
-ghost use Rattle.template_environment.specs.Standing.{greatest_limit};
+ghost use Rattle.template_environment.specs.Standing.{greatest_limit, new_settings};
 
 use crate::registry::Registry;
 use crate::state::State;
@@ -56,14 +56,7 @@ impl<'source> Environment<'source> {
     /// [`ErrorKind::InvalidOperation`] where no state id is left.
     pub fn new(alloc: Global, ids: &mut StateIds) -> Result<Environment<'source>, Error>
         ensures empty { IfOk result (λ e. (name : List ℕ) → source_at (registry_of e) name ≡ None) }
-        ensures settings { IfOk result (λ e. settings_of (registry_of e) ≡ record {
-          id = ids.old;
-          syntax = default_syntax;
-          escapes = EscapeRule.ByName;
-          fuel = None;
-          limit = greatest_limit;
-          undefined = UndefinedBehavior.Lenient;
-        }) }
+        ensures settings { IfOk result (λ e. settings_of (registry_of e) ≡ new_settings ids.old default_syntax EscapeRule.ByName) }
         ensures callback { IfOk result (λ e. callback_of e ≡ None) }
         ensures had_one { OnOk result (ids.old ≢ u64.MAX) }
         ensures counted { OnOk result (ids.new ≡ ids.old + 1) }
@@ -79,14 +72,7 @@ impl<'source> Environment<'source> {
     /// As [`Environment::new`].
     pub fn empty(alloc: Global, ids: &mut StateIds) -> Result<Environment<'source>, Error>
         ensures empty { IfOk result (λ e. (name : List ℕ) → source_at (registry_of e) name ≡ None) }
-        ensures settings { IfOk result (λ e. settings_of (registry_of e) ≡ record {
-          id = ids.old;
-          syntax = default_syntax;
-          escapes = EscapeRule.Never;
-          fuel = None;
-          limit = greatest_limit;
-          undefined = UndefinedBehavior.Lenient;
-        }) }
+        ensures settings { IfOk result (λ e. settings_of (registry_of e) ≡ new_settings ids.old default_syntax EscapeRule.Never) }
         ensures callback { IfOk result (λ e. callback_of e ≡ None) }
         ensures had_one { OnOk result (ids.old ≢ u64.MAX) }
         ensures counted { OnOk result (ids.new ≡ ids.old + 1) }
@@ -121,14 +107,7 @@ impl<'source, R: AutoEscapeRule> Environment<'source, R> {
         ids: &mut StateIds,
     ) -> Result<Environment<'source, R>, Error>
         ensures empty { IfOk result (λ e. (name : List ℕ) → source_at (registry_of e) name ≡ None) }
-        ensures settings { IfOk result (λ e. settings_of (registry_of e) ≡ record {
-          id = ids.old;
-          syntax = default_syntax;
-          escapes = EscapeRule.ByName;
-          fuel = None;
-          limit = greatest_limit;
-          undefined = UndefinedBehavior.Lenient;
-        }) }
+        ensures settings { IfOk result (λ e. settings_of (registry_of e) ≡ new_settings ids.old default_syntax EscapeRule.ByName) }
         ensures callback { IfOk result (λ e. callback_of e ≡ Some rule) }
         ensures had_one { OnOk result (ids.old ≢ u64.MAX) }
         ensures counted { OnOk result (ids.new ≡ ids.old + 1) }
@@ -146,14 +125,7 @@ impl<'source, R: AutoEscapeRule> Environment<'source, R> {
         ids: &mut StateIds,
     ) -> Result<Environment<'source, R>, Error>
         ensures empty { IfOk result (λ e. (name : List ℕ) → source_at (registry_of e) name ≡ None) }
-        ensures settings { IfOk result (λ e. settings_of (registry_of e) ≡ record {
-          id = ids.old;
-          syntax = config.syntax_config;
-          escapes = config.default_auto_escape;
-          fuel = None;
-          limit = greatest_limit;
-          undefined = UndefinedBehavior.Lenient;
-        }) }
+        ensures settings { IfOk result (λ e. settings_of (registry_of e) ≡ new_settings ids.old config.syntax_config config.default_auto_escape) }
         ensures callback { IfOk result (λ e. callback_of e ≡ callback) }
         ensures had_one { OnOk result (ids.old ≢ u64.MAX) }
         ensures counted { OnOk result (ids.new ≡ ids.old + 1) }

@@ -1,5 +1,5 @@
 //! Expressions of an environment, and their values.
-ghost use Rattle.std.specs.Prelude.{◌≡◌, ◌≢◌, ◌+◌, ◌∷◌, [], ℕ, List, IfOk, IfErr, OnOk, Err};
+ghost use Rattle.std.specs.Prelude.{◌≡◌, ◌≢◌, ◌↔◌, ◌+◌, ◌∷◌, [], ℕ, List, IsTrue, IfOk, IfErr, OnOk, Err};
 ghost use Rattle.std.specs.BTreeSet.{contains_text};
 ghost use Rattle.std.specs.Cow.{cow_str_bytes};
 ghost use Rattle.template_values_errors.specs.Memory.{NoMemory};
@@ -7,7 +7,7 @@ ghost use Rattle.template_values_model.specs.Val.{Val};
 ghost use Rattle.template_process.specs.Fuel.{under};
 ghost use Rattle.template_machine_meaning.specs.Meaning.{evaluated};
 ghost use Rattle.template_compiled.specs.Expressions.{IsAcceptedExpression, IsExpressionRefusedWith, expression_in};
-ghost use Rattle.template_compiled.specs.Names.{uses_alone};
+ghost use Rattle.template_names.specs.Names.{IsToldAlone};
 ghost use Rattle.template_environment.specs.Evaluations.{Gives};
 ghost use Rattle.template_environment.specs.Standing.{setting_of};
 
@@ -103,20 +103,20 @@ impl<'env, 'source, R: AutoEscapeRule> Expression<'env, 'source, R> {
         evaluate(&self.environment.registry, &self.compiled, context)
     }
 
-    /// The names that the expression uses, each once, by order of their bytes. Reads the source once more, in time
-    /// linear in its length, and takes a look-up for each place of use.
+    /// The names that the expression uses, each once, by order of their bytes; where `nested`, each with the dotted
+    /// names that stand directly behind it, as `page.title`. Reads the source once more, in time linear in its length,
+    /// and takes a look-up for each place of use.
     ///
     /// # Errors
     ///
     /// [`ErrorKind::OutOfMemory`].
-    pub fn undeclared_variables(&self) -> Result<BTreeSet<String>, Error>
-        ensures used { IfOk result (λ names. (name : List ℕ) → contains_text names name ≡ uses_alone (text_of self.now) name) }
+    pub fn undeclared_variables(&self, nested: bool) -> Result<BTreeSet<String>, Error>
+        ensures told { IfOk result (λ names. (text : List ℕ) → IsTrue (contains_text names text)
+            ↔ IsToldAlone nested text (expression_in (text_of self.now))) }
         ensures refused { IfErr result NoMemory }
     {
-        let alloc = self.environment.allocator();
-        let mut names = BTreeSet::new(alloc);
-        self.compiled.add_undeclared(alloc, &mut names)?;
-        Ok(names)
+        self.compiled
+            .undeclared(self.environment.allocator(), nested)
     }
 }
 

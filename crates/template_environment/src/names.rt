@@ -3,7 +3,7 @@ ghost use Rattle.std.specs.Prelude.{◌≡◌, ◌↔◌, ℕ, List, IsTrue, IfO
 ghost use Rattle.std.specs.BTreeSet.{contains_text};
 ghost use Rattle.template_values_errors.specs.Memory.{NoMemory};
 ghost use Rattle.template_values_model.specs.Val.{Val};
-ghost use Rattle.template_names.specs.Names.{is_used};
+ghost use Rattle.template_names.specs.Names.{IsTold};
 ghost use Rattle.template_machine_isolation.specs.Isolation.{IsContextName, is_given};
 ghost use Rattle.template_environment.specs.Isolated.{AgreeAmong, AgreeFor, IsSameRender, IsSameRenderIn, tree_of};
 ghost use Rattle.template_environment.specs.Reading.{registry_of};
@@ -48,20 +48,20 @@ impl<'source, R: AutoEscapeRule> Environment<'source, R> {
 }
 
 impl<'env, 'source, R: AutoEscapeRule> Template<'env, 'source, R> {
-    /// The names that the template uses where no store of theirs goes before, each once, by order of their bytes. Reads
-    /// the source once more, in time linear in its length, and takes a look-up for each place of use.
+    /// The names that the template uses where no store of theirs goes before, each once, by order of their bytes; where
+    /// `nested`, each with the dotted names that stand directly behind it, as `page.title`. Reads the source once more,
+    /// in time linear in its length, and takes a look-up for each place of use.
     ///
     /// # Errors
     ///
     /// [`ErrorKind::OutOfMemory`].
-    pub fn undeclared_variables(&self) -> Result<BTreeSet<String>, Error>
-        ensures used { IfOk result (λ names. (name : List ℕ) → contains_text names name ≡ is_used name (tree_of self.now)) }
+    pub fn undeclared_variables(&self, nested: bool) -> Result<BTreeSet<String>, Error>
+        ensures told { IfOk result (λ names. (text : List ℕ) → IsTrue (contains_text names text)
+            ↔ IsTold nested text (tree_of self.now)) }
         ensures refused { IfErr result NoMemory }
     {
         let alloc = self.environment.allocator();
-        let mut names = BTreeSet::new(alloc);
-        self.compiled.get().add_undeclared(alloc, &mut names)?;
-        Ok(names)
+        self.compiled.get().undeclared(alloc, nested)
     }
 
     /// A law, as the contract of a method that does nothing: contexts that agree at the names that can matter make

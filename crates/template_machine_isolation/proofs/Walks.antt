@@ -1,5 +1,5 @@
 -- A walk looks up used names, and what is known from a store in a frame that is still open.
-use Rattle.std.proofs.Common.{◌≡◌, ℕ, suc, inl, inr, Bool, true, false, List, [], ◌∷◌, ◌==◌, length, Option, None, Some, codes, refl, arith}
+use Rattle.std.proofs.Common.{◌≡◌, ℕ, suc, inl, inr, Bool, true, false, List, [], ◌∷◌, ◌==◌, length, Option, None, Some, codes, refl, ◌∙◌, arith}
 use Rattle.std.specs.Prelude.{IsTrue, not, ◌&&◌, ◌||◌, if◌then◌else◌, zero}
 use Rattle.std.specs.Str.{bytes_eq}
 use Rattle.std.proofs.lemmas.Bool.{or_cases, or_left, or_right}
@@ -11,6 +11,7 @@ use Rattle.template_tree.specs.declared.operators.UnaryOpKind.TheVariants.{Not, 
 use Rattle.template_tree.specs.declared.operators.BinOpKind.{BinOpKind}
 use Rattle.template_tree.specs.declared.operators.BinOpKind.TheVariants.{ScAnd, ScOr}
 use Rattle.template_tree.specs.Tree.{Expression, Optional, Expressions, Links, variable, constant, slice, unary, binary, chain, conditional, attribute, item, list_literal, tuple_literal, map_literal, absent, given, no_expressions, expressions_more, no_links, links_more, Statement, Statements, Assignments, raw, print, for_loop, if_condition, with_block, set, auto_escape, include, continue_loop, break_loop, no_statements, statements_more, no_assignments, assignments_more}
+use Rattle.template_names.proofs.Plain.{in_attribute}
 use Rattle.template_names.specs.Names.{stands_in, stands_if_given, stands_in_one, stands_in_links, is_stored_in, is_stored_in_one, is_used_by_target, is_used_from, is_stored_by, is_used_by, is_used_in}
 use Rattle.template_process.specs.Process as events
 use Rattle.template_process.specs.Process.{Ask, look_up, operate, compare, get_attribute, get_item, get_slice, build_list, build_tuple, build_map, store, truth_of, unpack, write_raw, write_value, open_frame, close_frame, open_loop, next_item, did_not_iterate, close_loop, open_escape, close_escape, Answer, done, value, truth, items, no_item, Process, over, step, asks, amiss, on_done, on_value, on_truth, on_item, on_items}
@@ -110,7 +111,8 @@ module _ (names : List ℕ → Type 0) (start : Known) where
             at_truth k _ _ (in_expression branch (sees_right k (λ name. stands_in name test) (λ name. stands_in name branch) both) _ (λ w. h w))
                 (in_optional otherwise _ (sees_right k (λ name. stands_in name test || stands_in name branch) (λ name. stands_if_given name otherwise) sees) go h),
           ))
-      in_expression (attribute e field) sees go h = in_expression e sees _ (λ v. (tt, at_value k go h))
+      in_expression (attribute e field) sees go h =
+          in_expression e (λ name used. sees name (in_attribute name e field ∙ used)) _ (λ v. (tt, at_value k go h))
       in_expression (item e key) sees go h =
           in_expression e (sees_left k (λ name. stands_in name e) (λ name. stands_in name key) sees) _
           (λ v. in_expression key (sees_right k (λ name. stands_in name e) (λ name. stands_in name key) sees) _ (λ w. (tt, at_value k go h)))

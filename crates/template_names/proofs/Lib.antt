@@ -1,1 +1,3 @@
+pub mod Plain
 mod Rows
+pub mod Segments

@@ -1,8 +1,8 @@
 -- Worked rows, computed: which of the names each template uses.
 use Rattle.std.proofs.Common.{◌≡◌, ℕ, Bool, true, false, List, [], ◌∷◌, map, codes, refl}
 use Rattle.template_values_model.specs.Val.{none}
-use Rattle.template_tree.specs.Tree.{Expression, Expressions, Statement, Statements, variable, constant, attribute, list_literal, absent, given, no_expressions, expressions_more, print, for_loop, if_condition, with_block, set, auto_escape, block, macro, no_statements, statements_more, no_assignments, assignments_more}
-use Rattle.template_names.specs.Names.{is_used}
+use Rattle.template_tree.specs.Tree.{Expression, Expressions, Statement, Statements, variable, constant, attribute, list_literal, absent, given, no_expressions, expressions_more, item, call, no_arguments, print, for_loop, if_condition, with_block, set, auto_escape, block, macro, no_statements, statements_more, no_assignments, assignments_more}
+use Rattle.template_names.specs.Names.{along, is_used, joined, uses_place}
 
 abbrev name : List ℕ → Expression
 name id = variable id
@@ -80,3 +80,28 @@ unpacked_row = refl
 -- `{{ self }}{{ super }}`
 everywhere_row : uses (codes "self" ∷ codes "super" ∷ []) (print (name (codes "self")) ∷ print (name (codes "super")) ∷ []) ≡ false ∷ false ∷ []
 everywhere_row = refl
+
+-- with the dotted names behind them
+abbrev tells : List (List ℕ × List (List ℕ)) → List Statement → List Bool
+tells places tree = map (λ p. uses_place (along p.0 p.1) (statements tree)) places
+
+-- `{% set x = foo %}{{ x }}{{ bar.baz }}`: `foo` and `bar.baz`, and no `bar` alone
+nested_row : tells ((codes "foo", []) ∷ (codes "bar", codes "baz" ∷ []) ∷ (codes "bar", []) ∷ (codes "x", []) ∷ []) (set (name (codes "x")) (name (codes "foo")) ∷ print (name (codes "x")) ∷ print (attribute (name (codes "bar")) (codes "baz")) ∷ [])
+    ≡ true ∷ true ∷ false ∷ false ∷ []
+nested_row = refl
+
+joined_row : joined (codes "bar") (codes "baz" ∷ codes "q" ∷ []) ≡ codes "bar.baz.q"
+joined_row = refl
+
+-- `{{ a.b[c.d].e }}`: an item ends what is joined
+item_row : tells ((codes "a", codes "b" ∷ []) ∷ (codes "c", codes "d" ∷ []) ∷ (codes "a", codes "b" ∷ codes "e" ∷ []) ∷ []) (print (attribute (item (attribute (name (codes "a")) (codes "b")) (attribute (name (codes "c")) (codes "d"))) (codes "e")) ∷ [])
+    ≡ true ∷ true ∷ false ∷ []
+item_row = refl
+
+-- `{{ bar.baz() }}`: a method's name is joined
+method_row : tells ((codes "bar", codes "baz" ∷ []) ∷ (codes "bar", []) ∷ []) (print (call (attribute (name (codes "bar")) (codes "baz")) no_arguments) ∷ []) ≡ true ∷ false ∷ []
+method_row = refl
+
+-- `{% set n.a.b = c %}`: so are the names of a dotted target
+target_row : tells ((codes "n", codes "a" ∷ codes "b" ∷ []) ∷ (codes "n", codes "a" ∷ []) ∷ []) (set (attribute (attribute (name (codes "n")) (codes "a")) (codes "b")) (name (codes "c")) ∷ []) ≡ true ∷ false ∷ []
+target_row = refl

@@ -1,18 +1,19 @@
 -- Owned sets with more names.
-use Rattle.std.proofs.Common.{Result, Ok, Err, OnErr, IsTrue, ◌≡◌, ℕ, Bool, ◌||◌, List, ◌∷◌, bytes_eq, Bor, sym, ap, ◌∙◌}
+use Rattle.std.proofs.Common.{Result, Ok, Err, OnErr, IsTrue, ◌≡◌, ℕ, Bool, ◌||◌, List, ◌∷◌, String, Global, string_bytes, bytes_eq, sym, ap, ◌∙◌}
 use Rattle.std.proofs.lemmas.Map.Text.{is_eq-slice_cmp}
-use Rattle.template_names_undeclared.specs.Goes.{has}
+use Rattle.std.specs.BTreeSet.{contains_text}
 use Rattle.template_names_undeclared.proofs.Laws.{or_assoc}
 use Rattle.template_names_undeclared.proofs.Walking.{turned}
 
 -- one is added
-pub one_added : (rest : List (Bor (List ℕ))) (name : Bor (List ℕ)) (left : List (Bor (List ℕ))) (old new all : Bool) (q : List ℕ) →
-    rest ≡ name ∷ left → new ≡ (old || bytes_eq name.now q) → (old || has record { keys = rest } q) ≡ all →
-    (new || has record { keys = left } q) ≡ all
+pub one_added : (rest : List (String Global)) (name : String Global) (left : List (String Global)) (old new all : Bool) (q : List ℕ) →
+    rest ≡ name ∷ left → new ≡ (old || bytes_eq (string_bytes name) q) → (old || contains_text record { keys = rest } q) ≡ all →
+    (new || contains_text record { keys = left } q) ≡ all
 one_added rest name left old new all q is more before =
-    ap (λ b. b || has record { keys = left } q) more ∙ sym (or_assoc old (bytes_eq name.now q) (has record { keys = left } q)) ∙
-    ap (λ b. old || (b || has record { keys = left } q)) (turned name.now q ∙ sym (is_eq-slice_cmp q name.now)) ∙
-    ap (λ (ks : List (Bor (List ℕ))). old || has record { keys = ks } q) (sym is) ∙ before
+    let bytes = string_bytes name in
+    ap (λ b. b || contains_text record { keys = left } q) more ∙ sym (or_assoc old (bytes_eq bytes q) (contains_text record { keys = left } q)) ∙
+    ap (λ b. old || (b || contains_text record { keys = left } q)) (turned bytes q ∙ sym (is_eq-slice_cmp q bytes)) ∙
+    ap (λ (ks : List (String Global)). old || contains_text record { keys = ks } q) (sym is) ∙ before
 
 pub kept_more : (old new b : Bool) → new ≡ (old || b) → IsTrue old → IsTrue new
 kept_more old new b more kept = more ∙ ap (λ x. x || b) kept

@@ -1,5 +1,5 @@
 -- The trees of statements, from the parts that a node holds, and walks of statements seen by their trees.
-use Rattle.std.proofs.Common.{◌≡◌, ℕ, List as Items, Box, Global, rules, sym, ap, ◌∙◌}
+use Rattle.std.proofs.Common.{◌≡◌, List as Items, Box, Global, rules, sym, ap, ◌∙◌}
 use Rattle.template_tree.specs.Tree.{Statement, set_block, filter_block, block, macro, call_block}
 use Rattle.template_tree.specs.View.{expression_of, expressions_in, arguments_in, optional_in}
 use Rattle.template_tree.specs.StatementView.{statement_of}
@@ -13,14 +13,14 @@ use Rattle.template_tree.specs.declared.statements.SetBlock.{SetBlock as SetBloc
 use Rattle.template_tree.specs.declared.statements.Stmt.{Stmt, Block, CallBlock as calls, FilterBlock, Macro, SetBlock, the_lemmas}
 use Rattle.template_tree_parts.specs.Listed.{statements_in}
 use Rattle.template_tree_parts.proofs.Rows.{statements_row}
-use Rattle.template_names.specs.Names.{is_stored_by, is_used_by, is_used_by_macro, is_used_in}
+use Rattle.template_names.specs.Names.{Places, is_stored_by, place_by, place_of_macro, place_within}
 use Rattle.template_names_undeclared.specs.declared.state.Names.{Names}
 use Rattle.template_names_undeclared.specs.Goes.{Goes}
 use Rattle.template_names_undeclared.proofs.Laws.{goes_as}
 
-pub goes_by : {a b : Names} (s : Stmt) (t : Statement) → statement_of s ≡ t → Goes (λ q. is_used_by q t) (λ q. is_stored_by q t) a b →
-    Goes (λ q. is_used_by q (statement_of s)) (λ q. is_stored_by q (statement_of s)) a b
-goes_by s t tree goes = goes_as (λ q. ap (λ (x : Statement). is_used_by q x) (sym tree)) (λ q. ap (λ (x : Statement). is_stored_by q x) (sym tree)) goes
+pub goes_by : {a b : Names} (s : Stmt) (t : Statement) → statement_of s ≡ t → Goes (λ q. place_by q t) (λ q. is_stored_by q t) a b →
+    Goes (λ q. place_by q (statement_of s)) (λ q. is_stored_by q (statement_of s)) a b
+goes_by s t tree goes = goes_as (λ q. ap (λ (x : Statement). place_by q x) (sym tree)) (λ q. ap (λ (x : Statement). is_stored_by q x) (sym tree)) goes
 
 pub set_block_tree : (n : Spanned (Box SetBlockNode Global)) → statement_of (SetBlock n)
     ≡ set_block (expression_of n.node.value.target) (optional_in n.node.value.filter) (statements_in n.node.value.body.items)
@@ -56,11 +56,11 @@ unfolding with_value
 call_tree n = call_by n n.node.value
 
 -- a macro, by the lists that are read from its node
-pub macro_reads : (q : Items ℕ) {body body' : Items Stmt} {arguments arguments' defaults defaults' : Items Expr} →
+pub macro_reads : (q : Places) {body body' : Items Stmt} {arguments arguments' defaults defaults' : Items Expr} →
     body ≡ body' → arguments ≡ arguments' → defaults ≡ defaults' →
-    is_used_by_macro q (expressions_in arguments) (expressions_in defaults) (is_used_in q (statements_in body))
-    ≡ is_used_by_macro q (expressions_in arguments') (expressions_in defaults') (is_used_in q (statements_in body'))
+    place_of_macro q (expressions_in arguments) (expressions_in defaults) (place_within q (statements_in body))
+    ≡ place_of_macro q (expressions_in arguments') (expressions_in defaults') (place_within q (statements_in body'))
 macro_reads q {body} {body'} {arguments} {arguments'} {defaults} {defaults'} bodies xs ds =
-    ap (λ (ss : Items Stmt). is_used_by_macro q (expressions_in arguments) (expressions_in defaults) (is_used_in q (statements_in ss))) bodies ∙
-    ap (λ (es : Items Expr). is_used_by_macro q (expressions_in es) (expressions_in defaults) (is_used_in q (statements_in body'))) xs ∙
-    ap (λ (es : Items Expr). is_used_by_macro q (expressions_in arguments') (expressions_in es) (is_used_in q (statements_in body'))) ds
+    ap (λ (ss : Items Stmt). place_of_macro q (expressions_in arguments) (expressions_in defaults) (place_within q (statements_in ss))) bodies ∙
+    ap (λ (es : Items Expr). place_of_macro q (expressions_in es) (expressions_in defaults) (place_within q (statements_in body'))) xs ∙
+    ap (λ (es : Items Expr). place_of_macro q (expressions_in arguments') (expressions_in es) (place_within q (statements_in body'))) ds

@@ -9,9 +9,9 @@ use Rattle.template_tree.specs.declared.statements.IfCond.{IfCond as IfCondNode}
 use Rattle.template_tree.specs.declared.statements.Stmt.{Stmt, size-Stmt, IfCond, the_lemmas}
 use Rattle.template_tree_parts.specs.Listed.{statements_in}
 use Rattle.template_tree_parts.proofs.Trees.{if_tree}
-use Rattle.template_names.specs.Names.{is_stored_by, is_stored_in_one, is_used_by, is_used_by_arguments, is_used_by_macro, is_used_in, stands_in}
+use Rattle.template_names.specs.Names.{Places, is_stored_by, is_stored_in_one, place_by, place_of_arguments, place_of_macro, place_within, place_in}
 use Rattle.template_names_undeclared.specs.declared.state.Names.{Names}
-use Rattle.template_names_undeclared.specs.Choices.{IsAlone, chain_deep, chain_uses, choice_of, else_uses, test_uses}
+use Rattle.template_names_undeclared.specs.Choices.{IsAlone, chain_deep, chain_places, choice_of, else_places, test_places}
 use Rattle.template_names_undeclared.specs.Goes.{Goes, just, nothing}
 use Rattle.template_names_undeclared.specs.Stores.{backwards}
 use Rattle.template_names_undeclared.proofs.Laws.{and_false, or_false, uses_as, uses_then}
@@ -31,55 +31,55 @@ behind true k c u = refl
 behind false true c u = refl
 behind false false c u = refl
 
-pub macro_uses : (q : Items ℕ) (arguments defaults : Items _) (u : Bool) →
-    ((is_used_by_arguments q (backwards arguments) (backwards defaults) false || (not (is_stored_in_one q (backwards arguments)) && false))
-    || (not (is_stored_in_one q (backwards arguments) || just (codes "caller") q) && u))
-    ≡ is_used_by_macro q (expressions_in arguments) (expressions_in defaults) u
+pub macro_uses : (q : Places) (arguments defaults : Items _) (u : Bool) →
+    ((place_of_arguments q (backwards arguments) (backwards defaults) false || (not (is_stored_in_one q.name (backwards arguments)) && false))
+    || (not (is_stored_in_one q.name (backwards arguments) || just (codes "caller") q.name) && u))
+    ≡ place_of_macro q (expressions_in arguments) (expressions_in defaults) u
 macro_uses q arguments defaults u =
     let xs = backwards arguments in
     let ds = backwards defaults in
-    behind (is_used_by_arguments q xs ds false) (is_stored_in_one q xs) (just (codes "caller") q) u ∙
-    ap (λ b. is_used_by_arguments q xs ds false || (not (is_stored_in_one q xs) && (not b && u))) (turned (codes "caller") q) ∙
-    sym (used_by_arguments q xs ds (not (bytes_eq q (codes "caller")) && u))
+    behind (place_of_arguments q xs ds false) (is_stored_in_one q.name xs) (just (codes "caller") q.name) u ∙
+    ap (λ b. place_of_arguments q xs ds false || (not (is_stored_in_one q.name xs) && (not b && u))) (turned (codes "caller") q.name) ∙
+    sym (used_by_arguments q xs ds (not (bytes_eq q.name (codes "caller")) && u))
 
 -- chains of `elif`
-if_uses : (q : Items ℕ) (n : Spanned (Box IfCondNode Global)) → (test_uses q (choice_of n) || else_uses q (choice_of n)) ≡ is_used_by q (choice_of n)
+if_uses : (q : Places) (n : Spanned (Box IfCondNode Global)) → (test_places q (choice_of n) || else_places q (choice_of n)) ≡ place_by q (choice_of n)
 if_uses q n =
-    ap (λ (t : Statement). test_uses q t || else_uses q t) (if_tree n) ∙ ap (λ (t : Statement). is_used_by q t) (sym (if_tree n))
+    ap (λ (t : Statement). test_places q t || else_places q t) (if_tree n) ∙ ap (λ (t : Statement). place_by q t) (sym (if_tree n))
 
-pub test_is : (q : Items ℕ) (n : Spanned (Box IfCondNode Global)) →
-    (stands_in q (expression_of n.node.value.expr) || is_used_in q (statements_in n.node.value.true_body.items)) ≡ test_uses q (choice_of n)
-test_is q n = ap (λ (t : Statement). test_uses q t) (sym (if_tree n))
+pub test_is : (q : Places) (n : Spanned (Box IfCondNode Global)) →
+    (place_in q (expression_of n.node.value.expr) || place_within q (statements_in n.node.value.true_body.items)) ≡ test_places q (choice_of n)
+test_is q n = ap (λ (t : Statement). test_places q t) (sym (if_tree n))
 
-pub else_is : (q : Items ℕ) (n : Spanned (Box IfCondNode Global)) →
-    is_used_in q (statements_in n.node.value.false_body.items) ≡ else_uses q (choice_of n)
-else_is q n = ap (λ (t : Statement). else_uses q t) (sym (if_tree n))
+pub else_is : (q : Places) (n : Spanned (Box IfCondNode Global)) →
+    place_within q (statements_in n.node.value.false_body.items) ≡ else_places q (choice_of n)
+else_is q n = ap (λ (t : Statement). else_places q t) (sym (if_tree n))
 
-alone_uses : (q : Items ℕ) (n : Spanned (Box IfCondNode Global)) (body : Items Stmt) (next : Option (Bor (Spanned (Box IfCondNode Global)))) →
+alone_uses : (q : Places) (n : Spanned (Box IfCondNode Global)) (body : Items Stmt) (next : Option (Bor (Spanned (Box IfCondNode Global)))) →
     body ≡ n.node.value.false_body.items → IfSome next (λ choice. IsAlone choice.now body) → is_none next ≡ false →
-    chain_uses next q ≡ else_uses q (choice_of n)
+    chain_places next q ≡ else_places q (choice_of n)
 alone_uses q n body None read alone some = cc
 alone_uses q n body (Some m) read alone some =
-    sym (ap (λ b. is_used_by q (choice_of m.now) || b) (and_false (not (is_stored_by q (choice_of m.now)))) ∙ or_false (is_used_by q (choice_of m.now))) ∙
-    ap (λ (ss : Items Stmt). is_used_in q (statements_in ss)) (sym alone ∙ read) ∙ else_is q n
+    sym (ap (λ b. place_by q (choice_of m.now) || b) (and_false (not (is_stored_by q.name (choice_of m.now)))) ∙ or_false (place_by q (choice_of m.now))) ∙
+    ap (λ (ss : Items Stmt). place_within q (statements_in ss)) (sym alone ∙ read) ∙ else_is q n
 
 pub chain_ends : {G : Names → Type 0} (at : Bor (Spanned (Box IfCondNode Global))) (body : Items Stmt) (old next : Option (Bor (Spanned (Box IfCondNode Global))))
     (a b : Names) → old ≡ Some at → body ≡ at.now.node.value.false_body.items → IfSome next (λ choice. IsAlone choice.now body) → is_none next ≡ false →
-    ((c : Names) → Goes (chain_uses old) nothing a c → G c) → Goes (λ q. test_uses q (choice_of at.now)) nothing a b →
-    (c : Names) → Goes (chain_uses next) nothing b c → G c
+    ((c : Names) → Goes (chain_places old) nothing a c → G c) → Goes (λ q. test_places q (choice_of at.now)) nothing a b →
+    (c : Names) → Goes (chain_places next) nothing b c → G c
 chain_ends at body old next a b is read alone some ends step c rest =
     ends c (uses_as
     (λ q.
-    ap (λ x. test_uses q (choice_of at.now) || x) (alone_uses q at.now body next read alone some) ∙ if_uses q at.now ∙
-    ap (λ (o : Option (Bor (Spanned (Box IfCondNode Global)))). chain_uses o q) (sym is))
+    ap (λ x. test_places q (choice_of at.now) || x) (alone_uses q at.now body next read alone some) ∙ if_uses q at.now ∙
+    ap (λ (o : Option (Bor (Spanned (Box IfCondNode Global)))). chain_places o q) (sym is))
     (uses_then a b c step rest))
 
 pub chain_end : {G : Names → Type 0} (at : Bor (Spanned (Box IfCondNode Global))) (old : Option (Bor (Spanned (Box IfCondNode Global)))) (a b c : Names) →
-    old ≡ Some at → ((d : Names) → Goes (chain_uses old) nothing a d → G d) →
-    Goes (λ q. test_uses q (choice_of at.now)) nothing a b → Goes (λ q. else_uses q (choice_of at.now)) nothing b c → G c
+    old ≡ Some at → ((d : Names) → Goes (chain_places old) nothing a d → G d) →
+    Goes (λ q. test_places q (choice_of at.now)) nothing a b → Goes (λ q. else_places q (choice_of at.now)) nothing b c → G c
 chain_end at old a b c is ends step rest =
     ends c (uses_as
-    (λ q. if_uses q at.now ∙ ap (λ (o : Option (Bor (Spanned (Box IfCondNode Global)))). chain_uses o q) (sym is))
+    (λ q. if_uses q at.now ∙ ap (λ (o : Option (Bor (Spanned (Box IfCondNode Global)))). chain_places o q) (sym is))
     (uses_then a b c step rest))
 
 body_below : (n : Spanned (Box IfCondNode Global)) (i : ℕ) (d : Stmt) → i < length n.node.value.false_body.items
@@ -104,8 +104,8 @@ looped : (e t s f l b o : Bool) → ((e || (t || (not s && (f || (not l && b))))
 looped true t s f l b o = refl
 looped false t s f l b o = refl
 
-pub loop_uses : (q : Items ℕ) (e t s f b o : Bool) →
-    ((e || (t || (not s && (f || (not (just (codes "loop") q) && b))))) || o) ≡ (e || t || not s && (f || not (bytes_eq q (codes "loop")) && b) || o)
+pub loop_uses : (q : Places) (e t s f b o : Bool) →
+    ((e || (t || (not s && (f || (not (just (codes "loop") q.name) && b))))) || o) ≡ (e || t || not s && (f || not (bytes_eq q.name (codes "loop")) && b) || o)
 loop_uses q e t s f b o =
-    looped e t s f (just (codes "loop") q) b o ∙
-    ap (λ l. ((e || t) || (not s && (f || (not l && b)))) || o) (turned (codes "loop") q)
+    looped e t s f (just (codes "loop") q.name) b o ∙
+    ap (λ l. ((e || t) || (not s && (f || (not l && b)))) || o) (turned (codes "loop") q.name)

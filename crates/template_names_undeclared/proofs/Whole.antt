@@ -1,55 +1,76 @@
 -- The names that a whole tree uses.
-use Rattle.std.proofs.Common.{◌≡◌, ℕ, Bool, true, false, not, ◌&&◌, ◌||◌, List, codes, bytes_eq, refl, sym, ap, ◌∙◌}
+use Rattle.std.proofs.Common.{◌≡◌, ℕ, Bool, true, false, not, ◌&&◌, ◌||◌, List, String, codes, bytes_eq, IsTrue, inl, inr, ◌↔◌, refl, sym, ap, subst, ◌∙◌}
+use Rattle.std.specs.BTreeSet.{BTreeSet, contains_text}
 use Rattle.template_tree.specs.Tree.{Statement, template, raw, print, for_loop, if_condition, with_block, set, set_block, auto_escape, filter_block, block, import, from_import, extends, include, macro, call_block, continue_loop, break_loop, do_call}
-use Rattle.template_names.specs.Names.{is_stored_by, is_stored_everywhere, is_used_by}
+use Rattle.template_names.specs.Names.{IsToldFor, Places, anywhere, is_stored_by, is_stored_everywhere, place_by}
 use Rattle.template_names_undeclared.specs.declared.state.Names.{Names}
-use Rattle.template_names_undeclared.specs.Found.{HasJust, uses}
-use Rattle.template_names_undeclared.specs.Goes.{Goes, has, just, knows, nothing}
+use Rattle.template_names_undeclared.specs.Found.{HasJust, has_place, uses}
+use Rattle.template_names_undeclared.specs.Goes.{Goes, just, knows, no_place}
 use Rattle.template_names_undeclared.proofs.Laws.{goes_then}
 use Rattle.template_names_undeclared.proofs.Walking.{turned}
 
 -- nothing was found or known before
-from_nothing : (f k x : Bool) → f ≡ false → k ≡ false → (f || (not k && x)) ≡ x
-from_nothing f k x found known = ap (λ b. b || (not k && x)) found ∙ ap (λ b. false || (not b && x)) known
+from_nothing : (k s e u : Bool) → k ≡ false → IsTrue (not k && ((false || (not s && false)) || (not e && u))) ↔ IsTrue (not e && u)
+from_nothing true s e u known = cc
+from_nothing false true e u known = (λ h. h, λ h. h)
+from_nothing false false e u known = (λ h. h, λ h. h)
 
-only_last : (s e u : Bool) → ((false || (not s && false)) || (not e && u)) ≡ (not e && u)
-only_last true e u = refl
-only_last false e u = refl
+has_place_is : (t : Statement) (p : Places) → has_place t p ≡ (not (is_stored_everywhere p.name) && place_by p t)
+has_place_is (template body) p = refl
+has_place_is (raw text) p = refl
+has_place_is (print e) p = refl
+has_place_is (for_loop target e filter recursive body otherwise) p = refl
+has_place_is (if_condition e body otherwise) p = refl
+has_place_is (with_block values body) p = refl
+has_place_is (set target e) p = refl
+has_place_is (set_block target filters body) p = refl
+has_place_is (auto_escape e body) p = refl
+has_place_is (filter_block e body) p = refl
+has_place_is (block id required body) p = refl
+has_place_is (import e target) p = refl
+has_place_is (from_import e names) p = refl
+has_place_is (extends e) p = refl
+has_place_is (include e ignored) p = refl
+has_place_is (macro id args defaults body) p = refl
+has_place_is (call_block callee passed args defaults body) p = refl
+has_place_is continue_loop p = refl
+has_place_is break_loop p = refl
+has_place_is (do_call callee passed) p = refl
 
-found_in : (t : Statement) (a b c d : Names) → ((q : List ℕ) → has a.found q ≡ false) → ((q : List ℕ) → knows a q ≡ false) →
-    Goes nothing (just (codes "self")) a b → Goes nothing (just (codes "super")) b c → Goes (λ q. is_used_by q t) (λ q. is_stored_by q t) c d →
-    (q : List ℕ) → has d.found q ≡ (not (is_stored_everywhere q) && is_used_by q t)
-found_in t a b c d fresh unknown self super goes q =
-    let s = just (codes "self") q in
-    let p = just (codes "super") q in
-    let u = is_used_by q t in
-    (goes_then a c d (goes_then a b c self super) goes).found q ∙
-    from_nothing (has a.found q) (knows a q) ((false || (not s && false)) || (not (s || p) && u)) (fresh q) (unknown q) ∙ only_last s (s || p) u ∙
-    ap (λ b. not (b || p) && u) (turned (codes "self") q) ∙ ap (λ b. not (bytes_eq q (codes "self") || b) && u) (turned (codes "super") q)
+pub whole_names : (t : Statement) (nested : Bool) (a b c d : Names) → a.nested ≡ nested → ((q : List ℕ) → contains_text a.found q ≡ false) →
+    ((q : List ℕ) → knows a q ≡ false) → Goes no_place (just (codes "self")) a b → Goes no_place (just (codes "super")) b c →
+    Goes (λ p. place_by p t) (λ q. is_stored_by q t) c d → HasJust nested t d.found
+whole_names t nested a b c d mode fresh unknown self super goes q =
+    let all = (goes_then a c d (goes_then a b c self super) goes).found q in
+    let s = λ (p : Places). just (codes "self") p.name in
+    let e = λ (p : Places). just (codes "self") p.name || just (codes "super") p.name in
+    let named : (p : Places) → (not (e p) && place_by p t) ≡ has_place t p = λ p.
+    ap (λ b. not (b || just (codes "super") p.name) && place_by p t) (turned (codes "self") p.name) ∙
+    ap (λ b. not (bytes_eq p.name (codes "self") || b) && place_by p t) (turned (codes "super") p.name) ∙ sym (has_place_is t p) in (
+      λ h. elim (all.0 h) [
+        | inl o ↦ let none : false ≡ true = sym (fresh q) ∙ o in cc
+        | inr f ↦ (
+          f.0,
+          subst (λ n. IsToldFor n q f.0) mode f.1,
+          sym (named f.0) ∙ (from_nothing (knows a f.0.name) (s f.0) (e f.0) (place_by f.0 t) (unknown f.0.name)).0 f.2,
+        )
+      ],
+      λ f. all.1 (inr (
+        f.0,
+        subst (λ n. IsToldFor n q f.0) (sym mode) f.1,
+        (from_nothing (knows a f.0.name) (s f.0) (e f.0) (place_by f.0 t) (unknown f.0.name)).1 (named f.0 ∙ f.2),
+      )),
+    )
 
-uses_is : (t : Statement) (q : List ℕ) → uses t q ≡ (not (is_stored_everywhere q) && is_used_by q t)
-uses_is (template body) q = refl
-uses_is (raw text) q = refl
-uses_is (print e) q = refl
-uses_is (for_loop target e filter recursive body otherwise) q = refl
-uses_is (if_condition e body otherwise) q = refl
-uses_is (with_block values body) q = refl
-uses_is (set target e) q = refl
-uses_is (set_block target filters body) q = refl
-uses_is (auto_escape e body) q = refl
-uses_is (filter_block e body) q = refl
-uses_is (block id required body) q = refl
-uses_is (import e target) q = refl
-uses_is (from_import e names) q = refl
-uses_is (extends e) q = refl
-uses_is (include e ignored) q = refl
-uses_is (macro id args defaults body) q = refl
-uses_is (call_block callee passed args defaults body) q = refl
-uses_is continue_loop q = refl
-uses_is break_loop q = refl
-uses_is (do_call callee passed) q = refl
+-- of names alone
+told_plain : (t : Statement) (q : List ℕ) (f : (p : Places) × IsToldFor false q p × IsTrue (has_place t p)) → IsTrue (uses t q)
+told_plain t q f = subst (λ (p : Places). IsTrue (has_place t p)) f.1 f.2
 
-pub whole_names : (t : Statement) (a b c d : Names) → ((q : List ℕ) → has a.found q ≡ false) → ((q : List ℕ) → knows a q ≡ false) →
-    Goes nothing (just (codes "self")) a b → Goes nothing (just (codes "super")) b c → Goes (λ q. is_used_by q t) (λ q. is_stored_by q t) c d →
-    HasJust t d.found
-whole_names t a b c d fresh unknown self super goes q = found_in t a b c d fresh unknown self super goes q ∙ sym (uses_is t q)
+same_truth : (a b : Bool) → IsTrue a ↔ IsTrue b → a ≡ b
+same_truth true b h = sym (h.0 refl)
+same_truth false true h = h.1 refl
+same_truth false false h = refl
+
+pub plain_names : {A : Type 0} (t : Statement) (names : BTreeSet (String A)) → HasJust false t names → (q : List ℕ) → contains_text names q ≡ uses t q
+plain_names t names just q =
+    same_truth (contains_text names q) (uses t q) (λ h. told_plain t q ((just q).0 h), λ h. (just q).1 (anywhere q, refl, h))

@@ -1,19 +1,23 @@
 -- The names that a tree uses.
-use Rattle.std.specs.Prelude.{◌≡◌, ℕ, Bool, not, ◌&&◌, ◌||◌, List, String, IsTrue}
-use Rattle.std.specs.Borrow.{Bor}
+use Rattle.std.specs.Prelude.{◌≡◌, ℕ, Bool, not, ◌&&◌, ◌||◌, ◌↔◌, List, String, IsTrue}
 use Rattle.std.specs.BTreeSet.{BTreeSet, contains_text}
 use Rattle.template_tree.specs.Tree.{Statement, template}
-use Rattle.template_names.specs.Names.{is_stored_everywhere, is_used, is_used_by}
-use Rattle.template_names_undeclared.specs.Goes.{Among, has}
+use Rattle.template_names.specs.Names.{IsToldFor, Places, anywhere, is_stored_everywhere, place_by, uses_place}
+use Rattle.template_names_undeclared.specs.Goes.{Among}
 
--- whether the tree uses the name; of a whole template `is_used` says it
+-- whether one of the places is in the tree, and used; of a whole template `uses_place` says it
+abbrev pub has_place : Statement → Places → Bool
+has_place (template body) places = uses_place places body
+has_place s places = not (is_stored_everywhere places.name) && place_by places s
+
+-- whether the tree uses the name
 abbrev pub uses : Statement → List ℕ → Bool
-uses (template body) name = is_used name body
-uses s name = not (is_stored_everywhere name) && is_used_by name s
+uses s name = has_place s (anywhere name)
 
--- the set has the names that the tree uses, and no others
-abbrev pub HasJust : Statement → BTreeSet (Bor (List ℕ)) → Type 0
-HasJust s names = (name : List ℕ) → has names name ≡ uses s name
+-- the set has the texts that are told for the uses of the tree, and no others
+abbrev pub HasJust : {A : Type 0} → Bool → Statement → BTreeSet (String A) → Type 0
+HasJust nested s names = (text : List ℕ) → IsTrue (contains_text names text)
+    ↔ ((places : Places) × IsToldFor nested text places × IsTrue (has_place s places))
 
 -- the set has the names that were there and those that are among the others, and no more
 abbrev pub Adds : {A : Type 0} → Among → BTreeSet (String A) → BTreeSet (String A) → Type 0

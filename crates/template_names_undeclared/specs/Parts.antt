@@ -1,33 +1,41 @@
--- What stands beside the left part of an expression.
-use Rattle.std.specs.Prelude.{ℕ, Bool, false, ◌||◌, ◌+◌, List, Option, None, Some}
+-- The places beside the left part of an expression, and what stands behind that part.
+use Rattle.std.specs.Prelude.{ℕ, Bool, false, ◌&&◌, ◌||◌, ◌+◌, List, [], ◌∷◌, Option, None, Some}
 use Rattle.std.specs.Borrow.{Bor}
 use Rattle.std.specs.Str.{bytes_eq}
 use Rattle.template_tree.specs.Tree.{Expression, variable, constant, slice, unary, binary, chain, conditional, filtered, tested, attribute, item, call, list_literal, tuple_literal, map_literal}
 use Rattle.template_tree.specs.View.{expression_of}
 use Rattle.template_tree.specs.declared.expressions.Expr.{Expr, size-Expr}
-use Rattle.template_names.specs.Names.{stands_in, stands_if_given, stands_in_one, stands_in_links, stands_in_arguments}
+use Rattle.template_names.specs.Names.{Places, place_before, place_in, place_if_given, place_in_one, place_in_links, place_in_arguments}
 
-abbrev pub stands_beside : List ℕ → Expression → Bool
-stands_beside name (variable id) = bytes_eq id name
-stands_beside name (constant v) = false
-stands_beside name (slice e start stop by) = stands_if_given name start || stands_if_given name stop || stands_if_given name by
-stands_beside name (unary op e) = stands_in name e
-stands_beside name (binary op left right) = stands_in name right
-stands_beside name (chain first links) = stands_in_links name links
-stands_beside name (conditional test branch otherwise) = stands_in name test || stands_in name branch || stands_if_given name otherwise
-stands_beside name (filtered filter value arguments) = stands_in_arguments name arguments
-stands_beside name (tested test e arguments) = stands_in_arguments name arguments
-stands_beside name (attribute e field) = false
-stands_beside name (item e key) = stands_in name key
-stands_beside name (call callee arguments) = stands_in_arguments name arguments
-stands_beside name (list_literal es) = stands_in_one name es
-stands_beside name (tuple_literal es) = stands_in_one name es
-stands_beside name (map_literal ks vs) = stands_in_one name ks || stands_in_one name vs
+-- where the expression has these dotted names behind it
+abbrev pub place_beside : Places → List (List ℕ) → Expression → Bool
+place_beside places fields (variable id) = places.counts fields && bytes_eq id places.name
+place_beside places fields (constant v) = false
+place_beside places fields (slice e start stop by) =
+    place_if_given places start || place_if_given places stop || place_if_given places by
+place_beside places fields (unary op e) = place_in places e
+place_beside places fields (binary op left right) = place_in places right
+place_beside places fields (chain first links) = place_in_links places links
+place_beside places fields (conditional test branch otherwise) =
+    place_in places test || place_in places branch || place_if_given places otherwise
+place_beside places fields (filtered filter value passed) = place_in_arguments places passed
+place_beside places fields (tested test e passed) = place_in_arguments places passed
+place_beside places fields (attribute e field) = false
+place_beside places fields (item e key) = place_in places key
+place_beside places fields (call callee passed) = place_in_arguments places passed
+place_beside places fields (list_literal es) = place_in_one places es
+place_beside places fields (tuple_literal es) = place_in_one places es
+place_beside places fields (map_literal ks vs) = place_in_one places ks || place_in_one places vs
+
+-- the dotted names behind the left part
+abbrev pub fields_left : Expression → List (List ℕ) → List (List ℕ)
+fields_left (attribute e field) fields = field ∷ fields
+fields_left _ fields = []
 
 -- what is left of a left chain
-abbrev pub left_stands : Option (Bor Expr) → List ℕ → Bool
-left_stands None name = false
-left_stands (Some part) name = stands_in name (expression_of part.now)
+abbrev pub left_place : List (List ℕ) → Option (Bor Expr) → Places → Bool
+left_place fields None places = false
+left_place fields (Some part) places = place_before places fields (expression_of part.now)
 
 abbrev pub left_deep : Option (Bor Expr) → ℕ
 left_deep None = 0

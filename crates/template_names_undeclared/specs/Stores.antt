@@ -3,7 +3,7 @@ use Rattle.std.specs.Prelude.{ℕ, Bool, false, ◌||◌, List}
 use Rattle.template_tree.specs.Tree.{Expression, Optional, absent, given, Expressions, no_expressions, expressions_more, Assignments, no_assignments, assignments_more, Statements, no_statements, statements_more}
 use Rattle.template_tree.specs.View.{expressions_in}
 use Rattle.template_tree.specs.declared.expressions.Expr.{Expr}
-use Rattle.template_names.specs.Names.{is_stored_by, is_stored_in, reversed, stands_in}
+use Rattle.template_names.specs.Names.{Places, is_stored_by, is_stored_in, reversed, place_in}
 
 abbrev pub is_assigned : List ℕ → Assignments → Bool
 is_assigned name no_assignments = false
@@ -23,6 +23,6 @@ is_stored_among name (statements_more s ss) = is_stored_by name s || is_stored_a
 abbrev pub backwards : List Expr → Expressions
 backwards es = reversed (expressions_in es) no_expressions
 
-abbrev pub first_stands : List ℕ → Expressions → Bool
-first_stands name no_expressions = false
-first_stands name (expressions_more e es) = stands_in name e
+abbrev pub place_in_first : Places → Expressions → Bool
+place_in_first places no_expressions = false
+place_in_first places (expressions_more e es) = place_in places e

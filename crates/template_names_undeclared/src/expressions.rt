@@ -1,9 +1,9 @@
 //! The names in expressions. A tree is gone along its left parts in a loop; its other parts nest at most 150 deep.
 ghost use Rattle.std.specs.Prelude.{◌≡◌, ◌≤◌, ℕ, List, OnOk};
 ghost use Rattle.template_tree.specs.View.{expression_of, expressions_in, links_in, optional_in, argument_of, arguments_in};
-ghost use Rattle.template_names.specs.Names.{stands_in, stands_if_given, stands_in_one, stands_in_links, stands_in_arguments, stands_in_argument};
-ghost use Rattle.template_names_undeclared.specs.Goes.{Goes, nothing};
-ghost use Rattle.template_names_undeclared.specs.Parts.{stands_beside};
+ghost use Rattle.template_names.specs.Names.{place_in, place_if_given, place_in_one, place_in_links, place_in_arguments, place_in_argument};
+ghost use Rattle.template_names_undeclared.specs.Goes.{Goes, fields_of, nothing};
+ghost use Rattle.template_names_undeclared.specs.Parts.{fields_left, place_beside};
 
 use crate::state::Names;
 use std::alloc::AllocError;
@@ -16,23 +16,54 @@ pub(crate) fn use_expression<'source>(
     names: &mut Names<'source>,
     expr: &Expr<'source>,
 ) -> Result<(), AllocError>
-    ensures { OnOk result (Goes (λ name. stands_in name (expression_of expr.now)) nothing names.old names.new) }
+    ensures { OnOk result (Goes (λ places. place_in places (expression_of expr.now)) nothing names.old names.new) }
 {
+    let mut behind = Vec::new(names.alloc);
     let mut left_part = Some(expr);
     while let Some(part) = left_part {
-        use_others(names, part)?;
+        use_others(names, part, &behind)?;
+        go_left(&mut behind, part)?;
         left_part = left(part);
     }
     Ok(())
 }
 
-// Uses the names in an expression beside its left part.
-#[cycle(expression)]
-fn use_others<'source>(names: &mut Names<'source>, expr: &Expr<'source>) -> Result<(), AllocError>
-    ensures { OnOk result (Goes (λ name. stands_beside name (expression_of expr.now)) nothing names.old names.new) }
+// The dotted names behind the left part of an expression that has these behind it.
+fn go_left<'source>(behind: &mut Vec<&'source str>, expr: &Expr<'source>) -> Result<(), AllocError>
+    ensures { OnOk result (fields_of behind.new.items ≡ fields_left (expression_of expr.now) (fields_of behind.old.items)) }
 {
     match expr {
-        Expr::Var(n) => names.find(n.node.id)?,
+        Expr::GetAttr(n) => behind.push(n.node.name)?,
+        Expr::Var(_) => behind.clear(),
+        Expr::Const(_) => behind.clear(),
+        Expr::Slice(_) => behind.clear(),
+        Expr::UnaryOp(_) => behind.clear(),
+        Expr::BinOp(_) => behind.clear(),
+        Expr::Compare(_) => behind.clear(),
+        Expr::IfExpr(_) => behind.clear(),
+        Expr::Filter(_) => behind.clear(),
+        Expr::Test(_) => behind.clear(),
+        Expr::GetItem(_) => behind.clear(),
+        Expr::Call(_) => behind.clear(),
+        Expr::List(_) => behind.clear(),
+        Expr::Tuple(_) => behind.clear(),
+        Expr::Map(_) => behind.clear(),
+    }
+    Ok(())
+}
+
+// Uses the names in an expression beside its left part, where it has these dotted names behind it.
+#[cycle(expression)]
+fn use_others<'source>(
+    names: &mut Names<'source>,
+    expr: &Expr<'source>,
+    behind: &[&'source str],
+) -> Result<(), AllocError>
+    ensures { OnOk result (Goes (λ places. place_beside places (fields_of behind.now) (expression_of expr.now)) nothing
+        names.old names.new) }
+{
+    match expr {
+        Expr::Var(n) => names.find(n.node.id, behind)?,
         Expr::Const(_) => {}
         Expr::Slice(n) => {
             let node = &n.node;
@@ -69,7 +100,7 @@ pub(crate) fn use_optional<'source>(
     names: &mut Names<'source>,
     expr: &Option<Expr<'source>>,
 ) -> Result<(), AllocError>
-    ensures { OnOk result (Goes (λ name. stands_if_given name (optional_in expr.now)) nothing names.old names.new) }
+    ensures { OnOk result (Goes (λ places. place_if_given places (optional_in expr.now)) nothing names.old names.new) }
 {
     match expr {
         Some(expr) => use_expression(names, expr),
@@ -79,7 +110,7 @@ pub(crate) fn use_optional<'source>(
 
 #[cycle(expression)]
 fn use_items<'source>(names: &mut Names<'source>, items: &[Expr<'source>]) -> Result<(), AllocError>
-    ensures { OnOk result (Goes (λ name. stands_in_one name (expressions_in items.now)) nothing names.old names.new) }
+    ensures { OnOk result (Goes (λ places. place_in_one places (expressions_in items.now)) nothing names.old names.new) }
 {
     for item in items {
         use_expression(names, item)?;
@@ -92,7 +123,7 @@ fn use_links<'source>(
     names: &mut Names<'source>,
     links: &[CompareOp<'source>],
 ) -> Result<(), AllocError>
-    ensures { OnOk result (Goes (λ name. stands_in_links name (links_in links.now)) nothing names.old names.new) }
+    ensures { OnOk result (Goes (λ places. place_in_links places (links_in links.now)) nothing names.old names.new) }
 {
     for link in links {
         use_expression(names, &link.expr)?;
@@ -105,7 +136,7 @@ pub(crate) fn use_arguments<'source>(
     names: &mut Names<'source>,
     arguments: &[CallArg<'source>],
 ) -> Result<(), AllocError>
-    ensures { OnOk result (Goes (λ name. stands_in_arguments name (arguments_in arguments.now)) nothing names.old names.new) }
+    ensures { OnOk result (Goes (λ places. place_in_arguments places (arguments_in arguments.now)) nothing names.old names.new) }
 {
     for argument in arguments {
         use_argument(names, argument)?;
@@ -118,7 +149,7 @@ fn use_argument<'source>(
     names: &mut Names<'source>,
     argument: &CallArg<'source>,
 ) -> Result<(), AllocError>
-    ensures { OnOk result (Goes (λ name. stands_in_argument name (argument_of argument.now)) nothing names.old names.new) }
+    ensures { OnOk result (Goes (λ places. place_in_argument places (argument_of argument.now)) nothing names.old names.new) }
 {
     match argument {
         CallArg::Pos(expr) => use_expression(names, expr),

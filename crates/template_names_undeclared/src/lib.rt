@@ -9,4 +9,4 @@ mod targets;
 mod undeclared;
 
 pub use owned::{add_name, add_undeclared};
-pub use undeclared::find_undeclared;
+pub use undeclared::{find_undeclared, first_segments};

@@ -1,9 +1,9 @@
 //! Owned sets of names, to which templates add theirs.
-ghost use Rattle.std.specs.Prelude.{◌≡◌, ℕ, List, OnErr, OnOk};
+ghost use Rattle.std.specs.Prelude.{◌≡◌, ℕ, List, OnErr, OnOk, string_bytes};
 ghost use Rattle.std.specs.BTreeSet.{contains_text};
 ghost use Rattle.template_tree.specs.StatementView.{statement_of};
 ghost use Rattle.template_names_undeclared.specs.Found.{Adds, AddsJust, AddsSome, uses};
-ghost use Rattle.template_names_undeclared.specs.Goes.{has, just};
+ghost use Rattle.template_names_undeclared.specs.Goes.{just};
 
 use crate::undeclared::find_undeclared;
 use std::alloc::{AllocError, Global};
@@ -24,20 +24,16 @@ pub fn add_undeclared(
     ensures added { OnOk result (AddsJust (statement_of tree.now) names.old names.new) }
     ensures partial { OnErr result (AddsSome (uses (statement_of tree.now)) names.old names.new) }
 {
-    let used = find_undeclared(alloc, tree)?;
-    add_names(alloc, names, &used)
+    let used = find_undeclared(alloc, tree, false)?;
+    add_names(names, used)
 }
 
-fn add_names(
-    alloc: Global,
-    names: &mut BTreeSet<String>,
-    used: &BTreeSet<&str>,
-) -> Result<(), AllocError>
-    ensures added { OnOk result (Adds (has used.now) names.old names.new) }
-    ensures partial { OnErr result (AddsSome (has used.now) names.old names.new) }
+fn add_names(names: &mut BTreeSet<String>, used: BTreeSet<String>) -> Result<(), AllocError>
+    ensures added { OnOk result (Adds (contains_text used) names.old names.new) }
+    ensures partial { OnErr result (AddsSome (contains_text used) names.old names.new) }
 {
     for name in used {
-        add_name(alloc, names, name)?;
+        add_text(names, name)?;
     }
     Ok(())
 }
@@ -52,7 +48,16 @@ pub fn add_name(alloc: Global, names: &mut BTreeSet<String>, name: &str) -> Resu
     ensures unchanged { OnErr result ((q : List ℕ) → contains_text names.new q ≡ contains_text names.old q) }
 {
     if !names.contains(name) {
-        names.insert(String::from_str(alloc, name)?)?;
+        add_text(names, String::from_str(alloc, name)?)?;
     }
+    Ok(())
+}
+
+// Adds a text to a set of them.
+pub(crate) fn add_text(names: &mut BTreeSet<String>, text: String) -> Result<(), AllocError>
+    ensures added { OnOk result (Adds (just (string_bytes text)) names.old names.new) }
+    ensures unchanged { OnErr result ((q : List ℕ) → contains_text names.new q ≡ contains_text names.old q) }
+{
+    names.insert(text)?;
     Ok(())
 }

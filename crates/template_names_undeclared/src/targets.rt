@@ -2,9 +2,9 @@
 ghost use Rattle.std.specs.Prelude.{◌≡◌, ◌≤◌, false, length, take, OnOk};
 ghost use Rattle.template_tree.specs.View.{expression_of, expressions_in, optional_in};
 ghost use Rattle.template_tree.specs.StatementView.{assignments_in, imports_in};
-ghost use Rattle.template_names.specs.Names.{is_imported, is_stored_in, is_stored_in_one, is_used_by_target, is_used_by_arguments, is_used_by_targets, is_used_from};
-ghost use Rattle.template_names_undeclared.specs.Goes.{Goes, nothing};
-ghost use Rattle.template_names_undeclared.specs.Stores.{backwards, first_stands, is_assigned, is_bound};
+ghost use Rattle.template_names.specs.Names.{is_imported, is_stored_in, is_stored_in_one, place_in_target, place_of_arguments, place_in_targets, place_from};
+ghost use Rattle.template_names_undeclared.specs.Goes.{Goes, no_place, nothing};
+ghost use Rattle.template_names_undeclared.specs.Stores.{backwards, place_in_first, is_assigned, is_bound};
 
 use crate::expressions::use_expression;
 use crate::state::Names;
@@ -17,7 +17,7 @@ pub(crate) fn bind_target<'source>(
     names: &mut Names<'source>,
     target: &Expr<'source>,
 ) -> Result<(), AllocError>
-    ensures { OnOk result (Goes nothing (λ name. is_stored_in name (expression_of target.now)) names.old names.new) }
+    ensures { OnOk result (Goes no_place (λ name. is_stored_in name (expression_of target.now)) names.old names.new) }
 {
     match target {
         Expr::Var(n) => names.store(n.node.id)?,
@@ -44,7 +44,7 @@ fn bind_targets<'source>(
     names: &mut Names<'source>,
     targets: &[Expr<'source>],
 ) -> Result<(), AllocError>
-    ensures { OnOk result (Goes nothing (λ name. is_stored_in_one name (expressions_in targets.now)) names.old names.new) }
+    ensures { OnOk result (Goes no_place (λ name. is_stored_in_one name (expressions_in targets.now)) names.old names.new) }
 {
     for target in targets {
         bind_target(names, target)?;
@@ -58,13 +58,13 @@ pub(crate) fn assign_target<'source>(
     names: &mut Names<'source>,
     target: &Expr<'source>,
 ) -> Result<(), AllocError>
-    ensures { OnOk result (Goes (λ name. is_used_by_target name (expression_of target.now))
+    ensures { OnOk result (Goes (λ places. place_in_target places (expression_of target.now))
         (λ name. is_stored_in name (expression_of target.now)) names.old names.new) }
 {
     match target {
         Expr::Var(n) => names.store(n.node.id)?,
         Expr::List(n) => assign_targets(names, &n.node.items)?,
-        Expr::GetAttr(n) => use_expression(names, &n.node.expr)?,
+        Expr::GetAttr(_) => use_expression(names, target)?,
         Expr::Const(_) => {}
         Expr::Slice(_) => {}
         Expr::UnaryOp(_) => {}
@@ -86,7 +86,7 @@ fn assign_targets<'source>(
     names: &mut Names<'source>,
     targets: &[Expr<'source>],
 ) -> Result<(), AllocError>
-    ensures { OnOk result (Goes (λ name. is_used_by_targets name (expressions_in targets.now))
+    ensures { OnOk result (Goes (λ places. place_in_targets places (expressions_in targets.now))
         (λ name. is_stored_in_one name (expressions_in targets.now)) names.old names.new) }
 {
     for target in targets {
@@ -100,7 +100,7 @@ pub(crate) fn use_assignments<'source>(
     names: &mut Names<'source>,
     assignments: &[(Expr<'source>, Expr<'source>)],
 ) -> Result<(), AllocError>
-    ensures { OnOk result (Goes (λ name. is_used_from name (assignments_in assignments.now) false)
+    ensures { OnOk result (Goes (λ places. place_from places (assignments_in assignments.now) false)
         (λ name. is_assigned name (assignments_in assignments.now)) names.old names.new) }
 {
     for assignment in assignments {
@@ -115,7 +115,7 @@ pub(crate) fn bind_imports<'source>(
     names: &mut Names<'source>,
     imports: &[(Expr<'source>, Option<Expr<'source>>)],
 ) -> Result<(), AllocError>
-    ensures { OnOk result (Goes nothing (λ name. is_imported name (imports_in imports.now)) names.old names.new) }
+    ensures { OnOk result (Goes no_place (λ name. is_imported name (imports_in imports.now)) names.old names.new) }
 {
     for import in imports {
         bind_import(names, &import.0, &import.1)?;
@@ -128,7 +128,7 @@ fn bind_import<'source>(
     name: &Expr<'source>,
     alias: &Option<Expr<'source>>,
 ) -> Result<(), AllocError>
-    ensures { OnOk result (Goes nothing (λ id. is_bound id (expression_of name.now) (optional_in alias.now)) names.old names.new) }
+    ensures { OnOk result (Goes no_place (λ id. is_bound id (expression_of name.now) (optional_in alias.now)) names.old names.new) }
 {
     match alias {
         Some(alias) => bind_target(names, alias),
@@ -142,7 +142,7 @@ pub(crate) fn bind_arguments<'source>(
     arguments: &[Expr<'source>],
     defaults: &[Expr<'source>],
 ) -> Result<(), AllocError>
-    ensures { OnOk result (Goes (λ name. is_used_by_arguments name (backwards arguments.now) (backwards defaults.now) false)
+    ensures { OnOk result (Goes (λ places. place_of_arguments places (backwards arguments.now) (backwards defaults.now) false)
         (λ name. is_stored_in_one name (backwards arguments.now)) names.old names.new) }
 {
     let mut given = defaults.len();
@@ -163,7 +163,7 @@ fn use_last<'source>(
     given: usize,
 ) -> Result<(), AllocError>
     requires { given ≤ length defaults.now }
-    ensures { OnOk result (Goes (λ name. first_stands name (backwards (take given defaults.now))) nothing names.old names.new) }
+    ensures { OnOk result (Goes (λ places. place_in_first places (backwards (take given defaults.now))) nothing names.old names.new) }
 {
     if given == 0 {
         return Ok(());

@@ -5,11 +5,11 @@ use std::collections::BTreeSet;
 use std::test::Fail;
 
 // The names that a text uses, a space behind each.
-fn found(alloc: Global, source: &str) -> Result<String, Fail> {
+fn found(alloc: Global, source: &str, nested: bool) -> Result<String, Fail> {
     let tree = parse(alloc, source, "t.txt", SyntaxConfig::new())?;
     let mut text = String::new(alloc);
-    for name in &find_undeclared(alloc, &tree)? {
-        text.push_str(name)?;
+    for name in &find_undeclared(alloc, &tree, nested)? {
+        text.push_str(name.as_str())?;
         text.push_str(" ")?;
     }
     Ok(text)
@@ -25,7 +25,34 @@ fn names_are_found_once(rt: HostRuntime) -> Result<(), Fail> {
             "i items other ",
         ),
     ] {
-        assert_eq!(rt; found(rt.alloc(), source)?.as_str(), names, "of {source}");
+        assert_eq!(rt;
+            found(rt.alloc(), source, false)?.as_str(),
+            names,
+            "of {source}"
+        );
+    }
+    Ok(())
+}
+
+#[test]
+fn names_are_found_with_what_stands_behind_them(rt: HostRuntime) -> Result<(), Fail> {
+    for (source, names) in [
+        ("{% set x = foo %}{{ x }}{{ bar.baz }}", "bar.baz foo "),
+        ("{{ a }}{{ a.b }}{{ a.b.c }}{{ a.b }}", "a a.b a.b.c "),
+        ("{{ a.b[c.d].e }}", "a.b c.d "),
+        ("{{ bar.baz(q.r) }}{{ (x.y)|upper }}", "bar.baz q.r x.y "),
+        ("{% set n.a.b = c.d %}", "c.d n.a.b "),
+        (
+            "{% for i in page.items %}{{ i.name }}{% endfor %}{{ i.name }}",
+            "i.name page.items ",
+        ),
+        ("{{ (a + b).c }}", "a b "),
+    ] {
+        assert_eq!(rt;
+            found(rt.alloc(), source, true)?.as_str(),
+            names,
+            "of {source}"
+        );
     }
     Ok(())
 }

@@ -85,8 +85,11 @@ fn names_that_an_expression_uses(rt: HostRuntime) -> Result<(), Fail> {
     let mut ids = StateIds::new(0);
     let environment = Environment::new(rt.alloc(), &mut ids)?;
     let expression = environment.compile_expression("b.c + a * b")?;
-    let names = expression.undeclared_variables()?;
+    let names = expression.undeclared_variables(false)?;
     assert_eq!(rt; names.len(), 2);
     assert!(rt; names.contains("a") && names.contains("b"));
+    let nested = expression.undeclared_variables(true)?;
+    assert_eq!(rt; nested.len(), 2);
+    assert!(rt; nested.contains("a") && nested.contains("b.c"));
     Ok(())
 }

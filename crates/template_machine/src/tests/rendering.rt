@@ -406,7 +406,9 @@ fn names_that_a_template_uses(rt: HostRuntime) -> Result<(), Fail> {
     let environment = Environment::new(rt.alloc(), &mut ids)?;
     let source = "{% set x = foo %}{{ x }}{{ bar.baz }}";
     let template = environment.template_from_str(source)?;
-    let names = told(rt.alloc(), &template.undeclared_variables()?)?;
+    let names = told(rt.alloc(), &template.undeclared_variables(false)?)?;
     assert_eq!(rt; names.as_str(), "bar foo ");
+    let nested = told(rt.alloc(), &template.undeclared_variables(true)?)?;
+    assert_eq!(rt; nested.as_str(), "bar.baz foo ");
     Ok(())
 }

@@ -2,10 +2,10 @@
 use Rattle.std.proofs.Common.{◌+◌, ◌*◌, ◌≤◌, drop}
 use Rattle.template_tree.specs.View.{expression_of, expressions_in, links_in, arguments_in}
 use Rattle.template_tree.specs.declared.expressions.Expr.{size-Expr}
-use Rattle.template_names.specs.Names.{stands_in, stands_in_one, stands_in_links, stands_in_arguments}
+use Rattle.template_names.specs.Names.{place_in, place_in_one, place_in_links, place_in_arguments}
 use Rattle.template_names_undeclared.specs.declared.state.Names.{Names}
-use Rattle.template_names_undeclared.specs.Goes.{Goes, nothing}
-use Rattle.template_names_undeclared.specs.Parts.{left_stands, left_deep}
+use Rattle.template_names_undeclared.specs.Goes.{Goes, fields_of, nothing}
+use Rattle.template_names_undeclared.specs.Parts.{left_place, left_deep}
 use Rattle.template_names_undeclared.proofs.expressions.+expression.Given as goal
 
 abbrev pub decreases-use_expression : goal.decreases-use_expression
@@ -34,21 +34,21 @@ decreases-use_expression-loop-left_part l = left_deep l.left_part
 
 abbrev pub invariant-use_expression-loop-left_part : goal.invariant-use_expression-loop-left_part
 invariant-use_expression-loop-left_part l = record {
-  ends : (c : Names) → Goes (left_stands l.left_part) nothing l.names c → Goes (λ name. stands_in name (expression_of l.fn.expr)) nothing l.initial.names c;
+  ends : (c : Names) → Goes (left_place (fields_of l.behind.items) l.left_part) nothing l.names c → Goes (λ places. place_in places (expression_of l.fn.expr)) nothing l.initial.names c;
   deep : left_deep l.left_part ≤ size-Expr l.fn.expr + 1;
 }
 
 abbrev pub invariant-use_items-loop-item : goal.invariant-use_items-loop-item
 invariant-use_items-loop-item l = (c : Names) →
-    Goes (λ name. stands_in_one name (expressions_in (drop l.item-index l.items))) nothing l.names c →
-    Goes (λ name. stands_in_one name (expressions_in l.items)) nothing l.initial.names c
+    Goes (λ places. place_in_one places (expressions_in (drop l.item-index l.items))) nothing l.names c →
+    Goes (λ places. place_in_one places (expressions_in l.items)) nothing l.initial.names c
 
 abbrev pub invariant-use_links-loop-link : goal.invariant-use_links-loop-link
 invariant-use_links-loop-link l = (c : Names) →
-    Goes (λ name. stands_in_links name (links_in (drop l.link-index l.links))) nothing l.names c →
-    Goes (λ name. stands_in_links name (links_in l.links)) nothing l.initial.names c
+    Goes (λ places. place_in_links places (links_in (drop l.link-index l.links))) nothing l.names c →
+    Goes (λ places. place_in_links places (links_in l.links)) nothing l.initial.names c
 
 abbrev pub invariant-use_arguments-loop-argument : goal.invariant-use_arguments-loop-argument
 invariant-use_arguments-loop-argument l = (c : Names) →
-    Goes (λ name. stands_in_arguments name (arguments_in (drop l.argument-index l.arguments))) nothing l.names c →
-    Goes (λ name. stands_in_arguments name (arguments_in l.arguments)) nothing l.initial.names c
+    Goes (λ places. place_in_arguments places (arguments_in (drop l.argument-index l.arguments))) nothing l.names c →
+    Goes (λ places. place_in_arguments places (arguments_in l.arguments)) nothing l.initial.names c

@@ -1,12 +1,7 @@
-use Rattle.std.proofs.Common.{◌≡◌, ◌∙◌, ap, true, ◌||◌, string_bytes, bytes_eq}
+use Rattle.std.proofs.Common.{◌∙◌, ◌||◌, List, ℕ, ap, bytes_eq}
 use Rattle.std.specs.BTreeSet.{contains_text}
-use Rattle.std.proofs.lemmas.Map.Text.{btree_set_updates_text}
-use Rattle.template_names_undeclared.proofs.Sets.{cond_or}
 use Rattle.template_names_undeclared.proofs.owned.add_name.Goals as goal
 
-pub returns-in_ok-insert-clause-added : goal.returns-in_ok-insert-clause-added
-returns-in_ok-insert-clause-added c = λ q.
-    let key = c.in_ok-from_str.field-0 in
-    let updated = btree_set_updates_text (string_bytes key) c.args.names.now c.insert.new.self true c.in_ok-insert.ensures.updates q in
-    let same : string_bytes key ≡ c.args.name.now = c.in_ok-from_str.ensures.ok in
-    updated ∙ cond_or (bytes_eq (string_bytes key) q) (contains_text c.args.names.now q) ∙ ap (λ bs. contains_text c.args.names.now q || bytes_eq bs q) same
+pub returns-in_ok-add_text-clause-added : goal.returns-in_ok-add_text-clause-added
+returns-in_ok-add_text-clause-added c = λ q.
+    c.in_ok-add_text.ensures.added q ∙ ap (λ (bs : List ℕ). contains_text c.args.names.now q || bytes_eq bs q) c.in_ok-from_str.ensures.ok

@@ -2,9 +2,9 @@
 use Rattle.std.proofs.Common.{◌+◌, ◌*◌, ◌≤◌, drop}
 use Rattle.template_tree.specs.declared.statements.Stmt.{size-Stmt, IfCond}
 use Rattle.template_tree_parts.specs.Listed.{statements_in}
-use Rattle.template_names.specs.Names.{is_used_by, is_used_in}
+use Rattle.template_names.specs.Names.{place_by, place_within}
 use Rattle.template_names_undeclared.specs.declared.state.Names.{Names}
-use Rattle.template_names_undeclared.specs.Choices.{chain_deep, chain_uses, choice_of}
+use Rattle.template_names_undeclared.specs.Choices.{chain_deep, chain_places, choice_of}
 use Rattle.template_names_undeclared.specs.Goes.{Goes, nothing}
 use Rattle.template_names_undeclared.specs.Stores.{is_stored_among}
 use Rattle.template_names_undeclared.proofs.statements.+statement.Given as goal
@@ -32,14 +32,14 @@ decreases-use_macro l = 6 * goal.size-use_macro l + 7
 
 abbrev pub invariant-use_statements-loop-statement : goal.invariant-use_statements-loop-statement
 invariant-use_statements-loop-statement l = (c : Names) →
-    Goes (λ name. is_used_in name (statements_in (drop l.statement-index l.body)))
+    Goes (λ places. place_within places (statements_in (drop l.statement-index l.body)))
     (λ name. is_stored_among name (statements_in (drop l.statement-index l.body))) l.names c →
-    Goes (λ name. is_used_in name (statements_in l.body)) (λ name. is_stored_among name (statements_in l.body)) l.initial.names c
+    Goes (λ places. place_within places (statements_in l.body)) (λ name. is_stored_among name (statements_in l.body)) l.initial.names c
 
 abbrev pub invariant-use_chain-loop-choice : goal.invariant-use_chain-loop-choice
 invariant-use_chain-loop-choice l = record {
-  ends : (c : Names) → Goes (chain_uses l.choice) nothing l.names c →
-      Goes (λ name. is_used_by name (choice_of l.fn.first)) nothing l.initial.names c;
+  ends : (c : Names) → Goes (chain_places l.choice) nothing l.names c →
+      Goes (λ places. place_by places (choice_of l.fn.first)) nothing l.initial.names c;
   deep : chain_deep l.choice ≤ size-Stmt (IfCond l.fn.first) + 1;
 }
 

@@ -3,7 +3,7 @@ use Rattle.template_tree.specs.View.{expression_of, expressions_in}
 use Rattle.template_tree.specs.declared.expressions.List.{List as ListNode}
 use Rattle.template_tree.specs.declared.expressions.Expr.{Expr}
 use Rattle.template_names.specs.Names.{is_stored_in, is_stored_in_one}
-use Rattle.template_names_undeclared.specs.Goes.{nothing}
+use Rattle.template_names_undeclared.specs.Goes.{no_place}
 use Rattle.template_names_undeclared.proofs.Laws.{goes_as, goes_end, goes_item, goes_nowhere}
 use Rattle.template_names_undeclared.proofs.Storing.{none_used, stored_chain, stored_list}
 use Rattle.template_names_undeclared.proofs.targets.+bound.Goals as goal
@@ -20,12 +20,12 @@ bind_target-returns-in-Compare t c =
 
 pub bind_targets-loop-target-preserved : goal.bind_targets-loop-target-preserved
 bind_targets-loop-target-preserved t c =
-    goes_item (λ (e : Expr). nothing) (λ (e : Expr) name. is_stored_in name (expression_of e)) (λ (es : Items Expr). nothing)
-    (λ (es : Items Expr) name. is_stored_in_one name (expressions_in es)) (λ e es q. none_used (is_stored_in q (expression_of e))) (λ e es q. refl)
+    goes_item (λ (e : Expr). no_place) (λ (e : Expr) name. is_stored_in name (expression_of e)) (λ (es : Items Expr). no_place)
+    (λ (es : Items Expr) name. is_stored_in_one name (expressions_in es)) (λ e es q. none_used (is_stored_in q.name (expression_of e))) (λ e es q. refl)
     c.args.targets.now c.loop-target.target-index c.target-item.result c.loop-target.names c.bind_target.new.names (omega arith) c.target-item.is
     c.loop-target.invariant c.in_ok-bind_target.ensures
 
 pub bind_targets-returns : goal.bind_targets-returns
 bind_targets-returns t c =
-    goes_end (λ (es : Items Expr). nothing) (λ (es : Items Expr) name. is_stored_in_one name (expressions_in es)) (λ q. refl) (λ q. refl)
+    goes_end (λ (es : Items Expr). no_place) (λ (es : Items Expr) name. is_stored_in_one name (expressions_in es)) (λ q. refl) (λ q. refl)
     c.args.targets.now c.loop-target.target-index c.loop-target.names c.loop-target-test.false c.loop-target.invariant

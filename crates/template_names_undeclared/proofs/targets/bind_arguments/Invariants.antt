@@ -1,6 +1,6 @@
 -- What is left ends as all does.
 use Rattle.std.proofs.Common.{◌≤◌, length, take, false}
-use Rattle.template_names.specs.Names.{is_stored_in_one, is_used_by_arguments}
+use Rattle.template_names.specs.Names.{is_stored_in_one, place_of_arguments}
 use Rattle.template_names_undeclared.specs.declared.state.Names.{Names}
 use Rattle.template_names_undeclared.specs.Goes.{Goes}
 use Rattle.template_names_undeclared.specs.Stores.{backwards}
@@ -11,9 +11,9 @@ invariant-loop-at l = record {
   within : l.at ≤ length l.arguments;
   given : l.given ≤ length l.defaults;
   ends : (c : Names) →
-      Goes (λ name. is_used_by_arguments name (backwards (take l.at l.arguments)) (backwards (take l.given l.defaults)) false)
+      Goes (λ places. place_of_arguments places (backwards (take l.at l.arguments)) (backwards (take l.given l.defaults)) false)
       (λ name. is_stored_in_one name (backwards (take l.at l.arguments))) l.names c →
-      Goes (λ name. is_used_by_arguments name (backwards l.arguments) (backwards l.defaults) false)
+      Goes (λ places. place_of_arguments places (backwards l.arguments) (backwards l.defaults) false)
       (λ name. is_stored_in_one name (backwards l.arguments)) l.initial.names c;
 }
 

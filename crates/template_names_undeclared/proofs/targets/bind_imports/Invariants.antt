@@ -3,10 +3,10 @@ use Rattle.std.proofs.Common.{drop}
 use Rattle.template_tree.specs.StatementView.{imports_in}
 use Rattle.template_names.specs.Names.{is_imported}
 use Rattle.template_names_undeclared.specs.declared.state.Names.{Names}
-use Rattle.template_names_undeclared.specs.Goes.{Goes, nothing}
+use Rattle.template_names_undeclared.specs.Goes.{Goes, no_place}
 use Rattle.template_names_undeclared.proofs.targets.bind_imports.Given as goal
 
 abbrev pub invariant-loop-import : goal.invariant-loop-import
 invariant-loop-import l = (c : Names) →
-    Goes nothing (λ name. is_imported name (imports_in (drop l.import-index l.imports))) l.names c →
-    Goes nothing (λ name. is_imported name (imports_in l.imports)) l.initial.names c
+    Goes no_place (λ name. is_imported name (imports_in (drop l.import-index l.imports))) l.names c →
+    Goes no_place (λ name. is_imported name (imports_in l.imports)) l.initial.names c

@@ -2,7 +2,7 @@ use Rattle.std.proofs.Common.{false, List as Items, arith, refl}
 use Rattle.template_tree.specs.View.{expression_of}
 use Rattle.template_tree.specs.StatementView.{assignments_in}
 use Rattle.template_tree.specs.declared.expressions.Expr.{Expr}
-use Rattle.template_names.specs.Names.{is_stored_in, is_used_by_target, is_used_from, stands_in}
+use Rattle.template_names.specs.Names.{is_stored_in, place_in_target, place_from, place_in}
 use Rattle.template_names_undeclared.specs.Stores.{is_assigned}
 use Rattle.template_names_undeclared.proofs.Laws.{goes_as, goes_end, goes_item, goes_then}
 use Rattle.std.proofs.Common.{◌||◌}
@@ -10,9 +10,9 @@ use Rattle.template_names_undeclared.proofs.targets.use_assignments.Goals as goa
 
 pub loop-assignment-preserved : goal.loop-assignment-preserved
 loop-assignment-preserved c =
-    goes_item (λ (x : Expr × Expr) name. stands_in name (expression_of x.1) || is_used_by_target name (expression_of x.0))
+    goes_item (λ (x : Expr × Expr) places. place_in places (expression_of x.1) || place_in_target places (expression_of x.0))
     (λ (x : Expr × Expr) name. is_stored_in name (expression_of x.0))
-    (λ (xs : Items (Expr × Expr)) name. is_used_from name (assignments_in xs) false) (λ (xs : Items (Expr × Expr)) name. is_assigned name (assignments_in xs))
+    (λ (xs : Items (Expr × Expr)) name. place_from name (assignments_in xs) false) (λ (xs : Items (Expr × Expr)) name. is_assigned name (assignments_in xs))
     (λ x xs q. refl) (λ x xs q. refl)
     c.args.assignments.now c.loop-assignment.assignment-index c.assignment-item.result c.loop-assignment.names c.assign_target.new.names (omega arith)
     c.assignment-item.is c.loop-assignment.invariant
@@ -21,6 +21,6 @@ loop-assignment-preserved c =
 
 pub returns : goal.returns
 returns c =
-    goes_end (λ (xs : Items (Expr × Expr)) name. is_used_from name (assignments_in xs) false)
+    goes_end (λ (xs : Items (Expr × Expr)) name. place_from name (assignments_in xs) false)
     (λ (xs : Items (Expr × Expr)) name. is_assigned name (assignments_in xs)) (λ q. refl) (λ q. refl)
     c.args.assignments.now c.loop-assignment.assignment-index c.loop-assignment.names c.loop-assignment-test.false c.loop-assignment.invariant

@@ -1,7 +1,7 @@
 -- What is left ends as all does.
 use Rattle.std.proofs.Common.{drop, false}
 use Rattle.template_tree.specs.StatementView.{assignments_in}
-use Rattle.template_names.specs.Names.{is_used_from}
+use Rattle.template_names.specs.Names.{place_from}
 use Rattle.template_names_undeclared.specs.declared.state.Names.{Names}
 use Rattle.template_names_undeclared.specs.Goes.{Goes}
 use Rattle.template_names_undeclared.specs.Stores.{is_assigned}
@@ -9,6 +9,6 @@ use Rattle.template_names_undeclared.proofs.targets.use_assignments.Given as goa
 
 abbrev pub invariant-loop-assignment : goal.invariant-loop-assignment
 invariant-loop-assignment l = (c : Names) →
-    Goes (λ name. is_used_from name (assignments_in (drop l.assignment-index l.assignments)) false)
+    Goes (λ places. place_from places (assignments_in (drop l.assignment-index l.assignments)) false)
     (λ name. is_assigned name (assignments_in (drop l.assignment-index l.assignments))) l.names c →
-    Goes (λ name. is_used_from name (assignments_in l.assignments) false) (λ name. is_assigned name (assignments_in l.assignments)) l.initial.names c
+    Goes (λ places. place_from places (assignments_in l.assignments) false) (λ name. is_assigned name (assignments_in l.assignments)) l.initial.names c

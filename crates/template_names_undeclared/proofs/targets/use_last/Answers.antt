@@ -1,6 +1,6 @@
 use Rattle.std.proofs.Common.{◌≡◌, ◌≤◌, ◌+◌, ◌-◌, ℕ, length, take, arith, sym, ap, ◌∙◌}
 use Rattle.template_tree.specs.Tree.{Expressions}
-use Rattle.template_names_undeclared.specs.Stores.{backwards, first_stands}
+use Rattle.template_names_undeclared.specs.Stores.{backwards, place_in_first}
 use Rattle.template_names_undeclared.proofs.Laws.{uses_as}
 use Rattle.template_names_undeclared.proofs.Storing.{backwards_last}
 use Rattle.template_names_undeclared.proofs.targets.use_last.Goals as goal
@@ -14,4 +14,4 @@ returns c =
     let one : given ≡ given - 1 + 1 = omega (arith, tested) in
     let tree = ap (λ (n : ℕ). backwards (take n ds)) one ∙
     backwards_last ds (given - 1) c.index-defaults-last.result (omega (arith, inside, tested)) c.index-defaults-last.is in
-    uses_as (λ q. ap (λ (es : Expressions). first_stands q es) (sym tree)) c.in_ok-use_expression.ensures
+    uses_as (λ q. ap (λ (es : Expressions). place_in_first q es) (sym tree)) c.in_ok-use_expression.ensures

@@ -1,4 +1,4 @@
-use Rattle.std.proofs.Common.{ℕ, List, Bor, sym, subst}
+use Rattle.std.proofs.Common.{String, Global, sym, subst}
 use Rattle.std.specs.BTreeSet.{BTreeSet}
 use Rattle.template_tree.specs.StatementView.{statement_of}
 use Rattle.template_names_undeclared.specs.Found.{HasJust}
@@ -7,6 +7,6 @@ use Rattle.template_names_undeclared.proofs.undeclared.find_undeclared.Goals as 
 
 pub returns : goal.returns
 returns c =
-    subst (λ (names : BTreeSet (Bor (List ℕ))). HasJust (statement_of c.args.tree.now) names) (sym c.into_found.ensures)
-    (whole_names (statement_of c.args.tree.now) c.new-names.result c.store.new.self c.store-2.new.self c.use_statement.new.names
-    c.new-names.ensures.found c.new-names.ensures.known c.in_ok-store.ensures c.in_ok-store-2.ensures c.in_ok-use_statement.ensures)
+    subst (λ (names : BTreeSet (String Global)). HasJust c.args.track_nested (statement_of c.args.tree.now) names) (sym c.into_found.ensures)
+    (whole_names (statement_of c.args.tree.now) c.args.track_nested c.new-names.result c.store.new.self c.store-2.new.self c.use_statement.new.names
+    c.new-names.ensures.nested c.new-names.ensures.found c.new-names.ensures.known c.in_ok-store.ensures c.in_ok-store-2.ensures c.in_ok-use_statement.ensures)

@@ -1,18 +1,49 @@
-use Rattle.std.proofs.Common.{Bool, ◌||◌, refl, sym, ap, ◌∙◌}
-use Rattle.template_names_undeclared.specs.Goes.{has}
+use Rattle.std.proofs.Common.{ℕ, List, ◌||◌, inl, inr, refl, sym, ap, ◌∙◌, bytes_eq}
+use Rattle.std.specs.BTreeSet.{contains_text}
+use Rattle.template_names_undeclared.specs.Goes.{fields_of}
 use Rattle.template_names_undeclared.proofs.Laws.{goes_nowhere}
-use Rattle.template_names_undeclared.proofs.Sets.{has_more, unknown}
+use Rattle.template_names_undeclared.proofs.Sets.{alone, dotted, known_place, more}
 use Rattle.template_names_undeclared.proofs.state.Names.find.Goals as goal
 
-pub returns-in_ok-insert : goal.returns-in_ok-insert
-returns-in_ok-insert c =
+pub returns-then-knows : goal.returns-then-knows
+returns-then-knows c =
+    let old = c.args.self.now in
+    let still = goes_nowhere old in
+    record {
+      found = λ q. (
+        λ h. inl h,
+        λ h. elim h [ inl i ↦ i | inr f ↦ absurd (known_place old c.args.name.now (fields_of c.args.behind.now) (sym c.knows.ensures ∙ c.if-knows.true) q f) ],
+      );
+      here = still.here;
+      outer = refl;
+      nested = refl;
+    }
+
+pub returns-in_ok-add_text : goal.returns-in_ok-add_text
+returns-in_ok-add_text c =
     let old = c.args.self.now in
     let id = c.args.name.now in
+    let fields = fields_of c.args.behind.now in
     let still = goes_nowhere old in
     record {
       found = λ q.
-          has_more old.found c.insert.new.self id q (c.in_ok-insert.ensures.updates.0 record { ref_ptr = (0, 0); now = q }) ∙
-          ap (λ (b : Bool). has old.found q || b) (unknown old id q (sym c.knows.ensures ∙ c.if-not-knows.true));
+          more (contains_text old.found q) (contains_text c.add_text.new.names q) _ _
+          (c.in_ok-add_text.ensures.added q ∙ ap (λ (bs : List ℕ). contains_text old.found q || bytes_eq bs q) c.in_ok-join.ensures)
+          (dotted old id fields c.if-self.true (sym c.knows.ensures ∙ c.if-knows.false) q);
       here = still.here;
       outer = refl;
+      nested = refl;
+    }
+
+pub returns-in_ok-add_name : goal.returns-in_ok-add_name
+returns-in_ok-add_name c =
+    let old = c.args.self.now in
+    let still = goes_nowhere old in
+    record {
+      found = λ q.
+          more (contains_text old.found q) (contains_text c.add_name.new.names q) _ _ (c.in_ok-add_name.ensures.added q)
+          (alone old c.args.name.now (fields_of c.args.behind.now) c.if-self.false (sym c.knows.ensures ∙ c.if-knows.false) q);
+      here = still.here;
+      outer = refl;
+      nested = refl;
     }

@@ -10,4 +10,5 @@ returns c =
       found = still.found;
       here = λ q. has_more c.args.self.now.here c.insert.new.self c.args.name.now q (c.in_ok-insert.ensures.updates.0 record { ref_ptr = (0, 0); now = q });
       outer = refl;
+      nested = refl;
     }

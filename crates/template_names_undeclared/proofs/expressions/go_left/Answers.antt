@@ -1,0 +1,18 @@
+use Rattle.std.proofs.Common.{[], ◌∷◌, ◌++◌, sym, ap, ◌∙◌}
+use Rattle.template_tree.specs.View.{expression_of}
+use Rattle.template_tree.specs.declared.expressions.Expr.{Expr}
+use Rattle.template_tree.specs.declared.expressions.GetAttr.{GetAttr as GetAttrNode}
+use Rattle.template_names_undeclared.specs.Goes.{fields_of}
+use Rattle.template_names_undeclared.specs.Parts.{fields_left}
+use Rattle.template_names_undeclared.proofs.Nodes.{no_fields}
+use Rattle.template_names_undeclared.proofs.Sets.{gathered_push}
+use Rattle.template_names_undeclared.proofs.expressions.go_left.Goals as goal
+
+pub returns-in_ok-push-in-GetAttr : goal.returns-in_ok-push-in-GetAttr
+returns-in_ok-push-in-GetAttr c =
+    let fields = fields_of c.args.behind.now.items in
+    ap fields_of (c.in_ok-push-in-GetAttr.ensures.items ∙ ap (λ (x : GetAttrNode). c.args.behind.now.items ++ x.name ∷ []) c.deref.ensures) ∙
+    gathered_push c.args.behind.now.items c.in-GetAttr.n.node.value.name [] ∙ ap (λ (x : Expr). fields_left (expression_of x) fields) (sym c.in-GetAttr.is)
+
+pub returns-in-Compare : goal.returns-in-Compare
+returns-in-Compare c = ap fields_of c.clear-in-Compare.ensures.items ∙ no_fields (fields_of c.args.behind.now.items) c.args.expr.now c.in-Compare.field-0 c.in-Compare.is
