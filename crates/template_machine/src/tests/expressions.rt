@@ -89,7 +89,7 @@ fn names_that_an_expression_uses(rt: HostRuntime) -> Result<(), Fail> {
     assert_eq!(rt; names.len(), 2);
     assert!(rt; names.contains("a") && names.contains("b"));
     let nested = expression.undeclared_variables(true)?;
-    assert_eq!(rt; nested.len(), 2);
-    assert!(rt; nested.contains("a") && nested.contains("b.c"));
+    assert_eq!(rt; nested.len(), 3);
+    assert!(rt; nested.contains("a") && nested.contains("b") && nested.contains("b.c"));
     Ok(())
 }
