@@ -1,5 +1,5 @@
 //! Constant trees and their values.
-use crate::{Error, as_const, is_runnable_expr, parse_expr};
+use crate::{Error, as_const, parse_expr};
 use std::alloc::Global;
 use std::test::Fail;
 
@@ -8,9 +8,6 @@ type Constant = (bool, Option<i128>, Option<String>);
 
 fn constant(alloc: Global, source: &str) -> Result<Constant, Error> {
     let tree = parse_expr(alloc, source)?;
-    if !is_runnable_expr(&tree) {
-        return Ok((false, None, None));
-    }
     match as_const(alloc, &tree)? {
         Some(value) => {
             let text = match value.as_str() {
@@ -30,7 +27,7 @@ fn operators_of_constants_are_folded(rt: HostRuntime) -> Result<(), Fail> {
     assert_eq!(rt; number, Some(-1));
     let (_, _, text) = constant(rt.alloc(), "\"a\" and \"b\"")?;
     assert_eq!(rt; text.as_ref().map(|text| text.as_str()), Some("b"));
-    for source in ["1 > 2 > x", "[1, 2]", "not 0", "-1"] {
+    for source in ["1 > 2 > x", "1 > 2 > x|f", "[1, 2]", "not 0", "-1"] {
         assert!(rt; constant(rt.alloc(), source)?.0, "{source}");
     }
     for source in [
@@ -41,6 +38,15 @@ fn operators_of_constants_are_folded(rt: HostRuntime) -> Result<(), Fail> {
         "1 // 0",
         "1 + \"a\"",
         "\"a\" if 1",
+        "x",
+        "x|f",
+        "1|f",
+        "f(1)",
+        "1 is odd",
+        "\"a\".b",
+        "\"a\"[0]",
+        "1 < 2 < x|f",
+        "0 and f(1)",
     ] {
         assert!(rt; !constant(rt.alloc(), source)?.0, "{source}");
     }
