@@ -3,12 +3,10 @@
 
 mod compiled;
 mod config;
-mod constants;
 mod expression;
 mod templates;
 
 pub use compiled::{CompiledTemplate, one_tree, plain_text};
 pub use config::TemplateConfig;
-pub use constants::as_const;
 pub use expression::{CompiledExpression, one_standalone_tree};
 pub use templates::CompiledTemplates;

@@ -52,8 +52,8 @@ pub use template_code::{
 };
 pub use template_code_references::get_referenced_names;
 pub use template_compiled::{
-    CompiledExpression, CompiledTemplate, CompiledTemplates, TemplateConfig, as_const,
-    one_standalone_tree, one_tree, plain_text,
+    CompiledExpression, CompiledTemplate, CompiledTemplates, TemplateConfig, one_standalone_tree,
+    one_tree, plain_text,
 };
 pub use template_compiler_codegen::{expressions_perform, templates_perform};
 pub use template_compiler_expression_codegen::compile_expr;
@@ -65,5 +65,6 @@ pub use template_compiler_statement_laws::{is_decided, one_template, reads_the_g
 pub use template_compiler_syntax::{StartMarker, SyntaxConfig, SyntaxConfigBuilder};
 pub use template_compiler_tokenizer::{TokenStream, Tokenizer};
 pub use template_compiler_tokens::{Token, Tokens, one_token};
+pub use template_constants::as_const;
 pub use template_names_undeclared::{add_undeclared, find_undeclared, first_segments};
 pub use template_values_errors::{Error, ErrorKind};
