@@ -125,7 +125,8 @@ impl<'source, R: AutoEscapeRule> Environment<'source, R> {
         ids: &mut StateIds,
     ) -> Result<Environment<'source, R>, Error>
         ensures empty { IfOk result (λ e. (name : List ℕ) → source_at (registry_of e) name ≡ None) }
-        ensures settings { IfOk result (λ e. settings_of (registry_of e) ≡ new_settings ids.old config.syntax_config config.default_auto_escape) }
+        ensures settings { IfOk result (λ e. settings_of (registry_of e)
+            ≡ new_settings ids.old config.syntax_config config.default_auto_escape) }
         ensures callback { IfOk result (λ e. callback_of e ≡ callback) }
         ensures had_one { OnOk result (ids.old ≢ u64.MAX) }
         ensures counted { OnOk result (ids.new ≡ ids.old + 1) }

@@ -37,7 +37,8 @@ fields_are [] = refl
 fields_are (x ∷ xs) = ap (λ b. b && are_fields xs xs) ((bytes_eq-Decides x x).1 refl) ∙ fields_are xs
 
 mutual
-  before_splits : (name : List ℕ) (before : List (List ℕ)) (e : Expression) → Splits (place_before (anywhere name) before e) (λ fields. place_before (along name fields) before e)
+  before_splits : (name : List ℕ) (before : List (List ℕ)) (e : Expression) →
+      Splits (place_before (anywhere name) before e) (λ fields. place_before (along name fields) before e)
   before_splits name before (variable id) =
       (λ h. (before, ap (λ b. b && bytes_eq id name) (fields_are before) ∙ h), λ s. both_of (are_fields before s.0) (bytes_eq id name) s.1)
   before_splits name before (constant v) = none_splits
@@ -65,15 +66,18 @@ mutual
   one_splits name no_expressions = none_splits
   one_splits name (expressions_more e es) = or_splits (before_splits name [] e) (one_splits name es)
 
-  links_split : (name : List ℕ) (links : Links) → Splits (place_in_links (anywhere name) links) (λ fields. place_in_links (along name fields) links)
+  links_split : (name : List ℕ) (links : Links) →
+      Splits (place_in_links (anywhere name) links) (λ fields. place_in_links (along name fields) links)
   links_split name no_links = none_splits
   links_split name (links_more op e links) = or_splits (before_splits name [] e) (links_split name links)
 
-  arguments_split : (name : List ℕ) (arguments : Arguments) → Splits (place_in_arguments (anywhere name) arguments) (λ fields. place_in_arguments (along name fields) arguments)
+  arguments_split : (name : List ℕ) (arguments : Arguments) →
+      Splits (place_in_arguments (anywhere name) arguments) (λ fields. place_in_arguments (along name fields) arguments)
   arguments_split name no_arguments = none_splits
   arguments_split name (arguments_more argument more) = or_splits (argument_splits name argument) (arguments_split name more)
 
-  argument_splits : (name : List ℕ) (argument : Argument) → Splits (place_in_argument (anywhere name) argument) (λ fields. place_in_argument (along name fields) argument)
+  argument_splits : (name : List ℕ) (argument : Argument) →
+      Splits (place_in_argument (anywhere name) argument) (λ fields. place_in_argument (along name fields) argument)
   argument_splits name (positional e) = before_splits name [] e
   argument_splits name (keyword key e) = before_splits name [] e
   argument_splits name (positional_spread e) = before_splits name [] e
@@ -83,7 +87,8 @@ in_splits : (name : List ℕ) (e : Expression) → Splits (place_in (anywhere na
 in_splits name e = before_splits name [] e
 
 mutual
-  target_splits : (name : List ℕ) (target : Expression) → Splits (place_in_target (anywhere name) target) (λ fields. place_in_target (along name fields) target)
+  target_splits : (name : List ℕ) (target : Expression) →
+      Splits (place_in_target (anywhere name) target) (λ fields. place_in_target (along name fields) target)
   target_splits name (attribute e field) = in_splits name (attribute e field)
   target_splits name (list_literal targets) = targets_split name targets
   target_splits name (variable id) = none_splits
@@ -100,7 +105,8 @@ mutual
   target_splits name (tuple_literal es) = none_splits
   target_splits name (map_literal ks vs) = none_splits
 
-  targets_split : (name : List ℕ) (targets : Expressions) → Splits (place_in_targets (anywhere name) targets) (λ fields. place_in_targets (along name fields) targets)
+  targets_split : (name : List ℕ) (targets : Expressions) →
+      Splits (place_in_targets (anywhere name) targets) (λ fields. place_in_targets (along name fields) targets)
   targets_split name no_expressions = none_splits
   targets_split name (expressions_more target targets) =
       or_splits (target_splits name target) (and_splits (not (is_stored_in name target)) (targets_split name targets))
@@ -154,9 +160,11 @@ mutual
   by_splits name break_loop = none_splits
   by_splits name (do_call callee arguments) = or_splits (in_splits name callee) (arguments_split name arguments)
 
-  within_splits : (name : List ℕ) (ss : Statements) → Splits (place_within (anywhere name) ss) (λ fields. place_within (along name fields) ss)
+  within_splits : (name : List ℕ) (ss : Statements) →
+      Splits (place_within (anywhere name) ss) (λ fields. place_within (along name fields) ss)
   within_splits name no_statements = none_splits
   within_splits name (statements_more s ss) = or_splits (by_splits name s) (and_splits (not (is_stored_by name s)) (within_splits name ss))
 
-pub used_splits : (name : List ℕ) (tree : Statements) → Splits (uses_place (anywhere name) tree) (λ fields. uses_place (along name fields) tree)
+pub used_splits : (name : List ℕ) (tree : Statements) →
+    Splits (uses_place (anywhere name) tree) (λ fields. uses_place (along name fields) tree)
 used_splits name tree = and_splits (not (is_stored_everywhere name)) (within_splits name tree)

@@ -43,7 +43,8 @@ abbrev mutual
   place_before places fields (unary op e) = place_before places [] e
   place_before places fields (binary op left right) = place_before places [] left || place_before places [] right
   place_before places fields (chain first links) = place_before places [] first || place_in_links places links
-  place_before places fields (conditional test branch otherwise) = place_before places [] test || place_before places [] branch || place_if_given places otherwise
+  place_before places fields (conditional test branch otherwise) =
+      place_before places [] test || place_before places [] branch || place_if_given places otherwise
   place_before places fields (filtered filter value arguments) = place_if_given places value || place_in_arguments places arguments
   place_before places fields (tested test e arguments) = place_before places [] e || place_in_arguments places arguments
   place_before places fields (attribute e field) = place_before places (field ∷ fields) e
@@ -150,12 +151,14 @@ abbrev mutual
   place_by places (print e) = place_in places e
   place_by places (for_loop target e filter recursive body otherwise) =
       place_in places e || place_in_target places target
-      || not (is_stored_in places.name target) && (place_if_given places filter || not (bytes_eq places.name (codes "loop")) && place_within places body)
+      || not (is_stored_in places.name target)
+      && (place_if_given places filter || not (bytes_eq places.name (codes "loop")) && place_within places body)
       || place_within places otherwise
   place_by places (if_condition e body otherwise) = place_in places e || place_within places body || place_within places otherwise
   place_by places (with_block assignments body) = place_from places assignments (place_within places body)
   place_by places (set target e) = place_in places e || place_in_target places target
-  place_by places (set_block target filters body) = place_within places body || place_if_given places filters || place_in_target places target
+  place_by places (set_block target filters body) =
+      place_within places body || place_if_given places filters || place_in_target places target
   place_by places (auto_escape e body) = place_in places e || place_within places body
   place_by places (filter_block e body) = place_within places body || place_in places e
   place_by places (block id required body) = place_within places body
