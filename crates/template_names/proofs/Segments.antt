@@ -11,7 +11,7 @@ Splits b f = IsTrue b ↔ ((fields : List (List ℕ)) × IsTrue (f fields))
 none_splits : Splits false (λ fields. false)
 none_splits = (λ h. cc, λ h. h.1)
 
-either : (a b : Bool) → IsTrue (a || b) ↔ (IsTrue a ⊎ IsTrue b)
+pub either : (a b : Bool) → IsTrue (a || b) ↔ (IsTrue a ⊎ IsTrue b)
 either true b = (λ h. inl refl, λ h. refl)
 either false b = (λ h. inr h, λ h. elim h [ inl n ↦ cc | inr y ↦ y ])
 
@@ -32,7 +32,7 @@ both_of : (a b : Bool) → IsTrue (a && b) → IsTrue b
 both_of true b h = h
 both_of false b h = cc
 
-fields_are : (fields : List (List ℕ)) → are_fields fields fields ≡ true
+pub fields_are : (fields : List (List ℕ)) → are_fields fields fields ≡ true
 fields_are [] = refl
 fields_are (x ∷ xs) = ap (λ b. b && are_fields xs xs) ((bytes_eq-Decides x x).1 refl) ∙ fields_are xs
 

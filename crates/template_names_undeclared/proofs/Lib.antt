@@ -1,8 +1,3 @@
-pub mod Adding
-pub mod Bodies
-pub mod Laws
-pub mod Nodes
-pub mod Sets
-pub mod Storing
+mod Adding
 pub mod Walking
-pub mod Whole
+mod Whole

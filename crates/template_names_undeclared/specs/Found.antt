@@ -3,7 +3,8 @@ use Rattle.std.specs.Prelude.{◌≡◌, ℕ, Bool, not, ◌&&◌, ◌||◌, ◌
 use Rattle.std.specs.BTreeSet.{BTreeSet, contains_text}
 use Rattle.template_tree.specs.Tree.{Statement, template}
 use Rattle.template_names.specs.Names.{IsToldFor, Places, anywhere, is_stored_everywhere, place_by, uses_place}
-use Rattle.template_names_undeclared.specs.Goes.{Among}
+pub use Rattle.template_names_state.specs.Among.{Adds}
+use Rattle.template_names_state.specs.Among.{Among}
 
 -- whether one of the places is in the tree, and used; of a whole template `uses_place` says it
 abbrev pub has_place : Statement → Places → Bool
@@ -18,10 +19,6 @@ uses s name = has_place s (anywhere name)
 abbrev pub HasJust : {A : Type 0} → Bool → Statement → BTreeSet (String A) → Type 0
 HasJust nested s names = (text : List ℕ) → IsTrue (contains_text names text)
     ↔ ((places : Places) × IsToldFor nested text places × IsTrue (has_place s places))
-
--- the set has the names that were there and those that are among the others, and no more
-abbrev pub Adds : {A : Type 0} → Among → BTreeSet (String A) → BTreeSet (String A) → Type 0
-Adds among old new = (name : List ℕ) → contains_text new name ≡ (contains_text old name || among name)
 
 -- the set has the names that were there and those that the tree uses, and no others
 abbrev pub AddsJust : {A : Type 0} → Statement → BTreeSet (String A) → BTreeSet (String A) → Type 0

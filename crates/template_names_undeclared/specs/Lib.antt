@@ -1,5 +1,2 @@
-pub mod Choices
 pub mod Found
-pub mod Goes
-pub mod Parts
-pub mod Stores
+pub use Rattle.template_names_state.specs.Among

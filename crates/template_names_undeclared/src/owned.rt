@@ -1,13 +1,14 @@
 //! Owned sets of names, to which templates add theirs.
-ghost use Rattle.std.specs.Prelude.{◌≡◌, ℕ, List, OnErr, OnOk, string_bytes};
+ghost use Rattle.std.specs.Prelude.{OnErr, OnOk};
 ghost use Rattle.std.specs.BTreeSet.{contains_text};
 ghost use Rattle.template_tree.specs.StatementView.{statement_of};
-ghost use Rattle.template_names_undeclared.specs.Found.{Adds, AddsJust, AddsSome, uses};
-ghost use Rattle.template_names_undeclared.specs.Goes.{just};
+ghost use Rattle.template_names_state.specs.Among.{Adds};
+ghost use Rattle.template_names_undeclared.specs.Found.{AddsJust, AddsSome, uses};
 
 use crate::undeclared::find_undeclared;
 use std::alloc::{AllocError, Global};
 use std::collections::BTreeSet;
+use template_names_state::add_text;
 use template_tree::Stmt;
 
 /// Adds the names that a template uses to a set of names. Takes what [`find_undeclared`] takes, and a
@@ -35,29 +36,5 @@ fn add_names(names: &mut BTreeSet<String>, used: BTreeSet<String>) -> Result<(),
     for name in used {
         add_text(names, name)?;
     }
-    Ok(())
-}
-
-/// Adds a name to a set of names. Takes a look-up in the set, and memory where the name is new there.
-///
-/// # Errors
-///
-/// Want of memory; the set is then as it was.
-pub fn add_name(alloc: Global, names: &mut BTreeSet<String>, name: &str) -> Result<(), AllocError>
-    ensures added { OnOk result (Adds (just name.now) names.old names.new) }
-    ensures unchanged { OnErr result ((q : List ℕ) → contains_text names.new q ≡ contains_text names.old q) }
-{
-    if !names.contains(name) {
-        add_text(names, String::from_str(alloc, name)?)?;
-    }
-    Ok(())
-}
-
-// Adds a text to a set of them.
-pub(crate) fn add_text(names: &mut BTreeSet<String>, text: String) -> Result<(), AllocError>
-    ensures added { OnOk result (Adds (just (string_bytes text)) names.old names.new) }
-    ensures unchanged { OnErr result ((q : List ℕ) → contains_text names.new q ≡ contains_text names.old q) }
-{
-    names.insert(text)?;
     Ok(())
 }

@@ -1,0 +1,2 @@
+mod Nodes
+pub mod Storing

@@ -1,0 +1,34 @@
+use Rattle.std.proofs.Common.{List as Items, arith, refl, ap, ◌∙◌}
+use Rattle.template_tree.specs.View.{expression_of, expressions_in}
+use Rattle.template_tree.specs.declared.expressions.List.{List as ListNode}
+use Rattle.template_tree.specs.declared.expressions.Expr.{Expr}
+use Rattle.template_names.specs.Names.{is_stored_in, is_stored_in_one, place_in_target, place_in_targets}
+use Rattle.template_names_state.proofs.Laws.{goes_as, goes_end, goes_item, goes_nowhere, goes_on}
+use Rattle.template_names_expressions.proofs.Storing.{stored_chain, stored_list, used_chain, used_list}
+use Rattle.template_names_expressions.proofs.targets.+assigned.Goals as goal
+
+pub assign_target-returns-in-List : goal.assign_target-returns-in-List
+assign_target-returns-in-List t c =
+    let read = c.deref-in-List.ensures.value ∙ ap (λ (x : ListNode). x.items.items) c.deref.ensures in
+    goes_on c.args.names.now c.assign_targets.new.names c.assign_targets.result
+    (λ q. ap (λ (es : Items Expr). place_in_targets q (expressions_in es)) read ∙ used_list q c.args.target.now c.in-List.n c.in-List.is)
+    (λ q. ap (λ (es : Items Expr). is_stored_in_one q (expressions_in es)) read ∙ stored_list q c.args.target.now c.in-List.n c.in-List.is)
+    c.assign_targets.ensures
+
+pub assign_target-returns-in-Compare : goal.assign_target-returns-in-Compare
+assign_target-returns-in-Compare t c =
+    goes_as (λ q. used_chain q c.args.target.now c.in-Compare.field-0 c.in-Compare.is)
+    (λ q. stored_chain q c.args.target.now c.in-Compare.field-0 c.in-Compare.is) (goes_nowhere c.args.names.now)
+
+pub assign_targets-loop-target-preserved : goal.assign_targets-loop-target-preserved
+assign_targets-loop-target-preserved t c =
+    goes_item (λ (e : Expr) places. place_in_target places (expression_of e)) (λ (e : Expr) name. is_stored_in name (expression_of e))
+    (λ (es : Items Expr) places. place_in_targets places (expressions_in es)) (λ (es : Items Expr) name. is_stored_in_one name (expressions_in es))
+    (λ e es q. refl) (λ e es q. refl)
+    c.args.targets.now c.loop-target.target-index c.target-item.result c.loop-target.names c.assign_target.new.names (omega arith) c.target-item.is
+    c.loop-target.invariant c.in_ok-assign_target.ensures
+
+pub assign_targets-returns : goal.assign_targets-returns
+assign_targets-returns t c =
+    goes_end (λ (es : Items Expr) places. place_in_targets places (expressions_in es)) (λ (es : Items Expr) name. is_stored_in_one name (expressions_in es))
+    (λ q. refl) (λ q. refl) c.args.targets.now c.loop-target.target-index c.loop-target.names c.loop-target-test.false c.loop-target.invariant

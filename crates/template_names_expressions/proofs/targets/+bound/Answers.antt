@@ -1,0 +1,32 @@
+use Rattle.std.proofs.Common.{List as Items, arith, refl, ap, ◌∙◌}
+use Rattle.template_tree.specs.View.{expression_of, expressions_in}
+use Rattle.template_tree.specs.declared.expressions.List.{List as ListNode}
+use Rattle.template_tree.specs.declared.expressions.Expr.{Expr}
+use Rattle.template_names.specs.Names.{is_stored_in, is_stored_in_one}
+use Rattle.template_names_state.specs.Goes.{no_place}
+use Rattle.template_names_state.proofs.Laws.{goes_as, goes_end, goes_item, goes_nowhere, goes_on}
+use Rattle.template_names_expressions.proofs.Storing.{none_used, stored_chain, stored_list}
+use Rattle.template_names_expressions.proofs.targets.+bound.Goals as goal
+
+pub bind_target-returns-in-List : goal.bind_target-returns-in-List
+bind_target-returns-in-List t c =
+    let read = c.deref-in-List.ensures.value ∙ ap (λ (x : ListNode). x.items.items) c.deref.ensures in
+    goes_on c.args.names.now c.bind_targets.new.names c.bind_targets.result (λ q. refl)
+    (λ q. ap (λ (es : Items Expr). is_stored_in_one q (expressions_in es)) read ∙ stored_list q c.args.target.now c.in-List.n c.in-List.is)
+    c.bind_targets.ensures
+
+pub bind_target-returns-in-Compare : goal.bind_target-returns-in-Compare
+bind_target-returns-in-Compare t c =
+    goes_as (λ q. refl) (λ q. stored_chain q c.args.target.now c.in-Compare.field-0 c.in-Compare.is) (goes_nowhere c.args.names.now)
+
+pub bind_targets-loop-target-preserved : goal.bind_targets-loop-target-preserved
+bind_targets-loop-target-preserved t c =
+    goes_item (λ (e : Expr). no_place) (λ (e : Expr) name. is_stored_in name (expression_of e)) (λ (es : Items Expr). no_place)
+    (λ (es : Items Expr) name. is_stored_in_one name (expressions_in es)) (λ e es q. none_used (is_stored_in q.name (expression_of e))) (λ e es q. refl)
+    c.args.targets.now c.loop-target.target-index c.target-item.result c.loop-target.names c.bind_target.new.names (omega arith) c.target-item.is
+    c.loop-target.invariant c.in_ok-bind_target.ensures
+
+pub bind_targets-returns : goal.bind_targets-returns
+bind_targets-returns t c =
+    goes_end (λ (es : Items Expr). no_place) (λ (es : Items Expr) name. is_stored_in_one name (expressions_in es)) (λ q. refl) (λ q. refl)
+    c.args.targets.now c.loop-target.target-index c.loop-target.names c.loop-target-test.false c.loop-target.invariant

@@ -1,0 +1,14 @@
+-- What is left ends as all does.
+use Rattle.std.proofs.Common.{drop, false}
+use Rattle.template_tree.specs.StatementView.{assignments_in}
+use Rattle.template_names.specs.Names.{place_from}
+use Rattle.template_names_state.specs.declared.state.Names.{Names}
+use Rattle.template_names_state.specs.Goes.{Goes}
+use Rattle.template_names_expressions.specs.Stores.{is_assigned}
+use Rattle.template_names_expressions.proofs.targets.use_assignments.Given as goal
+
+abbrev pub invariant-loop-assignment : goal.invariant-loop-assignment
+invariant-loop-assignment l = (c : Names) →
+    Goes (λ places. place_from places (assignments_in (drop l.assignment-index l.assignments)) false)
+    (λ name. is_assigned name (assignments_in (drop l.assignment-index l.assignments))) l.names c →
+    Goes (λ places. place_from places (assignments_in l.assignments) false) (λ name. is_assigned name (assignments_in l.assignments)) l.initial.names c

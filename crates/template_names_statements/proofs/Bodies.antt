@@ -1,0 +1,77 @@
+-- The trees of statements, from the parts that a node holds, and walks of statements seen by their trees.
+use Rattle.std.proofs.Common.{◌≡◌, ℕ, Bool, false, Result, OnOk, List as Items, Box, Global, rules, sym, ap, ◌∙◌}
+use Rattle.template_tree.specs.Tree.{Statement, set_block, filter_block, block, macro, call_block}
+use Rattle.template_tree.specs.View.{expression_of, expressions_in, arguments_in, optional_in}
+use Rattle.template_tree.specs.StatementView.{statement_of}
+use Rattle.template_tree.specs.declared.expressions.Expr.{Expr}
+use Rattle.template_tree.specs.declared.span.Spanned.{Spanned}
+use Rattle.template_tree.specs.declared.statements.Block.{Block as BlockNode}
+use Rattle.template_tree.specs.declared.statements.CallBlock.{CallBlock, CallBlock' as called, out-CallBlock}
+use Rattle.template_tree.specs.declared.statements.FilterBlock.{FilterBlock as FilterBlockNode}
+use Rattle.template_tree.specs.declared.statements.Macro.{Macro as MacroNode}
+use Rattle.template_tree.specs.declared.statements.SetBlock.{SetBlock as SetBlockNode}
+use Rattle.template_tree.specs.declared.statements.Stmt.{Stmt, Block, CallBlock as calls, FilterBlock, Macro, SetBlock, the_lemmas}
+use Rattle.template_tree_parts.specs.Listed.{statements_in}
+use Rattle.template_tree_parts.proofs.Rows.{statements_row}
+use Rattle.template_names.specs.Names.{Places, is_stored_by, place_by, place_of_macro, place_within}
+use Rattle.template_names_state.specs.declared.state.Names.{Names}
+use Rattle.template_names_state.specs.Among.{Among, nothing}
+use Rattle.template_names_state.specs.Goes.{Goes}
+use Rattle.template_names_state.proofs.Laws.{goes_on}
+
+-- a walk of a node is one of the statement that it stands in
+pub at_node : {T E : Type 0} {s x : Stmt} (a b : Names) (r : Result T E) → s ≡ x → ((q : Items ℕ) → false ≡ is_stored_by q (statement_of x)) →
+    OnOk r (Goes (λ q. place_by q (statement_of x)) nothing a b) → OnOk r (Goes (λ q. place_by q (statement_of s)) (λ q. is_stored_by q (statement_of s)) a b)
+at_node a b r is none goes =
+    goes_on a b r (λ q. ap (λ (y : Stmt). place_by q (statement_of y)) (sym is))
+    (λ q. none q ∙ ap (λ (y : Stmt). is_stored_by q (statement_of y)) (sym is)) goes
+
+-- and one of what its tree uses and stores is a walk of the statement
+pub at_tree : {T E : Type 0} {u : Places → Bool} {k : Among} (s : Stmt) (t : Statement) (a b : Names) (r : Result T E) → statement_of s ≡ t →
+    ((q : Places) → u q ≡ place_by q t) → ((q : Items ℕ) → k q ≡ is_stored_by q t) → OnOk r (Goes u k a b) →
+    OnOk r (Goes (λ q. place_by q (statement_of s)) (λ q. is_stored_by q (statement_of s)) a b)
+at_tree s t a b r tree uses stores goes =
+    goes_on a b r (λ q. uses q ∙ ap (λ (x : Statement). place_by q x) (sym tree)) (λ q. stores q ∙ ap (λ (x : Statement). is_stored_by q x) (sym tree)) goes
+
+pub set_block_tree : (n : Spanned (Box SetBlockNode Global)) → statement_of (SetBlock n)
+    ≡ set_block (expression_of n.node.value.target) (optional_in n.node.value.filter) (statements_in n.node.value.body.items)
+set_block_tree n = search (rules, the_lemmas, statements_row)
+
+pub filter_block_tree : (n : Spanned (Box FilterBlockNode Global)) → statement_of (FilterBlock n)
+    ≡ filter_block (expression_of n.node.value.filter) (statements_in n.node.value.body.items)
+filter_block_tree n = search (rules, the_lemmas, statements_row)
+
+pub block_tree : (n : Spanned (Box BlockNode Global)) → statement_of (Block n)
+    ≡ block n.node.value.name.now n.node.value.required (statements_in n.node.value.body.items)
+block_tree n = search (rules, the_lemmas, statements_row)
+
+pub macro_tree : (n : Spanned (Box MacroNode Global)) → statement_of (Macro n)
+    ≡ macro n.node.value.name.now (expressions_in n.node.value.args.items) (expressions_in n.node.value.defaults.items) (statements_in n.node.value.body.items)
+macro_tree n = search (rules, the_lemmas, statements_row)
+
+with_value : Spanned (Box CallBlock Global) → CallBlock → Spanned (Box CallBlock Global)
+with_value n v = record { node = record { ptr = n.node.ptr; alloc = n.node.alloc; value = v }; span = n.span }
+
+call_by : (n : Spanned (Box CallBlock Global)) (v : CallBlock) → statement_of (calls (with_value n v))
+    ≡ call_block (expression_of (out-CallBlock v).call.node.value.expr) (arguments_in (out-CallBlock v).call.node.value.args.items)
+    (expressions_in (out-CallBlock v).macro_decl.node.value.args.items) (expressions_in (out-CallBlock v).macro_decl.node.value.defaults.items)
+    (statements_in (out-CallBlock v).macro_decl.node.value.body.items)
+unfolding with_value out-CallBlock
+call_by n (called call q name args defaults shape body inner) = search (rules, the_lemmas, statements_row)
+
+pub call_tree : (n : Spanned (Box CallBlock Global)) → statement_of (calls n)
+    ≡ call_block (expression_of (out-CallBlock n.node.value).call.node.value.expr) (arguments_in (out-CallBlock n.node.value).call.node.value.args.items)
+    (expressions_in (out-CallBlock n.node.value).macro_decl.node.value.args.items) (expressions_in (out-CallBlock n.node.value).macro_decl.node.value.defaults.items)
+    (statements_in (out-CallBlock n.node.value).macro_decl.node.value.body.items)
+unfolding with_value
+call_tree n = call_by n n.node.value
+
+-- a macro, by the lists that are read from its node
+pub macro_reads : (q : Places) {body body' : Items Stmt} {arguments arguments' defaults defaults' : Items Expr} →
+    body ≡ body' → arguments ≡ arguments' → defaults ≡ defaults' →
+    place_of_macro q (expressions_in arguments) (expressions_in defaults) (place_within q (statements_in body))
+    ≡ place_of_macro q (expressions_in arguments') (expressions_in defaults') (place_within q (statements_in body'))
+macro_reads q {body} {body'} {arguments} {arguments'} {defaults} {defaults'} bodies xs ds =
+    ap (λ (ss : Items Stmt). place_of_macro q (expressions_in arguments) (expressions_in defaults) (place_within q (statements_in ss))) bodies ∙
+    ap (λ (es : Items Expr). place_of_macro q (expressions_in es) (expressions_in defaults) (place_within q (statements_in body'))) xs ∙
+    ap (λ (es : Items Expr). place_of_macro q (expressions_in arguments') (expressions_in es) (place_within q (statements_in body'))) ds

@@ -1,0 +1,250 @@
+use Rattle.std.proofs.Common.{◌≡◌, ◌≤◌, ◌+◌, ◌||◌, not, ◌&&◌, codes, List as Items, Option, Bor, Box, Global, arith, refl, sym, ap, ◌∙◌}
+use Rattle.std.specs.Prelude.{false, is_none}
+use Rattle.template_tree.specs.View.{arguments_in, expression_of, expressions_in, optional_in}
+use Rattle.template_tree.specs.StatementView.{assignments_in, imports_in, statement_of}
+use Rattle.template_tree.specs.declared.span.Spanned.{Spanned}
+use Rattle.template_tree.specs.declared.statements.IfCond.{IfCond as IfCondNode}
+use Rattle.template_tree.specs.declared.statements.Stmt.{Stmt, size-Stmt, IfCond}
+use Rattle.template_tree.specs.declared.expressions.Expr.{Expr}
+use Rattle.template_tree.specs.Tree.{Statement, template, for_loop, with_block, set, set_block, auto_escape, filter_block, block, import, from_import, macro, call_block, do_call}
+use Rattle.template_tree_parts.specs.Listed.{statements_in}
+use Rattle.template_tree_parts.proofs.Trees.{whole_tree, for_tree, if_tree, with_tree, escape_tree}
+use Rattle.template_tree.specs.declared.calls.Call.{Call as CallNode}
+use Rattle.template_tree.specs.declared.calls.CallArg.{CallArg}
+use Rattle.template_tree.specs.declared.statements.AutoEscape.{AutoEscape as AutoEscapeNode}
+use Rattle.template_tree.specs.declared.statements.Block.{Block as BlockNode}
+use Rattle.template_tree.specs.declared.statements.CallBlock.{CallBlock as CallBlockNode, out-CallBlock}
+use Rattle.template_tree.specs.declared.statements.FilterBlock.{FilterBlock as FilterBlockNode}
+use Rattle.template_tree.specs.declared.statements.ForLoop.{ForLoop as ForLoopNode}
+use Rattle.template_tree.specs.declared.statements.FromImport.{FromImport as FromImportNode}
+use Rattle.template_tree.specs.declared.statements.Import.{Import as ImportNode}
+use Rattle.template_tree.specs.declared.statements.Macro.{Macro as MacroNode}
+use Rattle.template_tree.specs.declared.statements.Set.{Set as SetNode}
+use Rattle.template_tree.specs.declared.statements.SetBlock.{SetBlock as SetBlockNode}
+use Rattle.template_tree.specs.declared.statements.WithBlock.{WithBlock as WithBlockNode}
+use Rattle.template_names_statements.proofs.Bodies.{at_node, at_tree, macro_reads, set_block_tree, filter_block_tree, block_tree, macro_tree, call_tree}
+use Rattle.template_names.specs.Names.{is_imported, is_stored_by, is_stored_in, place_by, place_of_macro, place_in_target, place_from, place_within, place_if_given, place_in, place_in_arguments}
+use Rattle.template_names_statements.specs.Choices.{chain_deep, chain_places, choice_of}
+use Rattle.template_names_state.specs.Goes.{Goes}
+use Rattle.template_names_expressions.specs.Stores.{is_assigned, is_stored_among}
+use Rattle.template_names_state.specs.Among.{just, nothing}
+use Rattle.template_names_state.proofs.Laws.{goes_as, goes_end, goes_inside, goes_item, goes_nowhere, goes_on, goes_then, goes_then_on, or_assoc, or_false, uses_as, uses_on, uses_then, uses_then_on}
+use Rattle.template_names_expressions.proofs.Storing.{used_from}
+use Rattle.template_names_statements.proofs.Walking.{loop_uses, chain_end, chain_ends, chain_within, else_is, macro_uses, test_is}
+use Rattle.template_names_statements.proofs.statements.+statement.Goals as goal
+
+pub use_statements-loop-statement-preserved : goal.use_statements-loop-statement-preserved
+use_statements-loop-statement-preserved t c =
+    goes_item (λ (s : Stmt) places. place_by places (statement_of s)) (λ (s : Stmt) name. is_stored_by name (statement_of s))
+    (λ (ss : Items Stmt) places. place_within places (statements_in ss)) (λ (ss : Items Stmt) name. is_stored_among name (statements_in ss))
+    (λ s ss q. refl) (λ s ss q. refl)
+    c.args.body.now c.loop-statement.statement-index c.statement-item.result c.loop-statement.names c.use_statement.new.names (omega arith)
+    c.statement-item.is c.loop-statement.invariant c.in_ok-use_statement.ensures
+
+pub use_statements-returns : goal.use_statements-returns
+use_statements-returns t c =
+    goes_end (λ (ss : Items Stmt) places. place_within places (statements_in ss)) (λ (ss : Items Stmt) name. is_stored_among name (statements_in ss))
+    (λ q. refl) (λ q. refl) c.args.body.now c.loop-statement.statement-index c.loop-statement.names c.loop-statement-test.false c.loop-statement.invariant
+
+pub use_region-returns : goal.use_region-returns
+use_region-returns t c =
+    goes_inside c.args.names.now c.open.new.self c.use_statements.new.names c.close.new.self c.in_ok-open.ensures c.in_ok-use_statements.ensures c.close.ensures
+
+pub use_macro-returns : goal.use_macro-returns
+use_macro-returns t c =
+    uses_as (λ q. macro_uses q c.args.arguments.now c.args.defaults.now (place_within q (statements_in c.args.body.now)))
+    (goes_inside c.args.names.now c.open.new.self c.use_statements.new.names c.close.new.self c.in_ok-open.ensures
+    (goes_then c.open.new.self c.store.new.self c.use_statements.new.names
+    (goes_then c.open.new.self c.bind_arguments.new.names c.store.new.self c.in_ok-bind_arguments.ensures c.in_ok-store.ensures)
+    c.in_ok-use_statements.ensures) c.close.ensures)
+
+pub use_chain-returns-then-is_none : goal.use_chain-returns-then-is_none
+use_chain-returns-then-is_none t c =
+    chain_end (λ d. Goes (λ q. place_by q (choice_of c.args.first.now)) nothing c.args.names.now d) c.in-Some.at c.loop-choice.choice c.loop-choice.names
+    c.use_choice.new.names c.use_else.new.names c.use_else.result c.in-Some.is c.loop-choice.invariant.ends c.in_ok-use_choice.ensures c.use_else.ensures
+
+pub use_chain-loop-choice-preserved : goal.use_chain-loop-choice-preserved
+use_chain-loop-choice-preserved t c =
+    let at = c.in-Some.at in
+    let body = c.deref-in-Some.result.now in
+    let read = c.deref-in-Some.ensures.value ∙ ap (λ (x : IfCondNode). x.false_body.items) c.deref.ensures in
+    let some : is_none c.elif-next.result ≡ false = grind (arith, c.is_none.ensures, c.if-is_none.false) in
+    let deep : chain_deep c.loop-choice.choice ≡ size-Stmt (IfCond at.now) + 1 =
+    ap (λ (o : Option (Bor (Spanned (Box IfCondNode Global)))). chain_deep o) c.in-Some.is in
+    let inside : chain_deep c.loop-choice.choice ≤ size-Stmt (IfCond c.args.first.now) + 1 = c.loop-choice.invariant.deep in
+    record {
+      ends = chain_ends at body c.loop-choice.choice c.elif-next.result c.loop-choice.names c.use_choice.new.names c.in-Some.is read c.elif-next.ensures some
+          c.loop-choice.invariant.ends c.in_ok-use_choice.ensures;
+      deep = chain_within at.now body c.elif-next.result (size-Stmt (IfCond c.args.first.now)) read c.elif-next.ensures (omega (arith, deep, inside));
+    }
+
+pub use_chain-returns : goal.use_chain-returns
+use_chain-returns t c =
+    c.loop-choice.invariant.ends c.loop-choice.names
+    (uses_as (λ q. ap (λ (o : Option (Bor (Spanned (Box IfCondNode Global)))). chain_places o q) (sym c.in_default.is)) (goes_nowhere c.loop-choice.names))
+
+pub use_choice-returns : goal.use_choice-returns
+use_choice-returns t c =
+    let v = c.args.choice.now.node.value in
+    let test = uses_as (λ q. ap (λ (x : IfCondNode). place_in q (expression_of x.expr)) c.deref.ensures) c.in_ok-use_expression.ensures in
+    let read = c.deref-3.ensures.value ∙ ap (λ (x : IfCondNode). x.true_body.items) c.deref-2.ensures in
+    uses_then_on _ c.args.names.now c.use_expression.new.names c.use_region.new.names c.use_region.result test c.use_region.ensures
+    (λ q. ap (λ (ss : Items Stmt). place_in q (expression_of v.expr) || place_within q (statements_in ss)) read ∙ test_is q c.args.choice.now)
+
+pub use_else-returns : goal.use_else-returns
+use_else-returns t c =
+    let read = c.deref-2.ensures.value ∙ ap (λ (x : IfCondNode). x.false_body.items) c.deref.ensures in
+    uses_on c.args.names.now c.use_region.new.names c.use_region.result
+    (λ q. ap (λ (ss : Items Stmt). place_within q (statements_in ss)) read ∙ else_is q c.args.choice.now) c.use_region.ensures
+
+pub use_statement-returns-in-Template : goal.use_statement-returns-in-Template
+use_statement-returns-in-Template t c =
+    let tree = ap (λ (x : Stmt). statement_of x) c.in-Template.is ∙ whole_tree c.in-Template.n in
+    at_tree c.args.statement.now (template (statements_in c.in-Template.n.node.children.items)) c.args.names.now c.use_region.new.names c.use_region.result tree
+    (λ q. ap (λ (ss : Items Stmt). place_within q (statements_in ss)) c.deref.ensures.value) (λ q. refl) c.use_region.ensures
+
+pub use_statement-returns-in-ForLoop : goal.use_statement-returns-in-ForLoop
+use_statement-returns-in-ForLoop t c =
+    at_node c.args.names.now c.use_loop.new.names c.use_loop.result c.in-ForLoop.is (λ q. sym (ap (λ (x : Statement). is_stored_by q x) (for_tree c.in-ForLoop.n)))
+    c.use_loop.ensures
+
+pub use_statement-returns-in-IfCond : goal.use_statement-returns-in-IfCond
+use_statement-returns-in-IfCond t c =
+    at_node c.args.names.now c.use_chain.new.names c.use_chain.result c.in-IfCond.is (λ q. sym (ap (λ (x : Statement). is_stored_by q x) (if_tree c.in-IfCond.n)))
+    c.use_chain.ensures
+
+pub use_statement-returns-in-WithBlock : goal.use_statement-returns-in-WithBlock
+use_statement-returns-in-WithBlock t c =
+    at_node c.args.names.now c.use_with.new.names c.use_with.result c.in-WithBlock.is (λ q. sym (ap (λ (x : Statement). is_stored_by q x) (with_tree c.in-WithBlock.n)))
+    c.use_with.ensures
+
+pub use_loop-returns : goal.use_loop-returns
+use_loop-returns t c =
+    let n = c.args.node.now in
+    let v = n.node.value in
+    let iter = uses_as (λ q. ap (λ (x : ForLoopNode). place_in q (expression_of x.iter)) c.deref.ensures) c.in_ok-use_expression.ensures in
+    let head = goes_as
+    (λ q.
+    ap (λ (x : ForLoopNode). place_in_target q (expression_of x.target) || not (is_stored_in q.name (expression_of x.target)) && place_if_given q (optional_in x.filter_expr))
+    c.deref-2.ensures)
+    (λ q. ap (λ (x : ForLoopNode). is_stored_in q (expression_of x.target) || just (codes "loop") q) c.deref-2.ensures) c.in_ok-begin_loop.ensures in
+    let read = c.deref-4.ensures.value ∙ ap (λ (x : ForLoopNode). x.body.items) c.deref-3.ensures in
+    let body = goes_as (λ q. ap (λ (ss : Items Stmt). place_within q (statements_in ss)) read) (λ q. ap (λ (ss : Items Stmt). is_stored_among q (statements_in ss)) read)
+    c.in_ok-use_statements.ensures in
+    let other = c.deref-6.ensures.value ∙ ap (λ (x : ForLoopNode). x.else_body.items) c.deref-5.ensures in
+    let inside = goes_then c.open.new.self c.begin_loop.new.names c.use_statements.new.names head body in
+    let region = goes_inside c.use_expression.new.names c.open.new.self c.use_statements.new.names c.close.new.self c.in_ok-open.ensures inside c.close.ensures in
+    uses_then_on _ c.args.names.now c.close.new.self c.use_region.new.names c.use_region.result
+    (uses_then c.args.names.now c.use_expression.new.names c.close.new.self iter region) c.use_region.ensures
+    (λ q.
+    let e = place_in q (expression_of v.iter) in
+    let target = place_in_target q (expression_of v.target) in
+    let stored = is_stored_in q.name (expression_of v.target) in
+    let filter = place_if_given q (optional_in v.filter_expr) in
+    let within = place_within q (statements_in v.body.items) in
+    ap (λ (ss : Items Stmt). (e || ((target || not stored && filter) || (not (stored || just (codes "loop") q.name) && within))) || place_within q (statements_in ss)) other ∙
+    loop_uses q e target stored filter within (place_within q (statements_in v.else_body.items)) ∙ ap (λ (x : Statement). place_by q x) (sym (for_tree n)))
+
+pub use_with-returns : goal.use_with-returns
+use_with-returns t c =
+    let n = c.args.node.now in
+    let assignments = assignments_in n.node.value.assignments.items in
+    let body = statements_in n.node.value.body.items in
+    let given = c.deref-2.ensures.value ∙ ap (λ (x : WithBlockNode). x.assignments.items) c.deref.ensures in
+    let read = c.deref-4.ensures.value ∙ ap (λ (x : WithBlockNode). x.body.items) c.deref-3.ensures in
+    let first = goes_as (λ q. ap (λ (xs : Items (Expr × Expr)). place_from q (assignments_in xs) false) given)
+    (λ q. ap (λ (xs : Items (Expr × Expr)). is_assigned q (assignments_in xs)) given) c.in_ok-use_assignments.ensures in
+    let behind = goes_as (λ q. ap (λ (ss : Items Stmt). place_within q (statements_in ss)) read) (λ q. ap (λ (ss : Items Stmt). is_stored_among q (statements_in ss)) read)
+    c.in_ok-use_statements.ensures in
+    let inside = goes_then c.open.new.self c.use_assignments.new.names c.use_statements.new.names first behind in
+    uses_as (λ q. sym (used_from q assignments (place_within q body)) ∙ ap (λ (x : Statement). place_by q x) (sym (with_tree n)))
+    (goes_inside c.args.names.now c.open.new.self c.use_statements.new.names c.close.new.self c.in_ok-open.ensures inside c.close.ensures)
+
+pub use_statement-returns-in_ok-use_region-in-SetBlock : goal.use_statement-returns-in_ok-use_region-in-SetBlock
+use_statement-returns-in_ok-use_region-in-SetBlock t c =
+    let n = c.in-SetBlock.n in
+    let v = n.node.value in
+    let tree = ap (λ (x : Stmt). statement_of x) c.in-SetBlock.is ∙ set_block_tree n in
+    let read = c.deref-in-SetBlock-2.ensures.value ∙ ap (λ (x : SetBlockNode). x.body.items) c.deref-in-SetBlock.ensures in
+    let body = uses_as (λ q. ap (λ (ss : Items Stmt). place_within q (statements_in ss)) read) c.in_ok-use_region-in-SetBlock.ensures in
+    at_tree c.args.statement.now (set_block (expression_of v.target) (optional_in v.filter) (statements_in v.body.items)) c.args.names.now
+    c.end_set_block.new.names c.end_set_block.result tree (λ q. refl) (λ q. refl)
+    (goes_then_on _ _ c.args.names.now c.use_region-in-SetBlock.new.names c.end_set_block.new.names c.end_set_block.result body c.end_set_block.ensures
+    (λ q.
+    let within = place_within q (statements_in v.body.items) in
+    ap (λ (x : SetBlockNode). within || (place_if_given q (optional_in x.filter) || place_in_target q (expression_of x.target))) c.deref-in-SetBlock-3.ensures ∙
+    or_assoc within (place_if_given q (optional_in v.filter)) (place_in_target q (expression_of v.target)))
+    (λ q. ap (λ (x : SetBlockNode). is_stored_in q (expression_of x.target)) c.deref-in-SetBlock-3.ensures))
+
+pub use_statement-returns-in_ok-use_expression-in-AutoEscape : goal.use_statement-returns-in_ok-use_expression-in-AutoEscape
+use_statement-returns-in_ok-use_expression-in-AutoEscape t c =
+    let n = c.in-AutoEscape.n in
+    let v = n.node.value in
+    let tree = ap (λ (x : Stmt). statement_of x) c.in-AutoEscape.is ∙ escape_tree n in
+    let enabled = uses_as (λ q. ap (λ (x : AutoEscapeNode). place_in q (expression_of x.enabled)) c.deref-in-AutoEscape.ensures)
+    c.in_ok-use_expression-in-AutoEscape.ensures in
+    let read = c.deref-in-AutoEscape-3.ensures.value ∙ ap (λ (x : AutoEscapeNode). x.body.items) c.deref-in-AutoEscape-2.ensures in
+    at_tree c.args.statement.now (auto_escape (expression_of v.enabled) (statements_in v.body.items)) c.args.names.now
+    c.use_region-in-AutoEscape.new.names c.use_region-in-AutoEscape.result tree (λ q. refl) (λ q. refl)
+    (uses_then_on _ c.args.names.now c.use_expression-in-AutoEscape.new.names c.use_region-in-AutoEscape.new.names c.use_region-in-AutoEscape.result enabled
+    c.use_region-in-AutoEscape.ensures
+    (λ q. ap (λ (ss : Items Stmt). place_in q (expression_of v.enabled) || place_within q (statements_in ss)) read))
+
+pub use_statement-returns-in_ok-use_region-in-FilterBlock : goal.use_statement-returns-in_ok-use_region-in-FilterBlock
+use_statement-returns-in_ok-use_region-in-FilterBlock t c =
+    let n = c.in-FilterBlock.n in
+    let v = n.node.value in
+    let tree = ap (λ (x : Stmt). statement_of x) c.in-FilterBlock.is ∙ filter_block_tree n in
+    let read = c.deref-in-FilterBlock-2.ensures.value ∙ ap (λ (x : FilterBlockNode). x.body.items) c.deref-in-FilterBlock.ensures in
+    let body = uses_as (λ q. ap (λ (ss : Items Stmt). place_within q (statements_in ss)) read) c.in_ok-use_region-in-FilterBlock.ensures in
+    at_tree c.args.statement.now (filter_block (expression_of v.filter) (statements_in v.body.items)) c.args.names.now
+    c.use_expression-in-FilterBlock.new.names c.use_expression-in-FilterBlock.result tree (λ q. refl) (λ q. refl)
+    (uses_then_on _ c.args.names.now c.use_region-in-FilterBlock.new.names c.use_expression-in-FilterBlock.new.names c.use_expression-in-FilterBlock.result body
+    c.use_expression-in-FilterBlock.ensures
+    (λ q. ap (λ (x : FilterBlockNode). place_within q (statements_in v.body.items) || place_in q (expression_of x.filter)) c.deref-in-FilterBlock-3.ensures))
+
+pub use_statement-returns-in-Block : goal.use_statement-returns-in-Block
+use_statement-returns-in-Block t c =
+    let n = c.in-Block.n in
+    let v = n.node.value in
+    let tree = ap (λ (x : Stmt). statement_of x) c.in-Block.is ∙ block_tree n in
+    let read = c.deref-in-Block-2.ensures.value ∙ ap (λ (x : BlockNode). x.body.items) c.deref-in-Block.ensures in
+    at_tree c.args.statement.now (block v.name.now v.required (statements_in v.body.items)) c.args.names.now c.use_region-in-Block.new.names
+    c.use_region-in-Block.result tree (λ q. ap (λ (ss : Items Stmt). place_within q (statements_in ss)) read) (λ q. refl) c.use_region-in-Block.ensures
+
+pub use_statement-returns-in_ok-use_macro-in-Macro : goal.use_statement-returns-in_ok-use_macro-in-Macro
+use_statement-returns-in_ok-use_macro-in-Macro t c =
+    let n = c.in-Macro.n in
+    let v = n.node.value in
+    let tree = ap (λ (x : Stmt). statement_of x) c.in-Macro.is ∙ macro_tree n in
+    let body = c.deref-in-Macro-2.ensures.value ∙ ap (λ (x : MacroNode). x.body.items) c.deref-in-Macro.ensures in
+    let args = c.deref-in-Macro-4.ensures.value ∙ ap (λ (x : MacroNode). x.args.items) c.deref-in-Macro-3.ensures in
+    let defaults = c.deref-in-Macro-6.ensures.value ∙ ap (λ (x : MacroNode). x.defaults.items) c.deref-in-Macro-5.ensures in
+    let inside = uses_as (λ q. macro_reads q body args defaults) c.in_ok-use_macro-in-Macro.ensures in
+    at_tree c.args.statement.now
+    (macro v.name.now (expressions_in v.args.items) (expressions_in v.defaults.items) (statements_in v.body.items)) c.args.names.now c.store.new.self
+    c.store.result tree (λ q. refl) (λ q. refl)
+    (goes_then_on _ _ c.args.names.now c.use_macro.new.names c.store.new.self c.store.result inside c.store.ensures
+    (λ q. or_false (place_of_macro q (expressions_in v.args.items) (expressions_in v.defaults.items) (place_within q (statements_in v.body.items))))
+    (λ q. ap (λ (x : MacroNode). just x.name.now q) c.deref-in-Macro-7.ensures))
+
+pub use_statement-returns-in_ok-use_call-in-CallBlock : goal.use_statement-returns-in_ok-use_call-in-CallBlock
+use_statement-returns-in_ok-use_call-in-CallBlock t c =
+    let n = c.in-CallBlock.n in
+    let v = out-CallBlock n.node.value in
+    let called = v.call.node.value in
+    let declared = v.macro_decl.node.value in
+    let tree = ap (λ (x : Stmt). statement_of x) c.in-CallBlock.is ∙ call_tree n in
+    let call = ap (λ (x : CallBlockNode). (out-CallBlock x).call.node.value) c.deref-in-CallBlock.ensures in
+    let declaration = ap (λ (x : CallBlockNode). (out-CallBlock x).macro_decl.node.value) c.deref-in-CallBlock-3.ensures in
+    let first = uses_as (λ q. ap (λ (x : CallNode). place_in q (expression_of x.expr) || place_in_arguments q (arguments_in x.args.items)) (c.deref-in-CallBlock-2.ensures ∙ call))
+    c.in_ok-use_call-in-CallBlock.ensures in
+    let body = c.deref-in-CallBlock-5.ensures.value ∙ ap (λ (x : MacroNode). x.body.items) (c.deref-in-CallBlock-4.ensures ∙ declaration) in
+    let args = c.deref-in-CallBlock-7.ensures.value ∙ ap (λ (x : MacroNode). x.args.items) (c.deref-in-CallBlock-6.ensures ∙ declaration) in
+    let defaults = c.deref-in-CallBlock-9.ensures.value ∙ ap (λ (x : MacroNode). x.defaults.items) (c.deref-in-CallBlock-8.ensures ∙ declaration) in
+    at_tree c.args.statement.now
+    (call_block (expression_of called.expr) (arguments_in called.args.items) (expressions_in declared.args.items) (expressions_in declared.defaults.items)
+    (statements_in declared.body.items)) c.args.names.now c.use_macro-in-CallBlock.new.names c.use_macro-in-CallBlock.result tree (λ q. refl) (λ q. refl)
+    (uses_then_on _ c.args.names.now c.use_call.new.names c.use_macro-in-CallBlock.new.names c.use_macro-in-CallBlock.result first
+    c.use_macro-in-CallBlock.ensures
+    (λ q. ap (λ b. (place_in q (expression_of called.expr) || place_in_arguments q (arguments_in called.args.items)) || b) (macro_reads q body args defaults)))

@@ -1,0 +1,7 @@
+//! The names in statements.
+#![tactic(auto)]
+
+mod parts;
+mod statements;
+
+pub use statements::use_statement;

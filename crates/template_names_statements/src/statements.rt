@@ -1,0 +1,192 @@
+//! The names in statements. A chain of `elif` is gone along in a loop; other bodies nest at most 150 deep.
+ghost use Rattle.std.specs.Prelude.{◌≡◌, OnOk};
+ghost use Rattle.template_tree.specs.View.{expressions_in};
+ghost use Rattle.template_tree.specs.StatementView.{statement_of};
+ghost use Rattle.template_tree_parts.specs.Listed.{statements_in};
+ghost use Rattle.template_names.specs.Names.{is_stored_by, place_by, place_of_macro, place_within};
+ghost use Rattle.template_names_state.specs.Among.{nothing};
+ghost use Rattle.template_names_state.specs.Goes.{Goes};
+ghost use Rattle.template_names_expressions.specs.Stores.{is_stored_among};
+ghost use Rattle.template_names_statements.specs.Choices.{choice_of, else_places, loop_of, test_places, with_of};
+
+use crate::parts::{begin_loop, elif, end_set_block, use_call};
+use std::alloc::AllocError;
+use template_names_expressions::{
+    assign, bind_arguments, bind_imports, use_assignments, use_expression,
+};
+use template_names_state::Names;
+use template_tree::{Expr, ForLoop, IfCond, Spanned, Stmt, WithBlock};
+
+// The statements of a region, one behind the other.
+#[cycle(statement)]
+fn use_statements<'source>(
+    names: &mut Names<'source>,
+    body: &[Stmt<'source>],
+) -> Result<(), AllocError>
+    ensures { OnOk result (Goes (λ places. place_within places (statements_in body.now))
+        (λ name. is_stored_among name (statements_in body.now)) names.old names.new) }
+{
+    for statement in body {
+        use_statement(names, statement)?;
+    }
+    Ok(())
+}
+
+// A region of its own.
+#[cycle(statement)]
+fn use_region<'source>(names: &mut Names<'source>, body: &[Stmt<'source>]) -> Result<(), AllocError>
+    ensures { OnOk result (Goes (λ places. place_within places (statements_in body.now)) nothing names.old names.new) }
+{
+    names.open()?;
+    use_statements(names, body)?;
+    names.close();
+    Ok(())
+}
+
+// A loop: its body is a region, in which its target is stored.
+#[cycle(statement)]
+fn use_loop<'source>(
+    names: &mut Names<'source>,
+    node: &Spanned<Box<ForLoop<'source>>>,
+) -> Result<(), AllocError>
+    ensures { OnOk result (Goes (λ places. place_by places (loop_of node.now)) nothing names.old names.new) }
+{
+    use_expression(names, &node.node.iter)?;
+    names.open()?;
+    begin_loop(names, &node.node)?;
+    use_statements(names, &node.node.body)?;
+    names.close();
+    use_region(names, &node.node.else_body)
+}
+
+// An `if`, and those that are alone in its else part.
+#[cycle(statement)]
+fn use_chain<'source>(
+    names: &mut Names<'source>,
+    first: &Spanned<Box<IfCond<'source>>>,
+) -> Result<(), AllocError>
+    ensures { OnOk result (Goes (λ places. place_by places (choice_of first.now)) nothing names.old names.new) }
+{
+    let mut choice = Some(first);
+    while let Some(at) = choice {
+        use_choice(names, at)?;
+        let next = elif(&at.node.false_body);
+        if next.is_none() {
+            return use_else(names, at);
+        }
+        choice = next;
+    }
+    Ok(())
+}
+
+#[cycle(statement)]
+fn use_choice<'source>(
+    names: &mut Names<'source>,
+    choice: &Spanned<Box<IfCond<'source>>>,
+) -> Result<(), AllocError>
+    ensures { OnOk result (Goes (λ places. test_places places (choice_of choice.now)) nothing names.old names.new) }
+{
+    use_expression(names, &choice.node.expr)?;
+    use_region(names, &choice.node.true_body)
+}
+
+#[cycle(statement)]
+fn use_else<'source>(
+    names: &mut Names<'source>,
+    choice: &Spanned<Box<IfCond<'source>>>,
+) -> Result<(), AllocError>
+    ensures { OnOk result (Goes (λ places. else_places places (choice_of choice.now)) nothing names.old names.new) }
+{
+    use_region(names, &choice.node.false_body)
+}
+
+// A region that begins with assignments.
+#[cycle(statement)]
+fn use_with<'source>(
+    names: &mut Names<'source>,
+    node: &Spanned<Box<WithBlock<'source>>>,
+) -> Result<(), AllocError>
+    ensures { OnOk result (Goes (λ places. place_by places (with_of node.now)) nothing names.old names.new) }
+{
+    names.open()?;
+    use_assignments(names, &node.node.assignments)?;
+    use_statements(names, &node.node.body)?;
+    names.close();
+    Ok(())
+}
+
+// The body of a macro behind its arguments, in a region of its own.
+#[cycle(statement)]
+fn use_macro<'source>(
+    names: &mut Names<'source>,
+    body: &[Stmt<'source>],
+    arguments: &[Expr<'source>],
+    defaults: &[Expr<'source>],
+) -> Result<(), AllocError>
+    ensures { OnOk result (Goes (λ places. place_of_macro places (expressions_in arguments.now) (expressions_in defaults.now)
+        (place_within places (statements_in body.now))) nothing names.old names.new) }
+{
+    names.open()?;
+    bind_arguments(names, arguments, defaults)?;
+    names.store("caller")?;
+    use_statements(names, body)?;
+    names.close();
+    Ok(())
+}
+
+/// Uses the names in a statement, and stores those that it stores, in the region where it stands.
+///
+/// # Errors
+///
+/// Want of memory.
+#[cycle(statement)]
+pub fn use_statement<'source>(
+    names: &mut Names<'source>,
+    statement: &Stmt<'source>,
+) -> Result<(), AllocError>
+    ensures { OnOk result (Goes (λ places. place_by places (statement_of statement.now))
+        (λ name. is_stored_by name (statement_of statement.now)) names.old names.new) }
+{
+    match statement {
+        Stmt::Template(n) => use_region(names, &n.node.children),
+        Stmt::EmitExpr(n) => use_expression(names, &n.node.expr),
+        Stmt::EmitRaw(_) => Ok(()),
+        Stmt::ForLoop(n) => use_loop(names, n),
+        Stmt::IfCond(n) => use_chain(names, n),
+        Stmt::WithBlock(n) => use_with(names, n),
+        Stmt::Set(n) => assign(names, &n.node.target, &n.node.expr),
+        Stmt::SetBlock(n) => {
+            use_region(names, &n.node.body)?;
+            end_set_block(names, &n.node)
+        }
+        Stmt::AutoEscape(n) => {
+            use_expression(names, &n.node.enabled)?;
+            use_region(names, &n.node.body)
+        }
+        Stmt::FilterBlock(n) => {
+            use_region(names, &n.node.body)?;
+            use_expression(names, &n.node.filter)
+        }
+        Stmt::Block(n) => use_region(names, &n.node.body),
+        Stmt::Import(n) => assign(names, &n.node.name, &n.node.expr),
+        Stmt::FromImport(n) => {
+            use_expression(names, &n.node.expr)?;
+            bind_imports(names, &n.node.names)
+        }
+        Stmt::Extends(n) => use_expression(names, &n.node.name),
+        Stmt::Include(n) => use_expression(names, &n.node.name),
+        Stmt::Macro(n) => {
+            let node = &n.node;
+            use_macro(names, &node.body, &node.args, &node.defaults)?;
+            names.store(node.name)
+        }
+        Stmt::CallBlock(n) => {
+            use_call(names, &n.node.call.node)?;
+            let declared = &n.node.macro_decl.node;
+            use_macro(names, &declared.body, &declared.args, &declared.defaults)
+        }
+        Stmt::Continue(_) => Ok(()),
+        Stmt::Break(_) => Ok(()),
+        Stmt::Do(n) => use_call(names, &n.node.call.node),
+    }
+}
