@@ -1,10 +1,9 @@
 -- How walks go one behind the other, and in regions.
-use Rattle.std.proofs.Common.{Result, Ok, Err, OnOk, bytes_eq, ◌≡◌, ℕ, zero, suc, ◌+◌, ◌<◌, ◌≤◌, arith, Bool, true, false, not, ◌&&◌, ◌||◌, List, [], ◌∷◌, ◌++◌, length, drop, get_or, Bor, IsTrue, inl, inr, ◌⊎◌, ◌↔◌, refl, sym, ap, subst, ◌∙◌}
+use Rattle.std.proofs.Common.{Result, Ok, Err, OnOk, bytes_eq, ◌≡◌, ℕ, zero, suc, ◌+◌, ◌<◌, ◌≤◌, arith, Bool, true, false, not, ◌&&◌, ◌||◌, List, [], ◌∷◌, ◌++◌, length, drop, get_or, Bor, IsTrue, inl, inr, ◌⊎◌, refl, sym, ap, subst, ◌∙◌}
 use Rattle.std.specs.List.{list_any}
 use Rattle.std.proofs.Math.Seq.{drop-cons}
 use Rattle.std.specs.BTreeSet.{BTreeSet}
 use Rattle.std.proofs.lemmas.Slice.Eq.{bytes_eq-Decides}
-use Rattle.template_names.proofs.Segments.{either}
 use Rattle.template_names.specs.Names.{IsToldFor, Places}
 use Rattle.template_names_state.specs.declared.state.Names.{Names}
 use Rattle.template_names_state.specs.Among.{Among, nothing}

@@ -1,5 +1,5 @@
 -- The names that a tree uses.
-use Rattle.std.specs.Prelude.{◌≡◌, ℕ, Bool, not, ◌&&◌, ◌||◌, ◌↔◌, List, String, IsTrue}
+use Rattle.std.specs.Prelude.{ℕ, Bool, not, ◌&&◌, ◌||◌, ◌↔◌, List, String, IsTrue}
 use Rattle.std.specs.BTreeSet.{BTreeSet, contains_text}
 use Rattle.template_tree.specs.Tree.{Statement, template}
 use Rattle.template_names.specs.Names.{IsToldFor, Places, anywhere, is_stored_everywhere, place_by, uses_place}
