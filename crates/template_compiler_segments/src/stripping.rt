@@ -37,6 +37,20 @@ pub fn data_text<'source>(
     }
 }
 
+/// Where the data between two places begins, less the white space that what stands on its left takes.
+/// It takes time for the white space that goes alone.
+pub fn data_start(source: &str, syntax: &SyntaxConfig, left: Edge, from: usize, to: usize) -> usize
+    requires ordered { from ≤ to }
+    requires start { IsCharBoundary source.now from }
+    requires end { IsCharBoundary source.now to }
+    ensures start { result ≡ stripped_from syntax.now source.now left from to }
+    ensures ahead { from ≤ result }
+    ensures within { result ≤ to }
+{
+    let text = without_start(&source[from..to], syntax, left);
+    to - text.len()
+}
+
 fn without_start<'source>(text: &'source str, syntax: &SyntaxConfig, left: Edge) -> &'source str
     ensures text { result.now ≡ less_start syntax.now left text.now }
     ensures bound { length result.now ≤ length text.now }

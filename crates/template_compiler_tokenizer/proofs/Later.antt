@@ -1,13 +1,7 @@
 -- What is known of start markers stays known further on.
-use Rattle.std.proofs.Common.{◌≡◌, ℕ, ◌≤◌, List, [], Some, refl, arith}
-use Rattle.template_compiler_tokens.proofs.OneToken.{one_token, some_token}
+use Rattle.std.proofs.Common.{ℕ, ◌≤◌, List, [], Some, arith}
 use Rattle.template_compiler_segments.specs.declared.edges.Sign.{Sign}
-use Rattle.template_compiler_segments.specs.declared.edges.Edge.TheVariants.{Nothing}
 use Rattle.template_compiler_segments.specs.Segments.{bare_end, signed_end, EndsAt, print_end, block_end, line_end, HasInside, ended, blank}
-use Rattle.template_compiler_segments.specs.Flat.{template_text, IsTokens, source_tokens}
-use Rattle.template_compiler_segments.proofs.Bytes.{takes_bytes}
-use Rattle.template_compiler_segments.proofs.Pieces.{some_list}
-use Rattle.template_compiler_tokenizer.specs.Left.{pieces_at, data_tokens}
 use Rattle.template_compiler_syntax.specs.declared.StartMarker.{StartMarker}
 use Rattle.template_compiler_syntax.specs.Syntax.{Syntax}
 use Rattle.template_compiler_segments.specs.Known.{IsKnown, Knows}
@@ -30,7 +24,7 @@ knows_later x s from next finder h knows = record {
   line_comment = known_later x s from next _ _ h (knows.line_comment);
 }
 
-ends_ahead : {x : Syntax} {s : List ℕ} {k : StartMarker} {i next : ℕ} {last : Sign} → EndsAt x s k i last next → i ≤ next
+pub ends_ahead : {x : Syntax} {s : List ℕ} {k : StartMarker} {i next : ℕ} {last : Sign} → EndsAt x s k i last next → i ≤ next
 ends_ahead (print_end black (bare_end stands n)) = omega arith
 ends_ahead (print_end black (signed_end none stands l sign n)) = omega arith
 ends_ahead (block_end black (bare_end stands n)) = omega arith
@@ -41,9 +35,3 @@ ends_ahead (line_end over n) = omega arith
 pub inside_ahead : {x : Syntax} {s : List ℕ} {k : StartMarker} {d i : ℕ} {p : Sign × ℕ} → HasInside x s k d i [] (Some p) → i ≤ p.1
 inside_ahead (ended over) = ends_ahead over
 inside_ahead (blank none white rest) = let more = inside_ahead rest in omega arith
-
--- the tokens of a text from its start on are its tokens
-pub all_tokens : (x : Syntax) (source text : List ℕ) → text ≡ template_text x source → IsTokens x source (data_tokens x text Nothing 0)
-unfolding pieces_at
-all_tokens x source text e =
-    rw e (source_tokens ((some_list one_token some_token takes_bytes x (template_text x source) 0).1) refl)

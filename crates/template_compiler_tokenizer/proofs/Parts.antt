@@ -1,21 +1,26 @@
 -- What a step over data leaves.
-use Rattle.std.proofs.Common.{◌≡◌, ℕ, ◌-◌, ◌≤◌, inl, inr, true, false, List, [], length, take, drop, Result, Ok, Err, refl, sym, ◌∙◌, ap, subst, arith}
+use Rattle.std.proofs.Common.{◌≡◌, ℕ, ◌+◌, ◌-◌, ◌<◌, ◌≤◌, inl, inr, true, false, List, [], length, take, drop, Result, Ok, Err, refl, sym, ◌∙◌, ap, subst, arith}
 use Rattle.std.proofs.lemmas.Bool.{cases_lt}
 use Rattle.template_values_errors.specs.declared.ErrorKind.{ErrorKind}
 use Rattle.template_compiler_syntax.specs.declared.StartMarker.TheVariants.{Comment}
-use Rattle.template_compiler_syntax.specs.Syntax.{Syntax, IsUsable}
-use Rattle.template_compiler_tokens.specs.Token as spec
+use Rattle.template_compiler_syntax.specs.Syntax.{Syntax, IsUsable, IsSet}
+use Rattle.std.specs.Str.{IsUtf8, IsCharBoundary}
 use Rattle.template_compiler_segments.specs.declared.edges.Edge.{Edge}
 use Rattle.template_compiler_segments.specs.declared.edges.Edge.TheVariants.{Nothing}
-use Rattle.template_compiler_segments.specs.Places.{StandsAt, IsFirst, IsNowhere, IsLineEnd, is_first_on_line}
+use Rattle.template_compiler_segments.specs.Places.{stretch, StandsAt, IsFirst, IsNowhere, IsLineEnd, is_first_on_line}
 use Rattle.std.specs.Prelude.{if◌then◌else◌}
 use Rattle.template_compiler_segments.specs.Segments.{HasNoStart, IsCommentEnd, inside_from}
 use Rattle.template_compiler_segments.proofs.Some.{stands_below}
-use Rattle.template_compiler_tokenizer.specs.Left.{data_tokens}
+use Rattle.template_compiler_tokenizer.specs.Left.{Placed, data_tokens}
+use Rattle.template_compiler_tokenizer.specs.Reads.{IsRefusedKind, IsStage, IsCut, ReadsPiece}
+use Rattle.template_compiler_tokenizer.specs.declared.stage.Stage.{Stage}
+use Rattle.template_compiler_tokenizer.specs.declared.stage.Stage.TheVariants as stage
+use Rattle.template_compiler_tokenizer.specs.declared.inside.Piece.{Piece}
 use Rattle.template_compiler_tokenizer.specs.Steps.{Steps}
 use Rattle.template_compiler_tokenizer.specs.declared.data.Step.{Step}
 use Rattle.template_compiler_tokenizer.specs.declared.data.Step.TheVariants.{Reads, Passes, Ends}
 use Rattle.template_compiler_tokenizer.proofs.Steps.{data_last}
+use Rattle.template_compiler_tokenizer.proofs.Cuts.{stands_start, stands_cut}
 
 no_start_past : (x : Syntax) (s : List ℕ) → HasNoStart x s (length s)
 no_start_past x s i low k here = (let within = stands_below s i _ (here.is_set) (here.stands) in omega arith)
@@ -25,16 +30,50 @@ data_at_end x s usable =
     let none : length s - length s ≡ 0 = omega arith in
     elim (data_last x s usable Nothing (length s) [] (no_start_past x s) (sym (ap (λ n. take n (drop (length s) s)) none))) [
       | inl empty ↦ empty.1
-      | inr some ↦ absurd (omega arith)
+      | inr some ↦ absurd (let long = some.0 in omega arith)
     ]
 
-pub steps_from : (x : Syntax) (s : List ℕ) (from start : ℕ) (left behind : List spec.Token) (r : Result Step ErrorKind) → left ≡ behind → from ≤ start →
+pub stage_cut : (s : List ℕ) (at : Stage) (i : ℕ) → IsStage s at i → IsCharBoundary s i
+stage_cut s (stage.Data left) i cut = cut
+stage_cut s (stage.Inside k d) i cut = cut.0
+
+cut_from : (s : List ℕ) (from start : ℕ) (piece : Piece) → from ≤ start → IsCut s start piece → IsCut s from piece
+cut_from s from start piece low cut = record {
+  low = (let more = cut.low in omega arith);
+  ordered = cut.ordered;
+  high = cut.high;
+  begin = cut.begin;
+  end = cut.end;
+  next = cut.next;
+}
+
+pub piece_from : (x : Syntax) (s : List ℕ) (from start : ℕ) (left behind : List Placed) (piece : Piece) → left ≡ behind → from ≤ start →
+    ReadsPiece x s start behind piece → ReadsPiece x s from left piece
+piece_from x s from start left behind piece e low read = record {
+  first = e ∙ read.first;
+  stage = read.stage;
+  cut = cut_from s from start piece low (read.cut);
+}
+
+pub refused_from : (left behind : List Placed) (kind : ErrorKind) → left ≡ behind → IsRefusedKind behind kind → IsRefusedKind left kind
+refused_from left behind kind e (inl memory) = inl memory
+refused_from left behind kind e (inr fault) = inr (fault.0, fault.1, fault.2, e ∙ fault.3, fault.4)
+
+pub steps_from : (x : Syntax) (s : List ℕ) (from start : ℕ) (left behind : List Placed) (r : Result Step ErrorKind) → left ≡ behind → from ≤ start →
     Steps x s start behind r → Steps x s from left r
-steps_from x s from start left behind (Ok (Reads piece)) e low steps = (e ∙ steps.0, steps.1, (let high = steps.2 in omega arith))
+steps_from x s from start left behind (Ok (Reads piece)) e low steps = piece_from x s from start left behind piece e low steps
 steps_from x s from start left behind (Ok (Passes edge next)) e low steps = (e ∙ steps.0, steps.1, (let high = steps.2 in omega arith))
 steps_from x s from start left behind (Ok Ends) e low steps = e ∙ steps
-steps_from x s from start left behind (Err kind) e low (inl memory) = inl memory
-steps_from x s from start left behind (Err kind) e low (inr fault) = inr (fault.0, e ∙ fault.1, fault.2)
+steps_from x s from start left behind (Err kind) e low steps = refused_from left behind kind e steps
+
+-- data that is not empty stands between characters
+pub data_cut : (s text : List ℕ) (begin to : ℕ) → IsUtf8 s → IsUtf8 text → 0 < length text → text ≡ stretch s begin to → to ≡ begin + length text →
+    IsCharBoundary s begin × IsCharBoundary s (begin + length text)
+data_cut s text begin to source utf8 some e high =
+    let set : IsSet text = λ none. (let long = ap length none in omega arith) in
+    let width : length text ≡ to - begin = omega arith in
+    let stands : StandsAt s begin text = ap (λ n. take n (drop begin s)) width ∙ sym e in
+    (stands_start s text begin utf8 set stands, stands_cut s text begin source utf8 set stands)
 
 pub comment_first : (x : Syntax) (s bytes text : List ℕ) (start inside end : ℕ) → bytes ≡ s → text ≡ x.comment_end → inside ≡ inside_from x s Comment start →
     IsFirst (λ j. StandsAt bytes j text) inside end → IsFirst (IsCommentEnd x s) (inside_from x s Comment start) end

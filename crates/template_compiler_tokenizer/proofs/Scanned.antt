@@ -12,15 +12,13 @@ use Rattle.template_compiler_tokens.specs.View.{token_of}
 use Rattle.template_compiler_tokens.specs.declared.token.Token.{Token}
 use Rattle.template_compiler_tokens.specs.declared.token.Token.TheVariants.{Plus}
 use Rattle.template_compiler_scanner.specs.Scans.{Scans}
-use Rattle.template_compiler_segments.specs.Segments.{is_bad, open_brackets}
-use Rattle.template_compiler_segments.proofs.Pieces.{some_inside}
-use Rattle.template_compiler_tokens.proofs.OneToken.{one_token, some_token}
-use Rattle.template_compiler_segments.proofs.Bytes.{takes_bytes}
-use Rattle.template_compiler_tokenizer.specs.Left.{inside_tokens}
-use Rattle.template_compiler_tokenizer.specs.Finds.{IsTokenPlace}
+use Rattle.template_compiler_segments.specs.declared.edges.Sign.{Sign}
+use Rattle.template_compiler_segments.specs.Segments.{EndsAt, is_bad, open_brackets}
+use Rattle.template_compiler_tokenizer.specs.Left.{placed, inside_tokens}
+use Rattle.template_compiler_tokenizer.specs.Finds.{IsTokenPlace, IsNextEnd}
 use Rattle.template_compiler_tokenizer.specs.Reads.{IsRefusedKind}
-use Rattle.template_compiler_tokenizer.proofs.Steps.{inside_is, inside_token, inside_bad}
-use Rattle.template_compiler_tokenizer.proofs.Delimiters.{Lifts}
+use Rattle.template_compiler_tokenizer.proofs.Steps.{inside_over, inside_token, inside_bad}
+use Rattle.template_compiler_tokenizer.proofs.Later.{ends_ahead}
 
 pub not_bad : (t : Token) → is_bad (token_of t) ≡ false
 not_bad Plus = refl
@@ -35,30 +33,38 @@ open_le (symbol paren_close) d = omega arith
 open_le (symbol brace_close) d = omega arith
 open_le t d = omega arith
 
-pub lifted : (x : Syntax) (s : List ℕ) (k : StartMarker) (d i from : ℕ) → Lifts x s k d i from → inside_tokens x s k d from ≡ inside_tokens x s k d i
-lifted x s k d i from lifts =
-    let inside = some_inside one_token some_token takes_bytes x s k d i in
-    inside_is x s k d from (inside.0) (inside.1) (lifts (inside.0) (inside.1) (inside.2)) ∙ sym (inside_is x s k d i (inside.0) (inside.1) (inside.2))
-
 pub scanned : (x : Syntax) (s rest : List ℕ) (k : StartMarker) (d i from depth width : ℕ) (t : Token) → rest ≡ drop i s → IsTokenPlace x s k d i →
-    Lifts x s k d i from → Scans rest (Ok (t, width)) → depth ≡ open_brackets (token_of t) d →
-    inside_tokens x s k d from ≡ token_of t ∷ inside_tokens x s k depth (i + width)
-scanned x s rest k d i from depth width t e place lifts begins brackets =
-    lifted x s k d i from lifts ∙
+    inside_tokens x s k d from ≡ inside_tokens x s k d i → Scans rest (Ok (t, width)) → depth ≡ open_brackets (token_of t) d →
+    inside_tokens x s k d from ≡ placed (token_of t) i (i + width) ∷ inside_tokens x s k depth (i + width)
+scanned x s rest k d i from depth width t e place same begins brackets =
+    same ∙
     (inside_token x s k d i (i + width) (token_of t) (place.none) (place.black)
     (token_at width (subst (λ r. Begins r (token_of t) width) e begins) refl) (not_bad t) ∙
-    ap (λ m. token_of t ∷ inside_tokens x s k m (i + width)) (sym brackets))
+    ap (λ m. placed (token_of t) i (i + width) ∷ inside_tokens x s k m (i + width)) (sym brackets))
 
 pub not_scanned : (x : Syntax) (s rest : List ℕ) (k : StartMarker) (d i from : ℕ) (kind : ErrorKind) → rest ≡ drop i s → IsTokenPlace x s k d i →
-    Lifts x s k d i from → Scans rest (Err kind) → IsRefusedKind (inside_tokens x s k d from) kind
-not_scanned x s rest k d i from kind e place lifts (inr memory) = inl (memory.0)
-not_scanned x s rest k d i from kind e place lifts (inl fault) =
+    inside_tokens x s k d from ≡ inside_tokens x s k d i → Scans rest (Err kind) → IsRefusedKind (inside_tokens x s k d from) kind
+not_scanned x s rest k d i from kind e place same (inr memory) = inl (memory.0)
+not_scanned x s rest k d i from kind e place same (inl fault) =
     inr (
       fault.0,
-      lifted x s k d i from lifts ∙
+      i,
+      i + 0,
+      same ∙
           inside_bad x s k d i (i + 0) (fault.0) (place.none) (place.black) (token_at 0 (subst (λ r. Begins r (bad (fault.0)) 0) e (fault.2)) refl),
       fault.1,
     )
+
+-- the segment's end is the next of the tokens
+pub next_end : (x : Syntax) (s b : List ℕ) (k : StartMarker) (d i from next : ℕ) (last : Sign) → b ≡ s → d ≡ 0 → from ≤ i → IsCharBoundary b i →
+    inside_tokens x b k d from ≡ inside_tokens x b k d i → EndsAt x b k i last next → IsNextEnd x s k d from i next last
+next_end x s b k d i from next last e none low cut same over =
+    subst (λ t. IsNextEnd x t k d from i next last) e (record {
+      low = low;
+      high = ends_ahead over;
+      cut = cut;
+      tokens = same ∙ (ap (λ n. inside_tokens x b k n i) none ∙ inside_over x b k i next last over);
+    })
 
 pub scanned_cut : (s rest : List ℕ) (i width : ℕ) → rest ≡ drop i s → i ≤ length s → IsCharBoundary rest width → IsCharBoundary s (i + width)
 scanned_cut s rest i width e within cut = IsCharBoundary-from_rest s i width within (subst (λ r. IsCharBoundary r width) e cut)

@@ -1,5 +1,5 @@
 -- How the tokens that are left go on.
-use Rattle.std.proofs.Common.{◌≡◌, ℕ, suc, ◌+◌, ◌-◌, ◌<◌, ◌≤◌, ◌⊎◌, inl, inr, Bool, true, false, List, [], ◌∷◌, length, take, drop, slice_index, None, Some, refl, sym, ◌∙◌, ap, subst, arith, length-take, length-drop}
+use Rattle.std.proofs.Common.{◌≡◌, ℕ, suc, ◌+◌, ◌-◌, ◌<◌, ◌≤◌, ◌⊎◌, inl, inr, Bool, true, false, List, [], ◌∷◌, ◌++◌, length, take, drop, slice_index, None, Some, refl, sym, ◌∙◌, ap, subst, arith, length-take, length-drop}
 use Rattle.std.proofs.lemmas.Bool.{cases_lt, lt-ltb, le-ltb}
 use Rattle.std.specs.Prelude.{if◌then◌else◌, codes}
 use Rattle.std.specs.Str.{trim_end, chars}
@@ -7,7 +7,7 @@ use Rattle.std.specs.Char.{is_ascii_whitespace}
 use Rattle.template_compiler_syntax.specs.declared.StartMarker.{StartMarker}
 use Rattle.template_compiler_syntax.specs.declared.StartMarker.TheVariants.{Variable, Block, Comment, LineStatement, LineComment}
 use Rattle.template_compiler_syntax.specs.Syntax.{Syntax, IsUsable}
-use Rattle.template_compiler_tokens.specs.Token.{Token, TokenFault, bad, bad_syntax, template_data, variable_start, block_start}
+use Rattle.template_compiler_tokens.specs.Token.{Token, TokenFault, bad, bad_syntax, template_data}
 use Rattle.template_compiler_tokens.specs.Lexical.{IsToken}
 use Rattle.template_compiler_tokens.proofs.OneToken.{one_token, some_token}
 use Rattle.template_compiler_segments.specs.declared.edges.Edge.{Edge}
@@ -17,12 +17,12 @@ use Rattle.template_compiler_segments.specs.declared.edges.Sign.TheVariants.{Pla
 use Rattle.template_compiler_segments.specs.Places.{stretch, IsFirst, IsNowhere, IsLineEnd, newline_len, is_first_on_line}
 use Rattle.template_compiler_segments.specs.Segments.{HasNoStart, IsNextStart, start_sign, inside_from, EndsAt, IsOver, open_brackets, is_bad, Ending, HasInside, ended, blank, token, no_token, HoldsInside, only, IsRawEnd, comment_sign, IsCommentEnd, Piece, data_piece, endless_piece, IsSegment, print_segment, block_segment, raw_segment, comment_segment, line_statement_segment, line_comment_segment, IsEndless, endless_print, endless_block, endless_line_statement, endless_raw, endless_comment, HasPieces, no_start, next_start, endless_start}
 use Rattle.template_compiler_segments.specs.Stripping.{stripped, stripped_from, stripped_to, with_data, with_stripped, next_edge, less_blanks}
-use Rattle.template_compiler_segments.specs.Flat.{tokens_of}
 use Rattle.template_compiler_segments.proofs.Bytes.{takes_bytes}
 use Rattle.template_compiler_segments.proofs.One.{one_inside, one_list}
 use Rattle.template_compiler_segments.proofs.Pieces.{some_inside, some_list, begun}
 use Rattle.template_compiler_segments.proofs.Data.{less_blanks_le}
-use Rattle.template_compiler_tokenizer.specs.Left.{pieces_at, data_tokens, end_token, with_ending, inside_tokens}
+use Rattle.template_compiler_tokenizer.specs.Left.{Placed, placed, placed_in, inside_of, ending_of, placed_start, placed_of, pieces_at, data_tokens, end_token, behind_ending, inside_tokens}
+use Rattle.template_compiler_tokenizer.proofs.OnePlaced.{one_placed}
 
 empty_minus : (s : List ℕ) (i : ℕ) → i + length (trim_end (stretch s i i)) ≤ i
 unfolding trim_end chars
@@ -35,42 +35,47 @@ empty_if s true i = less_blanks_le s i
 empty_if s false i = omega arith
 
 module _ (x : Syntax) (s : List ℕ) where
-  pub inside_is : (k : StartMarker) (d i : ℕ) (tokens : List Token) (ending : Ending) → HasInside x s k d i tokens ending →
-      inside_tokens x s k d i ≡ with_ending x s k tokens ending
-  unfolding inside_tokens
-  inside_is k d i tokens ending has =
+  pub inside_is : {k : StartMarker} {d i : ℕ} {tokens : List Token} {ending : Ending} (has : HasInside x s k d i tokens ending) →
+      inside_tokens x s k d i ≡ placed_in has ++ behind_ending x s k ending
+  unfolding inside_tokens inside_of ending_of
+  inside_is {k = k} {d = d} {i = i} has =
       let inside = some_inside one_token some_token takes_bytes x s k d i in
-      let same = one_inside one_token (inside.2) has in
-      ap (λ ts. with_ending x s k ts (inside.1)) (same.0) ∙ ap (λ e. with_ending x s k tokens e) (same.1)
+      let same = one_placed (inside.2) has in
+      let ends = (one_inside one_token (inside.2) has).1 in
+      ap (λ ts. ts ++ behind_ending x s k (inside.1)) same ∙ ap (λ e. placed_in has ++ behind_ending x s k e) ends
+
+  -- a segment's tokens, by how it ends
+  ended_inside : {k : StartMarker} {d i : ℕ} {tokens : List Token} {ending : Ending} → HasInside x s k d i tokens ending →
+      inside_tokens x s k d i ≡ inside_of x s k d i ++ behind_ending x s k ending
+  unfolding inside_tokens ending_of
+  ended_inside {k = k} {d = d} {i = i} has =
+      let inside = some_inside one_token some_token takes_bytes x s k d i in
+      let ends = (one_inside one_token (inside.2) has).1 in
+      ap (λ e. inside_of x s k d i ++ behind_ending x s k e) ends
 
   -- the segment ends
   pub inside_over : (k : StartMarker) (i next : ℕ) (last : Sign) → EndsAt x s k i last next →
-      inside_tokens x s k 0 i ≡ end_token k ∷ data_tokens x s (Beside k last) next
-  inside_over k i next last over = inside_is k 0 i [] (Some (last, next)) (ended over)
+      inside_tokens x s k 0 i ≡ placed (end_token k) i next ∷ data_tokens x s (Beside k last) next
+  inside_over k i next last over = inside_is (ended over)
 
   -- white space parts tokens
   pub inside_blank : (k : StartMarker) (d i : ℕ) → (d ≡ 0 → IsOver x s k i → ⊥) → is_ascii_whitespace (slice_index s i) ≡ true →
       inside_tokens x s k d i ≡ inside_tokens x s k d (i + 1)
-  unfolding inside_tokens
+  unfolding inside_tokens inside_of ending_of
   inside_blank k d i none white =
       let rest = some_inside one_token some_token takes_bytes x s k d (suc i) in
-      inside_is k d i (rest.0) (rest.1) (blank none white (rest.2)) ∙ ap (λ n. inside_tokens x s k d n) (let e : suc i ≡ i + 1 = omega arith in e)
-
-  with_token : (k : StartMarker) (t : Token) (tokens : List Token) (ending : Ending) →
-      with_ending x s k (t ∷ tokens) ending ≡ t ∷ with_ending x s k tokens ending
-  with_token k t tokens None = refl
-  with_token k t tokens (Some p) = refl
+      inside_is (blank none white (rest.2)) ∙ ap (λ n. inside_tokens x s k d n) (let e : suc i ≡ i + 1 = omega arith in e)
 
   pub inside_token : (k : StartMarker) (d i n : ℕ) (t : Token) → (d ≡ 0 → IsOver x s k i → ⊥) → is_ascii_whitespace (slice_index s i) ≡ false →
-      IsToken s i t n → is_bad t ≡ false → inside_tokens x s k d i ≡ t ∷ inside_tokens x s k (open_brackets t d) n
-  unfolding inside_tokens
+      IsToken s i t n → is_bad t ≡ false → inside_tokens x s k d i ≡ placed t i n ∷ inside_tokens x s k (open_brackets t d) n
+  unfolding inside_tokens inside_of ending_of
   inside_token k d i n t none black has good =
       let rest = some_inside one_token some_token takes_bytes x s k (open_brackets t d) n in
-      inside_is k d i (t ∷ rest.0) (rest.1) (token none black has good (rest.2)) ∙ with_token k t (rest.0) (rest.1)
+      inside_is (token none black has good (rest.2))
 
   pub inside_bad : (k : StartMarker) (d i n : ℕ) (fault : TokenFault) → (d ≡ 0 → IsOver x s k i → ⊥) → is_ascii_whitespace (slice_index s i) ≡ false →
-      IsToken s i (bad fault) n → inside_tokens x s k d i ≡ bad fault ∷ []
-  inside_bad k d i n fault none black has = inside_is k d i (bad fault ∷ []) None (no_token none black has)
+      IsToken s i (bad fault) n → inside_tokens x s k d i ≡ placed (bad fault) i n ∷ []
+  inside_bad k d i n fault none black has = inside_is (no_token none black has)
 
   module _ (usable : IsUsable x) where
     pieces_are : (from : ℕ) (pieces : List Piece) → HasPieces x s from pieces → pieces_at x s from ≡ pieces
@@ -83,14 +88,20 @@ module _ (x : Syntax) (s : List ℕ) where
 
     -- the tokens of data before others
     pub data_before : (from to : ℕ) (text : List ℕ) (pieces : List Piece) → text ≡ stretch s from to → to ≤ length s →
-        ((length text ≡ 0) × (tokens_of s (with_data from to pieces) ≡ tokens_of s pieces)) ⊎
-        ((0 < length text) × (tokens_of s (with_data from to pieces) ≡ template_data text ∷ tokens_of s pieces))
+        ((length text ≡ 0) × (placed_of x s (with_data from to pieces) ≡ placed_of x s pieces)) ⊎
+        ((0 < length text) ×
+        (placed_of x s (with_data from to pieces) ≡ placed (template_data text) from (from + length text) ∷ placed_of x s pieces) ×
+        (to ≡ from + length text))
     data_before from to text pieces e high =
         elim (cases_lt from to) [
           | inl some ↦
+              let long : from + length text ≡ to = omega (arith, ap length e, length-take (to - from) (drop from s), length-drop from s) in
               inr (
-                let long = ap length e in omega (arith, long, length-take (to - from) (drop from s), length-drop from s),
-                rw (lt-ltb from to some) (ap (λ t. template_data t ∷ tokens_of s pieces) (sym e)),
+                omega arith,
+                rw (lt-ltb from to some)
+                    (ap (λ t. placed (template_data t) from to ∷ placed_of x s pieces) (sym e) ∙
+                    ap (λ n. placed (template_data text) from n ∷ placed_of x s pieces) (sym long)),
+                sym long,
               )
           | inr none ↦
               inl (
@@ -98,6 +109,11 @@ module _ (x : Syntax) (s : List ℕ) where
                 rw (le-ltb from to none) refl,
               )
         ]
+
+    -- the data is the first of the tokens, and goes from `begin` to `to`
+    abbrev pub HoldsData : Edge → ℕ → List ℕ → ℕ → List Placed → ℕ → Type 0
+    HoldsData left from text begin behind to =
+        (0 < length text) × (data_tokens x s left from ≡ placed (template_data text) begin (begin + length text) ∷ behind) × (to ≡ begin + length text)
 
     edge_of : {i next : ℕ} {k : StartMarker} {piece : Piece} (pieces : List Piece) → IsSegment x s i k piece next →
         next_edge x s (piece ∷ pieces) ≡ Beside k (start_sign x s k i)
@@ -131,10 +147,10 @@ module _ (x : Syntax) (s : List ℕ) where
 
     start_data : (left : Edge) (from i : ℕ) (k : StartMarker) (rest : Rest i k) → IsNextStart x s from i k →
         data_tokens x s left from ≡
-        tokens_of s (with_stripped x s left (Beside k (start_sign x s k i)) from i (stripped x s Nothing (rest.0 ∷ rest.1)))
+        placed_of x s (with_stripped x s left (Beside k (start_sign x s k i)) from i (stripped x s Nothing (rest.0 ∷ rest.1)))
     start_data left from i k rest start =
-        ap (λ pieces. tokens_of s (stripped x s left pieces)) (pieces_are from (data_piece from i ∷ rest.0 ∷ rest.1) (rest.3 from start)) ∙
-        ap (λ right. tokens_of s (with_stripped x s left right from i (stripped x s Nothing (rest.0 ∷ rest.1)))) (rest.2)
+        ap (λ pieces. placed_of x s (stripped x s left pieces)) (pieces_are from (data_piece from i ∷ rest.0 ∷ rest.1) (rest.3 from start)) ∙
+        ap (λ right. placed_of x s (with_stripped x s left right from i (stripped x s Nothing (rest.0 ∷ rest.1)))) (rest.2)
 
     empty_to : (right : Edge) (i : ℕ) → stripped_to x s right i i ≤ i
     empty_to Nothing i = omega arith
@@ -154,84 +170,85 @@ module _ (x : Syntax) (s : List ℕ) where
         text ≡ stretch s (stripped_from x s left from i) (stripped_to x s (Beside k (start_sign x s k i)) (stripped_from x s left from i) i) →
         stripped_to x s (Beside k (start_sign x s k i)) (stripped_from x s left from i) i ≤ length s →
         ((length text ≡ 0) × (data_tokens x s left from ≡ data_tokens x s Nothing i)) ⊎
-        ((0 < length text) × (data_tokens x s left from ≡ template_data text ∷ data_tokens x s Nothing i))
+        HoldsData left from text (stripped_from x s left from i) (data_tokens x s Nothing i)
+        (stripped_to x s (Beside k (start_sign x s k i)) (stripped_from x s left from i) i)
     data_next left from i k text start e high =
         let rest = rest_at from i k start in
         let right = Beside k (start_sign x s k i) in
         let pieces = stripped x s Nothing (rest.0 ∷ rest.1) in
         let whole = start_data left from i k rest start in
-        let here = start_data Nothing i i k rest (here_start start) ∙ ap (λ ps. tokens_of s ps) (empty_data right i pieces) in
+        let here = start_data Nothing i i k rest (here_start start) ∙ ap (λ ps. placed_of x s ps) (empty_data right i pieces) in
         elim (data_before (stripped_from x s left from i) (stripped_to x s right (stripped_from x s left from i) i) text pieces e high) [
           | inl none ↦ inl (none.0, whole ∙ (none.1 ∙ sym here))
-          | inr some ↦ inr (some.0, whole ∙ (some.1 ∙ ap (λ ts. template_data text ∷ ts) (sym here)))
+          | inr some ↦
+              let begin = stripped_from x s left from i in
+              inr (some.0, whole ∙ (some.1 ∙ ap (λ ts. placed (template_data text) begin (begin + length text) ∷ ts) (sym here)), some.2)
         ]
 
     -- data to the end
     pub data_last : (left : Edge) (from : ℕ) (text : List ℕ) → HasNoStart x s from →
         text ≡ stretch s (stripped_from x s left from (length s)) (length s) →
-        ((length text ≡ 0) × (data_tokens x s left from ≡ [])) ⊎ ((0 < length text) × (data_tokens x s left from ≡ template_data text ∷ []))
+        ((length text ≡ 0) × (data_tokens x s left from ≡ [])) ⊎
+        HoldsData left from text (stripped_from x s left from (length s)) [] (length s)
     data_last left from text none e =
-        let whole : data_tokens x s left from ≡ tokens_of s (with_data (stripped_from x s left from (length s)) (length s) []) =
-        ap (λ pieces. tokens_of s (stripped x s left pieces)) (pieces_are from (data_piece from (length s) ∷ []) (no_start none)) in
+        let whole : data_tokens x s left from ≡ placed_of x s (with_data (stripped_from x s left from (length s)) (length s) []) =
+        ap (λ pieces. placed_of x s (stripped x s left pieces)) (pieces_are from (data_piece from (length s) ∷ []) (no_start none)) in
         elim (data_before (stripped_from x s left from (length s)) (length s) text [] e (omega arith)) [
           | inl empty ↦ inl (empty.0, whole ∙ empty.1)
-          | inr some ↦ inr (some.0, whole ∙ some.1)
+          | inr some ↦ inr (some.0, whole ∙ some.1, some.2)
         ]
 
     -- what a segment leaves
     at_segment : {i next : ℕ} {k : StartMarker} {piece : Piece} → IsNextStart x s i i k → IsSegment x s i k piece next →
-        data_tokens x s Nothing i ≡ tokens_of s (stripped x s Nothing (piece ∷ pieces_at x s next))
+        data_tokens x s Nothing i ≡ placed_of x s (stripped x s Nothing (piece ∷ pieces_at x s next))
     at_segment {i = i} {next = next} {k = k} {piece = piece} start part =
         let pieces = pieces_at x s next in
-        ap (λ ps. tokens_of s (stripped x s Nothing ps)) (pieces_are i (data_piece i i ∷ piece ∷ pieces) (next_start start part (has_pieces next))) ∙
-        ap (λ ps. tokens_of s ps) (empty_data (next_edge x s (piece ∷ pieces)) i (stripped x s Nothing (piece ∷ pieces)))
+        ap (λ ps. placed_of x s (stripped x s Nothing ps)) (pieces_are i (data_piece i i ∷ piece ∷ pieces) (next_start start part (has_pieces next))) ∙
+        ap (λ ps. placed_of x s ps) (empty_data (next_edge x s (piece ∷ pieces)) i (stripped x s Nothing (piece ∷ pieces)))
 
     pub at_endless : {i : ℕ} {k : StartMarker} {tokens : List Token} → IsNextStart x s i i k → IsEndless x s i k tokens →
-        data_tokens x s Nothing i ≡ tokens
+        data_tokens x s Nothing i ≡ placed_of x s (endless_piece k i tokens ∷ [])
     at_endless {i = i} {k = k} {tokens = tokens} start endless =
         let piece = endless_piece k i tokens in
-        ap (λ ps. tokens_of s (stripped x s Nothing ps)) (pieces_are i (data_piece i i ∷ piece ∷ []) (endless_start start endless)) ∙
-        ap (λ ps. tokens_of s ps) (empty_data (next_edge x s (piece ∷ [])) i (stripped x s Nothing (piece ∷ [])))
+        ap (λ ps. placed_of x s (stripped x s Nothing ps)) (pieces_are i (data_piece i i ∷ piece ∷ []) (endless_start start endless)) ∙
+        ap (λ ps. placed_of x s ps) (empty_data (next_edge x s (piece ∷ [])) i (stripped x s Nothing (piece ∷ [])))
 
     pub at_print : {i : ℕ} → IsNextStart x s i i Variable →
-        data_tokens x s Nothing i ≡ variable_start ∷ inside_tokens x s Variable 0 (inside_from x s Variable i)
+        data_tokens x s Nothing i ≡ placed_start x s Variable i ∷ inside_tokens x s Variable 0 (inside_from x s Variable i)
     at_print {i = i} start =
         let inside = some_inside one_token some_token takes_bytes x s Variable 0 (inside_from x s Variable i) in
         go (inside.0) (inside.1) (inside.2)
       where
         go : (tokens : List Token) (ending : Ending) → HoldsInside x s Variable i tokens ending →
-            data_tokens x s Nothing i ≡ variable_start ∷ inside_tokens x s Variable 0 (inside_from x s Variable i)
-        go tokens None h = at_endless start (endless_print h) ∙ ap (λ ts. variable_start ∷ ts) (sym (inside_is Variable 0 (inside_from x s Variable i) tokens None h))
-        go tokens (Some p) h = at_segment start (print_segment h) ∙ ap (λ ts. variable_start ∷ ts) (sym (inside_is Variable 0 (inside_from x s Variable i) tokens (Some p) h))
+            data_tokens x s Nothing i ≡ placed_start x s Variable i ∷ inside_tokens x s Variable 0 (inside_from x s Variable i)
+        go tokens None h = at_endless start (endless_print h) ∙ ap (λ ts. placed_start x s Variable i ∷ ts) (sym (ended_inside h))
+        go tokens (Some p) h = at_segment start (print_segment h) ∙ ap (λ ts. placed_start x s Variable i ∷ ts) (sym (ended_inside h))
 
     pub at_line_statement : {i : ℕ} → IsNextStart x s i i LineStatement →
-        data_tokens x s Nothing i ≡ block_start ∷ inside_tokens x s LineStatement 0 (inside_from x s LineStatement i)
+        data_tokens x s Nothing i ≡ placed_start x s LineStatement i ∷ inside_tokens x s LineStatement 0 (inside_from x s LineStatement i)
     at_line_statement {i = i} start =
         let inside = some_inside one_token some_token takes_bytes x s LineStatement 0 (inside_from x s LineStatement i) in
         go (inside.0) (inside.1) (inside.2)
       where
         go : (tokens : List Token) (ending : Ending) → HoldsInside x s LineStatement i tokens ending →
-            data_tokens x s Nothing i ≡ block_start ∷ inside_tokens x s LineStatement 0 (inside_from x s LineStatement i)
-        go tokens None h =
-            at_endless start (endless_line_statement h) ∙ ap (λ ts. block_start ∷ ts) (sym (inside_is LineStatement 0 (inside_from x s LineStatement i) tokens None h))
-        go tokens (Some p) h =
-            at_segment start (line_statement_segment h) ∙ ap (λ ts. block_start ∷ ts) (sym (inside_is LineStatement 0 (inside_from x s LineStatement i) tokens (Some p) h))
+            data_tokens x s Nothing i ≡ placed_start x s LineStatement i ∷ inside_tokens x s LineStatement 0 (inside_from x s LineStatement i)
+        go tokens None h = at_endless start (endless_line_statement h) ∙ ap (λ ts. placed_start x s LineStatement i ∷ ts) (sym (ended_inside h))
+        go tokens (Some p) h = at_segment start (line_statement_segment h) ∙ ap (λ ts. placed_start x s LineStatement i ∷ ts) (sym (ended_inside h))
 
     -- the block's only word is not `raw`
     pub at_block : {i : ℕ} → IsNextStart x s i i Block →
         ((last : Sign) (next : ℕ) → HoldsInside x s Block i (only (codes "raw")) (Some (last, next)) → ⊥) →
-        data_tokens x s Nothing i ≡ block_start ∷ inside_tokens x s Block 0 (inside_from x s Block i)
+        data_tokens x s Nothing i ≡ placed_start x s Block i ∷ inside_tokens x s Block 0 (inside_from x s Block i)
     at_block {i = i} start other =
         let inside = some_inside one_token some_token takes_bytes x s Block 0 (inside_from x s Block i) in
         go (inside.0) (inside.1) (inside.2)
       where
         go : (tokens : List Token) (ending : Ending) → HoldsInside x s Block i tokens ending →
-            data_tokens x s Nothing i ≡ block_start ∷ inside_tokens x s Block 0 (inside_from x s Block i)
-        go tokens None h =
-            at_endless start (endless_block h) ∙ ap (λ ts. block_start ∷ ts) (sym (inside_is Block 0 (inside_from x s Block i) tokens None h))
+            data_tokens x s Nothing i ≡ placed_start x s Block i ∷ inside_tokens x s Block 0 (inside_from x s Block i)
+        go tokens None h = at_endless start (endless_block h) ∙ ap (λ ts. placed_start x s Block i ∷ ts) (sym (ended_inside h))
         go tokens (Some p) h =
             at_segment start (block_segment h (λ raw. other (p.0) (p.1) (subst (λ ts. HoldsInside x s Block i ts (Some p)) raw h))) ∙
-            ap (λ ts. block_start ∷ ts) (sym (inside_is Block 0 (inside_from x s Block i) tokens (Some p) h))
+            ap (λ ts. placed_start x s Block i ∷ ts) (sym (ended_inside h))
 
     -- raw data, and what follows its end
     pub at_raw : {i from to next : ℕ} {inner last : Sign} (text : List ℕ) → IsNextStart x s i i Block →
@@ -241,19 +258,20 @@ module _ (x : Syntax) (s : List ℕ) where
         (stripped_to x s (Beside Block (start_sign x s Block to)) (stripped_from x s (Beside Block inner) from to) to) →
         stripped_to x s (Beside Block (start_sign x s Block to)) (stripped_from x s (Beside Block inner) from to) to ≤ length s →
         ((length text ≡ 0) × (data_tokens x s Nothing i ≡ data_tokens x s (Beside Block last) next)) ⊎
-        ((0 < length text) × (data_tokens x s Nothing i ≡ template_data text ∷ data_tokens x s (Beside Block last) next))
+        HoldsData Nothing i text (stripped_from x s (Beside Block inner) from to) (data_tokens x s (Beside Block last) next)
+        (stripped_to x s (Beside Block (start_sign x s Block to)) (stripped_from x s (Beside Block inner) from to) to)
     at_raw {from = from} {to = to} {next = next} {inner = inner} {last = last} text start h first end e high =
         let whole = at_segment start (raw_segment h first end) in
         let begin = stripped_from x s (Beside Block inner) from to in
         let right = Beside Block (start_sign x s Block to) in
         elim (data_before begin (stripped_to x s right begin to) text (stripped x s (Beside Block last) (pieces_at x s next)) e high) [
           | inl none ↦ inl (none.0, whole ∙ none.1)
-          | inr some ↦ inr (some.0, whole ∙ some.1)
+          | inr some ↦ inr (some.0, whole ∙ some.1, some.2)
         ]
 
     pub at_endless_raw : {i from : ℕ} {inner : Sign} → IsNextStart x s i i Block →
         HoldsInside x s Block i (only (codes "raw")) (Some (inner, from)) → IsNowhere (IsRawEnd x s) from →
-        data_tokens x s Nothing i ≡ bad bad_syntax ∷ []
+        data_tokens x s Nothing i ≡ placed (bad bad_syntax) i i ∷ []
     at_endless_raw start h none = at_endless start (endless_raw h none)
 
     pub at_comment : {i end : ℕ} → IsNextStart x s i i Comment → IsFirst (IsCommentEnd x s) (inside_from x s Comment i) end →
@@ -261,7 +279,7 @@ module _ (x : Syntax) (s : List ℕ) where
     at_comment start first = at_segment start (comment_segment first refl refl)
 
     pub at_endless_comment : {i : ℕ} → IsNextStart x s i i Comment → IsNowhere (IsCommentEnd x s) (inside_from x s Comment i) →
-        data_tokens x s Nothing i ≡ bad bad_syntax ∷ []
+        data_tokens x s Nothing i ≡ placed (bad bad_syntax) i i ∷ []
     at_endless_comment start none = at_endless start (endless_comment none)
 
     pub at_line_comment : {i end : ℕ} → IsNextStart x s i i LineComment → IsFirst (IsLineEnd s) (inside_from x s LineComment i) end →

@@ -1,5 +1,5 @@
 -- What a tokenizer finds inside a segment.
-use Rattle.std.specs.Prelude.{codes, ◌≡◌, ℕ, ◌≤◌, false, List, [], slice_index, Option, None, Some}
+use Rattle.std.specs.Prelude.{codes, ◌≡◌, ℕ, ◌≤◌, false, List, [], ◌∷◌, slice_index, Option, None, Some}
 use Rattle.std.specs.Str.{IsCharBoundary}
 use Rattle.std.specs.Char.{is_ascii_whitespace}
 use Rattle.template_compiler_syntax.specs.declared.StartMarker.{StartMarker}
@@ -9,8 +9,10 @@ use Rattle.template_compiler_syntax.specs.declared.StartMarker.TheVariants.{Bloc
 use Rattle.template_compiler_tokens.specs.Token.{Token, identifier}
 use Rattle.template_compiler_tokens.specs.Lexical.{Begins}
 use Rattle.template_compiler_segments.specs.declared.edges.Sign.{Sign}
+use Rattle.template_compiler_segments.specs.declared.edges.Edge.TheVariants.{Beside}
 use Rattle.template_compiler_segments.specs.Segments.{IsEnd, EndsAt, IsOver, Ending, HasInside, HoldsInside, only, IsRawEnd}
 use Rattle.template_compiler_segments.specs.Places.{IsFirst, IsNowhere}
+use Rattle.template_compiler_tokenizer.specs.Left.{placed, end_token, data_tokens, inside_tokens}
 use Rattle.template_compiler_tokenizer.specs.declared.inside.Found.{Found}
 use Rattle.template_compiler_tokenizer.specs.declared.inside.Found.TheVariants.{End, Token as Other}
 
@@ -34,11 +36,20 @@ pub record IsTokenPlace (x : Syntax) (s : List ℕ) (k : StartMarker) (d i : ℕ
   pub none : d ≡ 0 → IsOver x s k i → ⊥
   pub black : is_ascii_whitespace (slice_index s i) ≡ false
 
+-- the segment's end stands at the place, and is the next of the tokens
+pub record IsNextEnd (x : Syntax) (s : List ℕ) (k : StartMarker) (d from i next : ℕ) (last : Sign) : Type 0 where
+  pub low : from ≤ i
+  pub high : i ≤ next
+  pub cut : IsCharBoundary s i
+  pub tokens : inside_tokens x s k d from ≡ placed (end_token k) i next ∷ data_tokens x s (Beside k last) next
+
 -- behind the white space at a place the segment ends, or a token stands
 abbrev pub FindsPlace : Syntax → List ℕ → StartMarker → ℕ → ℕ → Found → Type 0
-FindsPlace x s k d from (End last next) = HasInside x s k d from [] (Some (last, next)) × IsCharBoundary s next
+FindsPlace x s k d from (End i last next) =
+    HasInside x s k d from [] (Some (last, next)) × IsCharBoundary s next × IsNextEnd x s k d from i next last
 FindsPlace x s k d from (Other i) = (from ≤ i) × IsCharBoundary s i × IsTokenPlace x s k d i ×
-    ((tokens : List Token) (ending : Ending) → HasInside x s k d i tokens ending → HasInside x s k d from tokens ending)
+    ((tokens : List Token) (ending : Ending) → HasInside x s k d i tokens ending → HasInside x s k d from tokens ending) ×
+    (inside_tokens x s k d from ≡ inside_tokens x s k d i)
 
 abbrev pub word_in : Token → Option (List ℕ)
 word_in (identifier word) = Some word

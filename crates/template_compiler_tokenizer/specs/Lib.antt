@@ -1,4 +1,5 @@
 pub mod Left
+pub mod Spans
 pub mod Finds
 pub mod Reads
 pub mod Steps

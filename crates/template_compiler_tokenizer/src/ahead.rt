@@ -20,7 +20,7 @@ impl<'source> Ahead<'source> {
 
     /// What a tokenizer gives next.
     pub fn read(tokenizer: &mut Tokenizer<'source>) -> Ahead<'source>
-        ensures { ReadsAhead (tokenizer.old.left) (tokenizer.new.left) result }
+        ensures { ReadsAhead tokenizer.old tokenizer.new result }
     {
         match tokenizer.next_token() {
             Ok(Some((token, span))) => Ahead::Next(token, span),

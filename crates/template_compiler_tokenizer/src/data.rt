@@ -14,8 +14,8 @@ use crate::starts::inside_from;
 use crate::words::{find_raw_end, only_word};
 use std::alloc::Global;
 use template_compiler_segments::{
-    Edge, Sign, StartFinder, data_text, find_line_end, find_text, is_first_on_line, newline_len,
-    start_sign,
+    Edge, Sign, StartFinder, data_start, data_text, find_line_end, find_text, is_first_on_line,
+    newline_len, start_sign,
 };
 use template_compiler_syntax::{StartMarker, SyntaxConfig};
 use template_compiler_tokens::Token;
@@ -65,15 +65,18 @@ fn last_data<'source>(
     requires none { HasNoStart syntax.now source.now from }
     ensures { Steps syntax.now source.now from (data_tokens syntax.now source.now left from) result }
 {
-    let text = data_text(source, syntax, left, Edge::Nothing, from, source.len());
+    let to = source.len();
+    let text = data_text(source, syntax, left, Edge::Nothing, from, to);
     if is_nothing(text) {
         return Ok(Step::Ends);
     }
+    let begin = data_start(source, syntax, left, from, to);
     Ok(Step::Reads(Piece {
         token: Token::TemplateData(text),
         stage: Stage::Data(Edge::Nothing),
-        begin: from,
-        next: source.len(),
+        begin,
+        end: begin + text.len(),
+        next: to,
     }))
 }
 
@@ -98,10 +101,12 @@ fn before_start<'source>(
     if is_nothing(text) {
         return enter(alloc, source, syntax, kind, start);
     }
+    let begin = data_start(source, syntax, left, from, start);
     Ok(Step::Reads(Piece {
         token: Token::TemplateData(text),
         stage: Stage::Data(Edge::Nothing),
-        begin: from,
+        begin,
+        end: begin + text.len(),
         next: start,
     }))
 }
@@ -137,11 +142,13 @@ fn enter_print<'source>(
     requires start { IsNextStart syntax.now source.now start start StartMarker.Variable }
     ensures { Steps syntax.now source.now start (data_tokens syntax.now source.now Edge.Nothing start) result }
 {
+    let inside = inside_from(source, syntax, StartMarker::Variable, start);
     Ok(Step::Reads(Piece {
         token: Token::VariableStart,
         stage: Stage::Inside(StartMarker::Variable, 0),
         begin: start,
-        next: inside_from(source, syntax, StartMarker::Variable, start),
+        end: inside,
+        next: inside,
     }))
 }
 
@@ -155,11 +162,13 @@ fn enter_line_statement<'source>(
     requires start { IsNextStart syntax.now source.now start start StartMarker.LineStatement }
     ensures { Steps syntax.now source.now start (data_tokens syntax.now source.now Edge.Nothing start) result }
 {
+    let inside = inside_from(source, syntax, StartMarker::LineStatement, start);
     Ok(Step::Reads(Piece {
         token: Token::BlockStart,
         stage: Stage::Inside(StartMarker::LineStatement, 0),
         begin: start,
-        next: inside_from(source, syntax, StartMarker::LineStatement, start),
+        end: inside,
+        next: inside,
     }))
 }
 
@@ -181,6 +190,7 @@ fn enter_block<'source>(
             token: Token::BlockStart,
             stage: Stage::Inside(StartMarker::Block, 0),
             begin: start,
+            end: inside,
             next: inside,
         })),
     }
@@ -209,21 +219,17 @@ fn enter_raw<'source>(
         StartMarker::Block,
         start_sign(source.as_bytes(), syntax, StartMarker::Block, to),
     );
-    let text = data_text(
-        source,
-        syntax,
-        Edge::Beside(StartMarker::Block, inner),
-        right,
-        from,
-        to,
-    );
+    let left = Edge::Beside(StartMarker::Block, inner);
+    let text = data_text(source, syntax, left, right, from, to);
     if is_nothing(text) {
         return Ok(Step::Passes(Edge::Beside(StartMarker::Block, last), next));
     }
+    let begin = data_start(source, syntax, left, from, to);
     Ok(Step::Reads(Piece {
         token: Token::TemplateData(text),
         stage: Stage::Data(Edge::Beside(StartMarker::Block, last)),
-        begin: from,
+        begin,
+        end: begin + text.len(),
         next,
     }))
 }

@@ -19,8 +19,8 @@ use template_values_errors::ErrorKind;
 /// What stands behind the white space inside a segment.
 #[derive(Clone, Copy)]
 pub(crate) enum Found {
-    /// The segment's end, with this sign; what follows the segment stands at the place.
-    End(Sign, usize),
+    /// The segment's end at the first place, with this sign; what follows the segment stands at the second.
+    End(usize, Sign, usize),
     /// A token, or what is none, at the place.
     Token(usize),
 }
@@ -41,7 +41,7 @@ pub(crate) fn next_place(
     'blanks: loop {
         if depth == 0 {
             if let Some((last, next)) = end_at(bytes, syntax, kind, place) {
-                return Found::End(last, next);
+                return Found::End(place, last, next);
             }
         }
         if !is_white_at(bytes, place) {
@@ -51,12 +51,13 @@ pub(crate) fn next_place(
     }
 }
 
-/// A token inside a segment, or its end, with the places where it begins and where what follows stands.
+/// A token, with the places where its text begins and ends, and where what follows stands.
 #[derive(Drop)]
 pub(crate) struct Piece<'source> {
     pub(crate) token: Token<'source>,
     pub(crate) stage: Stage,
     pub(crate) begin: usize,
+    pub(crate) end: usize,
     pub(crate) next: usize,
 }
 
@@ -75,21 +76,24 @@ pub(crate) fn next_inside<'source>(
     ensures ahead { IfOk result (λ piece. from ≤ piece.next) }
 {
     match next_place(source, syntax, kind, depth, from) {
-        Found::End(last, next) => Ok(Piece {
+        Found::End(place, last, next) => Ok(Piece {
             token: end_token(kind),
             stage: Stage::Data(Edge::Beside(kind, last)),
-            begin: from,
+            begin: place,
+            end: next,
             next,
         }),
         Found::Token(place) => {
             match scan_token(alloc, source.split_at(place).1) {
                 Ok((token, width)) => {
                     let depth = brackets_behind(&token, depth);
+                    let end = place + width;
                     Ok(Piece {
                         token,
                         stage: Stage::Inside(kind, depth),
                         begin: place,
-                        next: place + width,
+                        end,
+                        next: end,
                     })
                 }
                 Err(kind) => Err(kind),

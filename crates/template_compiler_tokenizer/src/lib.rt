@@ -5,6 +5,7 @@ mod ahead;
 mod data;
 mod ends;
 mod inside;
+mod laws;
 mod read;
 mod stage;
 mod starts;
@@ -13,6 +14,7 @@ mod text;
 mod tokenizer;
 mod words;
 
+pub use laws::one_list_of_spans;
 pub use stream::TokenStream;
 pub use template_compiler_syntax::StartMarker;
 pub use tokenizer::Tokenizer;

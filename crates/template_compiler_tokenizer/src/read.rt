@@ -25,7 +25,7 @@ pub(crate) fn next_in_data<'source>(
 ) -> Result<Option<Piece<'source>>, ErrorKind>
     requires cut { IsCharBoundary source.now from }
     requires knows { Knows syntax.now source.now from finder.old }
-    ensures read { ReadsOrEnds syntax.now source.now (data_tokens syntax.now source.now left from) result }
+    ensures read { ReadsOrEnds syntax.now source.now from (data_tokens syntax.now source.now left from) result }
     ensures knows { IfOk result (λ read. IfSome read (λ piece. Knows syntax.now source.now piece.next finder.new)) }
 {
     let mut edge = left;
@@ -54,7 +54,7 @@ pub(crate) fn next_piece<'source>(
 ) -> Result<Option<Piece<'source>>, ErrorKind>
     requires stage { IsStage source.now stage from }
     requires knows { Knows syntax.now source.now from finder.old }
-    ensures read { ReadsOrEnds syntax.now source.now (left_at syntax.now source.now stage from) result }
+    ensures read { ReadsOrEnds syntax.now source.now from (left_at syntax.now source.now stage from) result }
     ensures knows { IfOk result (λ read. IfSome read (λ piece. Knows syntax.now source.now piece.next finder.new)) }
 {
     match stage {

@@ -20,9 +20,9 @@ impl<'source> Model for TokenStream<'source> {
 
     ghost Value = { Stream };
 
-    ghost view = { λ s. stream_of (s.tokenizer.left) s.ahead s.last_span };
+    ghost view = { λ s. stream_of s.tokenizer s.ahead s.last_span };
 
-    ghost invariant = { λ s. IsAhead (s.tokenizer.left) s.ahead };
+    ghost invariant = { λ s. IsAhead s.tokenizer s.ahead };
 }
 
 impl<'source> TokenStream<'source> {
@@ -30,7 +30,8 @@ impl<'source> TokenStream<'source> {
 
     /// The tokens of a tokenizer from where it stands.
     pub fn new(mut tokenizer: Tokenizer<'source>) -> TokenStream<'source>
-        ensures { result.left ≡ tokenizer.entry.left }
+        ensures tokens { result.left ≡ tokenizer.entry.left }
+        ensures spans { result.spans ≡ tokenizer.entry.spans }
     {
         let ahead = Ahead::read(&mut tokenizer);
         TokenStream {
@@ -44,12 +45,14 @@ impl<'source> TokenStream<'source> {
 impl<'source> Tokens<'source> for TokenStream<'source> {
     ghost use Rattle.std.specs.Prelude.{◌≡◌, ◌∷◌, [], MatchOption, IfOk, IfSome, IsOk};
     ghost use Rattle.template_compiler_tokens.specs.Left.{Shows, Takes};
+    ghost use Rattle.template_compiler_tokenizer.specs.Spans.{ShowsSpan, TakesSpan};
     ghost use Rattle.template_compiler_tokenizer.specs.Stream.{ended_by};
 
     ghost left = { λ s. s.left };
 
     fn current(&self) -> Result<Option<(&Token<'source>, Span)>, Error>
         ensures shown { Shows self.now.left result }
+        ensures spanned { ShowsSpan self.now.spans result }
         ensures refused { MatchOption self.now.refused (IsOk result) (λ kind. result ≡ Err (kind ∷ [])) }
         ensures span { IfOk result (λ shown. IfSome shown (λ p. p.1 ≡ self.now.current_span)) }
     {
@@ -62,6 +65,7 @@ impl<'source> Tokens<'source> for TokenStream<'source> {
 
     fn next(&mut self) -> Result<Option<(Token<'source>, Span)>, Error>
         ensures taken { Takes self.old.left self.new.left result }
+        ensures spanned { TakesSpan self.old.spans self.new.spans result }
         ensures refused { MatchOption self.old.refused (IsOk result) (λ kind. (result ≡ Err (kind ∷ [])) × (self.new ≡ self.old)) }
         ensures span { IfOk result (λ taken. IfSome taken (λ p. p.1 ≡ self.old.current_span)) }
         ensures last { IfOk result (λ taken. IfSome taken (λ p. self.new.last_span ≡ p.1)) }

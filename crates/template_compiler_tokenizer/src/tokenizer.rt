@@ -1,4 +1,8 @@
 //! The tokenizer.
+ghost use Rattle.std.specs.Prelude.{◌≤◌, take};
+ghost use Rattle.std.specs.Str.{IsCharBoundary};
+ghost use Rattle.template_compiler_places.specs.Places.{IsBehind};
+
 use crate::inside::Piece;
 use crate::read::next_piece;
 use crate::stage::Stage;
@@ -44,13 +48,14 @@ impl<'source> Model for Tokenizer<'source> {
 
     ghost view = { λ t. view_of t.filename.now t.source.now t.syntax t.text.now t.state t.from };
 
-    ghost invariant = { λ t. IsStanding t.syntax t.text.now t.finder t.state t.from };
+    ghost invariant = { λ t. IsStanding t.syntax t.text.now t.finder t.state t.from t.place };
 }
 
 impl<'source> Tokenizer<'source> {
     ghost use Rattle.std.specs.Prelude.{◌≡◌, ◌∷◌, [], MatchOption, IsOk};
     ghost use Rattle.template_compiler_tokens.specs.Left.{Takes};
     ghost use Rattle.template_compiler_segments.specs.Flat.{IsTokens};
+    ghost use Rattle.template_compiler_tokenizer.specs.Spans.{HasSpans, TakesSpan};
 
     /// A tokenizer at the start of a template's source under a syntax.
     pub fn new(
@@ -60,6 +65,7 @@ impl<'source> Tokenizer<'source> {
         syntax: SyntaxConfig,
     ) -> Tokenizer<'source>
         ensures tokens { IsTokens syntax source.now result.left }
+        ensures spans { HasSpans syntax source.now result.spans }
         ensures source { result.source ≡ source.now }
         ensures filename { result.filename ≡ filename.now }
         ensures reads { result.refused ≡ None }
@@ -100,6 +106,7 @@ impl<'source> Tokenizer<'source> {
     /// Where no token stands, the kind that says why; `OutOfMemory`. Each is answered again from then on.
     pub fn next_token(&mut self) -> Result<Option<(Token<'source>, Span)>, Error>
         ensures taken { Takes self.old.left self.new.left result }
+        ensures spanned { TakesSpan self.old.spans self.new.spans result }
         ensures refused { MatchOption self.old.refused (IsOk result → self.new.refused ≡ None)
             (λ kind. (result ≡ Err (kind ∷ [])) × (self.new ≡ self.old)) }
     {
@@ -121,15 +128,15 @@ impl<'source> Tokenizer<'source> {
                     token,
                     stage,
                     begin,
+                    end,
                     next,
                 } = piece;
-                let begin = marker_start(self.text, &token, begin, next);
-                let start = self.place.after(between(self.text, self.from, begin));
-                let end = start.after(between(self.text, begin, next));
+                let start = place_at(self.text, self.place, self.from, begin);
+                let stop = place_at(self.text, start, begin, end);
+                self.place = place_at(self.text, stop, end, next);
                 self.state = State::Reading(stage);
                 self.from = next;
-                self.place = end;
-                Ok(Some((token, start.to(end))))
+                Ok(Some((token, start.to(stop))))
             }
             Ok(None) => {
                 self.state = State::Ended;
@@ -143,18 +150,12 @@ impl<'source> Tokenizer<'source> {
     }
 }
 
-// The text between two places, where they part it.
-fn between(text: &str, from: usize, to: usize) -> &str {
-    text.get(from..to).unwrap_or("")
-}
-
-// Where an end marker begins, behind the white space before it; other tokens begin at their place.
-fn marker_start(text: &str, token: &Token, begin: usize, next: usize) -> usize {
-    match token {
-        Token::VariableEnd | Token::BlockEnd => {
-            let stretch = between(text, begin, next);
-            begin.saturating_add(stretch.len() - stretch.trim_ascii_start().len())
-        }
-        _ => begin,
-    }
+// The place further on in a text.
+fn place_at(text: &str, place: Place, from: usize, to: usize) -> Place
+    requires ordered { from ≤ to }
+    requires start { IsCharBoundary text.now from }
+    requires end { IsCharBoundary text.now to }
+    ensures { IsBehind (take from text.now) place → IsBehind (take to text.now) result }
+{
+    place.after(&text[from..to])
 }

@@ -28,7 +28,7 @@ pub(crate) fn only_word(
     ensures cut { IfSome result (λ p. IsCharBoundary source.now p.1) }
 {
     match next_place(source, syntax, StartMarker::Block, 0, from) {
-        Found::End(_, _) => None,
+        Found::End(_, _, _) => None,
         Found::Token(place) => match scan_word(alloc, source.split_at(place).1) {
             None => None,
             Some((name, width)) => {
@@ -49,7 +49,7 @@ fn end_behind(source: &str, syntax: &SyntaxConfig, from: usize) -> Option<(Sign,
     ensures cut { IfSome result (λ p. IsCharBoundary source.now p.1) }
 {
     match next_place(source, syntax, StartMarker::Block, 0, from) {
-        Found::End(last, next) => Some((last, next)),
+        Found::End(_, last, next) => Some((last, next)),
         Found::Token(_) => None,
     }
 }

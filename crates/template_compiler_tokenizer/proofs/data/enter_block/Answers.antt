@@ -3,7 +3,7 @@ use Rattle.template_compiler_syntax.specs.declared.StartMarker.TheVariants.{Bloc
 use Rattle.std.specs.Prelude.{codes}
 use Rattle.template_compiler_segments.specs.Segments.{HasInside, only}
 use Rattle.template_compiler_tokens.specs.Token.{block_start}
-use Rattle.template_compiler_tokenizer.specs.Left.{inside_tokens}
+use Rattle.template_compiler_tokenizer.specs.Left.{placed, inside_tokens}
 use Rattle.template_compiler_tokenizer.proofs.Steps.{at_block}
 use Rattle.template_compiler_tokenizer.proofs.data.enter_block.Goals as goal
 
@@ -11,8 +11,20 @@ pub returns-in-None : goal.returns-in-None
 returns-in-None c =
     let x = c.args.syntax.now in
     let s = c.args.source.now in
-    let ahead = c.inside_from-inside.ensures.ahead in (
-      at_block x s c.requires.usable c.requires.start (λ last next h. c.in-None.ensures.found last next (subst (λ n. HasInside x s Block 0 n (only (codes "raw")) (Some (last, next))) (sym c.inside_from-inside.ensures.place) h)) ∙ ap (λ n. block_start ∷ inside_tokens x s Block 0 n) (sym c.inside_from-inside.ensures.place),
-      (c.inside_from-inside.ensures.cut, omega arith),
-      ahead,
-    )
+    let start = c.args.start in
+    let inside = c.inside_from-inside.ensures in
+    record {
+      first =
+          at_block x s c.requires.usable c.requires.start
+          (λ last next h. c.in-None.ensures.found last next (subst (λ n. HasInside x s Block 0 n (only (codes "raw")) (Some (last, next))) (sym inside.place) h)) ∙
+          ap (λ n. placed block_start start n ∷ inside_tokens x s Block 0 n) (sym inside.place);
+      stage = (inside.cut, omega arith);
+      cut = record {
+        low = omega arith;
+        ordered = inside.ahead;
+        high = omega arith;
+        begin = inside.start;
+        end = inside.cut;
+        next = inside.cut;
+      };
+    }

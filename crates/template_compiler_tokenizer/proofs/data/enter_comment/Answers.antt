@@ -19,7 +19,7 @@ returns-in-None c =
     let none =
     comment_nowhere x s c.as_bytes-bytes.result.now c.as_bytes.result.now c.args.start c.inside_from-inside.result c.as_bytes-bytes.ensures.value texts
     c.inside_from-inside.ensures.place c.in-None.ensures in
-    inr (bad_syntax, at_endless_comment x s c.requires.usable c.requires.start none, refl)
+    inr (bad_syntax, c.args.start, c.args.start, at_endless_comment x s c.requires.usable c.requires.start none, refl)
 
 pub returns-in-Some : goal.returns-in-Some
 returns-in-Some c =

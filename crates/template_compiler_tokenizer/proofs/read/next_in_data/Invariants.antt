@@ -1,4 +1,4 @@
-use Rattle.std.proofs.Common.{◌≡◌, ◌-◌, length}
+use Rattle.std.proofs.Common.{◌≡◌, ◌-◌, ◌≤◌, length}
 use Rattle.std.specs.Str.{IsCharBoundary}
 use Rattle.template_compiler_segments.specs.Known.{Knows}
 use Rattle.template_compiler_tokenizer.specs.Left.{data_tokens}
@@ -7,6 +7,7 @@ use Rattle.template_compiler_tokenizer.proofs.read.next_in_data.Given as goal
 -- no token was passed
 abbrev pub invariant-loop-piece : goal.invariant-loop-piece
 invariant-loop-piece l = record {
+  low : l.from ≤ l.place;
   cut : IsCharBoundary l.source l.place;
   knows : Knows l.syntax l.source l.place l.finder;
   same : data_tokens l.syntax l.source l.fn.left l.from ≡ data_tokens l.syntax l.source l.edge l.place;

@@ -7,7 +7,7 @@ use Rattle.template_compiler_tokenizer.proofs.words.only_word.Goals as goal
 
 pub returns-in-End-clause-found : goal.returns-in-End-clause-found
 returns-in-End-clause-found c =
-    ends_at_once c.args.syntax.now c.args.source.now c.args.from c.in-End.field-1 c.in-End.field-0 c.args.word.now c.in-End.ensures.0
+    ends_at_once c.args.syntax.now c.args.source.now c.args.from c.in-End.field-2 c.in-End.field-1 c.args.word.now c.in-End.ensures.0
 
 pub returns-in-None-clause-found : goal.returns-in-None-clause-found
 returns-in-None-clause-found c =
