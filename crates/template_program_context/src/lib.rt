@@ -9,9 +9,6 @@ ghost use Rattle.template_program_context.specs.Entries.{SayJson, SayContext};
 ghost use Rattle.template_values_json.specs.Entries.{ArePlain};
 ghost use Rattle.template_values_json.specs.Json.{IsRefusal};
 
-#[cfg(test)]
-mod tests;
-
 use std::alloc::Global;
 use template_values_core::{Entry, Value};
 use template_values_errors::Error;

@@ -4,8 +4,6 @@
 mod faults;
 mod files;
 mod source;
-#[cfg(test)]
-mod tests;
 mod whole;
 
 pub use faults::FileFault;

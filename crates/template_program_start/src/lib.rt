@@ -8,8 +8,6 @@ mod starting;
 mod status;
 #[cfg(test)]
 mod tests;
-#[cfg(test)]
-mod words_tests;
 
 pub use starting::{refuse_arguments, start};
 pub use status::status_of;
