@@ -2,4 +2,4 @@ pub mod Performing
 pub mod Stepping
 pub mod Gathering
 pub mod Sparing
-pub mod AtOnce
+pub mod Promptly

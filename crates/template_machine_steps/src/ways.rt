@@ -1,4 +1,6 @@
 //! Where a run goes on.
+ghost use Rattle.std.specs.Prelude.{◌≡◌};
+ghost use Rattle.template_machine_steps.specs.Performs.{behind};
 
 /// Where a run goes on behind an instruction.
 #[derive(Clone, Copy, Debug, PartialEq, Eq)]
@@ -7,4 +9,29 @@ pub enum Way {
     Behind,
     /// At a place in the code.
     At(u32),
+}
+
+/// What came of an instruction that is done at once, where it can be.
+#[derive(Clone, Copy, Debug, PartialEq, Eq)]
+pub enum AtOnce {
+    /// It is done, and the run goes on behind it.
+    Behind,
+    /// It is done, and the run goes on at a place in the code.
+    At(u32),
+    /// Memory was refused.
+    Refused,
+    /// Nothing is done.
+    Undone,
+}
+
+/// Behind the instruction, where memory was given.
+#[inline(always)]
+pub fn behind(is_given: bool) -> AtOnce
+    ensures { result ≡ behind is_given }
+{
+    if is_given {
+        AtOnce::Behind
+    } else {
+        AtOnce::Refused
+    }
 }
