@@ -1,2 +1,4 @@
 pub mod Less
 pub mod Lists
+pub mod Opened
+pub mod Standing

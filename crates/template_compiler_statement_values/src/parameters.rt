@@ -34,7 +34,7 @@ fn no_parameters<'source>(alloc: Global) -> Parameters<'source>
 /// # Errors
 ///
 /// The fault of the token that does not fit, or want of memory.
-#[tactic(auto, using(template_compiler_statement_parts::proofs::Standing::no_parens), unfolding(template_compiler_statements::specs::Reader::here, template_compiler_statements::specs::Reader::here_by, template_compiler_statements::specs::Reader::optional_parameters_by))]
+#[tactic(auto, using(template_compiler_statement_parts::proofs::Standing::no_parens), unfolding(crate::proofs::Opened::optional_read))]
 pub fn read_optional_parameters<'source>(
     alloc: Global,
     tokens: &mut TokenStream<'source>,
@@ -69,7 +69,7 @@ pub fn read_deeper_parameters<'source>(
     }
 }
 
-#[tactic(auto, using(template_compiler_statement_parts::proofs::Standing::some_parameters, template_compiler_statement_parts::proofs::Again::paren_end_again), unfolding(template_compiler_reading::specs::Steps::and_then, template_compiler_statements::specs::Reader::parameters_by))]
+#[tactic(auto, using(crate::proofs::Standing::parameters_next), unfolding(crate::proofs::Opened::parameters_read))]
 fn read_parameters<'source>(
     alloc: Global,
     tokens: &mut TokenStream<'source>,
@@ -87,7 +87,7 @@ fn read_parameters<'source>(
     Ok(parameters)
 }
 
-#[tactic(auto, using(template_compiler_statement_parts::proofs::Lists::expressions_push, template_compiler_statement_parts::proofs::Standing::no_default), unfolding(template_compiler_reading::specs::Steps::and_then, template_compiler_statements::specs::Reader::parameter_by, template_compiler_statements::specs::Reader::default_by))]
+#[tactic(auto, using(crate::proofs::Standing::parameter_next), unfolding(crate::proofs::Opened::parameter_read))]
 fn read_parameter<'source>(
     alloc: Global,
     tokens: &mut TokenStream<'source>,
@@ -136,7 +136,7 @@ fn all_parameters<'source>(
     }
 }
 
-#[tactic(auto, using(template_compiler_statement_parts::proofs::Standing::no_more), unfolding(template_compiler_reading::specs::Steps::under, template_compiler_statements::specs::Reader::more_step))]
+#[tactic(auto, using(template_compiler_statement_parts::proofs::Standing::no_more), unfolding(crate::proofs::Opened::more_read))]
 fn next_parameter<'source>(
     alloc: Global,
     tokens: &mut TokenStream<'source>,

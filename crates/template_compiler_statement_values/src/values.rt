@@ -34,7 +34,7 @@ pub fn read_values<'source>(
     Ok(together(alloc, values, span)?)
 }
 
-#[tactic(auto, using(template_compiler_statement_parts::proofs::Lists::expressions_push), unfolding(template_compiler_reading::specs::Steps::and_then, template_compiler_statements::specs::Reader::value_by))]
+#[tactic(auto, using(template_compiler_statement_parts::proofs::Lists::expressions_push), unfolding(crate::proofs::Opened::value_read))]
 fn read_value<'source>(
     alloc: Global,
     tokens: &mut TokenStream<'source>,
@@ -67,7 +67,7 @@ fn all_values<'source>(
     }
 }
 
-#[tactic(auto, using(template_compiler_statement_parts::proofs::Standing::no_more), unfolding(template_compiler_reading::specs::Steps::under, template_compiler_statements::specs::Reader::more_step))]
+#[tactic(auto, using(template_compiler_statement_parts::proofs::Standing::no_more), unfolding(crate::proofs::Opened::more_read))]
 fn next_value<'source>(
     alloc: Global,
     tokens: &mut TokenStream<'source>,
@@ -108,7 +108,7 @@ fn together<'source>(
 /// # Errors
 ///
 /// The fault of the token that does not fit, or want of memory.
-#[tactic(auto, using(template_compiler_statement_parts::proofs::Standing::no_assignment, template_compiler_statement_parts::proofs::Standing::some_assignment), unfolding(template_compiler_reading::specs::Steps::and_then, template_compiler_statements::specs::Reader::assignments_by))]
+#[tactic(auto, using(crate::proofs::Standing::assignments_next), unfolding(crate::proofs::Opened::assignments_read))]
 pub fn read_assignments<'source>(
     alloc: Global,
     tokens: &mut TokenStream<'source>,
@@ -125,7 +125,7 @@ pub fn read_assignments<'source>(
     Ok(pairs)
 }
 
-#[tactic(auto, using(template_compiler_statement_parts::proofs::Lists::assignments_push, template_compiler_statement_parts::proofs::Again::assign_again), unfolding(template_compiler_reading::specs::Steps::and_then, template_compiler_statements::specs::Reader::here, template_compiler_statements::specs::Reader::here_by, template_compiler_statements::specs::Reader::assignment_by))]
+#[tactic(auto, using(crate::proofs::Standing::assignment_next), unfolding(crate::proofs::Opened::assignment_read))]
 fn read_assignment<'source>(
     alloc: Global,
     tokens: &mut TokenStream<'source>,
@@ -160,7 +160,7 @@ fn all_assignments<'source>(
     }
 }
 
-#[tactic(auto, using(template_compiler_statement_parts::proofs::Standing::no_more), unfolding(template_compiler_reading::specs::Steps::under, template_compiler_statements::specs::Reader::more_step))]
+#[tactic(auto, using(template_compiler_statement_parts::proofs::Standing::no_more), unfolding(crate::proofs::Opened::more_read))]
 fn next_assignment<'source>(
     alloc: Global,
     tokens: &mut TokenStream<'source>,
@@ -183,7 +183,7 @@ fn next_assignment<'source>(
 /// # Errors
 ///
 /// The fault of the token that does not fit, or want of memory.
-#[tactic(auto, using(template_compiler_statement_parts::proofs::Standing::no_filter), unfolding(template_compiler_reading::specs::Steps::and_then, template_compiler_statements::specs::Reader::loop_filter_by))]
+#[tactic(auto, using(template_compiler_statement_parts::proofs::Standing::no_filter), unfolding(crate::proofs::Opened::filter_read))]
 pub fn read_loop_filter<'source>(
     alloc: Global,
     tokens: &mut TokenStream<'source>,
