@@ -2,3 +2,5 @@ pub mod Standing
 pub mod Again
 pub mod Lists
 pub mod Rounds
+pub mod Opened
+pub mod Parts

@@ -254,3 +254,10 @@ path_on e f n ts us h k = all_goes path_step path_takes e f ts us (ap (λ ts. pa
 pub inner_less : (dots : Bool) (d n : ℕ) (ts : List Token) → d ≡ suc n → inner_targets dots d ts ≡ targets_by dots (inner_targets dots n) ts
 unfolding inner_targets
 inner_less dots d n ts e = ap (λ d. inner_targets dots d ts) e
+
+-- a tag, the end of a block and the name behind it
+pub ruleset tag_next = (tag_here, tag_none)
+
+pub ruleset block_end_next = (tag_here, block_end_none)
+
+pub ruleset end_name_next = (end_name_here, end_name_none)

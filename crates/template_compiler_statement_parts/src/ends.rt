@@ -92,7 +92,7 @@ pub fn expect_paren_end<'source>(tokens: &mut TokenStream<'source>) -> Result<()
 /// # Errors
 ///
 /// The fault of the first token that does not fit.
-#[tactic(auto, using(crate::proofs::Standing::tag_here, crate::proofs::Standing::tag_none), unfolding(template_compiler_reading::specs::Steps::and_then, template_compiler_statements::specs::Reader::expect_tag))]
+#[tactic(auto, using(crate::proofs::Standing::tag_next), unfolding(crate::proofs::Opened::tag_read))]
 pub fn expect_tag<'source>(tokens: &mut TokenStream<'source>, word: &str) -> Result<(), Refusal>
     ensures { ParsedAs passing (expect_tag word.now tt tokens.old) tokens.new result }
 {
@@ -110,7 +110,7 @@ pub fn expect_tag<'source>(tokens: &mut TokenStream<'source>, word: &str) -> Res
 /// # Errors
 ///
 /// The fault of the token that does not fit.
-#[tactic(auto, using(crate::proofs::Standing::tag_here, crate::proofs::Standing::block_end_none), unfolding(template_compiler_reading::specs::Steps::and_then, template_compiler_statements::specs::Reader::block_end_by))]
+#[tactic(auto, using(crate::proofs::Standing::block_end_next), unfolding(crate::proofs::Opened::block_end_read))]
 pub fn expect_block_end<'source>(
     tokens: &mut TokenStream<'source>,
     name: &str,
@@ -126,7 +126,7 @@ pub fn expect_block_end<'source>(
     }
 }
 
-#[tactic(auto, using(crate::proofs::Standing::end_name_here, crate::proofs::Standing::end_name_none), unfolding(template_compiler_statements::specs::Reader::end_name_by))]
+#[tactic(auto, using(crate::proofs::Standing::end_name_next), unfolding(template_compiler_statements::specs::Reader::end_name_by))]
 fn expect_end_name<'source>(tokens: &mut TokenStream<'source>, name: &str) -> Result<(), Refusal>
     ensures { ParsedAs passing (end_name_by name.now tt tokens.old) tokens.new result }
 {

@@ -29,7 +29,7 @@ pub fn read_imports<'source>(
     Ok(names)
 }
 
-#[tactic(auto, using(crate::proofs::Lists::imports_push, crate::proofs::Standing::no_alias), unfolding(template_compiler_reading::specs::Steps::and_then, template_compiler_statements::specs::Reader::import_by, template_compiler_statements::specs::Reader::alias_by))]
+#[tactic(auto, using(crate::proofs::Parts::import_next), unfolding(crate::proofs::Opened::import_read))]
 fn read_imported<'source>(
     tokens: &mut TokenStream<'source>,
     names: &mut Vec<(Expr<'source>, Option<Expr<'source>>)>,
@@ -62,7 +62,7 @@ fn all_imported<'source>(
     }
 }
 
-#[tactic(auto, using(crate::proofs::Standing::no_more), unfolding(template_compiler_reading::specs::Steps::under, template_compiler_statements::specs::Reader::more_step))]
+#[tactic(auto, using(crate::proofs::Standing::no_more), unfolding(crate::proofs::Opened::more_read))]
 fn next_imported<'source>(
     tokens: &mut TokenStream<'source>,
     names: &mut Vec<(Expr<'source>, Option<Expr<'source>>)>,

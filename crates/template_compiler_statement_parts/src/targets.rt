@@ -18,7 +18,7 @@ use template_tree::{Expr, Span};
 ///
 /// The fault of the token that does not fit, or want of memory.
 #[cycle(targets)]
-#[tactic(auto, using(crate::proofs::Again::paren_end_again, crate::proofs::Standing::no_paren_target), unfolding(template_compiler_reading::specs::Steps::and_then, template_compiler_statements::specs::Reader::target_by))]
+#[tactic(auto, using(crate::proofs::Parts::target_next), unfolding(crate::proofs::Opened::target_read))]
 pub fn read_target<'source>(
     alloc: Global,
     tokens: &mut TokenStream<'source>,
@@ -117,7 +117,7 @@ fn all_targets<'source>(
 }
 
 #[cycle(targets)]
-#[tactic(auto, using(crate::proofs::Lists::expressions_push, crate::proofs::Standing::no_more), unfolding(template_compiler_reading::specs::Steps::and_then, template_compiler_reading::specs::Steps::under, template_compiler_statements::specs::Reader::more_step, template_compiler_statements::specs::Reader::one_target_by))]
+#[tactic(auto, using(crate::proofs::Parts::more_targets_next), unfolding(crate::proofs::Opened::more_targets_read))]
 fn next_target<'source>(
     alloc: Global,
     tokens: &mut TokenStream<'source>,

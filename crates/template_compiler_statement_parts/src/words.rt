@@ -74,7 +74,7 @@ pub fn pass_context<'source>(tokens: &mut TokenStream<'source>) -> Result<(), Re
 /// # Errors
 ///
 /// The fault of the token that does not fit.
-#[tactic(auto, using(crate::proofs::Again::context_again, crate::proofs::Again::word_again, crate::proofs::Standing::flag_none), unfolding(template_compiler_reading::specs::Steps::and_then, template_compiler_statements::specs::Reader::missing_by, template_compiler_statements::specs::Reader::missing_behind, template_compiler_statements::specs::Reader::word_by))]
+#[tactic(auto, using(crate::proofs::Parts::missing_next), unfolding(crate::proofs::Opened::missing_read))]
 pub fn read_missing<'source>(tokens: &mut TokenStream<'source>) -> Result<bool, Refusal>
     ensures { ParsedAs (λ b. b) (missing_by tokens.old) tokens.new result }
 {
