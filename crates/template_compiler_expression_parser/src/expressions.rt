@@ -57,7 +57,7 @@ fn branches<'source>(
     } else {
         None
     };
-    Ok(Expr::conditional(alloc, test, value, other, span)?)
+    Ok(Expr::conditional(alloc, test, value, other, tokens.expand_span(span))?)
 }
 
 // Operands with the operators of a level between them.
@@ -117,7 +117,7 @@ fn next_operand<'source>(
                 Ok(right) => right,
                 Err(refusal) => return Err(refusal),
             };
-            Ok(Behind::Goes(Expr::binary(alloc, op, value, right, span)?))
+            Ok(Behind::Goes(Expr::binary(alloc, op, value, right, tokens.expand_span(span))?))
         }
         None => Ok(Behind::Stops(value)),
     }
@@ -154,7 +154,7 @@ fn negation<'source>(
     let span = tokens.span();
     if tokens.skip_word("not") {
         let operand = negation(alloc, tokens, deeper(left)?)?;
-        Ok(Expr::unary(alloc, UnaryOpKind::Not, operand, span)?)
+        Ok(Expr::unary(alloc, UnaryOpKind::Not, operand, tokens.expand_span(span))?)
     } else {
         comparison(alloc, tokens, left)
     }
@@ -173,7 +173,7 @@ fn comparison<'source>(
     let span = tokens.span();
     let value = binary(alloc, tokens, left, Level::Terms)?;
     let links = links(alloc, tokens, left)?;
-    Ok(compared(alloc, value, links, span)?)
+    Ok(compared(alloc, value, links, tokens.expand_span(span))?)
 }
 
 #[cycle(parser)]
@@ -270,7 +270,13 @@ fn power<'source>(
     let value = filtered(alloc, tokens, left)?;
     if tokens.skip(Sign::Pow) {
         let right = power(alloc, tokens, deeper(left)?)?;
-        Ok(Expr::binary(alloc, BinOpKind::Pow, value, right, span)?)
+        Ok(Expr::binary(
+            alloc,
+            BinOpKind::Pow,
+            value,
+            right,
+            tokens.expand_span(span),
+        )?)
     } else {
         Ok(value)
     }
@@ -363,7 +369,7 @@ pub(crate) fn filter<'source>(
 {
     let name = name(alloc, tokens)?;
     let arguments = optional_arguments(alloc, tokens, left)?;
-    Ok(Expr::filtered(alloc, name, value, arguments, span)?)
+    Ok(Expr::filtered(alloc, name, value, arguments, tokens.expand_span(span))?)
 }
 
 // Arguments in parentheses, where a `(` stands next.
@@ -438,7 +444,14 @@ fn bare_test<'source>(
     let argument = unary(alloc, tokens, left)?;
     let mut arguments = Vec::new(alloc);
     arguments.push(CallArg::Pos(argument))?;
-    Ok(tested(alloc, negated, name, value, arguments, span)?)
+    Ok(tested(
+        alloc,
+        negated,
+        name,
+        value,
+        arguments,
+        tokens.expand_span(span),
+    )?)
 }
 
 // A test with arguments in parentheses, or with none.
@@ -457,7 +470,14 @@ fn plain_test<'source>(
         tokens.new result }
 {
     let arguments = optional_arguments(alloc, tokens, left)?;
-    let test = tested(alloc, negated, name, value, arguments, span)?;
+    let test = tested(
+        alloc,
+        negated,
+        name,
+        value,
+        arguments,
+        tokens.expand_span(span),
+    )?;
     parts(alloc, tokens, left, test, span)
 }
 
@@ -474,7 +494,7 @@ fn unary<'source>(
     let span = tokens.span();
     if tokens.skip(Sign::Minus) {
         let operand = unary(alloc, tokens, deeper(left)?)?;
-        Ok(Expr::unary(alloc, UnaryOpKind::Neg, operand, span)?)
+        Ok(Expr::unary(alloc, UnaryOpKind::Neg, operand, tokens.expand_span(span))?)
     } else {
         let value = primary(alloc, tokens, left)?;
         parts(alloc, tokens, left, value, span)
@@ -538,7 +558,7 @@ fn call<'source>(
         (λ args us. goes (call (expression_of value.entry) args) us)) tokens.new result }
 {
     let arguments = arguments(alloc, tokens, left)?;
-    Ok(Expr::call(alloc, value, arguments, span)?)
+    Ok(Expr::call(alloc, value, arguments, tokens.expand_span(span))?)
 }
 
 // Behind the `[` of an item or a slice.
@@ -557,6 +577,7 @@ fn subscript<'source>(
     if tokens.skip(Sign::Colon) {
         return slice(alloc, tokens, left, value, start, span);
     }
+    let span = tokens.span_through_next(span);
     match start {
         Some(key) => in_brackets(tokens, Expr::item(alloc, value, key, span)?),
         None => Err(Refusal::Token(tokens.fault())),
@@ -579,6 +600,7 @@ fn slice<'source>(
 {
     let stop = bound(alloc, tokens, left)?;
     let step = step(alloc, tokens, left)?;
+    let span = tokens.span_through_next(span);
     in_brackets(tokens, Expr::slice(alloc, value, start, stop, step, span)?)
 }
 
@@ -649,7 +671,7 @@ fn paren<'source>(
     ensures { Parsed (paren_by (expression_by (deeper left)) tokens.old) tokens.new result }
 {
     if tokens.skip(Sign::ParenClose) {
-        return Ok(Expr::tuple(alloc, Vec::new(alloc), span)?);
+        return Ok(Expr::tuple(alloc, Vec::new(alloc), tokens.expand_span(span))?);
     }
     let first = expression(alloc, tokens, left)?;
     if tokens.skip(Sign::Comma) {
@@ -676,6 +698,7 @@ fn tuple<'source>(
     let mut held = Vec::new(alloc);
     held.push(first)?;
     let held = items(alloc, tokens, left, held)?;
+    let span = tokens.span_through_next(span);
     in_parens(tokens, Expr::tuple(alloc, held, span)?)
 }
 
@@ -691,6 +714,7 @@ fn list<'source>(
     ensures { Parsed (list_by (expression_by (deeper left)) tokens.old) tokens.new result }
 {
     let held = items(alloc, tokens, left, Vec::new(alloc))?;
+    let span = tokens.span_through_next(span);
     in_brackets(tokens, Expr::list(alloc, held, span)?)
 }
 
@@ -750,6 +774,7 @@ fn map<'source>(
     ensures { Parsed (map_by (expression_by (deeper left)) tokens.old) tokens.new result }
 {
     let Pairs { keys, values } = pairs(alloc, tokens, left)?;
+    let span = tokens.span_through_next(span);
     in_braces(tokens, Expr::map(alloc, keys, values, span)?)
 }
 

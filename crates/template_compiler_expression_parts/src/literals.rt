@@ -156,7 +156,7 @@ fn texts<'source>(
     ensures { Parsed (and_then (all text_step (string_bytes first) tokens.old) (λ t us. Ok (constant (text t), us))) tokens.new result }
 {
     match Value::from_text(adjacent(tokens, first)?) {
-        Ok(value) => Ok(Expr::constant(alloc, value, span)?),
+        Ok(value) => Ok(Expr::constant(alloc, value, tokens.expand_span(span))?),
         Err(_) => Err(Refusal::OutOfMemory),
     }
 }
@@ -189,7 +189,9 @@ pub fn attribute<'source>(
     ensures { WentOn (dot_part (expression_of value.entry) tokens.old) tokens.new result }
 {
     match tokens.take() {
-        First::Token(token, place) => attribute_from(alloc, token, place, value, span),
+        First::Token(token, place) => {
+            attribute_from(alloc, token, place, value, tokens.expand_span(span))
+        }
         First::End => Err(Refusal::Token(Fault::Syntax)),
         First::Bad(fault) => Err(Refusal::Token(fault)),
     }

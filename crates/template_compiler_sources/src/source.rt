@@ -12,7 +12,7 @@ use template_compiler_source_tokens::{error_of, read_tokens};
 use template_compiler_stream::{Refusal, TokenStream};
 use template_compiler_syntax::SyntaxConfig;
 use template_compiler_tokenizer::Tokenizer;
-use template_tree::{Span, Spanned, Stmt, Template};
+use template_tree::{Spanned, Stmt, Template};
 use template_values_errors::{Error, ErrorKind};
 
 /// The tree of a template's source under a syntax, in linear time. Texts and names are slices of the source. The file
@@ -55,16 +55,6 @@ fn whole_template<'source>(
 {
     let start = tokens.span();
     let children = read_template(alloc, tokens)?;
-    let span = between(start, tokens.span());
+    let span = tokens.expand_span(start);
     Ok(Stmt::Template(Spanned::new(Template { children }, span)))
-}
-
-// From where the first one starts to where the second one ends.
-fn between(start: Span, end: Span) -> Span {
-    Span {
-        end_line: end.end_line,
-        end_col: end.end_col,
-        end_offset: end.end_offset,
-        ..start
-    }
 }

@@ -28,7 +28,7 @@ pub fn read_break<'source>(
         return Err(Refusal::Token(Fault::Syntax));
     }
     expect_tag_end(tokens)?;
-    Ok(makers::break_loop(span))
+    Ok(makers::break_loop(tokens.expand_span(span)))
 }
 
 /// Reads the end of a `continue`, which stands inside a loop alone.
@@ -48,5 +48,5 @@ pub fn read_continue<'source>(
         return Err(Refusal::Token(Fault::Syntax));
     }
     expect_tag_end(tokens)?;
-    Ok(makers::continue_loop(span))
+    Ok(makers::continue_loop(tokens.expand_span(span)))
 }

@@ -32,7 +32,7 @@ pub fn read_import<'source>(
     let name = read_stored(tokens)?;
     pass_context(tokens)?;
     expect_tag_end(tokens)?;
-    Ok(makers::import(alloc, expr, name, span)?)
+    Ok(makers::import(alloc, expr, name, tokens.expand_span(span))?)
 }
 
 /// Reads a `from`.
@@ -54,7 +54,7 @@ pub fn read_from<'source>(
     let names = read_imports(alloc, tokens)?;
     pass_context(tokens)?;
     expect_tag_end(tokens)?;
-    Ok(makers::from_import(alloc, expr, names, span)?)
+    Ok(makers::from_import(alloc, expr, names, tokens.expand_span(span))?)
 }
 
 /// Reads an `extends`.
@@ -73,7 +73,7 @@ pub fn read_extends<'source>(
 {
     let name = read_expression(alloc, tokens, left)?;
     expect_tag_end(tokens)?;
-    Ok(makers::extends(name, span))
+    Ok(makers::extends(name, tokens.expand_span(span)))
 }
 
 /// Reads an `include`.
@@ -93,5 +93,5 @@ pub fn read_include<'source>(
     let name = read_expression(alloc, tokens, left)?;
     let ignore_missing = read_missing(tokens)?;
     expect_tag_end(tokens)?;
-    Ok(makers::include(alloc, name, ignore_missing, span)?)
+    Ok(makers::include(alloc, name, ignore_missing, tokens.expand_span(span))?)
 }

@@ -35,7 +35,7 @@ pub fn read_print<'source>(
 {
     let expr = read_expression(alloc, tokens, left)?;
     expect_print_end(tokens)?;
-    Ok(makers::print(expr, span))
+    Ok(makers::print(expr, tokens.expand_span(span)))
 }
 
 /// Reads a `set` behind its first target: further targets, and the value behind `=`.
@@ -70,7 +70,7 @@ fn read_set_value<'source>(
 {
     let value = read_values(alloc, tokens, left)?;
     expect_tag_end(tokens)?;
-    Ok(makers::set(alloc, target, value, span)?)
+    Ok(makers::set(alloc, target, value, tokens.expand_span(span))?)
 }
 
 /// Reads a `do`.
@@ -91,7 +91,7 @@ pub fn read_do<'source>(
     match expr.into_call() {
         Some(call) => {
             expect_tag_end(tokens)?;
-            Ok(makers::do_call(call, span))
+            Ok(makers::do_call(call, tokens.expand_span(span)))
         }
         None => Err(Refusal::Token(Fault::Syntax)),
     }

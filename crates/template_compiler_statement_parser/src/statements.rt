@@ -23,7 +23,7 @@ use template_compiler_statement_values::{
     Parameters, read_assignments, read_deeper_parameters, read_loop_filter,
     read_optional_parameters,
 };
-use template_compiler_stream::{Fault, Refusal, Sign, TokenStream};
+use template_compiler_stream::{Fault, Refusal, Sign, TokenStream, until};
 use template_tree::{Call, Expr, ForLoop, IfCond, Macro, Span, Spanned, Stmt};
 
 /// A condition with its body.
@@ -269,7 +269,7 @@ fn for_body<'source>(
         body,
         else_body,
     };
-    Ok(makers::for_loop(alloc, node, span)?)
+    Ok(makers::for_loop(alloc, node, tokens.expand_span(span))?)
 }
 
 #[cycle(statements)]
@@ -286,13 +286,13 @@ fn if_condition<'source>(
     let first = read_branch(alloc, tokens, left, around, span)?;
     let others = branches(alloc, tokens, left, around)?;
     let last = otherwise(alloc, tokens, left, around, "endif")?;
-    let false_body = branched(alloc, others, last)?;
+    let false_body = branched(alloc, others, last, tokens.expand_span(span))?;
     let node = IfCond {
         expr: first.expr,
         true_body: first.body,
         false_body,
     };
-    Ok(makers::if_condition(alloc, node, span)?)
+    Ok(makers::if_condition(alloc, node, tokens.expand_span(span))?)
 }
 
 // A condition with its body.
@@ -371,7 +371,7 @@ fn with_block<'source>(
     parts::expect_tag_end(tokens)?;
     let body = body(alloc, tokens, left, around)?;
     parts::expect_tag(tokens, "endwith")?;
-    Ok(makers::with_block(alloc, assignments, body, span)?)
+    Ok(makers::with_block(alloc, assignments, body, tokens.expand_span(span))?)
 }
 
 #[cycle(statements)]
@@ -410,7 +410,7 @@ fn set_block<'source>(
     parts::expect_tag_end(tokens)?;
     let body = body(alloc, tokens, left, around)?;
     parts::expect_tag(tokens, "endset")?;
-    Ok(makers::set_block(alloc, target, filter, body, span)?)
+    Ok(makers::set_block(alloc, target, filter, body, tokens.expand_span(span))?)
 }
 
 #[cycle(statements)]
@@ -428,7 +428,7 @@ fn auto_escape<'source>(
     parts::expect_tag_end(tokens)?;
     let body = body(alloc, tokens, left, around)?;
     parts::expect_tag(tokens, "endautoescape")?;
-    Ok(makers::auto_escape(alloc, enabled, body, span)?)
+    Ok(makers::auto_escape(alloc, enabled, body, tokens.expand_span(span))?)
 }
 
 #[cycle(statements)]
@@ -447,7 +447,7 @@ fn filter_block<'source>(
     parts::expect_tag_end(tokens)?;
     let body = body(alloc, tokens, left, around)?;
     parts::expect_tag(tokens, "endfilter")?;
-    Ok(filtered_body(alloc, filter, body, span)?)
+    Ok(filtered_body(alloc, filter, body, tokens.expand_span(span))?)
 }
 
 #[cycle(statements)]
@@ -494,7 +494,7 @@ fn block_behind<'source>(
         return Err(Refusal::Token(Fault::Syntax));
     }
     parts::expect_block_end(tokens, name)?;
-    Ok(makers::block(alloc, name, required, body, span)?)
+    Ok(makers::block(alloc, name, required, body, tokens.expand_span(span))?)
 }
 
 #[cycle(statements)]
@@ -544,7 +544,7 @@ fn macro_behind<'source>(
         defaults: parameters.defaults,
         body,
     };
-    Ok(makers::macro_declared(alloc, node, span)?)
+    Ok(makers::macro_declared(alloc, node, tokens.expand_span(span))?)
 }
 
 #[cycle(statements)]
@@ -588,7 +588,7 @@ fn call_behind<'source>(
         defaults: parameters.defaults,
         body,
     };
-    Ok(makers::call_block(alloc, call, node, span)?)
+    Ok(makers::call_block(alloc, call, node, tokens.expand_span(span))?)
 }
 
 // A required block has a blank body. Linear.
@@ -613,12 +613,13 @@ fn filtered_body<'source>(
     }
 }
 
-// Each branch is the one statement of the body before it.
+// Each branch is the one statement of the body before it, up to the end of the whole.
 #[tactic(auto, using(crate::proofs::Lists::branched_last))]
 fn branched<'source>(
     alloc: Global,
     branches: Vec<Branch<'source>>,
     last: Vec<Stmt<'source>>,
+    whole: Span,
 ) -> Result<Vec<Stmt<'source>>, AllocError>
     ensures { IfOk result (λ v. statements_in v.items ≡ branched (branches_in branches.entry.items) (statements_in last.entry.items)) }
 {
@@ -635,7 +636,7 @@ fn branched<'source>(
             true_body,
             false_body: body,
         };
-        let statement = makers::if_condition(alloc, node, span)?;
+        let statement = makers::if_condition(alloc, node, until(span, whole))?;
         body = Vec::new(alloc);
         body.push(statement)?;
     }

@@ -93,7 +93,7 @@ pub fn read_more_targets<'source>(
     let mut targets = Vec::new(alloc);
     targets.push(first)?;
     all_targets(alloc, tokens, left, dots, &mut targets)?;
-    Ok(unpacked(alloc, targets, span)?)
+    Ok(unpacked(alloc, targets, tokens.expand_span(span))?)
 }
 
 #[cycle(targets)]
@@ -165,7 +165,9 @@ fn read_path<'source>(
     let mut target = name;
     loop {
         match next_part(tokens) {
-            Some(part) => target = Expr::attribute(alloc, target, part, span)?,
+            Some(part) => {
+                target = Expr::attribute(alloc, target, part, tokens.expand_span(span))?;
+            }
             None => return Ok(target),
         }
     }

@@ -31,7 +31,7 @@ pub fn read_values<'source>(
     let mut values = Vec::new(alloc);
     read_value(alloc, tokens, left, &mut values)?;
     all_values(alloc, tokens, left, &mut values)?;
-    Ok(together(alloc, values, span)?)
+    Ok(together(alloc, values, tokens.expand_span(span))?)
 }
 
 #[tactic(auto, using(template_compiler_statement_parts::proofs::Lists::expressions_push), unfolding(crate::proofs::Opened::value_read))]

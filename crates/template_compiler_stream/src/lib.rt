@@ -9,4 +9,4 @@ mod tests;
 
 pub use refusal::{Fault, Refusal};
 pub use sign::{Level, Sign};
-pub use stream::{First, TokenStream};
+pub use stream::{First, TokenStream, until};

@@ -136,6 +136,16 @@ impl<'source> TokenStream<'source> {
         }
     }
 
+    /// From where a span starts to where the token that was passed last ends.
+    pub fn expand_span(&self, start: Span) -> Span {
+        until(start, self.last)
+    }
+
+    /// From where a span starts to where the next token ends.
+    pub fn span_through_next(&self, start: Span) -> Span {
+        until(start, self.span())
+    }
+
     /// Passes the next token.
     pub fn advance(&mut self)
         ensures { self.new ≡ passed self.old }
@@ -371,6 +381,16 @@ impl<'source> TokenStream<'source> {
         }
         self.advance();
         Ok(true)
+    }
+}
+
+/// From where the first span starts to where the second one ends.
+pub fn until(start: Span, end: Span) -> Span {
+    Span {
+        end_line: end.end_line,
+        end_col: end.end_col,
+        end_offset: end.end_offset,
+        ..start
     }
 }
 

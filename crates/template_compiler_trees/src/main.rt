@@ -4,7 +4,8 @@
 //!
 //! The stored run is the table of the grammar's cases: 1421 texts with their trees or refusals, written from the
 //! language's description before the parser was read. To add a case, write its line into `stdout`, and what stands
-//! before the last ` = ` into `stdin`. The forms:
+//! before the last ` = ` into `stdin`. Behind the tree of an expression stands `misplaced`, unless the text at the place of
+//! each of its nodes reads as that node. The forms:
 //!
 //! - a template or a body is `[..]`, a text of it `".."`; `-` is what is left out;
 //! - expressions: names and literals as they stand; `(attr e name)`, `(item e key)`, `(slice e start stop step)`,
@@ -20,6 +21,7 @@
 
 mod expressions;
 mod forms;
+mod places;
 mod statements;
 mod syntax;
 
@@ -83,7 +85,11 @@ fn entries_form(alloc: Global, entries: &Map<String, Json>) -> Result<String, Er
 
 fn expression_form(alloc: Global, source: &str) -> Result<String, Error> {
     let mut text = String::new(alloc);
-    expression(&parse_expr(alloc, source)?, &mut text, LEVELS)?;
+    let expr = parse_expr(alloc, source)?;
+    expression(&expr, &mut text, LEVELS)?;
+    if !places::stand(alloc, source, &expr, LEVELS)? {
+        text.push_str(" misplaced")?;
+    }
     Ok(text)
 }
 
