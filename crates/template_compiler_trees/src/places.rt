@@ -1,9 +1,11 @@
-//! Where the nodes of an expression stand: the text at the place of a node, read as an expression of its own, is that node.
+//! Where nodes stand: the text at the place of a node, read as an expression or a template of its own, is that node.
 use crate::expressions::expression;
 use crate::forms::deeper;
+use crate::statements::statement;
 use std::alloc::Global;
-use template_compiler_sources::parse_expr;
-use template_tree::{CallArg, CompareOp, Expr};
+use template_compiler_sources::{parse, parse_expr};
+use template_compiler_syntax::SyntaxConfig;
+use template_tree::{CallArg, CompareOp, Expr, Stmt};
 use template_values_errors::{Error, ErrorKind};
 
 /// Whether the text at the place of each node has no blanks around it and reads as that node, with so many levels left.
@@ -127,4 +129,44 @@ fn arguments(alloc: Global, source: &str, args: &[CallArg], left: u32) -> Result
         }
     }
     Ok(true)
+}
+
+/// Whether the text at the place of each statement of a template reads as a template of that statement alone. Texts
+/// are passed over, since what is raw may read otherwise.
+pub(crate) fn statements_stand(
+    alloc: Global,
+    source: &str,
+    template: &Stmt,
+    left: u32,
+) -> Result<bool, Error> {
+    let Stmt::Template(n) = template else {
+        return Ok(true);
+    };
+    for child in n.node.children.as_slice() {
+        if !statement_stands(alloc, source, child, left)? {
+            return Ok(false);
+        }
+    }
+    Ok(true)
+}
+
+fn statement_stands(alloc: Global, source: &str, child: &Stmt, left: u32) -> Result<bool, Error> {
+    if let Stmt::EmitRaw(_) = child {
+        return Ok(true);
+    }
+    let span = child.span();
+    let Some(text) = source.get(span.start_offset as usize..span.end_offset as usize) else {
+        return Ok(false);
+    };
+    let mut own = String::new(alloc);
+    own.push('[')?;
+    statement(child, &mut own, left)?;
+    own.push(']')?;
+    let mut alone = String::new(alloc);
+    match parse(alloc, text, "<string>", SyntaxConfig::new()) {
+        Ok(read) => statement(&read, &mut alone, left)?,
+        Err(error) if error.kind() == ErrorKind::OutOfMemory => return Err(error),
+        Err(_) => return Ok(false),
+    }
+    Ok(alone == own)
 }
