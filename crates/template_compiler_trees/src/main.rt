@@ -4,9 +4,7 @@
 //!
 //! The stored run is the table of the grammar's cases: 1421 texts with their trees or refusals, written from the
 //! language's description before the parser was read. To add a case, write its line into `stdout`, and what stands
-//! before the last ` = ` into `stdin`. Behind the tree of an expression stands `misplaced`, unless the text at the place of
-//! each of its nodes reads as that node; behind that of a template under the default syntax, unless the text at the place of each
-//! of its statements, but for texts, reads as that statement. The forms:
+//! before the last ` = ` into `stdin`. The forms:
 //!
 //! - a template or a body is `[..]`, a text of it `".."`; `-` is what is left out;
 //! - expressions: names and literals as they stand; `(attr e name)`, `(item e key)`, `(slice e start stop step)`,
@@ -22,7 +20,6 @@
 
 mod expressions;
 mod forms;
-mod places;
 mod statements;
 mod syntax;
 
@@ -58,7 +55,7 @@ fn main(rt: HostRuntime) -> io::Result<()> {
 // The tree of the text that stands in a line of JSON.
 fn answer(alloc: Global, line: &str) -> Result<String, Error> {
     match Json::from_str(alloc, line).map_err(refusal)? {
-        Json::String(source) => placed_form(alloc, source.as_str()),
+        Json::String(source) => template_form(alloc, source.as_str(), SyntaxConfig::new()),
         Json::Object(entries) => entries_form(alloc, &entries),
         _ => Err(Error::new(ErrorKind::SyntaxError)),
     }
@@ -86,22 +83,7 @@ fn entries_form(alloc: Global, entries: &Map<String, Json>) -> Result<String, Er
 
 fn expression_form(alloc: Global, source: &str) -> Result<String, Error> {
     let mut text = String::new(alloc);
-    let expr = parse_expr(alloc, source)?;
-    expression(&expr, &mut text, LEVELS)?;
-    if !places::stand(alloc, source, &expr, LEVELS)? {
-        text.push_str(" misplaced")?;
-    }
-    Ok(text)
-}
-
-// The form of a template under the default syntax, with the places of its statements looked at.
-fn placed_form(alloc: Global, source: &str) -> Result<String, Error> {
-    let mut text = String::new(alloc);
-    let template = parse(alloc, source, "<string>", SyntaxConfig::new())?;
-    statement(&template, &mut text, LEVELS)?;
-    if !places::statements_stand(alloc, source, &template, LEVELS)? {
-        text.push_str(" misplaced")?;
-    }
+    expression(&parse_expr(alloc, source)?, &mut text, LEVELS)?;
     Ok(text)
 }
 
