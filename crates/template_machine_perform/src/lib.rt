@@ -8,5 +8,6 @@ mod rules;
 mod scoped;
 mod writing;
 
+pub use at_once::perform_at_once;
 pub use plain::perform;
 pub use rules::Rules;
