@@ -3,3 +3,4 @@ pub mod Standing
 pub mod Within
 pub mod Choosing
 pub mod Failing
+pub mod Stretching
