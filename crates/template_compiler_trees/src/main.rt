@@ -4,7 +4,7 @@
 //! Where an object has an entry `places`, the place of each node stands behind its form, as
 //! `@line:column:offset-line:column:offset`.
 //!
-//! The stored run is the table of the grammar's cases: 1421 texts with their trees or refusals, written from the
+//! The stored run is the table of the grammar's cases: 1435 texts with their trees or refusals, written from the
 //! language's description before the parser was read, and 83 with the places of their nodes, written from the rule of
 //! places: a node goes from its first token to its last. To add a case, write its line into `stdout`, and what stands
 //! before the last ` = ` into `stdin`. The forms:
