@@ -1,12 +1,14 @@
 //! The forms of expressions.
-use crate::forms::{ABSENT, binary_word, comparison_word, deeper, open, quoted, unary_word, word};
+use crate::forms::{
+    ABSENT, Form, binary_word, comparison_word, deeper, open, quoted, unary_word, word,
+};
 use template_tree::{CallArg, CompareOp, Expr};
 use template_values_core::{Content, Value};
 use template_values_errors::Error;
 
 /// The expression in its form, with so many levels left.
 #[cycle(expressions)]
-pub(crate) fn expression(expr: &Expr, out: &mut String, left: u32) -> Result<(), Error> {
+pub(crate) fn expression(expr: &Expr, out: &mut Form, left: u32) -> Result<(), Error> {
     let left = deeper(left)?;
     match expr {
         Expr::Var(n) => out.push_str(n.node.id)?,
@@ -83,14 +85,14 @@ pub(crate) fn expression(expr: &Expr, out: &mut String, left: u32) -> Result<(),
             out.push(')')?;
         }
     }
-    Ok(())
+    out.place(expr.span())
 }
 
-fn constant(value: &Value, out: &mut String) -> Result<(), Error> {
+fn constant(value: &Value, out: &mut Form) -> Result<(), Error> {
     match value.content() {
         Content::None => out.push_str("none")?,
-        Content::Truth(truth) => write!(out, "{truth}")?,
-        Content::Int(number) => write!(out, "{number}")?,
+        Content::Truth(truth) => write!(out.text, "{truth}")?,
+        Content::Int(number) => write!(out.text, "{number}")?,
         Content::Text(text) => quoted(text, out)?,
         _ => out.push('?')?,
     }
@@ -99,14 +101,14 @@ fn constant(value: &Value, out: &mut String) -> Result<(), Error> {
 
 /// The expression behind what stands there.
 #[cycle(expressions)]
-pub(crate) fn part(expr: &Expr, out: &mut String, left: u32) -> Result<(), Error> {
+pub(crate) fn part(expr: &Expr, out: &mut Form, left: u32) -> Result<(), Error> {
     out.push(' ')?;
     expression(expr, out, left)
 }
 
 /// The expression behind what stands there, or the sign for what is left out.
 #[cycle(expressions)]
-pub(crate) fn optional(expr: Option<&Expr>, out: &mut String, left: u32) -> Result<(), Error> {
+pub(crate) fn optional(expr: Option<&Expr>, out: &mut Form, left: u32) -> Result<(), Error> {
     match expr {
         Some(expr) => part(expr, out, left),
         None => Ok(word(ABSENT, out)?),
@@ -114,7 +116,7 @@ pub(crate) fn optional(expr: Option<&Expr>, out: &mut String, left: u32) -> Resu
 }
 
 #[cycle(expressions)]
-fn links(links: &[CompareOp], out: &mut String, left: u32) -> Result<(), Error> {
+fn links(links: &[CompareOp], out: &mut Form, left: u32) -> Result<(), Error> {
     for link in links {
         out.push(' ')?;
         open(comparison_word(link.op), out)?;
@@ -126,7 +128,7 @@ fn links(links: &[CompareOp], out: &mut String, left: u32) -> Result<(), Error> 
 
 /// The arguments of a call, each behind what stands there.
 #[cycle(expressions)]
-pub(crate) fn arguments(args: &[CallArg], out: &mut String, left: u32) -> Result<(), Error> {
+pub(crate) fn arguments(args: &[CallArg], out: &mut Form, left: u32) -> Result<(), Error> {
     for arg in args {
         match arg {
             CallArg::Pos(expr) => part(expr, out, left)?,
@@ -155,7 +157,7 @@ pub(crate) fn arguments(args: &[CallArg], out: &mut String, left: u32) -> Result
 }
 
 #[cycle(expressions)]
-fn group(head: &str, items: &[Expr], out: &mut String, left: u32) -> Result<(), Error> {
+fn group(head: &str, items: &[Expr], out: &mut Form, left: u32) -> Result<(), Error> {
     open(head, out)?;
     for item in items {
         part(item, out, left)?;
@@ -164,7 +166,7 @@ fn group(head: &str, items: &[Expr], out: &mut String, left: u32) -> Result<(), 
 }
 
 #[cycle(expressions)]
-fn entries(keys: &[Expr], values: &[Expr], out: &mut String, left: u32) -> Result<(), Error> {
+fn entries(keys: &[Expr], values: &[Expr], out: &mut Form, left: u32) -> Result<(), Error> {
     for (key, value) in keys.iter().zip(values.iter()) {
         out.push_str(" (")?;
         expression(key, out, left)?;

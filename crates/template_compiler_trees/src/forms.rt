@@ -1,9 +1,51 @@
 //! What all forms are made of: a head with its parts in parentheses, a list in brackets, words and texts.
 ghost use Rattle.std.specs.Prelude.{◌≡◌, suc, IfOk};
 
-use std::alloc::AllocError;
-use template_tree::{BinOpKind, CompareOpKind, UnaryOpKind};
+use std::alloc::{AllocError, Global};
+use template_tree::{BinOpKind, CompareOpKind, Span, UnaryOpKind};
 use template_values_errors::{Error, ErrorKind};
+
+/// A form as far as it is written.
+#[derive(Drop)]
+pub(crate) struct Form {
+    pub(crate) text: String,
+    with_places: bool,
+}
+
+impl Form {
+    /// Nothing yet; where `with_places`, the place of each node is to stand behind it.
+    pub(crate) fn new(alloc: Global, with_places: bool) -> Form {
+        Form {
+            text: String::new(alloc),
+            with_places,
+        }
+    }
+
+    pub(crate) fn push(&mut self, c: char) -> Result<(), AllocError> {
+        self.text.push(c)
+    }
+
+    pub(crate) fn push_str(&mut self, text: &str) -> Result<(), AllocError> {
+        self.text.push_str(text)
+    }
+
+    /// The place of the node whose form ends here: `@line:column:offset-line:column:offset`.
+    pub(crate) fn place(&mut self, span: Span) -> Result<(), Error> {
+        if self.with_places {
+            write!(
+                self.text,
+                "@{}:{}:{}-{}:{}:{}",
+                span.start_line,
+                span.start_col,
+                span.start_offset,
+                span.end_line,
+                span.end_col,
+                span.end_offset
+            )?;
+        }
+        Ok(())
+    }
+}
 
 /// What is left out.
 pub(crate) const ABSENT: &str = "-";
@@ -51,19 +93,19 @@ pub(crate) fn comparison_word(op: CompareOpKind) -> &'static str {
 }
 
 /// `(head`, before its parts.
-pub(crate) fn open(head: &str, out: &mut String) -> Result<(), AllocError> {
+pub(crate) fn open(head: &str, out: &mut Form) -> Result<(), AllocError> {
     out.push('(')?;
     out.push_str(head)
 }
 
 /// A word behind what stands there.
-pub(crate) fn word(word: &str, out: &mut String) -> Result<(), AllocError> {
+pub(crate) fn word(word: &str, out: &mut Form) -> Result<(), AllocError> {
     out.push(' ')?;
     out.push_str(word)
 }
 
 /// A text in double quotes; quotes, backslashes and newlines are escaped.
-pub(crate) fn quoted(text: &str, out: &mut String) -> Result<(), AllocError> {
+pub(crate) fn quoted(text: &str, out: &mut Form) -> Result<(), AllocError> {
     out.push('"')?;
     for c in text.chars() {
         match c {

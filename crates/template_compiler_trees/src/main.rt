@@ -1,9 +1,12 @@
 //! Trees of texts, as rows. Each line of standard input is a template in JSON, under the default syntax; or an
 //! object with `source` and the entries of a syntax; or an object with `expression`. It is written as it stands,
 //! then ` = `, then the tree in a plain form, or the kind of the refusal. A line that begins with `#` is a heading.
+//! Where an object has an entry `places`, the place of each node stands behind its form, as
+//! `@line:column:offset-line:column:offset`.
 //!
-//! The stored run is the table of the grammar's cases: 1421 texts with their trees or refusals, written from the
-//! language's description before the parser was read. To add a case, write its line into `stdout`, and what stands
+//! The stored run is the table of the grammar's cases: 1435 texts with their trees or refusals, written from the
+//! language's description before the parser was read, and 83 with the places of their nodes, written from the rule of
+//! places: a node goes from its first token to its last. To add a case, write its line into `stdout`, and what stands
 //! before the last ` = ` into `stdin`. The forms:
 //!
 //! - a template or a body is `[..]`, a text of it `".."`; `-` is what is left out;
@@ -24,6 +27,7 @@ mod statements;
 mod syntax;
 
 use crate::expressions::expression;
+use crate::forms::Form;
 use crate::statements::statement;
 use crate::syntax::syntax_of;
 use serde_json::{Map, Value as Json};
@@ -55,7 +59,12 @@ fn main(rt: HostRuntime) -> io::Result<()> {
 // The tree of the text that stands in a line of JSON.
 fn answer(alloc: Global, line: &str) -> Result<String, Error> {
     match Json::from_str(alloc, line).map_err(refusal)? {
-        Json::String(source) => template_form(alloc, source.as_str(), SyntaxConfig::new()),
+        Json::String(source) => template_form(
+            alloc,
+            source.as_str(),
+            SyntaxConfig::new(),
+            Form::new(alloc, false),
+        ),
         Json::Object(entries) => entries_form(alloc, &entries),
         _ => Err(Error::new(ErrorKind::SyntaxError)),
     }
@@ -70,29 +79,35 @@ fn refusal(error: serde_json::Error) -> Error {
 }
 
 fn entries_form(alloc: Global, entries: &Map<String, Json>) -> Result<String, Error> {
+    let form = Form::new(alloc, entries.get("places").is_some());
     if let Some(Json::String(source)) = entries.get("expression") {
-        return expression_form(alloc, source.as_str());
+        return expression_form(alloc, source.as_str(), form);
     }
     match entries.get("source") {
         Some(Json::String(source)) => {
-            template_form(alloc, source.as_str(), syntax_of(alloc, entries)?)
+            template_form(alloc, source.as_str(), syntax_of(alloc, entries)?, form)
         }
         _ => Err(Error::new(ErrorKind::SyntaxError)),
     }
 }
 
-fn expression_form(alloc: Global, source: &str) -> Result<String, Error> {
-    let mut text = String::new(alloc);
-    expression(&parse_expr(alloc, source)?, &mut text, LEVELS)?;
-    Ok(text)
+fn expression_form(alloc: Global, source: &str, form: Form) -> Result<String, Error> {
+    let mut form = form;
+    expression(&parse_expr(alloc, source)?, &mut form, LEVELS)?;
+    Ok(form.text)
 }
 
-fn template_form(alloc: Global, source: &str, syntax: SyntaxConfig) -> Result<String, Error> {
-    let mut text = String::new(alloc);
+fn template_form(
+    alloc: Global,
+    source: &str,
+    syntax: SyntaxConfig,
+    form: Form,
+) -> Result<String, Error> {
+    let mut form = form;
     statement(
         &parse(alloc, source, "<string>", syntax)?,
-        &mut text,
+        &mut form,
         LEVELS,
     )?;
-    Ok(text)
+    Ok(form.text)
 }

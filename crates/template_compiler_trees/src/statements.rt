@@ -1,12 +1,12 @@
 //! The forms of statements.
 use crate::expressions::{arguments, expression, optional, part};
-use crate::forms::{ABSENT, deeper, open, quoted, word};
-use template_tree::{Call, Expr, Macro, Stmt};
+use crate::forms::{ABSENT, Form, deeper, open, quoted, word};
+use template_tree::{Call, Expr, Macro, Spanned, Stmt};
 use template_values_errors::Error;
 
 /// The statement in its form, with so many levels left; a template is the list of its statements.
 #[cycle(statements)]
-pub(crate) fn statement(stmt: &Stmt, out: &mut String, left: u32) -> Result<(), Error> {
+pub(crate) fn statement(stmt: &Stmt, out: &mut Form, left: u32) -> Result<(), Error> {
     let left = deeper(left)?;
     match stmt {
         Stmt::Template(n) => list(n.node.children.as_slice(), out, left)?,
@@ -112,9 +112,10 @@ pub(crate) fn statement(stmt: &Stmt, out: &mut String, left: u32) -> Result<(), 
         Stmt::CallBlock(n) => {
             open("call-block", out)?;
             out.push(' ')?;
-            call(&n.node.call.node, out, left)?;
+            call(&n.node.call, out, left)?;
             out.push(' ')?;
             macro_form(&n.node.macro_decl.node, out, left)?;
+            out.place(n.node.macro_decl.span)?;
             out.push(')')?;
         }
         Stmt::Continue(_) => out.push_str("continue")?,
@@ -122,15 +123,15 @@ pub(crate) fn statement(stmt: &Stmt, out: &mut String, left: u32) -> Result<(), 
         Stmt::Do(n) => {
             open("do", out)?;
             out.push(' ')?;
-            call(&n.node.call.node, out, left)?;
+            call(&n.node.call, out, left)?;
             out.push(')')?;
         }
     }
-    Ok(())
+    out.place(stmt.span())
 }
 
 #[cycle(statements)]
-fn list(body: &[Stmt], out: &mut String, left: u32) -> Result<(), Error> {
+fn list(body: &[Stmt], out: &mut Form, left: u32) -> Result<(), Error> {
     out.push('[')?;
     let mut first = true;
     for stmt in body {
@@ -144,13 +145,13 @@ fn list(body: &[Stmt], out: &mut String, left: u32) -> Result<(), Error> {
 }
 
 #[cycle(statements)]
-fn body(body: &[Stmt], out: &mut String, left: u32) -> Result<(), Error> {
+fn body(body: &[Stmt], out: &mut Form, left: u32) -> Result<(), Error> {
     out.push(' ')?;
     list(body, out, left)
 }
 
 #[cycle(statements)]
-fn macro_form(macro_decl: &Macro, out: &mut String, left: u32) -> Result<(), Error> {
+fn macro_form(macro_decl: &Macro, out: &mut Form, left: u32) -> Result<(), Error> {
     open("macro", out)?;
     word(macro_decl.name, out)?;
     parts(macro_decl.args.as_slice(), out, left)?;
@@ -159,15 +160,16 @@ fn macro_form(macro_decl: &Macro, out: &mut String, left: u32) -> Result<(), Err
     Ok(out.push(')')?)
 }
 
-fn call(call: &Call, out: &mut String, left: u32) -> Result<(), Error> {
+fn call(call: &Spanned<Box<Call>>, out: &mut Form, left: u32) -> Result<(), Error> {
     open("call", out)?;
-    part(&call.expr, out, left)?;
-    arguments(call.args.as_slice(), out, left)?;
-    Ok(out.push(')')?)
+    part(&call.node.expr, out, left)?;
+    arguments(call.node.args.as_slice(), out, left)?;
+    out.push(')')?;
+    out.place(call.span)
 }
 
 // Expressions in brackets.
-fn parts(exprs: &[Expr], out: &mut String, left: u32) -> Result<(), Error> {
+fn parts(exprs: &[Expr], out: &mut Form, left: u32) -> Result<(), Error> {
     out.push_str(" [")?;
     let mut first = true;
     for expr in exprs {
@@ -180,7 +182,7 @@ fn parts(exprs: &[Expr], out: &mut String, left: u32) -> Result<(), Error> {
     Ok(out.push(']')?)
 }
 
-fn assignments(pairs: &[(Expr, Expr)], out: &mut String, left: u32) -> Result<(), Error> {
+fn assignments(pairs: &[(Expr, Expr)], out: &mut Form, left: u32) -> Result<(), Error> {
     for pair in pairs {
         out.push_str(" (")?;
         expression(&pair.0, out, left)?;
@@ -190,7 +192,7 @@ fn assignments(pairs: &[(Expr, Expr)], out: &mut String, left: u32) -> Result<()
     Ok(())
 }
 
-fn imports(names: &[(Expr, Option<Expr>)], out: &mut String, left: u32) -> Result<(), Error> {
+fn imports(names: &[(Expr, Option<Expr>)], out: &mut Form, left: u32) -> Result<(), Error> {
     for pair in names {
         out.push_str(" (")?;
         expression(&pair.0, out, left)?;
