@@ -109,6 +109,7 @@ impl<'source> Tokenizer<'source> {
         ensures spanned { TakesSpan self.old.spans self.new.spans result }
         ensures refused { MatchOption self.old.refused (IsOk result → self.new.refused ≡ None)
             (λ kind. (result ≡ Err (kind ∷ [])) × (self.new ≡ self.old)) }
+        ensures kept { MatchOption self.new.refused (IsOk result) (λ kind. result ≡ Err (kind ∷ [])) }
     {
         let stage = match self.state {
             State::Reading(stage) => stage,
