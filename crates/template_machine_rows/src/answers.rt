@@ -4,6 +4,7 @@ use crate::steps::Step;
 use serde_json::Value as Json;
 use std::alloc::Global;
 use std::collections::BTreeSet;
+use template_compiler_syntax::SyntaxConfig;
 use template_environment::{Captured, Environment, Template};
 use template_machine_ids::StateIds;
 use template_values_core::Value;
@@ -16,7 +17,7 @@ pub(crate) fn answer(alloc: Global, case: Case<'_>) -> Result<String, Error> {
     set(&mut environment, &case);
     let mut out = String::new(alloc);
     for step in case.steps {
-        if let Err(error) = take(&mut environment, step) {
+        if let Err(error) = take(alloc, &mut environment, step) {
             write_refusal(step, &error, &mut out)?;
             if !case.skips_refusals {
                 return Ok(out);
@@ -40,13 +41,27 @@ fn set(environment: &mut Environment<'_>, case: &Case<'_>) {
     }
 }
 
-fn take<'line>(environment: &mut Environment<'line>, step: Step<'line>) -> Result<(), Error> {
+fn take<'line>(
+    alloc: Global,
+    environment: &mut Environment<'line>,
+    step: Step<'line>,
+) -> Result<(), Error> {
     match step {
         Step::Add { name, source } => environment.add_template(name, source)?,
         Step::Remove { name } => environment.remove_template(name),
         Step::Clear => environment.clear_templates(),
+        Step::Prefixes { statement, comment } => {
+            environment.set_syntax(prefixed(alloc, statement, comment)?)
+        }
     }
     Ok(())
+}
+
+fn prefixed(alloc: Global, statement: &str, comment: &str) -> Result<SyntaxConfig, Error> {
+    let mut builder = SyntaxConfig::builder(alloc);
+    builder.line_statement_prefix(statement)?;
+    builder.line_comment_prefix(comment)?;
+    builder.build()
 }
 
 // Additions alone are refused.

@@ -2,7 +2,8 @@
 //! first may be left out:
 //!
 //! - `templates`: what is done before the render, in order: `[name, source]` adds a template, `[name, null]` removes
-//!   the one of that name, `null` removes all;
+//!   the one of that name, `null` removes all, an object with `line_statement` and `line_comment` sets the prefixes of
+//!   the templates that are added from then on;
 //! - `main`: the name of the template that is rendered; the first one of `templates`, if left out;
 //! - `context`: the context, an object; empty, if left out;
 //! - `fuel`: a number; none, if left out;

@@ -1,9 +1,9 @@
-//! What is done with the templates before a render.
-use serde_json::Value as Json;
+//! What is done with the templates, and with the syntax that they are read under, before a render.
+use serde_json::{Map, Value as Json};
 use std::alloc::Global;
 use template_values_errors::{Error, ErrorKind};
 
-/// A change of the templates that stand.
+/// A change of the templates that stand, or of the syntax of those that are added from then on.
 #[derive(Clone, Copy)]
 pub(crate) enum Step<'line> {
     Add {
@@ -14,6 +14,11 @@ pub(crate) enum Step<'line> {
         name: &'line str,
     },
     Clear,
+    /// The default syntax with prefixes of line statements and line comments.
+    Prefixes {
+        statement: &'line str,
+        comment: &'line str,
+    },
 }
 
 /// The steps that an array lists; SyntaxError where it lists something else.
@@ -32,6 +37,7 @@ fn step_of(step: &Json) -> Result<Step<'_>, Error> {
     match step {
         Json::Null => Ok(Step::Clear),
         Json::Array(pair) => pair_step(pair.as_slice()),
+        Json::Object(entries) => prefixes_step(entries),
         _ => Err(Error::new(ErrorKind::SyntaxError)),
     }
 }
@@ -44,6 +50,16 @@ fn pair_step(pair: &[Json]) -> Result<Step<'_>, Error> {
         }),
         [Json::String(name), Json::Null] => Ok(Step::Remove {
             name: name.as_str(),
+        }),
+        _ => Err(Error::new(ErrorKind::SyntaxError)),
+    }
+}
+
+fn prefixes_step(entries: &Map<String, Json>) -> Result<Step<'_>, Error> {
+    match (entries.get("line_statement"), entries.get("line_comment")) {
+        (Some(Json::String(statement)), Some(Json::String(comment))) => Ok(Step::Prefixes {
+            statement: statement.as_str(),
+            comment: comment.as_str(),
         }),
         _ => Err(Error::new(ErrorKind::SyntaxError)),
     }
