@@ -9,5 +9,5 @@ mod scoped;
 mod writing;
 
 pub use at_once::perform_at_once;
-pub use plain::perform;
+pub use plain::{perform, perform_at_length};
 pub use rules::Rules;
