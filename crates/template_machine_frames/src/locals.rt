@@ -186,6 +186,10 @@ impl<'env> Locals<'env> {
     pub fn clear(&mut self)
         ensures { self.new ≡ [] }
     {
-        self.locals.clear();
+        // There is mostly one, which goes sooner alone.
+        let _last = self.locals.pop();
+        if !self.locals.is_empty() {
+            self.locals.clear();
+        }
     }
 }

@@ -118,14 +118,27 @@ impl<W: Writer> Sink for WriteWrapper<W> {
                 }
                 Ok(count)
             }
-            Err(error) if error.kind() == io::ErrorKind::OutOfMemory => Err(SinkFault::Memory),
-            Err(error) => {
-                self.failed += 1;
-                self.err = Some(error);
-                Err(SinkFault::Device)
-            }
+            Err(error) => Err(keep_error(&mut self.failed, &mut self.err, error)),
         }
     }
 
     ghost takes_text = { λ bytes utf8. tt };
+}
+
+// Keeps an error of a writer and counts it, but for want of memory; tells what fault it is.
+#[cold]
+#[inline(never)]
+fn keep_error(failed: &mut u64, err: &mut Option<io::Error>, error: io::Error) -> SinkFault
+    requires { failed.old ≢ u64.MAX }
+    ensures counted { (bytes : List ℕ) → failed.new ≡ failed.old + failures_in (Err result) bytes }
+    ensures passed { PassesOn (Err result) err.old err.new (Err error) }
+    ensures error { result ≡ SinkFault.Device → IsSomeAnd err.new (λ kept. error_kind kept ≢ IoKind.OutOfMemory) }
+    ensures no_error { result ≢ SinkFault.Device → err.new ≡ err.old }
+{
+    if error.kind() == io::ErrorKind::OutOfMemory {
+        return SinkFault::Memory;
+    }
+    *failed += 1;
+    *err = Some(error);
+    SinkFault::Device
 }

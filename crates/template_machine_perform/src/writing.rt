@@ -27,6 +27,7 @@ pub(crate) fn emit_raw<S: Sink>(text: &str, sink: &mut S) -> Result<(), Error>
 }
 
 // Takes a value, and prints it under the escape in force.
+#[inline(always)]
 pub(crate) fn emit<S: Sink>(
     mode: UndefinedBehavior,
     state: &State<'_>,

@@ -1,6 +1,7 @@
 //! What a value has under a key.
 ghost use Rattle.std.specs.Prelude.{◌≡◌, option_copied};
-ghost use Rattle.template_values_model.specs.Lookup.{entry_at, value_at};
+ghost use Rattle.std.specs.Str.{bytes_eq};
+ghost use Rattle.template_values_model.specs.Lookup.{entry_at, is_text, value_at};
 ghost use Rattle.template_values_core.specs.Kept.{IsRising};
 ghost use Rattle.template_values_core.specs.Maps.{pairs_of, entry_under};
 ghost use Rattle.template_values_core.specs.Reads.{value_under};
@@ -37,7 +38,64 @@ impl Value {
     }
 }
 
+// Among so many entries one pass finds a name sooner than halving does.
+const FEW: usize = 8;
+
 fn entry_at<'a>(entries: &'a [Entry], name: &str) -> Option<&'a Value>
+    requires { IsRising entries.now }
+    ensures { option_copied result ≡ entry_at name.now (pairs_of (pairs_in entries.now)) }
+{
+    if entries.len() <= FEW {
+        return first_at(entries, name);
+    }
+    entry_found(entries, name)
+}
+
+// The same, by one pass.
+#[inline(always)]
+fn first_at<'a>(entries: &'a [Entry], name: &str) -> Option<&'a Value>
+    ensures { option_copied result ≡ entry_at name.now (pairs_of (pairs_in entries.now)) }
+{
+    for entry in entries {
+        if is_text(&entry.key, name) {
+            return Some(&entry.value);
+        }
+    }
+    None
+}
+
+// Whether a key is this text, safe or not.
+#[inline(always)]
+fn is_text(key: &Value, name: &str) -> bool
+    ensures { result ≡ is_text name.now key.now }
+{
+    match &key.repr {
+        Repr::Text(text) => is_same(text.as_str(), name),
+        Repr::SafeText(text) => is_same(text.as_str(), name),
+        _ => false,
+    }
+}
+
+// Whether two texts are the same. Names are short, and mostly differ at once.
+#[inline(always)]
+fn is_same(text: &str, other: &str) -> bool
+    ensures { result ≡ bytes_eq text.now other.now }
+{
+    if text.len() != other.len() {
+        return false;
+    }
+    let others = other.as_bytes();
+    for (place, byte) in text.as_bytes().iter().enumerate() {
+        if *byte != others[place] {
+            return false;
+        }
+    }
+    true
+}
+
+// The same, by halving.
+#[inline(never)]
+fn entry_found<'a>(entries: &'a [Entry], name: &str) -> Option<&'a Value>
     requires { IsRising entries.now }
     ensures { option_copied result ≡ entry_at name.now (pairs_of (pairs_in entries.now)) }
 {

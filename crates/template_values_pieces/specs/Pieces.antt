@@ -1,10 +1,11 @@
 -- How the pieces of a text are written one behind the other.
-use Rattle.std.specs.Prelude.{◌≡◌, ℕ, ◌/◌, ◌%◌, codes, List, [], ◌∷◌, ◌++◌, ◌⊎◌, Result, Ok, Err}
+use Rattle.std.specs.Prelude.{◌≡◌, ◌≤◌, ◌+◌, ℕ, take, ◌/◌, ◌%◌, codes, List, [], ◌∷◌, ◌++◌, ◌⊎◌, Result, Ok, Err}
 use Rattle.template_values_errors.specs.declared.ErrorKind.{ErrorKind}
 use Rattle.template_values_model.specs.Fault.{Fault, kind_of}
 use Rattle.template_values_errors.specs.Memory.{NoMemory}
 use Rattle.json.specs.Print.{escape_byte}
 use Rattle.std.specs.Char.{digit_char}
+use Rattle.std.specs.Str.{IsUtf8}
 use Rattle.template_values_forms.specs.Escapes.{control_escape, html, quoted_byte}
 use Rattle.template_values_pieces.specs.declared.pieces.Escape.{Escape}
 use Rattle.template_values_pieces.specs.declared.pieces.Escape.TheVariants.{Known, Braced, Unicode}
@@ -20,6 +21,13 @@ encoded Html s = html s
 
 abbrev pub Begins : List ℕ → List ℕ → Type 0
 Begins before after = (more : List ℕ) × (after ≡ before ++ more)
+
+-- a text is written but for so many bytes of the block, which are a text and leave room for a reference
+pub record Waits (old out block whole : List ℕ) (used : ℕ) : Type 0 where
+  pub begins : Begins old out
+  pub room : used + 8 ≤ 256
+  pub text : IsUtf8 (take used block)
+  pub done : out ++ take used block ≡ whole
 
 -- the text is written; or it is refused with the kind of a fault alone, or for want of memory, with a beginning written
 abbrev pub Writes : Markup → List ℕ → Result (List ℕ) Fault → Result (Unit {0}) (List ErrorKind) → List ℕ → Type 0

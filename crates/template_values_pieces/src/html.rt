@@ -1,9 +1,9 @@
 //! Texts with references for what HTML reads as markup.
-ghost use Rattle.std.specs.Prelude.{◌≡◌, ◌+◌, ◌<◌, ◌≤◌, ◌∷◌, [], ◌++◌, Ok, IfSome, IsUtf8, MatchOption, OnSome, length, string_bytes, take};
+ghost use Rattle.std.specs.Prelude.{◌≡◌, ◌+◌, ◌<◌, ◌≤◌, ◌∷◌, [], ◌++◌, Ok, IfErr, IfOk, IfSome, OnErr, IsUtf8, MatchOption, OnSome, length, string_bytes, take};
 ghost use Rattle.std.specs.Str.{IsCharBoundary};
 ghost use Rattle.template_values_errors.specs.Memory.{NoMemory};
 ghost use Rattle.template_values_forms.specs.Escapes.{html, html_byte};
-ghost use Rattle.template_values_pieces.specs.Pieces.{Begins, Writes};
+ghost use Rattle.template_values_pieces.specs.Pieces.{Begins, Waits, Writes};
 ghost use Rattle.template_values_pieces.specs.declared.pieces.Markup.TheVariants.{Html, Plain};
 
 use crate::pieces::push_plain;
@@ -66,8 +66,7 @@ fn push_references(out: &mut String, piece: &str) -> Result<(), Error>
             continue;
         };
         if start < i {
-            push_block(out, &block[..used], &piece[start..i])?;
-            used = 0;
+            used = put_piece(out, &mut block, used, &piece[start..i])?;
         }
         used = put(&mut block, used, reference);
         start = i + 1;
@@ -110,6 +109,38 @@ fn push_block(out: &mut String, block: &[u8], piece: &str) -> Result<(), Error>
 {
     push_plain(out, unsafe { str::from_utf8_unchecked(block) })?;
     push_plain(out, piece)
+}
+
+// Puts the piece behind the bytes that wait, where it leaves room for a reference, and else writes these and it; tells how
+// many bytes then wait.
+fn put_piece(
+    out: &mut String,
+    block: &mut [u8; BLOCK],
+    used: usize,
+    piece: &str,
+) -> Result<usize, Error>
+    requires room { used + REFERENCE ≤ BLOCK }
+    requires text { IsUtf8 (take used block.old) }
+    ensures waits { IfOk result (λ next. Waits (string_bytes out.old) (string_bytes out.new) block.new
+        ((string_bytes out.old ++ take used block.old) ++ piece.now) next) }
+    ensures refused { IfErr result NoMemory }
+    ensures begins { OnErr result (Begins (string_bytes out.old) (string_bytes out.new)) }
+{
+    if piece.len() <= BLOCK - REFERENCE - used {
+        put_bytes(block, used, piece.as_bytes());
+        return Ok(used + piece.len());
+    }
+    push_block(out, &block[..used], piece)?;
+    Ok(0)
+}
+
+// Puts bytes behind those that wait.
+fn put_bytes(block: &mut [u8; BLOCK], used: usize, bytes: &[u8])
+    requires { used + length bytes.now ≤ BLOCK }
+    ensures length { length block.new ≡ BLOCK }
+    ensures put { take (used + length bytes.now) block.new ≡ take used block.old ++ bytes.now }
+{
+    block[used..used + bytes.len()].copy_from_slice(bytes);
 }
 
 // Puts the reference behind the bytes that wait, and tells how many then do.

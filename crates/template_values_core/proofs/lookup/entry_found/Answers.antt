@@ -7,7 +7,7 @@ use Rattle.template_values_core.specs.Shape.{pairs_in}
 use Rattle.template_values_core.specs.declared.value.Entry.{Entry}
 use Rattle.template_values_core.proofs.Halving.{entry_under-found, entry_under-parted, rising_searchable}
 use Rattle.template_values_core.proofs.LastGiven.{entry_at-entry_under}
-use Rattle.template_values_core.proofs.lookup.entry_at.Goals as goal
+use Rattle.template_values_core.proofs.lookup.entry_found.Goals as goal
 
 pub returns-in-Ok : goal.returns-in-Ok
 returns-in-Ok c =

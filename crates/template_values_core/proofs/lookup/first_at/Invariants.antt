@@ -1,0 +1,9 @@
+use Rattle.std.proofs.Common.{◌≡◌, drop}
+use Rattle.template_values_model.specs.Lookup.{entry_at}
+use Rattle.template_values_core.specs.Maps.{pairs_of}
+use Rattle.template_values_core.specs.Shape.{pairs_in}
+use Rattle.template_values_core.proofs.lookup.first_at.Given as goal
+
+-- no key that was passed is the text
+abbrev pub invariant-loop-entry : goal.invariant-loop-entry
+invariant-loop-entry l = entry_at l.name (pairs_of (pairs_in l.entries)) ≡ entry_at l.name (pairs_of (pairs_in (drop l.entry-index l.entries)))
