@@ -6,7 +6,7 @@ ghost use Rattle.template_compiler_expressions.specs.Words.{begins_bare};
 ghost use Rattle.template_compiler_expressions.specs.Reader.{begins_closing, begins_bound_end};
 ghost use Rattle.template_compiler_stream.specs.Refusals.{fault_of};
 ghost use Rattle.template_compiler_stream.specs.Left.{ahead, ended, passed};
-ghost use Rattle.template_compiler_stream.specs.Signs.{assigned_behind, begins_symbol, is_symbol, level_of, second_word, next_operator, next_comparison, next_symbol, next_word, symbol_of, word_in};
+ghost use Rattle.template_compiler_stream.specs.Signs.{assigned_behind, begins_alone, begins_symbol, is_symbol, level_of, second_word, next_operator, next_comparison, next_symbol, next_word, symbol_of, word_in};
 ghost use Rattle.template_compiler_tokens.specs.View.{token_of};
 ghost use Rattle.template_compiler_stream.specs.Skips.{PutsText, SkipsDotted, SkipsKeyword, SkipsSign, SkipsText, SkipsWord};
 
@@ -14,7 +14,8 @@ mod tags;
 
 use crate::refusal::Fault;
 use crate::sign::{
-    Level, Sign, begins_argument, closes, comparison_of, ends_bound, operator_of, sign_of,
+    Level, Sign, begins_argument, closes, comparison_of, ends_bound, is_end, is_plain, operator_of,
+    sign_of,
 };
 use std::alloc::AllocError;
 use std::marker::Model;
@@ -189,6 +190,21 @@ impl<'source> TokenStream<'source> {
     {
         match &self.first {
             First::Token(token, _) => begins_argument(token),
+            First::End => false,
+            First::Bad(_) => false,
+        }
+    }
+
+    /// Whether an operand that is alone stands next: a name or a number, with an end behind it.
+    pub fn begins_alone(&self) -> bool
+        ensures { result ≡ begins_alone self.now }
+    {
+        match &self.first {
+            First::Token(first, _) => match &self.second {
+                First::Token(second, _) => is_end(second) && is_plain(first),
+                First::End => false,
+                First::Bad(_) => false,
+            },
             First::End => false,
             First::Bad(_) => false,
         }
