@@ -26,7 +26,6 @@ pub(crate) enum Found {
 }
 
 /// What stands behind the white space at a place inside a segment, where so many brackets are open.
-#[inline(always)]
 pub(crate) fn next_place(
     source: &str,
     syntax: &SyntaxConfig,
