@@ -1,5 +1,5 @@
 //! What stands at the places of a source.
-ghost use Rattle.std.specs.Prelude.{◌≡◌, ◌≤◌, ◌<◌, ◌↔◌, ℕ, IsTrue, MatchOption, drop, take, length};
+ghost use Rattle.std.specs.Prelude.{◌≡◌, ◌≤◌, ◌<◌, ◌↔◌, ℕ, IsTrue, MatchOption, drop, length};
 ghost use Rattle.memchr.specs.Find.{FindsNeedle};
 ghost use Rattle.template_compiler_segments.specs.Places.{StandsAt, IsFirst, IsNowhere, IsLineEnd};
 ghost use Rattle.template_compiler_segments.specs.Places.{blanks_from as blanks_before, is_first_on_line as first_on_line, newline_len as newline_width, is_blank as blank};
@@ -19,21 +19,7 @@ pub fn stands_at(bytes: &[u8], at: usize, text: &[u8]) -> bool
     requires { at ≤ length bytes.now }
     ensures { IsTrue result ↔ StandsAt bytes.now at text.now }
 {
-    let rest = rest_from(bytes, at);
-    may_begin_with(rest, text) && rest.starts_with(text)
-}
-
-// Whether the bytes may begin with the text, by the first one: mostly they do not.
-fn may_begin_with(rest: &[u8], text: &[u8]) -> bool
-    ensures { take (length text.now) rest.now ≡ text.now → IsTrue result }
-{
-    match text.first() {
-        Some(wanted) => match rest.first() {
-            Some(first) => *first == *wanted,
-            None => true,
-        },
-        None => true,
-    }
+    rest_from(bytes, at).starts_with(text)
 }
 
 /// The first place from `from` on at which the text stands, which is not empty.
