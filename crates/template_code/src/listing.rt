@@ -129,6 +129,7 @@ impl<'source> Instructions<'source> {
     ///
     /// [`ErrorKind::TooLarge`] where it would be the 2^32nd, and [`ErrorKind::OutOfMemory`]; then the
     /// instructions stay as they were.
+    #[inline(always)]
     pub fn add(&mut self, instruction: Instruction<'source>) -> Result<u32, Error>
         ensures place { IfOk result (λ place. place ≡ length (code_in self.old)) }
         ensures added { OnOk result (code_in self.new ≡ code_in self.old ++ code_of instruction.entry ∷ []) }

@@ -1,6 +1,7 @@
 -- Along a left chain: each node is runnable, and adds its own to what stands.
-use Rattle.std.proofs.Common.{◌≡◌, ℕ, ◌+◌, ◌<◌, ◌≤◌, zero, suc, List, [], ◌∷◌, ◌++◌, length, map, take, get_or, Option, Bor, sym, ap, subst, ◌∙◌, arith}
+use Rattle.std.proofs.Common.{◌≡◌, ℕ, ◌+◌, ◌<◌, ◌≤◌, zero, suc, Bool, true, false, not, Result, Ok, Err, List, [], ◌∷◌, ◌++◌, length, map, take, get_or, Option, None, Some, is_some, option_map, Bor, sym, ap, subst, ◌∙◌, add-zero, arith}
 use Rattle.std.specs.List.{All, fold}
+use Rattle.std.specs.Prelude.{IfOk}
 use Rattle.std.proofs.lemmas.List.{take_more}
 use Rattle.std.proofs.lemmas.List.Sums.{fold_push}
 use Rattle.std.proofs.lemmas.List.Elements.{All-nil, All-head, All-tail, All-same, All-push, All-get_or}
@@ -8,12 +9,16 @@ use Rattle.template_values_model.specs.Val.{Val}
 use Rattle.template_tree.specs.Tree.{Expression, slice, binary, chain, filtered, tested, attribute, item, call}
 use Rattle.template_tree.specs.View.{expression_of}
 use Rattle.template_tree.specs.declared.expressions.Expr.{Expr, size-Expr}
-use Rattle.template_tree_spines.specs.Spine.{spine_of}
+use Rattle.template_tree_spines.specs.Spine.{spine_of, left_of, before}
+use Rattle.template_walk.specs.Constants.{constant_of}
 use Rattle.template_walk.specs.Runnable.{IsRunnable}
 use Rattle.template_code.specs.Code.{Code}
-use Rattle.template_compiler_emission.specs.Puts.{unless}
+use Rattle.template_compiler_codegen.specs.Expressions.{expression_code}
+use Rattle.template_code.specs.Listing.{code_in}
+use Rattle.template_code.specs.declared.listing.Instructions.{Instructions}
+use Rattle.template_compiler_emission.specs.Puts.{Puts, unless}
 use Rattle.template_compiler_expression_codegen.specs.Own.{own_constant, own_code}
-use Rattle.template_compiler_expression_codegen.proofs.Own.{add_own, with_own, no_left, own_runnable, added}
+use Rattle.template_compiler_expression_codegen.proofs.Own.{known, add_own, with_own, no_left, own_step, own_runnable, added}
 
 runnable_along : (e : Expression) → IsRunnable e → All IsRunnable (spine_of e)
 runnable_along (slice e start stop by) h = All-push IsRunnable (spine_of e) (slice e start stop by) (runnable_along e h.0) h
@@ -70,3 +75,32 @@ one_node ns i n begun old new k o within read runnable known_is old_is own_is ne
           ap (λ (x : Option Val). begun ++ (s.1 ++ unless (own_constant s.0 t) (own_code x t) (p + length s.1))) known_is ∙
           ap (λ (a : Option Val × List Code). begun ++ a.1) (sym more),
     )
+
+pub nothing_left : (x : Option (Bor Expr)) (b : Bool) (e : Expression) → is_some x ≡ not b → b ≡ true
+    → option_map (λ (part : Bor Expr). expression_of part.now) x ≡ left_of e → left_of e ≡ None
+nothing_left None b e n t h = sym h
+nothing_left (Some part) true e n t h = cc
+nothing_left (Some part) false e n t h = cc
+
+-- a tree without a left part
+pub alone : (e : Expression) (old new : List Code) (o : Option Val) → IsRunnable e → left_of e ≡ None
+    → o ≡ own_constant None e → new ≡ old ++ unless o (own_code None e) (length old)
+    → (o ≡ constant_of e) × (new ≡ old ++ unless o (expression_code e) (length old))
+alone e old new o runnable none own_is new_is =
+    let p = length old in
+    let same : known p e ≡ with_own p no_left e =
+    own_step p e ∙ ap (λ (l : Option Expression). add_own p (before (known p) no_left l) e) none ∙ own_runnable p no_left e runnable in
+    let o_is : o ≡ constant_of e = own_is ∙ sym (ap (λ (a : Option Val × List Code). a.0) same) in (
+      o_is,
+      new_is ∙ ap (λ (x : Option Val). old ++ unless x (own_code None e) p) own_is ∙
+          ap (λ (q : ℕ). old ++ unless (own_constant None e) (own_code None e) q) (sym (add-zero p)) ∙
+          ap (λ (a : Option Val × List Code). old ++ a.1) (sym same) ∙
+          ap (λ (x : Option Val). old ++ unless x (expression_code e) p) (sym o_is),
+    )
+
+pub alone_put : {E : Type 0} (e : Expression) (old new : Instructions) (x : Result (Option Val) E) → IsRunnable e → left_of e ≡ None
+    → IfOk x (λ o. o ≡ own_constant None e) → IfOk x (λ o. Puts (unless o (own_code None e)) old new)
+    → IfOk x (λ o. Puts (unless o (expression_code e)) old new)
+alone_put e old new (Ok o) runnable none is put =
+    record { code = (alone e (code_in old) (code_in new) o runnable none is put.code).1; same = put.same }
+alone_put e old new (Err f) runnable none is put = tt

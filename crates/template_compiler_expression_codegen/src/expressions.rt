@@ -27,12 +27,13 @@ use template_compiler_folding::{
     fold_binary, fold_comparison, fold_list, fold_map, fold_tuple, fold_unary,
 };
 use template_tree::{BinOpKind, CompareOp, Expr, UnaryOpKind};
-use template_tree_spines::spine;
+use template_tree_spines::{left, spine};
 use template_values_core::Value;
 use template_values_errors::Error;
 
 /// The value of an expression that is a constant tree, for which nothing is put; else its code is put
-/// behind the instructions. Linear in the expression, besides what its operators cost.
+/// behind the instructions. Linear in the expression, besides what its operators cost. Most expressions have no
+/// left part, and no list is made for them.
 ///
 /// # Errors
 ///
@@ -48,6 +49,9 @@ pub fn fold_expr<'source>(
     ensures put { IfOk result (λ o. Puts (unless o (expression_code (expression_of expr.now))) code.old code.new) }
     ensures refused { IfErr result NoRoom }
 {
+    if left(expr).is_none() {
+        return fold_node(alloc, code, expr, None);
+    }
     let nodes = spine(alloc, expr)?;
     let mut constant = None;
     let mut i = 0;

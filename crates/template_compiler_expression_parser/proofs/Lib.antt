@@ -1,3 +1,4 @@
+mod Alone
 pub mod Chains
 pub mod Items
 pub mod Links

@@ -60,7 +60,7 @@ fn branches<'source>(
     Ok(Expr::conditional(alloc, test, value, other, tokens.expand_span(span))?)
 }
 
-// Operands with the operators of a level between them.
+// Operands with the operators of a level between them. Most are alone, and go through no level below.
 #[cycle(parser)]
 #[tactic(auto, unfolding(template_compiler_reading::specs::Steps::and_then, template_compiler_expressions::specs::Reader::binary_by, template_compiler_expressions::specs::Reader::binary_of))]
 pub(crate) fn binary<'source>(
@@ -71,6 +71,9 @@ pub(crate) fn binary<'source>(
 ) -> Result<Expr<'source>, Refusal>
     ensures { Parsed (binary_by (deeper left) (level_of level) tokens.old) tokens.new result }
 {
+    if tokens.begins_alone() {
+        return literal(alloc, tokens);
+    }
     let span = tokens.span();
     let value = operand(alloc, tokens, left, level)?;
     operands(alloc, tokens, left, level, value, span)

@@ -2,3 +2,4 @@ pub mod Nothing
 pub mod Pushes
 pub mod Rounds
 pub mod Takes
+pub mod Words

@@ -76,13 +76,18 @@ fn parts(tokens: &mut TokenStream, name: String) -> Result<String, AllocError>
 /// # Errors
 ///
 /// The fault of the token that is none of these, or want of memory.
-#[tactic(auto, unfolding(template_compiler_expressions::specs::Reader::primary_by))]
+#[tactic(auto, using(crate::proofs::Words::word_primary), unfolding(template_compiler_expressions::specs::Reader::primary_by))]
 pub fn literal<'source>(
     alloc: Global,
     tokens: &mut TokenStream<'source>,
 ) -> Result<Expr<'source>, Refusal>
     ensures { Parsed (primary_by nothing_deeper tokens.old) tokens.new result }
 {
+    if let Some(name) = tokens.word() {
+        let span = tokens.span();
+        tokens.advance();
+        return Ok(word(alloc, name, span)?);
+    }
     match tokens.take() {
         First::Token(token, span) => literal_from(alloc, tokens, token, span),
         First::End => Err(Refusal::Token(Fault::Syntax)),

@@ -1,6 +1,6 @@
 //! A place in a source.
-ghost use Rattle.std.specs.Prelude.{◌≡◌, ℕ, ◌+◌, ◌++◌, List, [], length, min, count_by, fold};
-ghost use Rattle.template_compiler_places.specs.Bytes.{is_newline, next_column};
+ghost use Rattle.std.specs.Prelude.{◌≡◌, ℕ, ◌+◌, IsTrue, true, false, ◌∷◌, ◌++◌, List, [], length, min, count_by, fold};
+ghost use Rattle.template_compiler_places.specs.Bytes.{is_newline, begins_character, next_column};
 
 use template_tree::Span;
 
@@ -30,7 +30,29 @@ impl Place {
     pub fn after(self, text: &str) -> Place
         ensures { (before : List ℕ) → IsBehind before self → IsBehind (before ++ text.now) result }
     {
-        let bytes = text.as_bytes();
+        match text.as_bytes() {
+            [byte] if is_plain(*byte) => self.beside(),
+            bytes => self.after_bytes(bytes),
+        }
+    }
+
+    // The place behind one byte that is a character of its line.
+    fn beside(self) -> Place
+        ensures { (before : List ℕ) (b : ℕ) → is_newline b ≡ false → begins_character b ≡ true → IsBehind before self
+            → IsBehind (before ++ b ∷ []) result }
+    {
+        let column = self.column.saturating_add(1);
+        let offset = self.offset.saturating_add(1);
+        Place {
+            line: self.line,
+            column,
+            offset,
+        }
+    }
+
+    fn after_bytes(self, bytes: &[u8]) -> Place
+        ensures { (before : List ℕ) → IsBehind before self → IsBehind (before ++ bytes.now) result }
+    {
         let Counts { newlines, column } = count(self.column, bytes);
         Place {
             line: self.line.saturating_add(saturate(newlines)),
@@ -52,6 +74,14 @@ impl Place {
             end_offset: end.offset,
         }
     }
+}
+
+// An ASCII byte that is no newline. Most signs take one, and so does most white space between tokens.
+fn is_plain(byte: u8) -> bool
+    ensures line { IsTrue result → is_newline byte ≡ false }
+    ensures character { IsTrue result → begins_character byte ≡ true }
+{
+    byte != b'\n' && byte < 0x80
 }
 
 // What a text counts for: its newlines, and the column behind it.

@@ -19,6 +19,7 @@ use template_values_errors::ErrorKind;
 ///
 /// Where the text begins with no token: `NoFloats` for decimal digits directly before a fraction or an exponent,
 /// `BadEscape` for a text literal with an escape that is none, else `SyntaxError`; `OutOfMemory`.
+#[inline(always)]
 pub fn scan_token<'source>(
     alloc: Global,
     text: &'source str,

@@ -6,3 +6,4 @@ pub mod NextStart
 pub mod Bytes
 pub mod Theorems
 pub mod Data
+mod Pairs

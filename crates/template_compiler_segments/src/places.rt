@@ -29,10 +29,32 @@ pub fn find_text(bytes: &[u8], from: usize, text: &[u8]) -> Option<usize>
     ensures { MatchOption result (IsNowhere (λ i. StandsAt bytes.now i text.now) from)
         (λ i. IsFirst (λ j. StandsAt bytes.now j text.now) from i) }
 {
+    if text.len() == 2 {
+        return find_pair(bytes, from, text);
+    }
     match find_in(rest_from(bytes, from), text) {
         Some(skipped) => Some(from + skipped),
         None => None,
     }
+}
+
+// The same for a text of two bytes, as most delimiters are. They stand near, and a search for longer ones begins dear.
+fn find_pair(bytes: &[u8], from: usize, text: &[u8]) -> Option<usize>
+    requires within { from ≤ length bytes.now }
+    requires some { 0 < length text.now }
+    ensures { MatchOption result (IsNowhere (λ i. StandsAt bytes.now i text.now) from)
+        (λ i. IsFirst (λ j. StandsAt bytes.now j text.now) from i) }
+{
+    let first = text[0];
+    let mut at = from;
+    while let Some(skipped) = memchr(first, rest_from(bytes, at)) {
+        let place = at + skipped;
+        if stands_at(bytes, place, text) {
+            return Some(place);
+        }
+        at = place + 1;
+    }
+    None
 }
 
 fn find_in(rest: &[u8], text: &[u8]) -> Option<usize>

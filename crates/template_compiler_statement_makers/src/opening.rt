@@ -1,5 +1,5 @@
 //! The words that begin a statement.
-ghost use Rattle.std.specs.Prelude.{◌≡◌, option_map};
+ghost use Rattle.std.specs.Prelude.{◌≡◌, IsNone, IsTrue, option_map};
 ghost use Rattle.template_compiler_statement_makers.specs.Surroundings.{opening_of, other_opening};
 ghost use Rattle.template_compiler_statements.specs.Reader.{opening};
 
@@ -26,6 +26,24 @@ pub enum Opening {
 
 /// The statement that the word begins; none where it begins no statement.
 pub fn opening_named(word: &str) -> Option<Opening>
+    ensures { option_map opening_of result ≡ opening word.now }
+{
+    if goes_on_or_ends(word.as_bytes()) {
+        None
+    } else {
+        first_opening(word)
+    }
+}
+
+// A word as `else` and `endif`: about half of the words that begin tags.
+fn goes_on_or_ends(word: &[u8]) -> bool
+    ensures { IsTrue result → IsNone (opening word.now) }
+{
+    matches!(word, [b'e', b'l' | b'n', ..])
+}
+
+// The words that begin a statement, in the grammar's order.
+fn first_opening(word: &str) -> Option<Opening>
     ensures { option_map opening_of result ≡ opening word.now }
 {
     match word {

@@ -1,5 +1,6 @@
 -- The tokens that are left in a stream, which holds them with the last one first.
 use Rattle.std.specs.Prelude.{◌≡◌, List, [], ◌∷◌, ◌++◌, map, reverse, Option, None, Some}
+use Rattle.std.specs.Borrow.{Bor}
 use Rattle.template_tree.specs.declared.span.Span.{Span}
 use Rattle.template_compiler_tokens.specs.Token as token
 use Rattle.template_compiler_tokens.specs.Token.{bad}
@@ -22,6 +23,11 @@ abbrev pub ahead : First → List token.Token → List token.Token
 ahead (Token t span) ts = token_of t ∷ ts
 ahead End ts = []
 ahead (Bad f) ts = bad (fault_of f) ∷ []
+
+-- the token that stands next, to look at; or there is none
+abbrev pub Peeks : List token.Token → Option (Bor scanned.Token) → Type 0
+Peeks ts (Some t) = (rest : List token.Token) × (ts ≡ token_of t.now ∷ rest)
+Peeks ts None = (f : Option Fault) × (ts ≡ ended f)
 
 -- the tokens behind the next one; what is none is not passed
 abbrev pub passed : List token.Token → List token.Token

@@ -1,7 +1,7 @@
 -- The symbols that signs are.
-use Rattle.std.specs.Prelude.{ℕ, Bool, false, ◌==◌, List, [], ◌∷◌, Option, None, Some}
+use Rattle.std.specs.Prelude.{ℕ, Bool, true, false, ◌==◌, ◌&&◌, not, codes, bytes_eq, List, [], ◌∷◌, Option, None, Some}
 use Rattle.template_compiler_tokens.specs.Token as token
-use Rattle.template_compiler_tokens.specs.Token.{Symbol, symbol, identifier}
+use Rattle.template_compiler_tokens.specs.Token.{Symbol, symbol, identifier, number, variable_end, block_end}
 use Rattle.template_tree.specs.declared.operators.BinOpKind.{BinOpKind}
 use Rattle.template_tree.specs.declared.operators.CompareOpKind.{CompareOpKind}
 use Rattle.template_compiler_expressions.specs.Words as words
@@ -118,3 +118,29 @@ next_operator k (t ∷ ts) = words.operator k t
 abbrev pub next_comparison : List token.Token → Option CompareOpKind
 next_comparison [] = None
 next_comparison (t ∷ ts) = words.comparison_operator t
+
+-- a name or a number, which is an operand by itself
+abbrev pub is_plain : token.Token → Bool
+is_plain (identifier n) = not (bytes_eq (codes "not") n)
+is_plain (number n) = true
+is_plain _ = false
+
+-- what no operand goes on with, nor what is made of it
+abbrev pub is_end : token.Token → Bool
+is_end variable_end = true
+is_end block_end = true
+is_end (symbol token.comma) = true
+is_end (symbol token.colon) = true
+is_end (symbol token.paren_close) = true
+is_end (symbol token.bracket_close) = true
+is_end (symbol token.brace_close) = true
+is_end _ = false
+
+abbrev pub begins_end : List token.Token → Bool
+begins_end [] = false
+begins_end (t ∷ ts) = is_end t
+
+-- an operand that is alone stands next
+abbrev pub begins_alone : List token.Token → Bool
+begins_alone [] = false
+begins_alone (t ∷ ts) = begins_end ts && is_plain t

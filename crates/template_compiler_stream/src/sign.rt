@@ -1,7 +1,7 @@
 //! Signs and brackets.
 ghost use Rattle.std.specs.Prelude.{◌≡◌, ◌==◌, option_map};
 ghost use Rattle.template_compiler_stream.specs.Signs.{number_of, symbol_of, symbol_in};
-ghost use Rattle.template_compiler_stream.specs.Signs.{level_of, word_in};
+ghost use Rattle.template_compiler_stream.specs.Signs.{level_of, word_in, is_end, is_plain};
 ghost use Rattle.template_compiler_expressions.specs.Words.{factors, operator, comparison_operator, is_bare, is_no_argument};
 ghost use Rattle.template_compiler_expressions.specs.Reader.{is_closing, is_bound_end};
 ghost use Rattle.template_compiler_tokens.specs.View.{token_of};
@@ -232,6 +232,34 @@ pub fn begins_argument(token: &Token) -> bool
         Token::Minus => true,
         Token::BracketOpen => true,
         Token::BraceOpen => true,
+        _ => false,
+    }
+}
+
+/// Whether the token is a name or a number, which is an operand by itself.
+pub fn is_plain(token: &Token) -> bool
+    ensures { result ≡ is_plain (token_of token.now) }
+{
+    match token {
+        Token::Ident(name) => *name != "not",
+        Token::Int(_) => true,
+        Token::Int128(_) => true,
+        _ => false,
+    }
+}
+
+/// Whether no operand goes on with the token, nor what is made of it.
+pub fn is_end(token: &Token) -> bool
+    ensures { result ≡ is_end (token_of token.now) }
+{
+    match token {
+        Token::VariableEnd => true,
+        Token::BlockEnd => true,
+        Token::Comma => true,
+        Token::Colon => true,
+        Token::ParenClose => true,
+        Token::BracketClose => true,
+        Token::BraceClose => true,
         _ => false,
     }
 }

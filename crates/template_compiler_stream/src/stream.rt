@@ -5,8 +5,8 @@ ghost use Rattle.template_compiler_tokens.specs.Token.{assign, bad_syntax};
 ghost use Rattle.template_compiler_expressions.specs.Words.{begins_bare};
 ghost use Rattle.template_compiler_expressions.specs.Reader.{begins_closing, begins_bound_end};
 ghost use Rattle.template_compiler_stream.specs.Refusals.{fault_of};
-ghost use Rattle.template_compiler_stream.specs.Left.{ahead, ended, passed};
-ghost use Rattle.template_compiler_stream.specs.Signs.{assigned_behind, begins_symbol, is_symbol, level_of, second_word, next_operator, next_comparison, next_symbol, next_word, symbol_of, word_in};
+ghost use Rattle.template_compiler_stream.specs.Left.{Peeks, ahead, ended, passed};
+ghost use Rattle.template_compiler_stream.specs.Signs.{assigned_behind, begins_alone, begins_symbol, is_symbol, level_of, second_word, next_operator, next_comparison, next_symbol, next_word, symbol_of, word_in};
 ghost use Rattle.template_compiler_tokens.specs.View.{token_of};
 ghost use Rattle.template_compiler_stream.specs.Skips.{PutsText, SkipsDotted, SkipsKeyword, SkipsSign, SkipsText, SkipsWord};
 
@@ -14,7 +14,8 @@ mod tags;
 
 use crate::refusal::Fault;
 use crate::sign::{
-    Level, Sign, begins_argument, closes, comparison_of, ends_bound, operator_of, sign_of,
+    Level, Sign, begins_argument, closes, comparison_of, ends_bound, is_end, is_plain, operator_of,
+    sign_of,
 };
 use std::alloc::AllocError;
 use std::marker::Model;
@@ -62,13 +63,22 @@ impl<'source> Rest<'source> {
             },
         }
     }
+
+    // The next token, to look at.
+    fn peek(&self) -> Option<&Token<'source>>
+        ensures { Peeks self.now result }
+    {
+        match self.tokens.last() {
+            Some((token, _)) => Some(token),
+            None => None,
+        }
+    }
 }
 
 /// The tokens that are left. A contract sees them as a list.
 #[derive(Drop)]
 pub struct TokenStream<'source> {
     first: First<'source>,
-    second: First<'source>,
     rest: Rest<'source>,
     last: Span,
 }
@@ -80,7 +90,7 @@ impl<'source> Model for TokenStream<'source> {
 
     ghost Value = { List token.Token };
 
-    ghost view = { λ s. ahead s.first (ahead s.second s.rest) };
+    ghost view = { λ s. ahead s.first s.rest };
 }
 
 impl<'source> TokenStream<'source> {
@@ -96,10 +106,8 @@ impl<'source> TokenStream<'source> {
             fault,
         };
         let first = rest.next();
-        let second = rest.next();
         TokenStream {
             first,
-            second,
             rest,
             last: Span::default(),
         }
@@ -153,8 +161,7 @@ impl<'source> TokenStream<'source> {
         match &self.first {
             First::Token(_, span) => {
                 self.last = *span;
-                let next = self.rest.next();
-                self.first = mem::replace(&mut self.second, next);
+                self.first = self.rest.next();
             }
             First::End => {}
             First::Bad(_) => {}
@@ -189,6 +196,20 @@ impl<'source> TokenStream<'source> {
     {
         match &self.first {
             First::Token(token, _) => begins_argument(token),
+            First::End => false,
+            First::Bad(_) => false,
+        }
+    }
+
+    /// Whether an operand that is alone stands next: a name or a number, with an end behind it.
+    pub fn begins_alone(&self) -> bool
+        ensures { result ≡ begins_alone self.now }
+    {
+        match &self.first {
+            First::Token(first, _) => match self.rest.peek() {
+                Some(second) => is_end(second) && is_plain(first),
+                None => false,
+            },
             First::End => false,
             First::Bad(_) => false,
         }
@@ -243,8 +264,7 @@ impl<'source> TokenStream<'source> {
     {
         self.last = self.span();
         let next = self.rest.next();
-        let second = mem::replace(&mut self.second, next);
-        mem::replace(&mut self.first, second)
+        mem::replace(&mut self.first, next)
     }
 
     /// Passes the sign, where it stands next.
@@ -298,10 +318,9 @@ impl<'source> TokenStream<'source> {
         ensures { option_map (λ w. w.now) result ≡ second_word self.now }
     {
         match &self.first {
-            First::Token(_, _) => match &self.second {
-                First::Token(token, _) => word_of(token),
-                First::End => None,
-                First::Bad(_) => None,
+            First::Token(_, _) => match self.rest.peek() {
+                Some(token) => word_of(token),
+                None => None,
             },
             First::End => None,
             First::Bad(_) => None,
@@ -313,10 +332,9 @@ impl<'source> TokenStream<'source> {
         ensures { result ≡ assigned_behind self.now }
     {
         match &self.first {
-            First::Token(_, _) => match &self.second {
-                First::Token(token, _) => assigns(token),
-                First::End => false,
-                First::Bad(_) => false,
+            First::Token(_, _) => match self.rest.peek() {
+                Some(token) => assigns(token),
+                None => false,
             },
             First::End => false,
             First::Bad(_) => false,

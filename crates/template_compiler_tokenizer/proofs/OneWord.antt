@@ -1,5 +1,6 @@
 -- Which block has one word alone.
-use Rattle.std.proofs.Common.{◌≡◌, ℕ, ◌+◌, inl, inr, false, List, [], ◌∷◌, drop, slice_index, Option, None, Some, Err, refl, sym, ◌∙◌, ap, subst}
+use Rattle.std.proofs.Common.{◌≡◌, ℕ, ◌+◌, ◌⊎◌, inl, inr, Bool, true, false, if◌then◌else◌, suc, List, [], ◌∷◌, take, drop, take_while, slice_get, slice_index, Option, None, Some, Err, refl, sym, ◌∙◌, ap, subst, arith}
+use Rattle.std.specs.List.{prefix_len}
 use Rattle.std.proofs.lemmas.Bool.{false≢true}
 use Rattle.std.specs.Char.{is_ascii_whitespace}
 use Rattle.template_values_errors.specs.declared.ErrorKind.{ErrorKind}
@@ -9,7 +10,10 @@ use Rattle.template_compiler_syntax.specs.Syntax.{Syntax}
 use Rattle.template_compiler_tokens.specs.Token as spec
 use Rattle.template_compiler_tokens.specs.Token.{identifier, bad}
 use Rattle.template_compiler_tokens.specs.Texts.{IsText}
-use Rattle.template_compiler_tokens.specs.Lexical.{BeginsAs, Begins, IsToken, token_at, class_of, Class, text_class}
+use Rattle.template_compiler_tokens.specs.Token.{TokenFault, number}
+use Rattle.template_compiler_tokens.specs.Numbers.{number_at}
+use Rattle.template_compiler_tokens.specs.Lexical.{is_name_part, BeginsAs, Begins, IsToken, token_at, class_of, Class, name_class, number_class, text_class, sign_class}
+use Rattle.template_compiler_tokens.proofs.Ends.{number_or_none}
 use Rattle.template_compiler_tokens.specs.View.{token_of}
 use Rattle.template_compiler_tokens.specs.declared.token.Token.{Token}
 use Rattle.template_compiler_tokens.proofs.OneToken.{one_token, some_token, same_begin}
@@ -32,6 +36,31 @@ word_is t word e = cc
 
 text_is_no_word : {q : ℕ} {s word : List ℕ} {n : ℕ} → IsText q s (identifier word) n → ⊥
 text_is_no_word h = elim h [ ]
+
+-- a word is the longest beginning that may stand in a name, whose first byte is the text's
+word_by : (c : Class) (s word : List ℕ) (n : ℕ) → BeginsAs c s (identifier word) n → word ≡ take_while is_name_part s
+word_by name_class s word n h = (let same = h.0 in cc)
+word_by number_class s word n h = go (number_or_none s)
+  where
+    go : ((fault : TokenFault) × (number_at s ≡ bad fault)) ⊎ ((m : ℕ) × (number_at s ≡ number m)) → word ≡ take_while is_name_part s
+    go (inl (fault, none)) = (let both = h.0 ∙ none in cc)
+    go (inr (m, some)) = (let both = h.0 ∙ some in cc)
+word_by text_class s word n h = absurd (text_is_no_word h)
+word_by sign_class s word n h = elim h [ ]
+
+first_of : (s word : List ℕ) (a b : ℕ) → word ≡ take_while is_name_part s → slice_get s 0 ≡ Some a → slice_get word 0 ≡ Some b → a ≡ b
+first_of [] word a b e f g = cc
+first_of (x ∷ xs) [] a b e f g = cc
+first_of (x ∷ xs) (y ∷ ys) a b e f g = go (is_name_part x) e
+  where
+    go : (p : Bool) → y ∷ ys ≡ take (if p then 1 + prefix_len is_name_part xs else 0) (x ∷ xs) → a ≡ b
+    go true same =
+        (let one : 1 + prefix_len is_name_part xs ≡ suc (prefix_len is_name_part xs) = omega arith in
+        let whole : y ∷ ys ≡ x ∷ take (prefix_len is_name_part xs) xs = same ∙ ap (λ k. take k (x ∷ xs)) one in cc)
+    go false same = cc
+
+pub same_first : (s word : List ℕ) (n a b : ℕ) → Begins s (identifier word) n → slice_get s 0 ≡ Some a → slice_get word 0 ≡ Some b → a ≡ b
+same_first s word n a b begins f g = first_of s word a b (word_by (class_of (slice_index s 0)) s word n begins) f g
 
 class_no_word : (c : Class) (s word : List ℕ) (n : ℕ) → c ≡ text_class → BeginsAs c s (identifier word) n → ⊥
 class_no_word c s word n e begins = text_is_no_word (subst (λ d. BeginsAs d s (identifier word) n) e begins)
@@ -77,6 +106,14 @@ no_word_here x s rest from i word e place lifts none = λ last next h.
     let first = first_word (place.black) (lowered x s Block 0 i from (only word) (Some (last, next)) lifts h) in
     let begins = begun_at (first.1) in
     none word (begins.0) (subst (λ r. Begins r (identifier word) (begins.0)) (sym e) (begins.1))
+
+-- the text does not begin with the word
+pub not_begun_here : (x : Syntax) (s rest : List ℕ) (from i : ℕ) (word : List ℕ) (b : Bool) → rest ≡ drop i s → IsTokenPlace x s Block 0 i →
+    Lifts x s Block 0 i from → b ≡ false → ((n : ℕ) → Begins rest (identifier word) n → b ≡ true) → FindsWord x s from word None
+not_begun_here x s rest from i word b e place lifts h may = λ last next has.
+    let first = first_word (place.black) (lowered x s Block 0 i from (only word) (Some (last, next)) lifts has) in
+    let begins = begun_at (first.1) in
+    false≢true (sym h ∙ may (begins.0) (subst (λ r. Begins r (identifier word) (begins.0)) (sym e) (begins.1)))
 
 pub other_word_here : (x : Syntax) (s rest : List ℕ) (from i width : ℕ) (name word : List ℕ) → rest ≡ drop i s → IsTokenPlace x s Block 0 i →
     Lifts x s Block 0 i from → Begins rest (identifier name) width → (name ≡ word → ⊥) → FindsWord x s from word None

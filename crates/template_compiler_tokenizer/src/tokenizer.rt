@@ -158,5 +158,9 @@ fn place_at(text: &str, place: Place, from: usize, to: usize) -> Place
     requires end { IsCharBoundary text.now to }
     ensures { IsBehind (take from text.now) place → IsBehind (take to text.now) result }
 {
-    place.after(&text[from..to])
+    if from == to {
+        place
+    } else {
+        place.after(&text[from..to])
+    }
 }

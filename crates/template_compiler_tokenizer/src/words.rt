@@ -1,6 +1,8 @@
 // Blocks of one word: raw blocks begin and end with them.
-ghost use Rattle.std.specs.Prelude.{◌≡◌, ◌≤◌, ◌↔◌, None, Some, MatchOption, IfSome, IsTrue, length, codes};
+ghost use Rattle.std.specs.Prelude.{◌≡◌, ◌≤◌, ◌↔◌, ℕ, None, Some, MatchOption, IfSome, IsTrue, length, codes};
 ghost use Rattle.std.specs.Str.{IsCharBoundary};
+ghost use Rattle.template_compiler_tokens.specs.Lexical.{Begins};
+ghost use Rattle.template_compiler_tokens.specs.Token.{identifier};
 ghost use Rattle.template_compiler_tokens.specs.View.{token_of};
 ghost use Rattle.template_compiler_tokenizer.specs.Finds.{FindsWord, FindsEndBehind, FindsRawEnd, ScansWord, word_in};
 ghost use Rattle.template_compiler_syntax.specs.Syntax.{IsSet};
@@ -29,16 +31,35 @@ pub(crate) fn only_word(
 {
     match next_place(source, syntax, StartMarker::Block, 0, from) {
         Found::End(_, _, _) => None,
-        Found::Token(place) => match scan_word(alloc, source.split_at(place).1) {
-            None => None,
-            Some((name, width)) => {
-                if is_same(name, word) {
-                    end_behind(source, syntax, place + width)
-                } else {
-                    None
+        Found::Token(place) => {
+            let rest = source.split_at(place).1;
+            if !may_begin_with(rest.as_bytes(), word.as_bytes()) {
+                return None;
+            }
+            match scan_word(alloc, rest) {
+                None => None,
+                Some((name, width)) => {
+                    if is_same(name, word) {
+                        end_behind(source, syntax, place + width)
+                    } else {
+                        None
+                    }
                 }
             }
+        }
+    }
+}
+
+// Whether the text may begin with the word, by its first byte. Most blocks are told so from raw ones.
+fn may_begin_with(text: &[u8], word: &[u8]) -> bool
+    ensures { (n : ℕ) → Begins text.now (identifier word.now) n → IsTrue result }
+{
+    match word.first() {
+        Some(wanted) => match text.first() {
+            Some(first) => *first == *wanted,
+            None => true,
         },
+        None => true,
     }
 }
 

@@ -21,7 +21,7 @@ use Rattle.template_compiler_emission.specs.Leaps.{leap_code}
 use Rattle.template_compiler_emission.specs.Puts.{Puts, unless}
 use Rattle.template_compiler_emission.proofs.Putting.{same_then, puts_then, puts_skipped, puts_either}
 use Rattle.template_compiler_expression_codegen.specs.Chains.{constant_behind, is_false, leaps_in, linked_to}
-use Rattle.template_compiler_expression_codegen.proofs.Along.{runnable_at, depth_at, one_node, so_far}
+use Rattle.template_compiler_expression_codegen.proofs.Along.{alone_put, nothing_left, runnable_at, depth_at, one_node, so_far}
 use Rattle.template_compiler_expression_codegen.proofs.Items.{item_runnable, number_is, puts_item}
 use Rattle.template_compiler_expression_codegen.proofs.Linked.{behind_none, link_goes, link_known, link_more, link_runnable, links_at, place_more}
 use Rattle.template_compiler_expression_codegen.proofs.Own.{known, add_own, no_left, own_step}
@@ -41,11 +41,17 @@ pub fold_expr-loop-i-preserved : goal.fold_expr-loop-i-preserved
 fold_expr-loop-i-preserved t c =
     let ns = c.in_ok-nodes.nodes.items in
     let within : c.loop-i.i < length ns = omega arith in
-    let more = one_node ns c.loop-i.i c.index.result.now (code_in c.args.code.now) (code_in c.loop-i.code) (code_in c.fold_node.new.code)
+    let more = one_node ns c.loop-i.i c.index.result.now (code_in c.args.code.now) (code_in c.loop-i.code) (code_in c.fold_node-in-loop-i.new.code)
     c.loop-i.constant c.in_ok-constant.constant within c.index.ensures
     (runnable_at (expression_of c.args.expr.now) ns c.requires c.in_ok-nodes.ensures.nodes c.loop-i.i c.index.result.now within c.index.ensures)
     c.loop-i.invariant.constant c.loop-i.invariant.code c.in_ok-constant.ensures.constant c.in_ok-constant.ensures.put.code in
     record { constant = more.0; code = more.1; same = same_then c.loop-i.invariant.same c.in_ok-constant.ensures.put.same }
+
+pub fold_expr-returns-then-is_none-clause-put : goal.fold_expr-returns-then-is_none-clause-put
+fold_expr-returns-then-is_none-clause-put t c =
+    let e = expression_of c.args.expr.now in
+    let none = nothing_left c.left.result c.is_none.result e c.is_none.ensures c.if-is_none.true c.left.ensures.left in
+    alone_put e c.args.code.now c.fold_node.new.code c.fold_node.result c.requires none c.fold_node.ensures.constant c.fold_node.ensures.put
 
 pub fold_expr-returns-clause-constant : goal.fold_expr-returns-clause-constant
 fold_expr-returns-clause-constant t c =
@@ -55,8 +61,8 @@ fold_expr-returns-clause-constant t c =
     let all = walked (known p) (add_own p) no_left (own_step p) ns e c.loop-i.i (so_far p (take c.loop-i.i ns)) c.in_ok-nodes.ensures.nodes (omega arith) refl in
     c.loop-i.invariant.constant ∙ ap (λ a. a.0) all
 
-pub fold_expr-fold_node-requires : goal.fold_expr-fold_node-requires
-fold_expr-fold_node-requires t c =
+pub fold_expr-fold_node-requires-in-loop-i : goal.fold_expr-fold_node-requires-in-loop-i
+fold_expr-fold_node-requires-in-loop-i t c =
     let ns = c.in_ok-nodes.nodes.items in
     let within : c.loop-i.i < length ns = omega arith in
     let deep = depth_at (size-Expr c.args.expr.now) ns c.in_ok-nodes.ensures.depth c.loop-i.i c.index.result.now within c.index.ensures in (

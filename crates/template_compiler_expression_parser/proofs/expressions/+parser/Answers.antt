@@ -5,9 +5,14 @@ use Rattle.template_compiler_expression_laws.proofs.Sound.{operand_shrinks, part
 use Rattle.template_compiler_stream.specs.Signs.{level_of}
 use Rattle.template_compiler_expression_parts.proofs.Rounds.{next_operand_goes, next_operand_refused, rounds_end, rounds_go, rounds_refused}
 use Rattle.template_compiler_expression_parts.proofs.Pushes.{expressions_push}
+use Rattle.template_compiler_expression_parser.proofs.Alone.{parsed_alone}
 use Rattle.template_compiler_expression_parser.proofs.Items.{argument_goes, item_goes, pair_goes}
 use Rattle.template_compiler_expression_parser.proofs.Takes.{item_takes, pair_takes, next_argument_takes}
 use Rattle.template_compiler_expression_parser.proofs.expressions.+parser.Goals as goal
+
+pub binary-returns-then-begins_alone : goal.binary-returns-then-begins_alone
+binary-returns-then-begins_alone t c =
+    parsed_alone (deeper c.args.left) (level_of c.args.level) _ _ _ (sym c.begins_alone.ensures ∙ c.if-begins_alone.true) c.literal.ensures
 
 pub next_operand-returns-in_ok-binary-in-Some : goal.next_operand-returns-in_ok-binary-in-Some
 next_operand-returns-in_ok-binary-in-Some t c =

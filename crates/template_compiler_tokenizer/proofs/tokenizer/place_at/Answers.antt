@@ -3,8 +3,8 @@ use Rattle.std.proofs.Math.Seq.{take-add}
 use Rattle.template_compiler_places.specs.Places.{IsBehind}
 use Rattle.template_compiler_tokenizer.proofs.tokenizer.place_at.Goals as goal
 
-pub returns : goal.returns
-returns c = λ behind.
+pub returns-else-from-to : goal.returns-else-from-to
+returns-else-from-to c = λ behind.
     let s = c.args.text.now in
     let from = c.args.from in
     let to = c.args.to in

@@ -2,12 +2,19 @@ use Rattle.std.proofs.Common.{sym, ◌∙◌, subst}
 use Rattle.std.proofs.lemmas.Bool.{false≢true}
 use Rattle.template_compiler_tokens.specs.Token.{identifier}
 use Rattle.template_compiler_tokens.specs.Lexical.{Begins}
-use Rattle.template_compiler_tokenizer.proofs.OneWord.{ends_at_once, no_word_here, other_word_here, word_here}
+use Rattle.template_compiler_tokenizer.proofs.OneWord.{ends_at_once, no_word_here, not_begun_here, other_word_here, word_here}
 use Rattle.template_compiler_tokenizer.proofs.words.only_word.Goals as goal
 
 pub returns-in-End-clause-found : goal.returns-in-End-clause-found
 returns-in-End-clause-found c =
     ends_at_once c.args.syntax.now c.args.source.now c.args.from c.in-End.field-2 c.in-End.field-1 c.args.word.now c.in-End.ensures.0
+
+pub returns-then-not-may_begin_with-clause-found : goal.returns-then-not-may_begin_with-clause-found
+returns-then-not-may_begin_with-clause-found c =
+    let place = c.in-Token.ensures in
+    not_begun_here c.args.syntax.now c.args.source.now c.split_at.result.1.now c.args.from c.in-Token.place c.args.word.now c.may_begin_with.result
+    c.split_at.ensures.back place.2 place.3 c.if-not-may_begin_with.true
+    (rw (c.as_bytes.ensures.value, c.as_bytes-in-Token.ensures.value) at c.may_begin_with.ensures)
 
 pub returns-in-None-clause-found : goal.returns-in-None-clause-found
 returns-in-None-clause-found c =

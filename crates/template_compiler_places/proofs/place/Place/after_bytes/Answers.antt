@@ -3,20 +3,20 @@ use Rattle.std.proofs.lemmas.List.Sums.{fold-append}
 use Rattle.template_compiler_places.specs.Bytes.{next_column}
 use Rattle.template_compiler_places.specs.Places.{column_behind}
 use Rattle.template_compiler_places.proofs.Columns.{capped, lines_append}
-use Rattle.template_compiler_places.proofs.place.Place.after.Goals as goal
+use Rattle.template_compiler_places.proofs.place.Place.after_bytes.Goals as goal
 
 pub returns : goal.returns
 unfolding column_behind
 returns c = λ before h.
-    let t = c.args.text.now in
+    let t = c.args.bytes.now in
     let lines = lines_append before t in
-    let newlines = rw c.as_bytes-bytes.ensures.value at c.count-newlines.ensures.newlines in
-    let column = rw (c.as_bytes-bytes.ensures.value, h.column) at c.count-newlines.ensures.column in
+    let newlines = c.count-newlines.ensures.newlines in
+    let column = rw h.column at c.count-newlines.ensures.column in
     let len = length-append before t in
     record {
       line = omega (arith, c.saturating_add.ensures, c.saturate.ensures, h.line);
       column =
           c.saturate-2.ensures ∙ ap (λ n. min n 65535) column ∙ capped (fold next_column 0 before) t ∙
           ap (λ n. min n 65535) (sym (fold-append next_column 0 before t));
-      offset = omega (arith, c.saturate_offset.ensures, c.as_bytes-bytes.ensures.len, h.offset);
+      offset = omega (arith, c.saturate_offset.ensures, h.offset);
     }
