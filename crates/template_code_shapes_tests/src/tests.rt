@@ -16,6 +16,7 @@ enum Step {
     Name,
     None,
     Emit,
+    DiscardTop,
     PushWith,
     PopFrame,
     PushAutoEscape,
@@ -35,6 +36,7 @@ fn instruction(step: Step) -> Instruction<'static> {
         Step::Name => Instruction::Lookup(CowStr::Borrowed("name")),
         Step::None => Instruction::LoadConst(Value::none()),
         Step::Emit => Instruction::Emit,
+        Step::DiscardTop => Instruction::DiscardTop,
         Step::PushWith => Instruction::PushWith,
         Step::PopFrame => Instruction::PopFrame,
         Step::PushAutoEscape => Instruction::PushAutoEscape,
@@ -111,6 +113,7 @@ fn streams_of_templates_are_taken(rt: HostRuntime) -> Result<(), Error> {
             ],
             &[Step::Jump(2), Step::Emit],
             &[Step::Jump(2), Step::Text],
+            &[Step::Text, Step::Jump(2)],
             // A loop that prints each item; another one with a value before it, which prints that, and looks up
             // another one in its place.
             &[
@@ -166,6 +169,24 @@ fn other_streams_are_refused(rt: HostRuntime) -> Result<(), Error> {
             &[Step::Jump(2)],
             &[Step::Jump(0)],
             &[Step::Text, Step::Jump(0)],
+            // A loop's way back leads to the instruction behind its `Iterate`.
+            &[
+                Step::None,
+                Step::PushLoop(0),
+                Step::Iterate(5),
+                Step::Emit,
+                Step::Jump(3),
+                Step::PopLoopFrame,
+            ],
+            // A way back leads from a loop's end, where no item is left.
+            &[
+                Step::None,
+                Step::PushLoop(0),
+                Step::Iterate(5),
+                Step::DiscardTop,
+                Step::Jump(2),
+                Step::Jump(2),
+            ],
             // Two ways lead to the end with two shapes.
             &[Step::Name, Step::JumpIfFalse(3), Step::Name],
             // No `Iterate` stands behind the `PushLoop`.
