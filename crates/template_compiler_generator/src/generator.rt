@@ -144,7 +144,7 @@ impl<'source> CodeGenerator<'source> {
     fn reserve(&mut self, leap: Leap) -> Result<Jump, Error>
         ensures jump { IfOk result (λ jump. jump ≡ next_jump leap (draft_of self.old)) }
         ensures added { OnOk result (draft_of self.new ≡ with_jump leap (draft_of self.old)) }
-        ensures refused { IfErr result NoRoom }
+        ensures refused { IfErr result (TakesNoMore (draft_of self.old).code) }
     {
         let place = self.add(leap.to(0))?;
         Ok(Jump { place, leap })
@@ -161,7 +161,8 @@ impl<'source> CodeGenerator<'source> {
     // Opens a block.
     fn enter(&mut self, block: Block) -> Result<(), Error>
         ensures entered { OnOk result (draft_of self.new ≡ with_block (open_of block) (draft_of self.old)) }
-        ensures refused { IfErr result NoRoom }
+        ensures refused { IfErr result NoMemory }
+        ensures unchanged { OnErr result (draft_of self.new ≡ draft_of self.old) }
     {
         self.blocks.push(block)?;
         Ok(())
@@ -186,7 +187,7 @@ impl<'source> CodeGenerator<'source> {
     /// Those of [`Instructions::add`]; then the generator is of no further use.
     pub fn start_if(&mut self) -> Result<(), Error>
         ensures started { OnOk result (draft_of self.new ≡ with_if (draft_of self.old)) }
-        ensures refused { IfErr result NoRoom }
+        ensures refused { IfErr result (TakesNoMore (draft_of self.old).code) }
     {
         let jump = self.reserve(Leap::IfFalse)?;
         self.enter(Block::Branch(jump))
@@ -200,7 +201,7 @@ impl<'source> CodeGenerator<'source> {
     pub fn start_else(&mut self) -> Result<(), Error>
         requires { IsTrue (is_branch (draft_of self.old).blocks) }
         ensures started { OnOk result (draft_of self.new ≡ with_else (draft_of self.old)) }
-        ensures refused { IfErr result NoRoom }
+        ensures refused { IfErr result (TakesNoMore (draft_of self.old).code) }
     {
         let jump = self.reserve(Leap::Always)?;
         self.end_if();
@@ -291,10 +292,11 @@ impl<'source> CodeGenerator<'source> {
     ///
     /// # Errors
     ///
-    /// As [`CodeGenerator::start_if`].
+    /// [`ErrorKind::OutOfMemory`](template_values_errors::ErrorKind::OutOfMemory); then all stays as it was.
     pub fn start_sc_bool(&mut self) -> Result<(), Error>
         ensures started { OnOk result (draft_of self.new ≡ with_choice (draft_of self.old)) }
-        ensures refused { IfErr result NoRoom }
+        ensures refused { IfErr result NoMemory }
+        ensures unchanged { OnErr result (draft_of self.new ≡ draft_of self.old) }
     {
         self.enter(Block::Choice(Vec::new(self.alloc)))
     }
@@ -307,7 +309,7 @@ impl<'source> CodeGenerator<'source> {
     pub fn sc_bool(&mut self, and: bool) -> Result<(), Error>
         requires { IsTrue (is_choice (draft_of self.old).blocks) }
         ensures added { OnOk result (draft_of self.new ≡ with_chosen and (draft_of self.old)) }
-        ensures refused { IfErr result NoRoom }
+        ensures refused { IfErr result (TakesNoMore (draft_of self.old).code) }
     {
         let jump = self.reserve(leap_of(and))?;
         let mut jumps = self.leave_choice();
