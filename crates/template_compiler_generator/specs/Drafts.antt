@@ -1,11 +1,13 @@
 -- What is generated so far, and what each step makes of it.
-use Rattle.std.specs.Prelude.{◌≡◌, ◌==◌, ◌+◌, ℕ, Bool, true, false, List, [], ◌∷◌, ◌++◌, Option, None, Some, length, drop, if◌then◌else◌}
+use Rattle.std.specs.Prelude.{◌≡◌, ◌==◌, ◌+◌, ◌≤◌, ◌⊎◌, ℕ, Bool, true, false, List, [], ◌∷◌, ◌++◌, Option, None, Some, length, drop, if◌then◌else◌}
 use Rattle.std.proofs.Math.ListN.{set}
 use Rattle.template_tree.specs.declared.span.Span.{Span}
 use Rattle.template_code_marks.specs.declared.marks.Mark.{Mark}
 use Rattle.template_code.specs.Code.{Code}
 use Rattle.template_code.specs.Code as steps
-use Rattle.template_code.specs.Listing.{line_mark, span_mark}
+use Rattle.template_values_errors.specs.declared.ErrorKind.{ErrorKind}
+use Rattle.template_values_errors.specs.declared.ErrorKind.TheVariants.{TooLarge, OutOfMemory}
+use Rattle.template_code.specs.Listing.{line_mark, span_mark, too_many}
 use Rattle.template_compiler_codegen.specs.Expressions.{Coded}
 use Rattle.template_compiler_emission.specs.declared.leaps.Leap.{Leap}
 use Rattle.template_compiler_emission.specs.declared.leaps.Leap.TheVariants.{Always, IfFalse, IfFalseOrPop, IfTrueOrPop, Iterate}
@@ -168,3 +170,7 @@ pub record Generates (piece : Coded) (old new : Draft) : Type 0 where
 abbrev pub raw_length : Code → ℕ
 raw_length (steps.emit_raw text) = length text
 raw_length _ = 0
+
+-- so many instructions more are too many, or a growth was refused
+abbrev pub LacksRoom : ℕ → List Code → List ErrorKind → Type 0
+LacksRoom more code kinds = ((too_many ≤ length code + more) × (kinds ≡ TooLarge ∷ [])) ⊎ (kinds ≡ OutOfMemory ∷ [])
