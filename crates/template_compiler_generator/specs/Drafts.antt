@@ -171,6 +171,6 @@ abbrev pub raw_length : Code → ℕ
 raw_length (steps.emit_raw text) = length text
 raw_length _ = 0
 
--- so many instructions more are too many, or a growth was refused
-abbrev pub LacksRoom : ℕ → List Code → List ErrorKind → Type 0
-LacksRoom more code kinds = ((too_many ≤ length code + more) × (kinds ≡ TooLarge ∷ [])) ⊎ (kinds ≡ OutOfMemory ∷ [])
+-- the code of what would be generated is too long, or a growth was refused
+abbrev pub IsTooLong : Draft → List ErrorKind → Type 0
+IsTooLong d kinds = ((too_many ≤ length d.code) × (kinds ≡ TooLarge ∷ [])) ⊎ (kinds ≡ OutOfMemory ∷ [])

@@ -11,7 +11,7 @@ ghost use Rattle.template_compiler_codegen.specs.Expressions.{expression_code};
 ghost use Rattle.template_compiler_codegen.specs.Statements.{no_ways, statements_code, target_code};
 ghost use Rattle.template_compiler_emission.specs.Puts.{NoRoom};
 ghost use Rattle.template_compiler_statement_codegen.specs.Listed.{IsRunnableTree, body_in};
-ghost use Rattle.template_compiler_generator.specs.Drafts.{Generates, LacksRoom, is_branch, is_choice, is_loop, jumps_of, leap_of, loop_flags, next_jump, raw_length, span_on, with_block, with_blocks, with_choice, with_choice_end, with_chosen, with_code, with_code_from, with_else, with_end, with_if, with_jump, with_line, with_loop, with_loop_end, with_span, with_told, without_span};
+ghost use Rattle.template_compiler_generator.specs.Drafts.{Generates, IsTooLong, is_branch, is_choice, is_loop, jumps_of, leap_of, loop_flags, next_jump, raw_length, span_on, with_block, with_blocks, with_choice, with_choice_end, with_chosen, with_code, with_code_from, with_else, with_end, with_if, with_jump, with_line, with_loop, with_loop_end, with_span, with_told, without_span};
 ghost use Rattle.template_compiler_generator.specs.View.{draft_of, open_of};
 
 use crate::blocks::{Block, Jump};
@@ -241,7 +241,7 @@ impl<'source> CodeGenerator<'source> {
     /// As [`CodeGenerator::start_if`].
     pub fn start_for_loop(&mut self, with_loop_var: bool, recursive: bool) -> Result<(), Error>
         ensures started { OnOk result (draft_of self.new ≡ with_loop with_loop_var recursive (draft_of self.old)) }
-        ensures refused { IfErr result (LacksRoom 2 (draft_of self.old).code) }
+        ensures refused { IfErr result (IsTooLong (with_loop with_loop_var recursive (draft_of self.old))) }
     {
         self.add(Instruction::PushLoop(loop_flags(with_loop_var, recursive)))?;
         let asks = self.reserve(Leap::Iterate)?;
@@ -256,7 +256,7 @@ impl<'source> CodeGenerator<'source> {
     pub fn end_for_loop(&mut self, push_did_not_iterate: bool) -> Result<(), Error>
         requires { IsTrue (is_loop (draft_of self.old).blocks) }
         ensures ended { OnOk result (draft_of self.new ≡ with_loop_end push_did_not_iterate (draft_of self.old)) }
-        ensures refused { IfErr result (LacksRoom 3 (draft_of self.old).code) }
+        ensures refused { IfErr result (IsTooLong (with_loop_end push_did_not_iterate (draft_of self.old))) }
     {
         let asks = match self.blocks.pop() {
             Some(Block::Loop(asks)) => asks,
