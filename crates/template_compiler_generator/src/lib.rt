@@ -6,8 +6,6 @@ ghost use Rattle.template_compiler_generator.specs.Laws.{IfGenerates, ElseGenera
 
 mod blocks;
 mod generator;
-#[cfg(test)]
-mod tests;
 
 pub use generator::CodeGenerator;
 

@@ -7,8 +7,6 @@ mod names;
 mod outcome;
 mod request;
 mod running;
-#[cfg(test)]
-mod tests;
 
 pub use outcome::Outcome;
 pub use request::{Command, Request};

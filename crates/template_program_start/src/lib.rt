@@ -6,8 +6,6 @@ mod inputs;
 mod performing;
 mod starting;
 mod status;
-#[cfg(test)]
-mod tests;
 
 pub use starting::{refuse_arguments, start};
 pub use status::status_of;

@@ -1,9 +1,7 @@
-//! Tests of trees and of their left chains, and samples of trees whose contracts tell in which order a maker takes
-//! its parts. They stand above both crates, since a crate with tests is proved twice.
+//! Tests of left chains, and samples of trees whose contracts tell in which order a maker takes its parts. They stand above
+//! both crates, since a crate with tests is proved twice; trees that are read from a text are tested above the parser.
 #![tactic(auto)]
 
-#[cfg(test)]
-mod calls;
 #[cfg(test)]
 mod chains;
 mod samples;
