@@ -5,6 +5,10 @@
 #[cfg(test)]
 mod places;
 #[cfg(test)]
+mod streams;
+#[cfg(test)]
 mod syntaxes;
+#[cfg(test)]
+mod tokenizers;
 #[cfg(test)]
 mod tokens;

@@ -4,8 +4,6 @@
 mod refusal;
 mod sign;
 mod stream;
-#[cfg(test)]
-mod tests;
 
 pub use refusal::{Fault, Refusal};
 pub use sign::{Level, Sign};

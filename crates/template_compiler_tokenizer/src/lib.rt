@@ -19,5 +19,3 @@ pub use stream::TokenStream;
 pub use template_compiler_syntax::StartMarker;
 pub use tokenizer::Tokenizer;
 
-#[cfg(test)]
-mod tests;

@@ -1,7 +1,6 @@
-use crate::refusal::Fault;
-use crate::sign::{Level, Sign};
-use crate::stream::{First, TokenStream};
+// The tokens that the parsers look at.
 use std::test::Fail;
+use template_compiler_stream::{Fault, First, Level, Sign, TokenStream};
 use template_compiler_tokens::Token;
 use template_tree::{BinOpKind, Span};
 
