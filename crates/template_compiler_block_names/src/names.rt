@@ -37,7 +37,8 @@ fn take_first<'ast, 'source>(
 ) -> Result<(), AllocError>
     ensures blocks { IfOk result (λ _. texts_in names.new.items ++ blocks_waiting waiting.new.items ≡
         texts_in names.old.items ++ (blocks_among (statements_in statements.now) ++ blocks_waiting waiting.old.items)) }
-    ensures less { IfOk result (λ _. weight_waiting waiting.new.items < weights (statements_in statements.now) + weight_waiting waiting.old.items) }
+    ensures less { IfOk result (λ _. weight_waiting waiting.new.items < weights (statements_in statements.now)
+        + weight_waiting waiting.old.items) }
 {
     if let Some((first, behind)) = statements.split_first() {
         wait_for(waiting, Some(behind))?;
@@ -66,7 +67,8 @@ fn wait_for<'ast, 'source>(
     waiting: &mut Vec<&'ast [Stmt<'source>]>,
     body: Option<&'ast [Stmt<'source>]>,
 ) -> Result<(), AllocError>
-    ensures blocks { IfOk result (λ _. blocks_waiting waiting.new.items ≡ blocks_among (within body.entry) ++ blocks_waiting waiting.old.items) }
+    ensures blocks { IfOk result (λ _. blocks_waiting waiting.new.items ≡ blocks_among (within body.entry)
+        ++ blocks_waiting waiting.old.items) }
     ensures weight { IfOk result (λ _. weight_waiting waiting.new.items ≤ weights (within body.entry) + weight_waiting waiting.old.items) }
 {
     if let Some(body) = body {

@@ -64,7 +64,8 @@ pub fn tested<'source>(
     span: Span,
 ) -> Result<Expr<'source>, AllocError>
     ensures { IfOk result
-        (λ e. expression_of e ≡ tested_as negated (cow_str_bytes name.entry) (expression_of value.entry) (arguments_in arguments.entry.items)) }
+        (λ e. expression_of e ≡ tested_as negated (cow_str_bytes name.entry) (expression_of value.entry)
+        (arguments_in arguments.entry.items)) }
 {
     let test = Expr::tested(alloc, name, value, arguments, span)?;
     if negated {

@@ -118,7 +118,8 @@ fn next_tag<'source>(
     statements: &mut Vec<Stmt<'source>>,
     word: &str,
 ) -> Result<bool, Refusal>
-    ensures { SteppedTo (opened_step (here left) (around_of around) (statements_in statements.old.items) (opening word.now) (passed (passed tokens.old)))
+    ensures { SteppedTo (opened_step (here left) (around_of around) (statements_in statements.old.items) (opening word.now)
+        (passed (passed tokens.old)))
         (statements_in statements.old.items) tokens.old (statements_in statements.new.items) tokens.new result }
 {
     match opening_named(word) {
@@ -255,7 +256,8 @@ fn for_body<'source>(
     recursive: bool,
     span: Span,
 ) -> Result<Stmt<'source>, Refusal>
-    ensures { ParsedStatement (for_body (here left) (around_of around) (expression_of target.entry) (expression_of iter.entry) (optional_in filter_expr.entry) recursive tokens.old)
+    ensures { ParsedStatement (for_body (here left) (around_of around) (expression_of target.entry) (expression_of iter.entry)
+        (optional_in filter_expr.entry) recursive tokens.old)
         tokens.new result }
 {
     parts::expect_tag_end(tokens)?;
@@ -305,7 +307,8 @@ fn read_branch<'source>(
     around: Around,
     span: Span,
 ) -> Result<Branch<'source>, Refusal>
-    ensures { ParsedAs (λ b. (expression_of b.expr, statements_in b.body.items)) (branch_by (here left) (around_of around) tokens.old) tokens.new result }
+    ensures { ParsedAs (λ b. (expression_of b.expr, statements_in b.body.items))
+        (branch_by (here left) (around_of around) tokens.old) tokens.new result }
 {
     let expr = read_expression(alloc, tokens, left)?;
     parts::expect_tag_end(tokens)?;
@@ -321,7 +324,8 @@ fn branches<'source>(
     left: u32,
     around: Around,
 ) -> Result<Vec<Branch<'source>>, Refusal>
-    ensures { ParsedAs (λ v. branches_in v.items) (all (branch_step (here left) (around_of around)) no_branches tokens.old) tokens.new result }
+    ensures { ParsedAs (λ v. branches_in v.items) (all (branch_step (here left) (around_of around)) no_branches tokens.old)
+        tokens.new result }
 {
     let mut branches = Vec::new(alloc);
     loop {

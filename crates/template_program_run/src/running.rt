@@ -49,7 +49,8 @@ pub fn run<S: Sink>(
     ensures counted { ids.new ≡ behind_request request.now.command result ids.old }
 
     // A main template in which no marker starts renders to its text, without the newline at its end.
-    ensures plain { (text : List ℕ) → standing (texts_in templates.now) (string_bytes request.now.main) ≡ Some text → IsPlain (source_for text) →
+    ensures plain { (text : List ℕ) → standing (texts_in templates.now) (string_bytes request.now.main) ≡ Some text
+        → IsPlain (source_for text) →
         WritesOnRender request.now.command (S.taken sink.old) (S.taken sink.new) (text_kept (source_for text)) result }
 {
     let context = match context_of(alloc, request, context) {
@@ -88,10 +89,12 @@ fn render<S: Sink>(
     ids: &mut StateIds,
     sink: &mut S,
 ) -> Outcome
-    ensures rendered { Rendered (registry_of (place_of template.now)) (standing_of (compiled_in template.now.compiled)) context ids.old result
+    ensures rendered { Rendered (registry_of (place_of template.now)) (standing_of (compiled_in template.now.compiled))
+        context ids.old result
         (S.taken sink.old) (S.taken sink.new) (S.failures sink.old) (S.failures sink.new) }
     ensures rule { IsEscapeOf (source_of template.now).escapes (name_of template.now) (compiled_in template.now.compiled).escape }
-    ensures plain { IsPlain (source_of template.now) → WritesOnDone (S.taken sink.old) (S.taken sink.new) (text_kept (source_of template.now)) result }
+    ensures plain { IsPlain (source_of template.now) → WritesOnDone (S.taken sink.old) (S.taken sink.new)
+        (text_kept (source_of template.now)) result }
     ensures counted { ids.new ≡ behind_one ids.old }
 {
     let _escape = template.initial_auto_escape();
