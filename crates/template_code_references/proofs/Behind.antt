@@ -3,7 +3,7 @@ use Rattle.std.proofs.Common.{◌≡◌, ℕ, ◌<◌, zero, suc, List, [], ◌�
 use Rattle.std.specs.List.{list_any}
 use Rattle.std.proofs.lemmas.List.{map-append}
 use Rattle.template_code.specs.Code.{Code}
-use Rattle.template_code_references.specs.References.{is_among, name_of, names_in, names_with}
+use Rattle.template_code_references.specs.References.{is_among, name_referred, names_referred, names_with}
 
 -- what is left behind a place, from the item that stands there
 drop-item : {A : Type 0} (xs : List A) (k : ℕ) (x : A) → slice_get xs k ≡ Some x → drop k xs ≡ x ∷ drop (suc k) xs
@@ -24,9 +24,9 @@ none-within (x ∷ xs) zero less e = cc
 none-within (x ∷ xs) (suc k) less e = none-within xs k (omega arith) e
 
 -- one instruction more adds its name
-pub names_in-item : (code : List Code) (n k : ℕ) (c : Code) → k < n → slice_get code k ≡ Some c
-    → names_with (names_in (drop (suc k) (take n code))) (name_of c) ≡ names_in (drop k (take n code))
-names_in-item code n k c less at = ap names_in (sym (drop-item (take n code) k c (slice_get-first code n k less ∙ at)))
+pub names_referred-item : (code : List Code) (n k : ℕ) (c : Code) → k < n → slice_get code k ≡ Some c
+    → names_with (names_referred (drop (suc k) (take n code))) (name_referred c) ≡ names_referred (drop k (take n code))
+names_referred-item code n k c less at = ap names_referred (sym (drop-item (take n code) k c (slice_get-first code n k less ∙ at)))
 
 drop-none : {A : Type 0} (m : ℕ) → drop {A = A} m [] ≡ []
 drop-none zero = refl
@@ -41,8 +41,8 @@ drop-past (x ∷ xs) zero (suc n) e = absurd (omega (arith, e))
 drop-past (x ∷ xs) (suc m) (suc n) e = drop-past xs m n (omega (arith, e))
 drop-past [] (suc m) zero e = refl
 
-pub names_in-past : (code : List Code) (m n : ℕ) → m ≡ min (length code) n → names_in (drop m (take n code)) ≡ []
-names_in-past code m n e = ap names_in (drop-past code m n e)
+pub names_referred-past : (code : List Code) (m n : ℕ) → m ≡ min (length code) n → names_referred (drop m (take n code)) ≡ []
+names_referred-past code m n e = ap names_referred (drop-past code m n e)
 
 -- a name is among others, of which each is lent
 is_among-lent : (name : List ℕ) (names : List (Bor (List ℕ)))

@@ -4,11 +4,11 @@ use Rattle.std.specs.Prelude.{ℕ, ◌+◌, ◌==◌, Bool, List, [], ◌∷◌,
 use Rattle.std.specs.List.{list_any}
 use Rattle.template_code.specs.Code.{Code, lookup, store_local, push_loop}
 
-abbrev pub name_of : Code → Option (List ℕ)
-name_of (lookup name) = Some name
-name_of (store_local name) = Some name
-name_of (push_loop flags) = if bit_and flags 1 == 0 then None else Some (codes "loop")
-name_of _ = None
+abbrev pub name_referred : Code → Option (List ℕ)
+name_referred (lookup name) = Some name
+name_referred (store_local name) = Some name
+name_referred (push_loop flags) = if bit_and flags 1 == 0 then None else Some (codes "loop")
+name_referred _ = None
 
 abbrev pub is_among : List ℕ → List (List ℕ) → Bool
 is_among name names = list_any (λ other. bytes_eq other name) names
@@ -19,10 +19,10 @@ names_with names None = names
 names_with names (Some name) = if is_among name names then names else names ++ name ∷ []
 
 -- the names of a piece of code, the latest first, and each once
-abbrev pub names_in : List Code → List (List ℕ)
-names_in [] = []
-names_in (c ∷ code) = names_with (names_in code) (name_of c)
+abbrev pub names_referred : List Code → List (List ℕ)
+names_referred [] = []
+names_referred (c ∷ code) = names_with (names_referred code) (name_referred c)
 
 -- those of the instructions at a place and before it
 abbrev pub names_before : List Code → ℕ → List (List ℕ)
-names_before code index = names_in (take (index + 1) code)
+names_before code index = names_referred (take (index + 1) code)

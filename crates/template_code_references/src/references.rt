@@ -4,7 +4,7 @@ ghost use Rattle.std.specs.List.{list_any};
 ghost use Rattle.template_values_errors.specs.Memory.{NoMemory};
 ghost use Rattle.template_code.specs.Listing.{code_in};
 ghost use Rattle.template_code.specs.View.{code_of};
-ghost use Rattle.template_code_references.specs.References.{name_of, names_before, names_with};
+ghost use Rattle.template_code_references.specs.References.{name_referred, names_before, names_with};
 
 use std::alloc::Global;
 use template_code::{Instruction, Instructions, LOOP_FLAG_WITH_LOOP_VAR};
@@ -42,7 +42,7 @@ pub fn get_referenced_names<'a>(
 // The name that an instruction refers to stands behind the others, unless it is among them.
 fn add_name<'a>(names: &mut Vec<&'a str>, instruction: &'a Instruction<'_>) -> Result<(), Error>
     ensures added { OnOk result (map (λ n. n.now) names.new.items
-        ≡ names_with (map (λ n. n.now) names.old.items) (name_of (code_of instruction.now))) }
+        ≡ names_with (map (λ n. n.now) names.old.items) (name_referred (code_of instruction.now))) }
     ensures refused { IfErr result NoMemory }
 {
     let Some(name) = referenced_name(instruction) else {
@@ -57,7 +57,7 @@ fn add_name<'a>(names: &mut Vec<&'a str>, instruction: &'a Instruction<'_>) -> R
 
 // The name that an instruction refers to, where it does to one.
 fn referenced_name<'a>(instruction: &'a Instruction<'_>) -> Option<&'a str>
-    ensures { option_map (λ n. n.now) result ≡ name_of (code_of instruction.now) }
+    ensures { option_map (λ n. n.now) result ≡ name_referred (code_of instruction.now) }
 {
     match instruction {
         Instruction::Lookup(name) => Some(name.as_str()),

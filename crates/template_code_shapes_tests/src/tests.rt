@@ -187,8 +187,9 @@ fn other_streams_are_refused(rt: HostRuntime) -> Result<(), Error> {
                 Step::Jump(2),
                 Step::Jump(2),
             ],
-            // Two ways lead to the end with two shapes.
+            // Two ways lead to the end, or to an instruction, with two shapes.
             &[Step::Name, Step::JumpIfFalse(3), Step::Name],
+            &[Step::Name, Step::JumpIfFalse(3), Step::Name, Step::Text],
             // No `Iterate` stands behind the `PushLoop`.
             &[
                 Step::Name,

@@ -13,11 +13,11 @@ node_constant left (chain first links) = option_and_then (λ v. chain_constant v
 node_constant left e = constant_of e
 
 -- a comparison that is constant and true: the chain goes on behind it
-abbrev pub goes_on : Option Val → Bool
-goes_on (Some holds) = is_true holds
-goes_on None = false
+abbrev pub is_known_true : Option Val → Bool
+is_known_true (Some holds) = is_true holds
+is_known_true None = false
 
 -- the constant of a chain that goes on, from the last truth, and the side at the left of what is left
-abbrev pub constant_behind : Option Val → Option Val → Links → Option Val
-constant_behind holds left no_links = holds
-constant_behind holds left (links_more op e links) = option_and_then (λ v. chain_constant v (links_more op e links)) left
+abbrev pub constant_from : Option Val → Option Val → Links → Option Val
+constant_from holds left no_links = holds
+constant_from holds left (links_more op e links) = option_and_then (λ v. chain_constant v (links_more op e links)) left

@@ -4,7 +4,7 @@ ghost use Rattle.template_values_errors.specs.Memory.{NoMemory};
 ghost use Rattle.template_tree.specs.View.{expression_of, links_in};
 ghost use Rattle.template_walk.specs.Constants.{constant_of, chain_constant};
 ghost use Rattle.template_compiler_folding.specs.Folding.{binary_folded};
-ghost use Rattle.template_constants.specs.Nodes.{goes_on, node_constant};
+ghost use Rattle.template_constants.specs.Nodes.{is_known_true, node_constant};
 
 use std::alloc::Global;
 use template_compiler_folding::{
@@ -113,7 +113,7 @@ fn chain_constant(
 
 // Whether a chain goes on behind a comparison: it is constant and true.
 fn goes_on(holds: &Option<Value>) -> bool
-    ensures { result ≡ goes_on holds.now }
+    ensures { result ≡ is_known_true holds.now }
 {
     match holds {
         Some(holds) => holds.is_true(),

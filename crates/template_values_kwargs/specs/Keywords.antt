@@ -20,8 +20,8 @@ abbrev pub HasJustNames : {A : Type 0} → Pairs → BTreeSet (String A) → Typ
 HasJustNames ps names = (name : List ℕ) → contains_text names name ≡ is_some (entry_at name ps)
 
 -- the pairs of a keyword map
-abbrev pub pairs_held : Val → Pairs
-pairs_held v = unwrap_or (keywords v) no_pairs
+abbrev pub keyword_pairs : Val → Pairs
+keyword_pairs v = unwrap_or (keywords v) no_pairs
 
 abbrev pub IsKeywordMap : Val → Type 0
 IsKeywordMap v = IsSome (keywords v)

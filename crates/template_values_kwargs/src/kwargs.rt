@@ -23,13 +23,13 @@ pub struct Kwargs {
 impl Model for Kwargs {
     ghost use Rattle.template_values_model.specs.Val.{Pairs};
     ghost use Rattle.template_values_kwargs.specs.Code.{pairs_code};
-    ghost use Rattle.template_values_kwargs.specs.Keywords.{IsKeywordMap, pairs_held};
+    ghost use Rattle.template_values_kwargs.specs.Keywords.{IsKeywordMap, keyword_pairs};
 
     ghost Value = { Pairs };
 
     ghost coded = { pairs_code };
 
-    ghost view = { λ k. pairs_held k.map };
+    ghost view = { λ k. keyword_pairs k.map };
 
     ghost invariant = { λ k. IsKeywordMap k.map };
 }

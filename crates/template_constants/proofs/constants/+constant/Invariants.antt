@@ -4,7 +4,7 @@ use Rattle.std.specs.Prelude.{option_and_then}
 use Rattle.template_tree.specs.View.{links_in}
 use Rattle.template_tree.specs.declared.expressions.Expr.{size-Expr}
 use Rattle.template_walk.specs.Constants.{chain_constant}
-use Rattle.template_constants.specs.Nodes.{constant_behind}
+use Rattle.template_constants.specs.Nodes.{constant_from}
 use Rattle.template_constants.proofs.Along.{so_far}
 use Rattle.template_constants.proofs.constants.+constant.Given as goal
 
@@ -29,5 +29,5 @@ invariant-as_const-loop-i l = l.constant ≡ so_far (take l.i l.nodes.items)
 
 -- the comparisons that are left make the constant of the chain
 abbrev pub invariant-chain_constant-loop-link : goal.invariant-chain_constant-loop-link
-invariant-chain_constant-loop-link l = constant_behind l.holds l.left (links_in (drop l.link-index l.links))
+invariant-chain_constant-loop-link l = constant_from l.holds l.left (links_in (drop l.link-index l.links))
     ≡ option_and_then (λ v. chain_constant v (links_in l.links)) l.fn.first
