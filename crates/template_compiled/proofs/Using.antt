@@ -1,5 +1,5 @@
 -- Which of the templates that stand uses a name.
-use Rattle.std.proofs.Common.{◌≡◌, ℕ, zero, suc, Bool, true, false, ◌||◌, List, [], ◌∷◌, ◌++◌, map, Some, inl, inr, ◌⊎◌, ◌↔◌, IsTrue, refl, sym, ap, subst, ◌∙◌, string_bytes}
+use Rattle.std.proofs.Common.{Result, Ok, Err, OnErr, ◌≡◌, ℕ, zero, suc, Bool, true, false, ◌||◌, List, [], ◌∷◌, ◌++◌, map, Some, inl, inr, ◌⊎◌, ◌↔◌, IsTrue, refl, sym, ap, subst, ◌∙◌, string_bytes}
 use Rattle.std.specs.Borrow.{Bor}
 use Rattle.std.specs.List.{list_any, slice_get}
 use Rattle.std.specs.Map.Iter.{deref_pair}
@@ -78,3 +78,36 @@ all_used templates yielded name old new ordered all is =
       λ h. elim (both.0 (subst IsTrue whole h)) [ inl a ↦ inl a | inr u ↦ inr (one.0 u) ],
       λ h. subst IsTrue (sym whole) (both.1 (elim h [ inl a ↦ inl a | inr u ↦ inr (one.1 u) ])),
     )
+
+any_front : {X : Type 0} (test : X → Bool) (xs ys : List X) → IsTrue (list_any test xs) → IsTrue (list_any test (xs ++ ys))
+any_front test [] ys h = cc
+any_front test (x ∷ xs) ys h = elim ((either (test x) (list_any test xs)).0 h) [
+  | inl here ↦ (either (test x) (list_any test (xs ++ ys))).1 (inl here)
+  | inr there ↦ (either (test x) (list_any test (xs ++ ys))).1 (inr (any_front test xs ys there))
+]
+
+any_next : {X : Type 0} (test : X → Bool) (xs : List X) (x : X) (ys : List X) → IsTrue (test x) → IsTrue (list_any test (xs ++ x ∷ ys))
+any_next test [] x ys is = (either (test x) (list_any test ys)).1 (inl is)
+any_next test (y ∷ xs) x ys is = (either (test y) (list_any test (xs ++ x ∷ ys))).1 (inr (any_next test xs x ys is))
+
+-- a name of the templates so far and of the next one is of one that stands
+pub some_used : (templates : CompiledTemplates) (yielded : List (Bor (String Global) × Bor Compiled)) (next : String Global × Compiled)
+    (rest : List (String Global × Compiled)) (name : List ℕ) (old before : Bool) → tree.IsOrdered string_cmp templates.by_name
+    → templates.by_name.entries ≡ map deref_pair yielded ++ next ∷ rest → before ≡ (old || list_any (λ e. uses e.1.now name) yielded)
+    → IsTrue (before || uses next.1 name) → IsTrue old ⊎ IsUsedByOne templates name
+some_used templates yielded next rest name old before ordered all is h =
+    let test : String Global × Compiled → Bool = λ e. uses e.1 name in
+    let one = (used_by_one templates ordered name).0 in
+    let among : IsTrue (list_any test (map deref_pair yielded ++ next ∷ rest)) → IsUsedByOne templates name =
+    λ some. one (subst (λ es. IsTrue (list_any test es)) (sym all) some) in
+    elim ((either before (test next)).0 h) [
+      | inl before_it ↦ elim ((either old (list_any (λ e. uses e.1.now name) yielded)).0 (subst IsTrue is before_it)) [
+        | inl o ↦ inl o
+        | inr so_far ↦ inr (among (any_front test (map deref_pair yielded) (next ∷ rest) (subst IsTrue (sym (any_map test deref_pair yielded)) so_far)))
+      ]
+      | inr it ↦ inr (among (any_next test (map deref_pair yielded) next rest it))
+    ]
+
+pub on_err : {T E : Type 0} (P : Type 0) (r : Result T E) → P → OnErr r P
+on_err P (Ok value) holds = tt
+on_err P (Err error) holds = holds

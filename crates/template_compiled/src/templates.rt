@@ -92,10 +92,13 @@ impl<'source> CompiledTemplates<'source> {
     ///
     /// # Errors
     ///
-    /// [`ErrorKind::OutOfMemory`].
+    /// [`ErrorKind::OutOfMemory`]; some of the names may then have been added, and no others.
     pub fn add_undeclared(&self, alloc: Global, names: &mut BTreeSet<String>) -> Result<(), Error>
         ensures added { OnOk result ((name : List ℕ) → IsTrue (contains_text names.new name)
             ↔ (IsTrue (contains_text names.old name) ⊎ IsUsedByOne self.now name)) }
+        ensures kept { OnErr result ((name : List ℕ) → IsTrue (contains_text names.old name) → IsTrue (contains_text names.new name)) }
+        ensures others { OnErr result ((name : List ℕ) → IsTrue (contains_text names.new name)
+            → IsTrue (contains_text names.old name) ⊎ IsUsedByOne self.now name) }
         ensures refused { IfErr result NoMemory }
     {
         for (_name, template) in &self.by_name {

@@ -4,10 +4,10 @@
 //! Where an object has an entry `places`, the place of each node stands behind its form, as
 //! `@line:column:offset-line:column:offset`.
 //!
-//! The stored run is the table of the grammar's cases: 1435 texts with their trees or refusals, written from the
-//! language's description before the parser was read, and 83 with the places of their nodes, written from the rule of
-//! places: a node goes from its first token to its last. To add a case, write its line into `stdout`, and what stands
-//! before the last ` = ` into `stdin`. The forms:
+//! The stored run is the table of the grammar's cases: texts with their trees or refusals, written from the
+//! language's description before the parser was read, and texts with the places of their nodes, written from the rule
+//! of places: a node goes from its first token to its last. To add a case, write its line into `stdout`, and what
+//! stands before the last ` = ` into `stdin`. The forms:
 //!
 //! - a template or a body is `[..]`, a text of it `".."`; `-` is what is left out;
 //! - expressions: names and literals as they stand; `(attr e name)`, `(item e key)`, `(slice e start stop step)`,
@@ -33,12 +33,15 @@ use crate::syntax::syntax_of;
 use serde_json::{Map, Value as Json};
 use std::alloc::Global;
 use std::io;
-use template_compiler_sources::{parse, parse_expr};
+use template_compiler_sources::Parser;
 use template_compiler_syntax::SyntaxConfig;
 use template_values_errors::{Error, ErrorKind};
 
 // How many levels of a tree are printed; a deeper one is told as `TooLarge`.
 const LEVELS: u32 = 4000;
+
+// The name of each source.
+const NAME: &str = "<string>";
 
 fn main(rt: HostRuntime) -> io::Result<()> {
     let alloc = rt.alloc();
@@ -93,7 +96,8 @@ fn entries_form(alloc: Global, entries: &Map<String, Json>) -> Result<String, Er
 
 fn expression_form(alloc: Global, source: &str, form: Form) -> Result<String, Error> {
     let mut form = form;
-    expression(&parse_expr(alloc, source)?, &mut form, LEVELS)?;
+    let mut parser = Parser::new(alloc, source, NAME, SyntaxConfig::new());
+    expression(&parser.parse_standalone_expr()?, &mut form, LEVELS)?;
     Ok(form.text)
 }
 
@@ -104,10 +108,7 @@ fn template_form(
     form: Form,
 ) -> Result<String, Error> {
     let mut form = form;
-    statement(
-        &parse(alloc, source, "<string>", syntax)?,
-        &mut form,
-        LEVELS,
-    )?;
+    let mut parser = Parser::new(alloc, source, NAME, syntax);
+    statement(&parser.parse()?, &mut form, LEVELS)?;
     Ok(form.text)
 }

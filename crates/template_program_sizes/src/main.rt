@@ -5,6 +5,7 @@
 mod readers;
 mod requests;
 mod sinks;
+mod sources;
 
 use crate::readers::{read_file_back, read_slice, read_wrapped};
 use crate::requests::{
@@ -12,6 +13,7 @@ use crate::requests::{
     many_templates, one_text,
 };
 use crate::sinks::{into_buffer, into_nothing, into_text, into_writer};
+use crate::sources::{long_name, many_braces, many_parts, many_rounds_in_rounds};
 use std::alloc::Global;
 
 /// What came out, and whether it is right.
@@ -49,6 +51,12 @@ fn main(rt: HostRuntime) -> anyhow::Result<()> {
     tell(&rt, "100000 items", many_items(alloc)?)?;
     tell(&rt, "100000 rounds", many_rounds(alloc)?)?;
     tell(&rt, "1000 includes", many_includes(alloc)?)?;
+    let letters = "a".repeat(alloc, 1_000_000)?;
+    tell(&rt, "1000000 letters", one_text(alloc, &letters)?)?;
+    tell(&rt, "1000000 braces", many_braces(alloc)?)?;
+    tell(&rt, "a list of 100000 parts", many_parts(alloc)?)?;
+    tell(&rt, "a name of 10000 letters", long_name(alloc)?)?;
+    tell(&rt, "10 times 100000 rounds", many_rounds_in_rounds(alloc)?)?;
     Ok(())
 }
 

@@ -8,15 +8,16 @@ use template_values_modes::UndefinedBehavior;
 
 const MANY: usize = 1000;
 
-const ITEMS: usize = 100_000;
+/// How many is many, for items.
+pub(crate) const ITEMS: usize = 100_000;
 
-// What a request has, and what it is to write.
+/// What a request has, and what it is to write.
 #[derive(Drop)]
-struct Case {
-    templates: Vec<(String, String)>,
-    context: Option<String>,
-    request: Request,
-    wanted: String,
+pub(crate) struct Case {
+    pub(crate) templates: Vec<(String, String)>,
+    pub(crate) context: Option<String>,
+    pub(crate) request: Request,
+    pub(crate) wanted: String,
 }
 
 fn new_case(alloc: Global, command: Command, main: &str) -> anyhow::Result<Case> {
@@ -35,7 +36,16 @@ fn new_case(alloc: Global, command: Command, main: &str) -> anyhow::Result<Case>
     })
 }
 
-fn answered(alloc: Global, case: &Case) -> anyhow::Result<Came> {
+/// A request that renders a source over an empty context.
+pub(crate) fn rendering(alloc: Global, source: String) -> anyhow::Result<Case> {
+    let mut case = new_case(alloc, Command::Render, "t.txt")?;
+    let name = String::from_str(alloc, "t.txt")?;
+    case.templates.push((name, source))?;
+    Ok(case)
+}
+
+/// What the request writes, beside what it is to write.
+pub(crate) fn answered(alloc: Global, case: &Case) -> anyhow::Result<Came> {
     let mut out = String::new(alloc);
     let templates = case.templates.as_slice();
     let context = match &case.context {
@@ -53,19 +63,14 @@ fn answered(alloc: Global, case: &Case) -> anyhow::Result<Came> {
 
 /// A source without markers gives itself.
 pub(crate) fn one_text(alloc: Global, text: &str) -> anyhow::Result<Came> {
-    let mut case = new_case(alloc, Command::Render, "t.txt")?;
-    let name = String::from_str(alloc, "t.txt")?;
-    case.templates.push((name, String::from_str(alloc, text)?))?;
+    let mut case = rendering(alloc, String::from_str(alloc, text)?)?;
     case.wanted.push_str(text)?;
     answered(alloc, &case)
 }
 
 /// Texts and prints of one name, in turn.
 pub(crate) fn many_prints(alloc: Global) -> anyhow::Result<Came> {
-    let mut case = new_case(alloc, Command::Render, "t.txt")?;
-    let name = String::from_str(alloc, "t.txt")?;
-    let source = "line {{ x }}".repeat(alloc, 5000)?;
-    case.templates.push((name, source))?;
+    let mut case = rendering(alloc, "line {{ x }}".repeat(alloc, 5000)?)?;
     let name = String::from_str(alloc, "x")?;
     case.request
         .texts
@@ -120,18 +125,15 @@ pub(crate) fn many_definitions(alloc: Global) -> anyhow::Result<Came> {
     answered(alloc, &case)
 }
 
-// The context `{"x": [0, 0, ..]}`.
-fn zeros(alloc: Global, count: usize) -> anyhow::Result<String> {
+/// The context `{"x": [0, 0, ..]}`.
+pub(crate) fn zeros(alloc: Global, count: usize) -> anyhow::Result<String> {
     let zeros = "0,".repeat(alloc, count.saturating_sub(1))?;
     Ok(format!(in alloc; "{{\"x\": [{zeros}0]}}")?)
 }
 
 /// A print of a list with many items, which the context has.
 pub(crate) fn many_items(alloc: Global) -> anyhow::Result<Came> {
-    let mut case = new_case(alloc, Command::Render, "t.txt")?;
-    let name = String::from_str(alloc, "t.txt")?;
-    case.templates
-        .push((name, String::from_str(alloc, "{{ x }}")?))?;
+    let mut case = rendering(alloc, String::from_str(alloc, "{{ x }}")?)?;
     case.context = Some(zeros(alloc, ITEMS)?);
     let zeros = "0, ".repeat(alloc, ITEMS - 1)?;
     case.wanted = format!(in alloc; "[{zeros}0]")?;
@@ -140,10 +142,8 @@ pub(crate) fn many_items(alloc: Global) -> anyhow::Result<Came> {
 
 /// A loop over a list with many items.
 pub(crate) fn many_rounds(alloc: Global) -> anyhow::Result<Came> {
-    let mut case = new_case(alloc, Command::Render, "t.txt")?;
-    let name = String::from_str(alloc, "t.txt")?;
-    let source = String::from_str(alloc, "{% for y in x %}{{ y + 1 }},{% endfor %}")?;
-    case.templates.push((name, source))?;
+    let source = "{% for y in x %}{{ y + 1 }},{% endfor %}";
+    let mut case = rendering(alloc, String::from_str(alloc, source)?)?;
     case.context = Some(zeros(alloc, ITEMS)?);
     case.wanted = "1,".repeat(alloc, ITEMS)?;
     answered(alloc, &case)
@@ -151,10 +151,8 @@ pub(crate) fn many_rounds(alloc: Global) -> anyhow::Result<Came> {
 
 /// A loop that includes another template in each round.
 pub(crate) fn many_includes(alloc: Global) -> anyhow::Result<Came> {
-    let mut case = new_case(alloc, Command::Render, "t.txt")?;
-    let name = String::from_str(alloc, "t.txt")?;
-    let source = String::from_str(alloc, "{% for y in x %}{% include 'part' %}{% endfor %}")?;
-    case.templates.push((name, source))?;
+    let source = "{% for y in x %}{% include 'part' %}{% endfor %}";
+    let mut case = rendering(alloc, String::from_str(alloc, source)?)?;
     let name = String::from_str(alloc, "part")?;
     let source = String::from_str(alloc, "<{{ y }}>")?;
     case.templates.push((name, source))?;

@@ -5,6 +5,7 @@ use Rattle.std.specs.declared.io.Error.{Error}
 use Rattle.clap.specs.Words.{Kinds, Row}
 use Rattle.template_values_modes.specs.declared.UndefinedBehavior.{UndefinedBehavior}
 use Rattle.template_values_modes.specs.declared.UndefinedBehavior.TheVariants.{Lenient}
+use Rattle.template_program_files.specs.declared.faults.FileFault.{FileFault}
 use Rattle.template_program_words.specs.Reading.{Reads, default_limit, parts_of}
 use Rattle.template_program_words.specs.Refusals.{Refuses}
 use Rattle.template_program_words.specs.declared.faults.WordsFault.{WordsFault}
@@ -16,7 +17,7 @@ use Rattle.template_program_run.specs.declared.outcome.Outcome.{Outcome}
 use Rattle.template_program_run.specs.declared.request.Command.TheVariants as asked
 use Rattle.template_program_run.specs.declared.request.Request.{Request}
 use Rattle.template_program_start.specs.Flushes.{flushed}
-use Rattle.template_program_start.specs.Status.{IsStatusOf}
+use Rattle.template_program_start.specs.Status.{IsStatusOf, file_status}
 
 -- the status of words that are refused, or that ask for help
 abbrev pub words_status : WordsFault → ℕ
@@ -97,12 +98,12 @@ abbrev pub Performs : Request → List (List ℕ × List ℕ) → Option (List �
 Performs request additions json before result = (result ≡ 6)
     ⊎ ((outcome : Outcome) × RunsFlushed request additions json (append_known before []) outcome × IsStatusOf outcome result)
 
--- Words that are refused have their status. Else the files are read, or refused with 3 or 6, and what the words
--- ask for is done with them.
+-- Words that are refused have their status. Else the files are read, or refused with the status of the fault, and what
+-- the words ask for is done with them.
 abbrev pub Starts : Kinds → Option (List ℕ × List Row) → (List ℕ → Option (List ℕ)) → Option (List ℕ) → Option (List ℕ) → ℕ → Type 0
 Starts kinds found content input before result =
     ((fault : WordsFault) × Refuses kinds found fault × (result ≡ words_status fault))
-    ⊎ ((words : Words) × Reads found words × (kinds ≡ []) × ((result ≡ 3) ⊎ (result ≡ 6)
+    ⊎ ((words : Words) × Reads found words × (kinds ≡ []) × (((fault : FileFault) × (result ≡ file_status fault))
     ⊎ ((request : Request) × (additions : List (List ℕ × List ℕ)) × (json : Option (List ℕ))
     × IsAsked words request additions × AreRead content input words additions json
     × Performs request additions json before result)))

@@ -1,8 +1,10 @@
 //! The program's body.
-ghost use Rattle.std.specs.Prelude.{◌≡◌, ◌≤◌, ◌⊎◌, map};
+ghost use Rattle.std.specs.Prelude.{◌≡◌, map};
+ghost use Rattle.std.specs.IoError.{error_kind};
 ghost use Rattle.clap.specs.Words.{fault_of, subcommand_of};
 ghost use Rattle.template_program_words.specs.CommandLine.{program};
 ghost use Rattle.template_program_start.specs.Starts.{Starts, words_status};
+ghost use Rattle.template_program_start.specs.Status.{arguments_status, file_status};
 
 use crate::faults::{write_error, write_fault};
 use crate::inputs::{Inputs, read_inputs};
@@ -70,18 +72,22 @@ fn refuse_words<O: Write, F: Write>(refused: &WordsFault, out: &mut O, fault: &m
 /// Tells that the arguments cannot be had, before [`start`]: for want of memory, with status 6, or because
 /// one of them is no UTF-8, with status 2.
 pub fn refuse_arguments<F: Write>(refused: &io::Error, fault: &mut F) -> u8
-    ensures { (result ≡ 2) ⊎ (result ≡ 6) }
+    ensures { result ≡ arguments_status (error_kind refused.now) }
 {
-    if refused.kind() == io::ErrorKind::OutOfMemory {
-        let _ = write_fault(fault, ErrorKind::OutOfMemory.name());
-        return MEMORY;
+    match refused.kind() {
+        io::ErrorKind::OutOfMemory => {
+            let _ = write_fault(fault, ErrorKind::OutOfMemory.name());
+            MEMORY
+        }
+        _ => {
+            let _ = write_fault(fault, "Arguments");
+            WORDS
+        }
     }
-    let _ = write_fault(fault, "Arguments");
-    WORDS
 }
 
 fn refuse_file<F: Write>(refused: FileFault, fault: &mut F) -> u8
-    ensures { (result ≡ 3) ⊎ (result ≡ 6) }
+    ensures { result ≡ file_status refused }
 {
     match refused {
         FileFault::File => {

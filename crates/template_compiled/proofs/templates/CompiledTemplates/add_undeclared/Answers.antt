@@ -1,10 +1,12 @@
-use Rattle.std.proofs.Common.{rules, ◌≡◌, map}
+use Rattle.std.proofs.Common.{rules, ◌≡◌, ℕ, List, ◌∷◌, ◌++◌, ◌⊎◌, IsTrue, map}
 use Rattle.std.specs.BTreeMap as tree
 use Rattle.std.specs.Map.Iter.{deref_pair}
+use Rattle.std.specs.BTreeSet.{contains_text}
 use Rattle.std.specs.String.{string_cmp}
-use Rattle.std.proofs.lemmas.Map.Iter.{iter_end}
+use Rattle.std.proofs.lemmas.Map.Iter.{iter_end, rest_more, rest_so_far}
 use Rattle.template_compiled.specs.Names.{uses}
-use Rattle.template_compiled.proofs.Using.{all_used, more_used}
+use Rattle.template_compiled.specs.Standing.{IsUsedByOne}
+use Rattle.template_compiled.proofs.Using.{all_used, more_used, on_err, some_used}
 use Rattle.template_compiled.proofs.templates.CompiledTemplates.add_undeclared.Goals as goal
 
 -- one more template
@@ -18,3 +20,13 @@ returns-clause-added c = λ name.
     let all : map deref_pair c.loop-name.yielded ≡ c.args.self.now.by_name.entries = search (rules, iter_end) in
     let ordered : tree.IsOrdered string_cmp c.args.self.now.by_name = search rules in
     all_used c.args.self.now c.loop-name.yielded name _ _ ordered all (c.loop-name.invariant name)
+
+-- some of those of one more template
+pub returns-in_err-add_undeclared-clause-others : goal.returns-in_err-add_undeclared-clause-others
+returns-in_err-add_undeclared-clause-others c =
+    let next = deref_pair (c.in-Some._name, c.in-Some.template) in
+    let all : c.args.self.now.by_name.entries ≡ map deref_pair c.loop-name.yielded ++ next ∷ c.next.new.self = search (rules, rest_so_far, rest_more) in
+    let ordered : tree.IsOrdered string_cmp c.args.self.now.by_name = search rules in
+    on_err ((name : List ℕ) → IsTrue (contains_text c.add_undeclared.new.names name) → IsTrue (contains_text c.args.names.now name) ⊎ IsUsedByOne c.args.self.now name)
+    c.from_residual.result (λ name h. some_used c.args.self.now c.loop-name.yielded next c.next.new.self name _ _ ordered all (c.loop-name.invariant name)
+    (c.in_err-add_undeclared.ensures.partial.others name h))
