@@ -68,6 +68,7 @@ fn is_same(name: &str, other: &str) -> bool
 }
 
 // The local of a name.
+#[inline(always)]
 fn find<'a, 'env>(locals: &'a [Local<'env>], name: &str) -> Option<&'a Local<'env>>
     ensures { option_copied result ≡ find (is_named name.now) locals.now }
 {
@@ -121,6 +122,7 @@ impl<'env> Locals<'env> {
     }
 
     /// The value of a name. Linear in the number of names.
+    #[inline(always)]
     pub fn get(&self, name: &str) -> Option<&Value>
         ensures { option_copied result ≡ local_at name.now self.now }
     {
@@ -186,8 +188,9 @@ impl<'env> Locals<'env> {
     pub fn clear(&mut self)
         ensures { self.new ≡ [] }
     {
-        // There is mostly one, which goes sooner alone.
+        // There are mostly one or two, which go sooner alone.
         let _last = self.locals.pop();
+        let _other = self.locals.pop();
         if !self.locals.is_empty() {
             self.locals.clear();
         }

@@ -1,3 +1,4 @@
 pub mod Texts
 pub mod Lifting
 pub mod Left
+mod Holding

@@ -1,6 +1,7 @@
 //! What a machine does at each instruction but an include.
 #![tactic(auto)]
 
+mod asides;
 mod at_once;
 mod operands;
 mod plain;
@@ -8,6 +9,7 @@ mod rules;
 mod scoped;
 mod writing;
 
-pub use at_once::perform_at_once;
+pub use asides::{made_of, number_given};
+pub use at_once::{begin_at_once, perform_at_once};
 pub use plain::{perform, perform_at_length};
 pub use rules::Rules;

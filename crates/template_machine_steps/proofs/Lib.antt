@@ -3,3 +3,4 @@ pub mod Stepping
 pub mod Gathering
 pub mod Sparing
 pub mod Promptly
+mod Testing

@@ -1,6 +1,7 @@
 //! What a machine does at instructions that only take and give operands, and where its run goes on.
 #![tactic(auto)]
 
+mod asides;
 mod containers;
 mod operands;
 mod operators;
@@ -8,6 +9,7 @@ mod parts;
 mod truths;
 mod ways;
 
+pub use asides::{Aside, Tested, operate_aside, test_aside};
 pub use containers::{build_list, build_map, build_tuple, unpack_list};
 pub use operands::{discard_top, dup_top, load_const, load_const_at_once, swap};
 pub use operators::{compare_and_preserve, invert, negate, operate, operate_at_once};
@@ -16,4 +18,4 @@ pub use truths::{
     jump, jump_if_false, jump_if_false_at_once, jump_if_false_or_pop, jump_if_false_or_pop_at_once,
     jump_if_true_or_pop, jump_if_true_or_pop_at_once,
 };
-pub use ways::{AtOnce, Way, behind};
+pub use ways::{AtOnce, Begun, Way, behind};

@@ -24,6 +24,15 @@ pub enum AtOnce {
     Undone,
 }
 
+/// What came of an instruction that is done at once, where it can be, and that may give a whole number.
+#[derive(Clone, Copy, Debug, PartialEq, Eq)]
+pub enum Begun {
+    /// It is done but for the number that it gives, which is not on top yet; the run goes on behind it.
+    Number(i128),
+    /// It is done whole, or nothing is.
+    As(AtOnce),
+}
+
 /// Behind the instruction, where memory was given.
 #[inline(always)]
 pub fn behind(is_given: bool) -> AtOnce
