@@ -11,3 +11,4 @@ mod writing;
 pub use at_once::perform_at_once;
 pub use plain::{perform, perform_at_length};
 pub use rules::Rules;
+pub use writing::{emit, emit_raw};

@@ -10,11 +10,52 @@ use crate::pieces::push_plain;
 use std::str;
 use template_values_errors::Error;
 
-// References wait in a block, so that many of them are written at once.
-const BLOCK: usize = 256;
+/// References wait in a block, so that many of them are written at once.
+pub const BLOCK: usize = 256;
+
+/// A text of so many bytes at most fits into a block with its references.
+pub const SHORT: usize = 40;
 
 // How many bytes a reference takes with what pads it.
 const REFERENCE: usize = 8;
+
+/// Puts a short text with references for HTML's markup at the front of a block, and tells how many bytes it then has.
+#[inline(always)]
+pub fn put_html(block: &mut [u8; BLOCK], text: &str) -> usize
+    requires { length text.now ≤ SHORT }
+    ensures put { take result block.new ≡ html text.now }
+    ensures bound { result ≤ BLOCK }
+    ensures text { IsUtf8 (html text.now) }
+{
+    let mut used = 0;
+    for byte in text.as_bytes() {
+        used = put_byte(block, used, *byte);
+    }
+    used
+}
+
+// Puts what stands for a byte behind the bytes that wait, and tells how many then do.
+#[inline(always)]
+fn put_byte(block: &mut [u8; BLOCK], used: usize, byte: u8) -> usize
+    requires { used + REFERENCE ≤ BLOCK }
+    ensures put { take result block.new ≡ take used block.old ++ html_byte byte }
+    ensures length { result ≡ used + length (html_byte byte) }
+{
+    match reference_of(byte) {
+        Some(reference) => put(block, used, reference),
+        None => put_plain(block, used, byte),
+    }
+}
+
+#[inline(always)]
+fn put_plain(block: &mut [u8; BLOCK], used: usize, byte: u8) -> usize
+    requires { used < BLOCK }
+    ensures put { take result block.new ≡ take used block.old ++ byte ∷ [] }
+    ensures length { result ≡ used + 1 }
+{
+    block[used] = byte;
+    used + 1
+}
 
 /// Writes a text with references for HTML's markup.
 pub(crate) fn push_html(out: &mut String, piece: &str) -> Result<(), Error>
