@@ -14,7 +14,7 @@ use template_machine_output::{Sink, write_text};
 use template_values_core::{Content, Value};
 use template_values_errors::Error;
 use template_values_modes::{AutoEscape, UndefinedBehavior};
-use template_values_pieces::{BLOCK, SHORT, put_html};
+use template_values_pieces::{HTML_BLOCK, SHORT_TEXT, put_html};
 use template_values_records::Records;
 use template_values_text::escape_to;
 
@@ -106,10 +106,10 @@ fn print_at_length<R: Records, S: Sink>(
 #[inline(always)]
 fn short_text(value: &Value, escape: AutoEscape) -> Option<&str>
     ensures is { IfSome result (λ text. (known : Known) → escaped escape known value.now ≡ Ok (html text.now)) }
-    ensures short { IfSome result (λ text. length text.now ≤ SHORT) }
+    ensures short { IfSome result (λ text. length text.now ≤ SHORT_TEXT) }
 {
     match (value.content(), escape) {
-        (Content::Text(text), AutoEscape::Html) if text.len() <= SHORT => Some(text),
+        (Content::Text(text), AutoEscape::Html) if text.len() <= SHORT_TEXT => Some(text),
         _ => None,
     }
 }
@@ -117,11 +117,11 @@ fn short_text(value: &Value, escape: AutoEscape) -> Option<&str>
 /// Puts a short text into a sink with references for HTML's markup, which are made in a block.
 #[inline(never)]
 fn write_html<S: Sink>(text: &str, sink: &mut S) -> Result<(), Error>
-    requires { length text.now ≤ SHORT }
+    requires { length text.now ≤ SHORT_TEXT }
     ensures written { Writes (html text.now) result (S.taken sink.old) (S.taken sink.new) }
     ensures failures { TellsFailures result (S.failures sink.old) (S.failures sink.new) }
 {
-    let mut block = [0; BLOCK];
+    let mut block = [0; HTML_BLOCK];
     let used = put_html(&mut block, text);
     // References stand for whole characters.
     write(unsafe { str::from_utf8_unchecked(&block[..used]) }, sink)
