@@ -4,3 +4,4 @@ pub mod Within
 pub mod Choosing
 pub mod Failing
 pub mod Stretching
+mod Onward

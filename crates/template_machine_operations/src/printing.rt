@@ -1,17 +1,20 @@
 //! Texts and values on their way into a sink.
-ghost use Rattle.std.specs.Prelude.{◌≡◌, [], Ok, IfSome, string_bytes};
+ghost use Rattle.std.specs.Prelude.{◌≡◌, ◌≤◌, [], Ok, IfSome, length, string_bytes};
 ghost use Rattle.template_values_forms.specs.Answers.{AppendsOrRefuses};
 ghost use Rattle.template_values_forms.specs.Escaped.{escaped};
+ghost use Rattle.template_values_forms.specs.Escapes.{html};
 ghost use Rattle.template_values_forms.specs.Known.{Known};
 ghost use Rattle.template_machine_meaning.specs.Undefined.{forbids_printing};
 ghost use Rattle.template_machine_meaning.specs.Replies.{guarded, kinded};
 ghost use Rattle.template_machine_operations.specs.Outcomes.{TellsFailures, Writes, Prints};
 
 use crate::undefined::{forbids_printing, refusal};
+use std::str;
 use template_machine_output::{Sink, write_text};
 use template_values_core::{Content, Value};
 use template_values_errors::Error;
 use template_values_modes::{AutoEscape, UndefinedBehavior};
+use template_values_pieces::{HTML_BLOCK, SHORT_TEXT, put_html};
 use template_values_records::Records;
 use template_values_text::escape_to;
 
@@ -24,6 +27,7 @@ use template_values_text::escape_to;
 ///
 /// [`ErrorKind::OutOfMemory`]: template_values_errors::ErrorKind::OutOfMemory
 /// [`ErrorKind::WriteFailure`]: template_values_errors::ErrorKind::WriteFailure
+#[inline(always)]
 pub fn write<S: Sink>(text: &str, sink: &mut S) -> Result<(), Error>
     ensures written { Writes text.now result (S.taken sink.old) (S.taken sink.new) }
     ensures failures { TellsFailures result (S.failures sink.old) (S.failures sink.new) }
@@ -40,6 +44,7 @@ pub fn write<S: Sink>(text: &str, sink: &mut S) -> Result<(), Error>
 /// [`escape_to`] refuses the value with, and the sink has taken nothing; and those of [`write`].
 ///
 /// [`ErrorKind::UndefinedError`]: template_values_errors::ErrorKind::UndefinedError
+#[inline(always)]
 pub fn print<R: Records, S: Sink>(
     mode: UndefinedBehavior,
     escape: AutoEscape,
@@ -59,6 +64,7 @@ pub fn print<R: Records, S: Sink>(
     print_escaped(escape, value, records, scratch, sink)
 }
 
+#[inline(always)]
 fn print_escaped<R: Records, S: Sink>(
     escape: AutoEscape,
     value: &Value,
@@ -73,12 +79,57 @@ fn print_escaped<R: Records, S: Sink>(
     if let Some(text) = standing_text(value, escape) {
         return write(text, sink);
     }
+    if let Some(text) = short_text(value, escape) {
+        return write_html(text, sink);
+    }
+    print_at_length(escape, value, records, scratch, sink)
+}
+
+/// The same, with the text made in `scratch`.
+#[inline(never)]
+fn print_at_length<R: Records, S: Sink>(
+    escape: AutoEscape,
+    value: &Value,
+    records: &R,
+    scratch: &mut String,
+    sink: &mut S,
+) -> Result<(), Error>
+    ensures written { let text = kinded (escaped escape (R.known records.now) value.now) in
+        Prints text result (S.taken sink.old) (S.taken sink.new) }
+    ensures failures { TellsFailures result (S.failures sink.old) (S.failures sink.new) }
+{
     make_text(value, escape, records, scratch)?;
     write(scratch.as_str(), sink)
 }
 
+/// A text that is written with references, and short enough to need no memory for them.
+#[inline(always)]
+fn short_text(value: &Value, escape: AutoEscape) -> Option<&str>
+    ensures is { IfSome result (λ text. (known : Known) → escaped escape known value.now ≡ Ok (html text.now)) }
+    ensures short { IfSome result (λ text. length text.now ≤ SHORT_TEXT) }
+{
+    match (value.content(), escape) {
+        (Content::Text(text), AutoEscape::Html) if text.len() <= SHORT_TEXT => Some(text),
+        _ => None,
+    }
+}
+
+/// Puts a short text into a sink with references for HTML's markup, which are made in a block.
+#[inline(never)]
+fn write_html<S: Sink>(text: &str, sink: &mut S) -> Result<(), Error>
+    requires { length text.now ≤ SHORT_TEXT }
+    ensures written { Writes (html text.now) result (S.taken sink.old) (S.taken sink.new) }
+    ensures failures { TellsFailures result (S.failures sink.old) (S.failures sink.new) }
+{
+    let mut block = [0; HTML_BLOCK];
+    let used = put_html(&mut block, text);
+    // References stand for whole characters.
+    write(unsafe { str::from_utf8_unchecked(&block[..used]) }, sink)
+}
+
 /// The text of a value that stands as it is under an escape, whatever is known of records: a safe text,
 /// or any without an escape.
+#[inline(always)]
 fn standing_text(value: &Value, escape: AutoEscape) -> Option<&str>
     ensures { IfSome result (λ text. (known : Known) → escaped escape known value.now ≡ Ok text.now) }
 {

@@ -126,6 +126,7 @@ fn rest_after(bytes: &[u8], count: usize) -> &[u8]
 ///
 /// The sink's own fault, and [`SinkFault::Device`] where the sink takes nothing of what is left. The
 /// sink has then taken a beginning of the text.
+#[inline(always)]
 pub fn write_text<S: Sink>(sink: &mut S, text: &str) -> Result<(), SinkFault>
     ensures done { OnOk result (Appends (S.taken sink.old) (S.taken sink.new) text.now) }
     ensures beginning { OnErr result (AppendsBeginning (S.taken sink.old) (S.taken sink.new) text.now) }
@@ -134,7 +135,34 @@ pub fn write_text<S: Sink>(sink: &mut S, text: &str) -> Result<(), SinkFault>
     ensures device { IsErrOf result SinkFault.Device ↔ (S.failures sink.old < S.failures sink.new) }
     ensures memory { IsErrOf result SinkFault.Memory → S.failures sink.new ≡ S.failures sink.old }
 {
-    let mut rest = text.as_bytes();
+    let bytes = text.as_bytes();
+    if bytes.is_empty() {
+        return Ok(());
+    }
+    // Mostly the first call takes all.
+    let count = sink.put(bytes)?;
+    if count == bytes.len() {
+        return Ok(());
+    }
+    if count == 0 {
+        return Err(SinkFault::Device);
+    }
+    write_bytes(sink, rest_after(bytes, count))
+}
+
+// Puts all bytes into a sink, by as many calls of [`Sink::put`] as it needs.
+#[cold]
+#[inline(never)]
+fn write_bytes<S: Sink>(sink: &mut S, bytes: &[u8]) -> Result<(), SinkFault>
+    requires { S.can_take bytes.now }
+    ensures done { OnOk result (Appends (S.taken sink.old) (S.taken sink.new) bytes.now) }
+    ensures beginning { OnErr result (AppendsBeginning (S.taken sink.old) (S.taken sink.new) bytes.now) }
+
+    ensures quiet { OnOk result (S.failures sink.new ≡ S.failures sink.old) }
+    ensures device { IsErrOf result SinkFault.Device ↔ (S.failures sink.old < S.failures sink.new) }
+    ensures memory { IsErrOf result SinkFault.Memory → S.failures sink.new ≡ S.failures sink.old }
+{
+    let mut rest = bytes;
     while !rest.is_empty() {
         let count = sink.put(rest)?;
         if count == 0 {

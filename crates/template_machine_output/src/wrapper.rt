@@ -39,6 +39,7 @@ impl<W: io::Write> Writer for W {
 
     ghost answers = { λ _. None };
 
+    #[inline(always)]
     fn write_piece(&mut self, bytes: &[u8]) -> io::Result<usize> {
         self.write(bytes)
     }
@@ -93,6 +94,7 @@ impl<W: Writer> Sink for WriteWrapper<W> {
 
     ghost can_take = { λ _. Unit {0} };
 
+    #[inline(always)]
     fn put(&mut self, bytes: &[u8]) -> Result<usize, SinkFault>
         ensures bound { IfOk result (λ count. count ≤ length bytes.now) }
         ensures bytes { WriteAppends (W.contents self.old.w) (W.contents self.new.w) result bytes.now }

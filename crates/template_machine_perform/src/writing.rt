@@ -16,9 +16,16 @@ use template_values_errors::Error;
 use template_values_modes::UndefinedBehavior;
 use template_values_text::NoRecords;
 
-// Writes a text of the template.
+/// Writes a text of the template.
+///
+/// # Errors
+///
+/// [`ErrorKind::OutOfMemory`] and [`ErrorKind::WriteFailure`]; the sink has then taken a beginning of the text.
+///
+/// [`ErrorKind::OutOfMemory`]: template_values_errors::ErrorKind::OutOfMemory
+/// [`ErrorKind::WriteFailure`]: template_values_errors::ErrorKind::WriteFailure
 #[inline(always)]
-pub(crate) fn emit_raw<S: Sink>(text: &str, sink: &mut S) -> Result<(), Error>
+pub fn emit_raw<S: Sink>(text: &str, sink: &mut S) -> Result<(), Error>
     ensures steps { (s : Programs) (operands : List Operand) (w : World) →
         StepsWriting s (emit_raw text.now) operands w (S.taken sink.old) result suc operands w (S.taken sink.new) }
     ensures failures { TellsFailures result (S.failures sink.old) (S.failures sink.new) }
@@ -26,9 +33,16 @@ pub(crate) fn emit_raw<S: Sink>(text: &str, sink: &mut S) -> Result<(), Error>
     values::write(text, sink)
 }
 
-// Takes a value, and prints it under the escape in force.
+/// Takes a value, and prints it under the escape in force. Its text may be made in `scratch`, which loses what it holds
+/// and keeps its room.
+///
+/// # Errors
+///
+/// Those of [`values::print`]; and [`ErrorKind::BadStream`] where there is no value.
+///
+/// [`ErrorKind::BadStream`]: template_values_errors::ErrorKind::BadStream
 #[inline(always)]
-pub(crate) fn emit<S: Sink>(
+pub fn emit<S: Sink>(
     mode: UndefinedBehavior,
     state: &State<'_>,
     operands: &mut Operands,

@@ -10,11 +10,55 @@ use crate::pieces::push_plain;
 use std::str;
 use template_values_errors::Error;
 
-// References wait in a block, so that many of them are written at once.
-const BLOCK: usize = 256;
+/// References wait in a block, so that many of them are written at once.
+pub const HTML_BLOCK: usize = 256;
+
+/// A text of so many bytes at most fits into a block with its references.
+pub const SHORT_TEXT: usize = 40;
 
 // How many bytes a reference takes with what pads it.
 const REFERENCE: usize = 8;
+
+// How many bytes a reference has at most.
+const LONGEST: usize = 6;
+
+/// Puts a short text with references for HTML's markup at the front of a block, and tells how many bytes it then has.
+#[inline(always)]
+pub fn put_html(block: &mut [u8; HTML_BLOCK], text: &str) -> usize
+    requires { length text.now ≤ SHORT_TEXT }
+    ensures put { take result block.new ≡ html text.now }
+    ensures bound { result ≤ HTML_BLOCK }
+    ensures text { IsUtf8 (html text.now) }
+{
+    let mut used = 0;
+    for byte in text.as_bytes() {
+        used = put_byte(block, used, *byte);
+    }
+    used
+}
+
+// Puts what stands for a byte behind the bytes that wait, and tells how many then do.
+#[inline(always)]
+fn put_byte(block: &mut [u8; HTML_BLOCK], used: usize, byte: u8) -> usize
+    requires { used + REFERENCE ≤ HTML_BLOCK }
+    ensures put { take result block.new ≡ take used block.old ++ html_byte byte }
+    ensures bound { result ≤ used + LONGEST }
+{
+    match reference_of(byte) {
+        Some(reference) => put(block, used, reference),
+        None => put_plain(block, used, byte),
+    }
+}
+
+#[inline(always)]
+fn put_plain(block: &mut [u8; HTML_BLOCK], used: usize, byte: u8) -> usize
+    requires { used < HTML_BLOCK }
+    ensures put { take result block.new ≡ take used block.old ++ byte ∷ [] }
+    ensures length { result ≡ used + 1 }
+{
+    block[used] = byte;
+    used + 1
+}
 
 /// Writes a text with references for HTML's markup.
 pub(crate) fn push_html(out: &mut String, piece: &str) -> Result<(), Error>
@@ -58,7 +102,7 @@ fn push_marked(out: &mut String, piece: &str) -> Result<(), Error>
 fn push_references(out: &mut String, piece: &str) -> Result<(), Error>
     ensures { Writes Html (string_bytes out.old) (Ok piece.now) result (string_bytes out.new) }
 {
-    let mut block = [0; BLOCK];
+    let mut block = [0; HTML_BLOCK];
     let mut used = 0;
     let mut start = 0;
     for (i, byte) in piece.as_bytes().iter().enumerate() {
@@ -70,7 +114,7 @@ fn push_references(out: &mut String, piece: &str) -> Result<(), Error>
         }
         used = put(&mut block, used, reference);
         start = i + 1;
-        if used > BLOCK - REFERENCE {
+        if used > HTML_BLOCK - REFERENCE {
             push_block(out, &block[..used], "")?;
             used = 0;
         }
@@ -87,7 +131,7 @@ struct Reference {
 
 fn reference_of(byte: u8) -> Option<Reference>
     ensures is { MatchOption result (html_byte byte ≡ byte ∷ []) (λ r. take r.length r.padded.now ≡ html_byte byte) }
-    ensures fits { IfSome result (λ r. r.length ≤ REFERENCE) }
+    ensures fits { IfSome result (λ r. r.length ≤ LONGEST) }
     ensures ascii { OnSome result (byte < 128) }
 {
     let (padded, length) = match byte {
@@ -115,18 +159,18 @@ fn push_block(out: &mut String, block: &[u8], piece: &str) -> Result<(), Error>
 // many bytes then wait.
 fn put_piece(
     out: &mut String,
-    block: &mut [u8; BLOCK],
+    block: &mut [u8; HTML_BLOCK],
     used: usize,
     piece: &str,
 ) -> Result<usize, Error>
-    requires room { used + REFERENCE ≤ BLOCK }
+    requires room { used + REFERENCE ≤ HTML_BLOCK }
     requires text { IsUtf8 (take used block.old) }
     ensures waits { IfOk result (λ next. Waits (string_bytes out.old) (string_bytes out.new) block.new
         ((string_bytes out.old ++ take used block.old) ++ piece.now) next) }
     ensures refused { IfErr result NoMemory }
     ensures begins { OnErr result (Begins (string_bytes out.old) (string_bytes out.new)) }
 {
-    if piece.len() <= BLOCK - REFERENCE - used {
+    if piece.len() <= HTML_BLOCK - REFERENCE - used {
         put_bytes(block, used, piece.as_bytes());
         return Ok(used + piece.len());
     }
@@ -135,17 +179,17 @@ fn put_piece(
 }
 
 // Puts bytes behind those that wait.
-fn put_bytes(block: &mut [u8; BLOCK], used: usize, bytes: &[u8])
-    requires { used + length bytes.now ≤ BLOCK }
-    ensures length { length block.new ≡ BLOCK }
+fn put_bytes(block: &mut [u8; HTML_BLOCK], used: usize, bytes: &[u8])
+    requires { used + length bytes.now ≤ HTML_BLOCK }
+    ensures length { length block.new ≡ HTML_BLOCK }
     ensures put { take (used + length bytes.now) block.new ≡ take used block.old ++ bytes.now }
 {
     block[used..used + bytes.len()].copy_from_slice(bytes);
 }
 
 // Puts the reference behind the bytes that wait, and tells how many then do.
-fn put(block: &mut [u8; BLOCK], used: usize, reference: Reference) -> usize
-    requires room { used + REFERENCE ≤ BLOCK }
+fn put(block: &mut [u8; HTML_BLOCK], used: usize, reference: Reference) -> usize
+    requires room { used + REFERENCE ≤ HTML_BLOCK }
     requires fits { reference.length ≤ REFERENCE }
     ensures length { result ≡ used + reference.length }
     ensures put { take result block.new ≡ take used block.old ++ take reference.length reference.padded.now }
@@ -154,9 +198,9 @@ fn put(block: &mut [u8; BLOCK], used: usize, reference: Reference) -> usize
     used + reference.length
 }
 
-fn put_padded(block: &mut [u8; BLOCK], used: usize, padded: &[u8; REFERENCE])
-    requires { used + REFERENCE ≤ BLOCK }
-    ensures length { length block.new ≡ BLOCK }
+fn put_padded(block: &mut [u8; HTML_BLOCK], used: usize, padded: &[u8; REFERENCE])
+    requires { used + REFERENCE ≤ HTML_BLOCK }
+    ensures length { length block.new ≡ HTML_BLOCK }
     ensures put { take (used + REFERENCE) block.new ≡ take used block.old ++ padded.now }
 {
     block[used..used + REFERENCE].copy_from_slice(padded);

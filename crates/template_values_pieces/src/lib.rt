@@ -4,4 +4,5 @@
 mod html;
 mod pieces;
 
+pub use html::{HTML_BLOCK, SHORT_TEXT, put_html};
 pub use pieces::{Markup, Quoting, push, push_bytes, push_quoted};
