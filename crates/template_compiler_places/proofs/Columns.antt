@@ -1,6 +1,6 @@
 -- Lines and columns of a text in parts.
-use Rattle.std.proofs.Common.{◌≡◌, ℕ, ◌+◌, ◌≤◌, min, Bool, true, false, if◌then◌else◌, List, [], ◌∷◌, ◌++◌, length, fold, count_by, refl, ap, ◌∙◌, add-zero, arith}
-use Rattle.std.proofs.lemmas.List.Sums.{fold-append, sum_by-append, sum_by_push}
+use Rattle.std.proofs.Common.{◌≡◌, ℕ, ◌+◌, ◌≤◌, min, Bool, true, false, if◌then◌else◌, List, [], ◌∷◌, ◌++◌, length, fold, count_by, refl, arith}
+use Rattle.std.proofs.lemmas.List.Sums.{sum_by-append}
 use Rattle.template_compiler_places.specs.Bytes.{is_newline, begins_character, next_column}
 
 -- no column is greater than its start and the bytes behind it
@@ -30,16 +30,3 @@ capped c s = same_capped (min c 65535) c s (omega arith)
 
 pub lines_append : (xs ys : List ℕ) → count_by is_newline (xs ++ ys) ≡ count_by is_newline xs + count_by is_newline ys
 lines_append xs ys = sum_by-append (λ x. if is_newline x then 1 else 0) xs ys
-
--- behind one byte more, which is a character of its line
-pub plain_line : (s : List ℕ) (b : ℕ) → is_newline b ≡ false → count_by is_newline (s ++ b ∷ []) ≡ count_by is_newline s
-plain_line s b none =
-    sum_by_push (λ x. if is_newline x then 1 else 0) s b ∙ ap (λ (y : Bool). count_by is_newline s + (if y then 1 else 0)) none ∙
-    add-zero (count_by is_newline s)
-
-pub plain_column : (s : List ℕ) (b : ℕ) → is_newline b ≡ false → begins_character b ≡ true →
-    fold next_column 0 (s ++ b ∷ []) ≡ fold next_column 0 s + 1
-plain_column s b none begins =
-    let c = fold next_column 0 s in
-    fold-append next_column 0 s (b ∷ []) ∙ ap (λ (x : Bool). if x then 0 else if begins_character b then c + 1 else c) none ∙
-    ap (λ (y : Bool). if y then c + 1 else c) begins

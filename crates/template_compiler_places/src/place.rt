@@ -1,6 +1,6 @@
 //! A place in a source.
-ghost use Rattle.std.specs.Prelude.{◌≡◌, ℕ, ◌+◌, IsTrue, true, false, ◌∷◌, ◌++◌, List, [], length, min, count_by, fold};
-ghost use Rattle.template_compiler_places.specs.Bytes.{is_newline, begins_character, next_column};
+ghost use Rattle.std.specs.Prelude.{◌≡◌, ℕ, ◌+◌, IsTrue, true, false, ◌++◌, List, [], length, min, count_by, fold};
+ghost use Rattle.template_compiler_places.specs.Bytes.{is_newline, begins_character, next_column, ArePlain};
 
 use template_tree::Span;
 
@@ -30,23 +30,22 @@ impl Place {
     pub fn after(self, text: &str) -> Place
         ensures { (before : List ℕ) → IsBehind before self → IsBehind (before ++ text.now) result }
     {
-        match text.as_bytes() {
-            [byte] if is_plain(*byte) => self.beside(),
-            bytes => self.after_bytes(bytes),
+        let bytes = text.as_bytes();
+        if are_plain(bytes) {
+            self.beside(bytes)
+        } else {
+            self.after_bytes(bytes)
         }
     }
 
-    // The place behind one byte that is a character of its line.
-    fn beside(self) -> Place
-        ensures { (before : List ℕ) (b : ℕ) → is_newline b ≡ false → begins_character b ≡ true → IsBehind before self
-            → IsBehind (before ++ b ∷ []) result }
+    // The place behind bytes of which each is a character of its line.
+    fn beside(self, bytes: &[u8]) -> Place
+        ensures { (before : List ℕ) → ArePlain bytes.now → IsBehind before self → IsBehind (before ++ bytes.now) result }
     {
-        let column = self.column.saturating_add(1);
-        let offset = self.offset.saturating_add(1);
         Place {
             line: self.line,
-            column,
-            offset,
+            column: saturate(self.column as usize + bytes.len()),
+            offset: saturate_offset(self.offset, bytes.len()),
         }
     }
 
@@ -76,7 +75,19 @@ impl Place {
     }
 }
 
-// An ASCII byte that is no newline. Most signs take one, and so does most white space between tokens.
+// Only ASCII bytes that are no newlines. Most tokens are made of them, and so is most white space between tokens.
+fn are_plain(bytes: &[u8]) -> bool
+    ensures { IsTrue result → ArePlain bytes.now }
+{
+    for byte in bytes {
+        if !is_plain(*byte) {
+            return false;
+        }
+    }
+    true
+}
+
+// An ASCII byte that is no newline.
 fn is_plain(byte: u8) -> bool
     ensures line { IsTrue result → is_newline byte ≡ false }
     ensures character { IsTrue result → begins_character byte ≡ true }

@@ -1,5 +1,5 @@
 //! What stands at the places of a source.
-ghost use Rattle.std.specs.Prelude.{◌≡◌, ◌≤◌, ◌<◌, ◌↔◌, ℕ, IsTrue, MatchOption, drop, length};
+ghost use Rattle.std.specs.Prelude.{◌≡◌, ◌≤◌, ◌<◌, ◌↔◌, ℕ, [], ◌∷◌, IsTrue, MatchOption, take, drop, length};
 ghost use Rattle.memchr.specs.Find.{FindsNeedle};
 ghost use Rattle.template_compiler_segments.specs.Places.{StandsAt, IsFirst, IsNowhere, IsLineEnd};
 ghost use Rattle.template_compiler_segments.specs.Places.{blanks_from as blanks_before, is_first_on_line as first_on_line, newline_len as newline_width, is_blank as blank};
@@ -19,7 +19,33 @@ pub fn stands_at(bytes: &[u8], at: usize, text: &[u8]) -> bool
     requires { at ≤ length bytes.now }
     ensures { IsTrue result ↔ StandsAt bytes.now at text.now }
 {
-    rest_from(bytes, at).starts_with(text)
+    begins_with(rest_from(bytes, at), text)
+}
+
+// Most delimiters are of two bytes, which are read at once.
+fn begins_with(rest: &[u8], text: &[u8]) -> bool
+    ensures { IsTrue result ↔ (take (length text.now) rest.now ≡ text.now) }
+{
+    match text {
+        [first, second] => begins_with_pair(rest, *first, *second),
+        _ => begins_with_text(rest, text),
+    }
+}
+
+fn begins_with_pair(rest: &[u8], first: u8, second: u8) -> bool
+    ensures { IsTrue result ↔ (take 2 rest.now ≡ first ∷ second ∷ []) }
+{
+    match rest {
+        [one, other, ..] => *one == first && *other == second,
+        _ => false,
+    }
+}
+
+#[inline(never)]
+fn begins_with_text(rest: &[u8], text: &[u8]) -> bool
+    ensures { IsTrue result ↔ (take (length text.now) rest.now ≡ text.now) }
+{
+    rest.starts_with(text)
 }
 
 /// The first place from `from` on at which the text stands, which is not empty.

@@ -1,5 +1,5 @@
 -- Signs and their symbols are told apart by their numbers.
-use Rattle.std.proofs.Common.{◌≡◌, ℕ, Bool, true, false, ◌==◌, if◌then◌else◌, List, [], ◌∷◌, Option, None, Some, option_map, refl, sym, ◌∙◌, ap, arith}
+use Rattle.std.proofs.Common.{◌≡◌, ℕ, true, false, ◌==◌, if◌then◌else◌, List, [], ◌∷◌, None, Some, option_map, refl, sym, ◌∙◌, ap, arith}
 use Rattle.std.proofs.lemmas.Bool.{eqb-true}
 use Rattle.std.proofs.lemmas.Bool.Decides.{nat_tests}
 use Rattle.template_compiler_stream.specs.Left.{passed}
@@ -7,7 +7,7 @@ use Rattle.template_compiler_tokens.specs.Token as token
 use Rattle.template_compiler_tokens.specs.Token.{Symbol, symbol}
 use Rattle.template_compiler_stream.specs.declared.sign.Sign.{Sign}
 use Rattle.template_compiler_stream.specs.declared.sign.Sign.TheVariants.{Plus, Minus, Mul, Div, FloorDiv, Pow, Mod, Dot, Comma, Colon, Tilde, Assign, Pipe, Eq, Ne, Gt, Gte, Lt, Lte, BracketOpen, BracketClose, ParenOpen, ParenClose, BraceOpen, BraceClose}
-use Rattle.template_compiler_stream.specs.Signs.{symbol_of, next_symbol, number_of, is_symbol, begins_symbol}
+use Rattle.template_compiler_stream.specs.Signs.{symbol_of, next_symbol, number_of, begins_symbol}
 
 sign_from : Symbol → Sign
 sign_from token.plus = Plus

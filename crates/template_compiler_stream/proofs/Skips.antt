@@ -1,6 +1,6 @@
 -- Two tokens that stand next, and texts.
-use Rattle.std.proofs.Common.{◌≡◌, ℕ, Bool, true, false, List, [], ◌∷◌, ◌++◌, Option, None, Some, Result, Ok, refl, ap, sym, ◌∙◌}
-use Rattle.template_compiler_tokens.specs.Token.{Token, symbol, identifier, string, bad, dot, assign}
+use Rattle.std.proofs.Common.{◌≡◌, ℕ, true, false, List, [], ◌∷◌, None, Some, Ok, refl, ap, sym}
+use Rattle.template_compiler_tokens.specs.Token.{Token, symbol, identifier, string, dot, assign}
 use Rattle.template_compiler_expressions.specs.Words.{begins_dotted}
 use Rattle.template_compiler_expressions.specs.Reader.{text_step}
 use Rattle.template_compiler_reading.specs.Steps.{goes, stops}

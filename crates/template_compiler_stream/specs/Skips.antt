@@ -1,5 +1,5 @@
 -- What is passed where it stands next.
-use Rattle.std.specs.Prelude.{◌≡◌, ℕ, Bool, true, false, List, [], ◌∷◌, ◌++◌, Option, None, Some, Result, Ok, Err}
+use Rattle.std.specs.Prelude.{◌≡◌, ℕ, Bool, true, false, List, ◌∷◌, ◌++◌, Option, None, Some, Result, Ok, Err}
 use Rattle.std.specs.Borrow.{Bor}
 use Rattle.template_compiler_tokens.specs.Token.{Token, Symbol, symbol, identifier, string, dot, assign}
 use Rattle.template_compiler_expressions.specs.Words.{begins_word, begins_dotted}

@@ -5,7 +5,7 @@ ghost use Rattle.template_compiler_tokens.specs.Token.{assign, bad_syntax};
 ghost use Rattle.template_compiler_expressions.specs.Words.{begins_bare};
 ghost use Rattle.template_compiler_expressions.specs.Reader.{begins_closing, begins_bound_end};
 ghost use Rattle.template_compiler_stream.specs.Refusals.{fault_of};
-ghost use Rattle.template_compiler_stream.specs.Left.{Peeks, ahead, ended, passed};
+ghost use Rattle.template_compiler_stream.specs.Left.{Peeks, Shows, ahead, behind, ended, passed};
 ghost use Rattle.template_compiler_stream.specs.Signs.{assigned_behind, begins_alone, begins_symbol, is_symbol, level_of, second_word, next_operator, next_comparison, next_symbol, next_word, symbol_of, word_in};
 ghost use Rattle.template_compiler_tokens.specs.View.{token_of};
 ghost use Rattle.template_compiler_stream.specs.Skips.{PutsText, SkipsDotted, SkipsKeyword, SkipsSign, SkipsText, SkipsWord};
@@ -34,82 +34,75 @@ pub enum First<'source> {
     Bad(Fault),
 }
 
-/// Tokens, the last one first, and what stands behind them where that is no token.
-#[derive(Drop)]
-pub struct Rest<'source> {
-    tokens: Vec<(Token<'source>, Span)>,
-    fault: Option<Fault>,
-}
-
-impl<'source> Model for Rest<'source> {
-    ghost use Rattle.std.specs.Prelude.{List};
-    ghost use Rattle.template_compiler_tokens.specs.Token as token;
-    ghost use Rattle.template_compiler_stream.specs.Left.{left_in};
-
-    ghost Value = { List token.Token };
-
-    ghost view = { λ s. left_in s.tokens.items s.fault };
-}
-
-impl<'source> Rest<'source> {
-    fn next(&mut self) -> First<'source>
-        ensures { self.old ≡ ahead result self.new }
-    {
-        match self.tokens.pop() {
-            Some((token, span)) => First::Token(token, span),
-            None => match self.fault {
-                Some(fault) => First::Bad(fault),
-                None => First::End,
-            },
-        }
-    }
-
-    // The next token, to look at.
-    fn peek(&self) -> Option<&Token<'source>>
-        ensures { Peeks self.now result }
-    {
-        match self.tokens.last() {
-            Some((token, _)) => Some(token),
-            None => None,
-        }
-    }
+/// The next token, to look at.
+#[derive(Clone, Copy)]
+pub enum Next<'stream, 'source> {
+    /// A token, and where it stands.
+    Token(&'stream Token<'source>, Span),
+    /// There is none.
+    End,
+    /// What stands here is no token.
+    Bad(Fault),
 }
 
 /// The tokens that are left. A contract sees them as a list.
 #[derive(Drop)]
 pub struct TokenStream<'source> {
-    first: First<'source>,
-    rest: Rest<'source>,
+    // All tokens in their order: those before the place were passed.
+    tokens: Vec<(Token<'source>, Span)>,
+    place: usize,
+    // What stands behind the tokens where that is none.
+    fault: Option<Fault>,
     last: Span,
 }
 
 impl<'source> Model for TokenStream<'source> {
     ghost use Rattle.std.specs.Prelude.{List};
     ghost use Rattle.template_compiler_tokens.specs.Token as token;
-    ghost use Rattle.template_compiler_stream.specs.Left.{ahead};
+    ghost use Rattle.template_compiler_stream.specs.Left.{left_in};
 
     ghost Value = { List token.Token };
 
-    ghost view = { λ s. ahead s.first s.rest };
+    ghost view = { λ s. left_in s.tokens.items s.place s.fault };
 }
 
 impl<'source> TokenStream<'source> {
-    /// A stream of tokens in their order, and of what stands behind them where that is no token. Takes no memory;
-    /// linear.
+    /// A stream of tokens in their order, and of what stands behind them where that is no token. Takes no memory, and
+    /// no time.
+    #[tactic(auto, unfolding(crate::specs::Left::left_in))]
     pub fn new(tokens: Vec<(Token<'source>, Span)>, fault: Option<Fault>) -> TokenStream<'source>
         ensures { result ≡ map (λ t. token_of t.0) tokens.entry.items ++ ended fault }
     {
-        let mut held = tokens;
-        held.reverse();
-        let mut rest = Rest {
-            tokens: held,
-            fault,
-        };
-        let first = rest.next();
         TokenStream {
-            first,
-            rest,
+            tokens,
+            place: 0,
+            fault,
             last: Span::default(),
+        }
+    }
+
+    // The next token, to look at.
+    #[inline(always)]
+    pub(crate) fn peek(&self) -> Next<'_, 'source>
+        ensures { Shows self.now result }
+    {
+        match self.tokens.get(self.place) {
+            Some((token, span)) => Next::Token(token, *span),
+            None => match self.fault {
+                Some(fault) => Next::Bad(fault),
+                None => Next::End,
+            },
+        }
+    }
+
+    // The token behind the next one, to look at.
+    #[inline(always)]
+    fn peek_second(&self) -> Option<&Token<'source>>
+        ensures { Peeks (behind self.now) result }
+    {
+        match self.tokens.get(self.place.saturating_add(1)) {
+            Some((token, _)) => Some(token),
+            None => None,
         }
     }
 
@@ -117,10 +110,10 @@ impl<'source> TokenStream<'source> {
     pub fn sign(&self) -> Option<Sign>
         ensures { option_map symbol_of result ≡ next_symbol self.now }
     {
-        match &self.first {
-            First::Token(token, _) => sign_of(token),
-            First::End => None,
-            First::Bad(_) => None,
+        match self.peek() {
+            Next::Token(token, _) => sign_of(token),
+            Next::End => None,
+            Next::Bad(_) => None,
         }
     }
 
@@ -128,19 +121,19 @@ impl<'source> TokenStream<'source> {
     pub fn word(&self) -> Option<&'source str>
         ensures { option_map (λ w. w.now) result ≡ next_word self.now }
     {
-        match &self.first {
-            First::Token(token, _) => word_of(token),
-            First::End => None,
-            First::Bad(_) => None,
+        match self.peek() {
+            Next::Token(token, _) => word_of(token),
+            Next::End => None,
+            Next::Bad(_) => None,
         }
     }
 
     /// Where the next token stands, or where the last one stood.
     pub fn span(&self) -> Span {
-        match &self.first {
-            First::Token(_, span) => *span,
-            First::End => self.last,
-            First::Bad(_) => self.last,
+        match self.peek() {
+            Next::Token(_, span) => span,
+            Next::End => self.last,
+            Next::Bad(_) => self.last,
         }
     }
 
@@ -158,13 +151,9 @@ impl<'source> TokenStream<'source> {
     pub fn advance(&mut self)
         ensures { self.new ≡ passed self.old }
     {
-        match &self.first {
-            First::Token(_, span) => {
-                self.last = *span;
-                self.first = self.rest.next();
-            }
-            First::End => {}
-            First::Bad(_) => {}
+        if let Some((_, span)) = self.tokens.get(self.place) {
+            self.last = *span;
+            self.place += 1;
         }
     }
 
@@ -172,10 +161,10 @@ impl<'source> TokenStream<'source> {
     pub fn closes(&self) -> bool
         ensures { result ≡ begins_closing self.now }
     {
-        match &self.first {
-            First::Token(token, _) => closes(token),
-            First::End => false,
-            First::Bad(_) => false,
+        match self.peek() {
+            Next::Token(token, _) => closes(token),
+            Next::End => false,
+            Next::Bad(_) => false,
         }
     }
 
@@ -183,10 +172,10 @@ impl<'source> TokenStream<'source> {
     pub fn ends_bound(&self) -> bool
         ensures { result ≡ begins_bound_end self.now }
     {
-        match &self.first {
-            First::Token(token, _) => ends_bound(token),
-            First::End => false,
-            First::Bad(_) => false,
+        match self.peek() {
+            Next::Token(token, _) => ends_bound(token),
+            Next::End => false,
+            Next::Bad(_) => false,
         }
     }
 
@@ -194,10 +183,10 @@ impl<'source> TokenStream<'source> {
     pub fn begins_argument(&self) -> bool
         ensures { result ≡ begins_bare self.now }
     {
-        match &self.first {
-            First::Token(token, _) => begins_argument(token),
-            First::End => false,
-            First::Bad(_) => false,
+        match self.peek() {
+            Next::Token(token, _) => begins_argument(token),
+            Next::End => false,
+            Next::Bad(_) => false,
         }
     }
 
@@ -205,13 +194,13 @@ impl<'source> TokenStream<'source> {
     pub fn begins_alone(&self) -> bool
         ensures { result ≡ begins_alone self.now }
     {
-        match &self.first {
-            First::Token(first, _) => match self.rest.peek() {
+        match self.peek() {
+            Next::Token(first, _) => match self.peek_second() {
                 Some(second) => is_end(second) && is_plain(first),
                 None => false,
             },
-            First::End => false,
-            First::Bad(_) => false,
+            Next::End => false,
+            Next::Bad(_) => false,
         }
     }
 
@@ -220,10 +209,10 @@ impl<'source> TokenStream<'source> {
         ensures operator { result ≡ next_operator (level_of level) self.old }
         ensures passed { self.new ≡ (if is_some result then passed self.old else self.old) }
     {
-        let found = match &self.first {
-            First::Token(token, _) => operator_of(level, token),
-            First::End => None,
-            First::Bad(_) => None,
+        let found = match self.peek() {
+            Next::Token(token, _) => operator_of(level, token),
+            Next::End => None,
+            Next::Bad(_) => None,
         };
         if found.is_some() {
             self.advance();
@@ -236,10 +225,10 @@ impl<'source> TokenStream<'source> {
         ensures operator { result ≡ next_comparison self.old }
         ensures passed { self.new ≡ (if is_some result then passed self.old else self.old) }
     {
-        let found = match &self.first {
-            First::Token(token, _) => comparison_of(token),
-            First::End => None,
-            First::Bad(_) => None,
+        let found = match self.peek() {
+            Next::Token(token, _) => comparison_of(token),
+            Next::End => None,
+            Next::Bad(_) => None,
         };
         if found.is_some() {
             self.advance();
@@ -251,10 +240,10 @@ impl<'source> TokenStream<'source> {
     pub fn fault(&self) -> Fault
         ensures { fault_of result ≡ fault self.now }
     {
-        match &self.first {
-            First::Token(token, _) => fault_at(token),
-            First::End => Fault::Syntax,
-            First::Bad(fault) => *fault,
+        match self.peek() {
+            Next::Token(token, _) => fault_at(token),
+            Next::End => Fault::Syntax,
+            Next::Bad(fault) => fault,
         }
     }
 
@@ -262,9 +251,16 @@ impl<'source> TokenStream<'source> {
     pub fn take(&mut self) -> First<'source>
         ensures { self.old ≡ ahead result self.new }
     {
-        self.last = self.span();
-        let next = self.rest.next();
-        mem::replace(&mut self.first, next)
+        if self.place < self.tokens.len() {
+            let (token, span) = mem::replace(&mut self.tokens[self.place], passed_token());
+            self.last = span;
+            self.place += 1;
+            return First::Token(token, span);
+        }
+        match self.fault {
+            Some(fault) => First::Bad(fault),
+            None => First::End,
+        }
     }
 
     /// Passes the sign, where it stands next.
@@ -317,13 +313,13 @@ impl<'source> TokenStream<'source> {
     pub fn second_word(&self) -> Option<&'source str>
         ensures { option_map (λ w. w.now) result ≡ second_word self.now }
     {
-        match &self.first {
-            First::Token(_, _) => match self.rest.peek() {
+        match self.peek() {
+            Next::Token(_, _) => match self.peek_second() {
                 Some(token) => word_of(token),
                 None => None,
             },
-            First::End => None,
-            First::Bad(_) => None,
+            Next::End => None,
+            Next::Bad(_) => None,
         }
     }
 
@@ -331,13 +327,13 @@ impl<'source> TokenStream<'source> {
     fn assigns(&self) -> bool
         ensures { result ≡ assigned_behind self.now }
     {
-        match &self.first {
-            First::Token(_, _) => match self.rest.peek() {
+        match self.peek() {
+            Next::Token(_, _) => match self.peek_second() {
                 Some(token) => assigns(token),
                 None => false,
             },
-            First::End => false,
-            First::Bad(_) => false,
+            Next::End => false,
+            Next::Bad(_) => false,
         }
     }
 
@@ -388,14 +384,14 @@ impl<'source> TokenStream<'source> {
     pub fn skip_text(&mut self, text: &mut String) -> Result<bool, AllocError>
         ensures { SkipsText (string_bytes text.old) self.old (string_bytes text.new) self.new result }
     {
-        match &self.first {
-            First::Token(token, _) => {
+        match self.peek() {
+            Next::Token(token, _) => {
                 if !put_text(token, text)? {
                     return Ok(false);
                 }
             }
-            First::End => return Ok(false),
-            First::Bad(_) => return Ok(false),
+            Next::End => return Ok(false),
+            Next::Bad(_) => return Ok(false),
         }
         self.advance();
         Ok(true)
@@ -410,6 +406,11 @@ pub fn until(start: Span, end: Span) -> Span {
         end_offset: end.end_offset,
         ..start
     }
+}
+
+// What a token that was taken leaves at its place.
+fn passed_token<'source>() -> (Token<'source>, Span) {
+    (Token::Plus, Span::default())
 }
 
 // Puts the text that a token is behind the text: whether it is one.

@@ -2,6 +2,7 @@
 use Rattle.std.proofs.Common.{◌≡◌, ℕ, ◌+◌, ◌-◌, ◌<◌, ◌≤◌, inl, inr, true, false, List, [], length, take, drop, Result, Ok, Err, refl, sym, ◌∙◌, ap, subst, arith}
 use Rattle.std.proofs.lemmas.Bool.{cases_lt}
 use Rattle.template_values_errors.specs.declared.ErrorKind.{ErrorKind}
+use Rattle.template_compiler_syntax.specs.declared.StartMarker.{StartMarker}
 use Rattle.template_compiler_syntax.specs.declared.StartMarker.TheVariants.{Comment}
 use Rattle.template_compiler_syntax.specs.Syntax.{Syntax, IsUsable, IsSet}
 use Rattle.std.specs.Str.{IsUtf8, IsCharBoundary}
@@ -9,7 +10,7 @@ use Rattle.template_compiler_segments.specs.declared.edges.Edge.{Edge}
 use Rattle.template_compiler_segments.specs.declared.edges.Edge.TheVariants.{Nothing}
 use Rattle.template_compiler_segments.specs.Places.{stretch, StandsAt, IsFirst, IsNowhere, IsLineEnd, is_first_on_line}
 use Rattle.std.specs.Prelude.{if◌then◌else◌}
-use Rattle.template_compiler_segments.specs.Segments.{HasNoStart, IsCommentEnd, inside_from}
+use Rattle.template_compiler_segments.specs.Segments.{HasNoStart, IsNextStart, IsCommentEnd, inside_from}
 use Rattle.template_compiler_segments.proofs.Some.{stands_below}
 use Rattle.template_compiler_tokenizer.specs.Left.{Placed, data_tokens}
 use Rattle.template_compiler_tokenizer.specs.Reads.{IsRefusedKind, IsStage, IsCut, ReadsPiece}
@@ -33,9 +34,15 @@ data_at_end x s usable =
       | inr some ↦ absurd (let long = some.0 in omega arith)
     ]
 
-pub stage_cut : (s : List ℕ) (at : Stage) (i : ℕ) → IsStage s at i → IsCharBoundary s i
-stage_cut s (stage.Data left) i cut = cut
-stage_cut s (stage.Inside k d) i cut = cut.0
+pub stage_cut : (x : Syntax) (s : List ℕ) (at : Stage) (i : ℕ) → IsStage x s at i → IsCharBoundary s i
+stage_cut x s (stage.Data left) i cut = cut
+stage_cut x s (stage.Start k) i cut = cut.0
+stage_cut x s (stage.Inside k d) i cut = cut.0
+
+-- a start marker that is the next one is so at its own place too
+pub start_here : (x : Syntax) (s : List ℕ) (from i : ℕ) (k : StartMarker) → IsNextStart x s from i k → IsNextStart x s i i k
+start_here x s from i k start =
+    record { ahead = omega arith; here = start.here; longest = start.longest; leftmost = λ j low high. absurd (omega arith) }
 
 cut_from : (s : List ℕ) (from start : ℕ) (piece : Piece) → from ≤ start → IsCut s start piece → IsCut s from piece
 cut_from s from start piece low cut = record {

@@ -6,7 +6,7 @@ use Rattle.template_compiler_syntax.specs.Syntax.{Syntax}
 use Rattle.template_compiler_tokens.specs.Token.{Token, template_data, variable_start, variable_end, block_start, block_end, bad}
 use Rattle.template_compiler_tokens.proofs.OneToken.{one_token, some_token}
 use Rattle.template_compiler_segments.specs.declared.edges.Edge.{Edge}
-use Rattle.template_compiler_segments.specs.declared.edges.Edge.TheVariants.{Beside}
+use Rattle.template_compiler_segments.specs.declared.edges.Edge.TheVariants.{Nothing, Beside}
 use Rattle.template_compiler_segments.specs.Places.{stretch}
 use Rattle.template_compiler_segments.specs.Segments.{inside_from, Ending, HasInside, ended, blank, token, no_token, Piece, data_piece, segment, raw_piece, endless_piece}
 use Rattle.template_compiler_segments.specs.Stripping.{stripped}
@@ -99,4 +99,5 @@ inside_tokens x s k d i = inside_of x s k d i ++ behind_ending x s k (ending_of 
 -- the tokens that are left at a stage, from a place on
 abbrev pub left_at : Syntax → List ℕ → Stage → ℕ → List Placed
 left_at x s (stage.Data left) i = data_tokens x s left i
+left_at x s (stage.Start k) i = data_tokens x s Nothing i
 left_at x s (stage.Inside k d) i = inside_tokens x s k d i

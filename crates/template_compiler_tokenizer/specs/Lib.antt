@@ -4,5 +4,6 @@ pub mod Finds
 pub mod Reads
 pub mod Steps
 pub mod Read
+pub mod Held
 pub mod Tokenizer
 pub mod Stream

@@ -5,6 +5,7 @@ use Rattle.template_values_errors.specs.declared.ErrorKind.{ErrorKind}
 use Rattle.template_values_errors.specs.declared.ErrorKind.TheVariants.{OutOfMemory}
 use Rattle.template_compiler_syntax.specs.declared.StartMarker.{StartMarker}
 use Rattle.template_compiler_syntax.specs.Syntax.{Syntax}
+use Rattle.template_compiler_segments.specs.Segments.{IsNextStart}
 use Rattle.template_compiler_tokens.specs.Token.{TokenFault, bad}
 use Rattle.template_compiler_tokens.specs.Left.{kind_of}
 use Rattle.template_compiler_tokens.specs.View.{token_of}
@@ -19,10 +20,12 @@ IsRefusedKind left kind =
     (kind ≡ OutOfMemory) ⊎
     ((fault : TokenFault) × (begin : ℕ) × (end : ℕ) × (left ≡ placed (bad fault) begin end ∷ []) × (kind ≡ kind_of fault))
 
--- a stage can be gone on from at the place: it stands between characters, and no more brackets are open than bytes were read
-abbrev pub IsStage : List ℕ → Stage → ℕ → Type 0
-IsStage s (stage.Data left) i = IsCharBoundary s i
-IsStage s (stage.Inside k d) i = IsCharBoundary s i × (d ≤ i)
+-- a stage can be gone on from at the place: it stands between characters, a start marker that it tells stands there, and
+-- no more brackets are open than bytes were read
+abbrev pub IsStage : Syntax → List ℕ → Stage → ℕ → Type 0
+IsStage x s (stage.Data left) i = IsCharBoundary s i
+IsStage x s (stage.Start k) i = IsCharBoundary s i × IsNextStart x s i i k
+IsStage x s (stage.Inside k d) i = IsCharBoundary s i × (d ≤ i)
 
 -- the text of what was read from a place on stands between characters, and before what follows
 pub record IsCut (s : List ℕ) (from : ℕ) (piece : Piece) : Type 0 where
@@ -36,7 +39,7 @@ pub record IsCut (s : List ℕ) (from : ℕ) (piece : Piece) : Type 0 where
 -- the first of the tokens that are left, where it stands, and where those behind it begin
 pub record ReadsPiece (x : Syntax) (s : List ℕ) (from : ℕ) (left : List Placed) (piece : Piece) : Type 0 where
   pub first : left ≡ placed (token_of piece.token) (piece.begin) (piece.end) ∷ left_at x s piece.stage piece.next
-  pub stage : IsStage s piece.stage piece.next
+  pub stage : IsStage x s piece.stage piece.next
   pub cut : IsCut s from piece
 
 abbrev pub Reads : Syntax → List ℕ → ℕ → List Placed → Result Piece ErrorKind → Type 0

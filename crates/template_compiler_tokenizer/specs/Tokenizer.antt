@@ -42,6 +42,6 @@ view_of name whole x s state i = record {
 
 -- it can read on from its place; or what stands there is refused
 abbrev pub IsStanding : Syntax → List ℕ → StartFinder → State → ℕ → Place → Type 0
-IsStanding x s finder (Reading stage) i place = IsStage s stage i × Knows x s i finder × IsBehind (take i s) place
+IsStanding x s finder (Reading stage) i place = IsStage x s stage i × Knows x s i finder × IsBehind (take i s) place
 IsStanding x s finder Ended i place = Unit {0}
 IsStanding x s finder (Refused kind stage) i place = IsRefusedKind (left_at x s stage i) kind

@@ -104,15 +104,15 @@ fn before_start<'source>(
     let begin = data_start(source, syntax, left, from, start);
     Ok(Step::Reads(Piece {
         token: Token::TemplateData(text),
-        stage: Stage::Data(Edge::Nothing),
+        stage: Stage::Start(kind),
         begin,
         end: begin + text.len(),
         next: start,
     }))
 }
 
-// What begins at a start marker.
-fn enter<'source>(
+/// What begins at a start marker.
+pub(crate) fn enter<'source>(
     alloc: Global,
     source: &'source str,
     syntax: &SyntaxConfig,

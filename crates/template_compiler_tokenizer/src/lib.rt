@@ -2,6 +2,7 @@
 #![tactic(auto)]
 
 mod ahead;
+mod all;
 mod data;
 mod ends;
 mod inside;

@@ -7,6 +7,8 @@ use template_compiler_syntax::StartMarker;
 pub enum Stage {
     /// Data, behind this.
     Data(Edge),
+    /// The start marker of a segment of the kind.
+    Start(StartMarker),
     /// The inside of a segment of the kind, where so many brackets are open.
     Inside(StartMarker, usize),
 }

@@ -3,6 +3,7 @@ ghost use Rattle.std.specs.Prelude.{◌≤◌, take};
 ghost use Rattle.std.specs.Str.{IsCharBoundary};
 ghost use Rattle.template_compiler_places.specs.Places.{IsBehind};
 
+use crate::all::{Standing, read_all};
 use crate::inside::Piece;
 use crate::read::next_piece;
 use crate::stage::Stage;
@@ -55,7 +56,8 @@ impl<'source> Tokenizer<'source> {
     ghost use Rattle.std.specs.Prelude.{◌≡◌, ◌∷◌, [], MatchOption, IsOk};
     ghost use Rattle.template_compiler_tokens.specs.Left.{Takes};
     ghost use Rattle.template_compiler_segments.specs.Flat.{IsTokens};
-    ghost use Rattle.template_compiler_tokenizer.specs.Spans.{HasSpans, TakesSpan};
+    ghost use Rattle.template_compiler_tokenizer.specs.Spans.{HasSpans, TakesSpan, words_in};
+    ghost use Rattle.template_compiler_tokenizer.specs.Held.{TakesAll, spanned_of};
 
     /// A tokenizer at the start of a template's source under a syntax.
     pub fn new(
@@ -97,6 +99,39 @@ impl<'source> Tokenizer<'source> {
         ensures { result.now ≡ self.now.source }
     {
         self.source
+    }
+
+    /// Reads the tokens that are left, and puts them behind those that are held, each with where it stands. Linear in
+    /// what is left.
+    ///
+    /// # Errors
+    ///
+    /// Where no token stands, the kind that says why, and `OutOfMemory`: the tokens before are held then.
+    pub fn read_all(self, tokens: &mut Vec<(Token<'source>, Span)>) -> Result<(), Error>
+        ensures taken { TakesAll (spanned_of tokens.old.items) self.entry.spans (spanned_of tokens.new.items) result }
+        ensures words { words_in self.entry.spans ≡ self.entry.left }
+    {
+        let Tokenizer {
+            alloc,
+            text,
+            syntax,
+            finder,
+            state,
+            from,
+            place,
+            ..
+        } = self;
+        let stage = match state {
+            State::Reading(stage) => stage,
+            State::Ended => return Ok(()),
+            State::Refused(kind, _) => return Err(Error::new(kind)),
+        };
+        let first = Standing { stage, from, place };
+        let mut finder = finder;
+        match read_all(alloc, text, &syntax, &mut finder, first, tokens) {
+            Ok(()) => Ok(()),
+            Err(kind) => Err(Error::new(kind)),
+        }
     }
 
     /// The next token and where it stands; none at the end. Linear in what it passes.
@@ -152,7 +187,7 @@ impl<'source> Tokenizer<'source> {
 }
 
 // The place further on in a text.
-fn place_at(text: &str, place: Place, from: usize, to: usize) -> Place
+pub(crate) fn place_at(text: &str, place: Place, from: usize, to: usize) -> Place
     requires ordered { from ≤ to }
     requires start { IsCharBoundary text.now from }
     requires end { IsCharBoundary text.now to }

@@ -3,7 +3,7 @@ ghost use Rattle.std.specs.Prelude.{◌≡◌, option_map};
 ghost use Rattle.template_compiler_stream.specs.Tags.{begins_block_end, begins_block_start, begins_variable_end, begins_variable_start, is_block_end, is_block_start, is_done, is_variable_end, is_variable_start, next_text, text_in};
 ghost use Rattle.template_compiler_tokens.specs.View.{token_of};
 
-use crate::stream::{First, TokenStream};
+use crate::stream::{Next, TokenStream};
 use template_compiler_tokens::Token;
 
 impl<'source> TokenStream<'source> {
@@ -11,10 +11,10 @@ impl<'source> TokenStream<'source> {
     pub fn starts_print(&self) -> bool
         ensures { result ≡ begins_variable_start self.now }
     {
-        match &self.first {
-            First::Token(token, _) => is_variable_start(token),
-            First::End => false,
-            First::Bad(_) => false,
+        match self.peek() {
+            Next::Token(token, _) => is_variable_start(token),
+            Next::End => false,
+            Next::Bad(_) => false,
         }
     }
 
@@ -22,10 +22,10 @@ impl<'source> TokenStream<'source> {
     pub fn ends_print(&self) -> bool
         ensures { result ≡ begins_variable_end self.now }
     {
-        match &self.first {
-            First::Token(token, _) => is_variable_end(token),
-            First::End => false,
-            First::Bad(_) => false,
+        match self.peek() {
+            Next::Token(token, _) => is_variable_end(token),
+            Next::End => false,
+            Next::Bad(_) => false,
         }
     }
 
@@ -33,10 +33,10 @@ impl<'source> TokenStream<'source> {
     pub fn starts_tag(&self) -> bool
         ensures { result ≡ begins_block_start self.now }
     {
-        match &self.first {
-            First::Token(token, _) => is_block_start(token),
-            First::End => false,
-            First::Bad(_) => false,
+        match self.peek() {
+            Next::Token(token, _) => is_block_start(token),
+            Next::End => false,
+            Next::Bad(_) => false,
         }
     }
 
@@ -44,10 +44,10 @@ impl<'source> TokenStream<'source> {
     pub fn ends_tag(&self) -> bool
         ensures { result ≡ begins_block_end self.now }
     {
-        match &self.first {
-            First::Token(token, _) => is_block_end(token),
-            First::End => false,
-            First::Bad(_) => false,
+        match self.peek() {
+            Next::Token(token, _) => is_block_end(token),
+            Next::End => false,
+            Next::Bad(_) => false,
         }
     }
 
@@ -55,10 +55,10 @@ impl<'source> TokenStream<'source> {
     pub fn text(&self) -> Option<&'source str>
         ensures { option_map (λ w. w.now) result ≡ next_text self.now }
     {
-        match &self.first {
-            First::Token(token, _) => text_of(token),
-            First::End => None,
-            First::Bad(_) => None,
+        match self.peek() {
+            Next::Token(token, _) => text_of(token),
+            Next::End => None,
+            Next::Bad(_) => None,
         }
     }
 
@@ -66,10 +66,10 @@ impl<'source> TokenStream<'source> {
     pub fn is_done(&self) -> bool
         ensures { result ≡ is_done self.now }
     {
-        match &self.first {
-            First::Token(_, _) => false,
-            First::End => true,
-            First::Bad(_) => false,
+        match self.peek() {
+            Next::Token(_, _) => false,
+            Next::End => true,
+            Next::Bad(_) => false,
         }
     }
 }

@@ -8,7 +8,7 @@ use Rattle.std.specs.Str.{IsCharBoundary}
 use Rattle.template_compiler_tokens.specs.Token.{template_data}
 use Rattle.template_compiler_tokenizer.specs.Left.{placed, data_tokens}
 use Rattle.template_compiler_tokenizer.proofs.Steps.{data_next}
-use Rattle.template_compiler_tokenizer.proofs.Parts.{steps_from, data_cut}
+use Rattle.template_compiler_tokenizer.proofs.Parts.{steps_from, data_cut, start_here}
 use Rattle.template_compiler_tokenizer.proofs.data.before_start.Goals as goal
 
 pub returns-then-is_nothing : goal.returns-then-is_nothing
@@ -59,7 +59,7 @@ returns c =
           record {
             first =
                 some.1 ∙ ap (λ b. placed (template_data text) b (b + length text) ∷ data_tokens x s Nothing start) (sym at);
-            stage = c.inside_from-inside.ensures.start;
+            stage = (c.inside_from-inside.ensures.start, start_here x s from start kind c.requires.start);
             cut = record {
               low = ahead;
               ordered = omega arith;

@@ -1,0 +1,14 @@
+use Rattle.std.proofs.Common.{length}
+use Rattle.template_compiler_tokenizer.specs.Held.{StandsIn, left_of, HoldsRead, IsFurther}
+use Rattle.template_compiler_tokenizer.proofs.all.read_segment.Given as goal
+
+-- the tokens that were passed are held
+abbrev pub invariant-loop-at : goal.invariant-loop-at
+invariant-loop-at l = record {
+  stands : StandsIn l.syntax l.source l.at;
+  held : HoldsRead l.source l.fn.tokens.items (left_of l.syntax l.source l.fn.first) l.tokens.items (left_of l.syntax l.source l.at);
+  further : IsFurther l.syntax l.source l.fn.first l.at;
+}
+
+abbrev pub decreases-loop-at : goal.decreases-loop-at
+decreases-loop-at l = length (left_of l.syntax l.source l.at)

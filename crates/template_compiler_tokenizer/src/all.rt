@@ -1,0 +1,116 @@
+// All tokens that are left, in one go.
+ghost use Rattle.std.specs.Prelude.{◌≡◌, ◌∷◌, [], ◌++◌, take, MatchResult};
+ghost use Rattle.std.specs.Str.{IsCharBoundary};
+ghost use Rattle.template_compiler_places.specs.Places.{IsBehind};
+ghost use Rattle.template_compiler_segments.specs.Known.{Knows};
+ghost use Rattle.template_compiler_tokenizer.specs.Held.{Holds, ReadsAll, ReadsSome, StandsIn, left_of};
+ghost use Rattle.template_compiler_tokenizer.specs.Reads.{IsCut};
+
+use crate::inside::{Piece, next_inside};
+use crate::read::next_piece;
+use crate::stage::Stage;
+use crate::tokenizer::place_at;
+use std::alloc::Global;
+use template_compiler_places::Place;
+use template_compiler_segments::StartFinder;
+use template_compiler_syntax::SyntaxConfig;
+use template_compiler_tokens::Token;
+use template_tree::Span;
+use template_values_errors::ErrorKind;
+
+/// Where a reader stands in a source.
+#[derive(Clone, Copy)]
+pub struct Standing {
+    pub stage: Stage,
+    pub from: usize,
+    pub place: Place,
+}
+
+/// Reads the tokens that are left, and puts them behind those that are held.
+pub(crate) fn read_all<'source>(
+    alloc: Global,
+    source: &'source str,
+    syntax: &SyntaxConfig,
+    finder: &mut StartFinder,
+    first: Standing,
+    tokens: &mut Vec<(Token<'source>, Span)>,
+) -> Result<(), ErrorKind>
+    requires stands { StandsIn syntax.now source.now first }
+    requires knows { Knows syntax.now source.now first.from finder.old }
+    ensures { ReadsAll source.now tokens.old.items (left_of syntax.now source.now first) tokens.new.items result }
+{
+    let mut at = first;
+    loop {
+        at = read_segment(alloc, source, syntax, at, tokens)?;
+        match next_piece(alloc, source, syntax, finder, at.stage, at.from) {
+            Ok(Some(piece)) => at = hold(source, at, piece, tokens)?,
+            Ok(None) => return Ok(()),
+            Err(refused) => return Err(refused),
+        }
+    }
+}
+
+// Reads the tokens of the segment that the reader stands in, if it does, with its end.
+fn read_segment<'source>(
+    alloc: Global,
+    source: &'source str,
+    syntax: &SyntaxConfig,
+    first: Standing,
+    tokens: &mut Vec<(Token<'source>, Span)>,
+) -> Result<Standing, ErrorKind>
+    requires { StandsIn syntax.now source.now first }
+    ensures { ReadsSome syntax.now source.now tokens.old.items first tokens.new.items result }
+{
+    let mut at = first;
+    while let Stage::Inside(kind, depth) = at.stage {
+        match next_inside(alloc, source, syntax, kind, depth, at.from) {
+            Ok(piece) => at = hold(source, at, piece, tokens)?,
+            Err(refused) => return Err(refused),
+        }
+    }
+    Ok(at)
+}
+
+// Puts a token that was read from where the reader stands behind those that are held.
+fn hold<'source>(
+    source: &str,
+    at: Standing,
+    piece: Piece<'source>,
+    tokens: &mut Vec<(Token<'source>, Span)>,
+) -> Result<Standing, ErrorKind>
+    requires cut { IsCut source.now at.from piece }
+    requires from { IsCharBoundary source.now at.from }
+    requires place { IsBehind (take at.from source.now) at.place }
+    ensures { Holds source.now piece.entry tokens.old.items tokens.new.items result }
+{
+    let Piece {
+        token,
+        stage,
+        begin,
+        end,
+        next,
+    } = piece;
+    let start = place_at(source, at.place, at.from, begin);
+    let stop = place_at(source, start, begin, end);
+    let place = place_at(source, stop, end, next);
+    push(tokens, token, start.to(stop))?;
+    Ok(Standing {
+        stage,
+        from: next,
+        place,
+    })
+}
+
+fn push<'source>(
+    tokens: &mut Vec<(Token<'source>, Span)>,
+    token: Token<'source>,
+    span: Span,
+) -> Result<(), ErrorKind>
+    ensures { MatchResult result (λ _. tokens.new.items ≡ tokens.old.items ++ (token.entry, span) ∷ [])
+        (λ kind. (tokens.new.items ≡ tokens.old.items) × (kind ≡ ErrorKind.OutOfMemory)) }
+{
+    match tokens.push((token, span)) {
+        Ok(()) => Ok(()),
+        Err(_refused) => Err(ErrorKind::OutOfMemory),
+    }
+}
