@@ -19,16 +19,12 @@ pub fn read_tokens<'source>(
     ensures tokens { IfOk result (λ stream. stream ≡ tokenizer.entry.left) }
     ensures refused { IfErr result (λ refusal. refusal ≡ refusals.OutOfMemory) }
 {
-    let mut tokenizer = tokenizer;
     let mut tokens = Vec::new(alloc);
-    loop {
-        match tokenizer.next_token() {
-            Ok(Some(token)) => tokens.push(token)?,
-            Ok(None) => return Ok(TokenStream::new(tokens, None)),
-            Err(error) => match fault_of(error.kind()) {
-                Some(fault) => return Ok(TokenStream::new(tokens, Some(fault))),
-                None => return Err(Refusal::OutOfMemory),
-            },
-        }
+    match tokenizer.read_all(&mut tokens) {
+        Ok(()) => Ok(TokenStream::new(tokens, None)),
+        Err(error) => match fault_of(error.kind()) {
+            Some(fault) => Ok(TokenStream::new(tokens, Some(fault))),
+            None => Err(Refusal::OutOfMemory),
+        },
     }
 }

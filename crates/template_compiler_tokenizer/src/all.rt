@@ -72,6 +72,7 @@ fn read_segment<'source>(
 }
 
 // Puts a token that was read from where the reader stands behind those that are held.
+#[inline(always)]
 fn hold<'source>(
     source: &str,
     at: Standing,
@@ -101,6 +102,7 @@ fn hold<'source>(
     })
 }
 
+#[inline(always)]
 fn push<'source>(
     tokens: &mut Vec<(Token<'source>, Span)>,
     token: Token<'source>,

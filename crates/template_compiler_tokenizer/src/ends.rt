@@ -19,6 +19,7 @@ pub(crate) fn is_white_at(bytes: &[u8], place: usize) -> bool
 }
 
 /// The sign of the segment's end that stands at the place, and the place behind that end.
+#[inline(always)]
 pub(crate) fn end_at(
     bytes: &[u8],
     syntax: &SyntaxConfig,
@@ -46,6 +47,7 @@ pub(crate) fn end_at(
 }
 
 // The end delimiter at a token's place.
+#[inline(always)]
 fn delimited_end_at(bytes: &[u8], end: &[u8], place: usize) -> Option<(Sign, usize)>
     requires { place ≤ length bytes.now }
     ensures { FindsDelimitedEnd bytes.now end.now place result }
@@ -71,6 +73,7 @@ fn line_end_at(bytes: &[u8], place: usize) -> Option<(Sign, usize)>
     }
 }
 
+#[inline(always)]
 fn delimiter_at(bytes: &[u8], end: &[u8], place: usize) -> Option<(Sign, usize)>
     requires { place ≤ length bytes.now }
     ensures { FindsDelimiter bytes.now end.now place result }

@@ -26,6 +26,7 @@ pub(crate) enum Found {
 }
 
 /// What stands behind the white space at a place inside a segment, where so many brackets are open.
+#[inline(always)]
 pub(crate) fn next_place(
     source: &str,
     syntax: &SyntaxConfig,
@@ -62,6 +63,7 @@ pub(crate) struct Piece<'source> {
 }
 
 /// The next token inside a segment from a place on, where so many brackets are open.
+#[inline(always)]
 pub(crate) fn next_inside<'source>(
     alloc: Global,
     source: &'source str,

@@ -1,4 +1,4 @@
-use Rattle.std.proofs.Common.{rules, ◌≡◌, ◌<◌, ◌++◌, length, map, sym, subst, arith}
+use Rattle.std.proofs.Common.{rules, ◌≡◌, ◌<◌, ◌++◌, length, map, sym, subst}
 use Rattle.template_compiler_stream.specs.Refusals.{fault_of}
 use Rattle.template_compiler_tokens.specs.View.{token_of}
 use Rattle.template_compiler_source_tokens.specs.Spelled.{IsSpelled}
