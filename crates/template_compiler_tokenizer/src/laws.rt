@@ -7,6 +7,7 @@ ghost use Rattle.template_compiler_tokenizer.specs.Spans.{Spanned, words_in, Has
 /// The tokens of a source with their spans are one list, and without the spans they are its tokens.
 pub fn one_list_of_spans()
     ensures some { (x : Syntax) (source : List ℕ) → (tokens : List Spanned) × HasSpans x source tokens }
-    ensures one { (x : Syntax) (source : List ℕ) (ts us : List Spanned) → IsUsable x → HasSpans x source ts → HasSpans x source us → ts ≡ us }
+    ensures one { (x : Syntax) (source : List ℕ) (ts us : List Spanned) → IsUsable x → HasSpans x source ts → HasSpans x source us →
+        ts ≡ us }
     ensures words { (x : Syntax) (source : List ℕ) (ts : List Spanned) → HasSpans x source ts → IsTokens x source (words_in ts) }
 {}

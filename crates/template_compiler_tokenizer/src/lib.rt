@@ -19,4 +19,3 @@ pub use laws::one_list_of_spans;
 pub use stream::TokenStream;
 pub use template_compiler_syntax::StartMarker;
 pub use tokenizer::Tokenizer;
-

@@ -86,7 +86,8 @@ pub(crate) fn chosen<'env, T: Templates>(
     value: Value,
 ) -> Result<Option<Compiled<'env>>, Error>
     ensures found { IfOk result (λ found. chosen (T.standing templates.now) ignore_missing value ≡ Ok (option_map standing_of found)) }
-    ensures refused { IfErr result (λ kinds. NoMemory kinds ⊎ (answered (chosen (T.standing templates.now) ignore_missing value) ≡ Err kinds)) }
+    ensures refused { IfErr result (λ kinds. NoMemory kinds ⊎ (answered (chosen (T.standing templates.now) ignore_missing value) ≡
+        Err kinds)) }
 {
     let choices = choices_in(alloc, value, &NoRecords)?;
     chosen_among(templates, ignore_missing, &choices)

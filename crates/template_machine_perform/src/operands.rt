@@ -74,7 +74,8 @@ fn operator_of(instruction: &Instruction<'_>) -> Option<BinOpKind>
 // Builds a list; a counted run of values is not there yet.
 fn build_list_of(alloc: Global, count: Option<usize>, operands: &mut Operands) -> Result<(), Error>
     ensures { (program : ℕ → List ℕ → Option Program) (limit : ℕ) (mode : UndefinedBehavior) (w : World) →
-        Performs (ruled program limit mode) (counted_code build_list count) (operands_in operands.old) w result (operands_in operands.new) w }
+        Performs (ruled program limit mode) (counted_code build_list count) (operands_in operands.old) w result
+        (operands_in operands.new) w }
 {
     match count {
         Some(count) => build_list(alloc, count, operands),
@@ -85,7 +86,8 @@ fn build_list_of(alloc: Global, count: Option<usize>, operands: &mut Operands) -
 // Builds a tuple; a counted run of values is not there yet.
 fn build_tuple_of(alloc: Global, count: Option<usize>, operands: &mut Operands) -> Result<(), Error>
     ensures { (program : ℕ → List ℕ → Option Program) (limit : ℕ) (mode : UndefinedBehavior) (w : World) →
-        Performs (ruled program limit mode) (counted_code build_tuple count) (operands_in operands.old) w result (operands_in operands.new) w }
+        Performs (ruled program limit mode) (counted_code build_tuple count) (operands_in operands.old) w result
+        (operands_in operands.new) w }
 {
     match count {
         Some(count) => build_tuple(alloc, count, operands),
