@@ -125,9 +125,13 @@ fn word<'source>(alloc: Global, name: &'source str, span: Span) -> Result<Expr<'
     }
 }
 
+// Told from most names by their length.
 fn literal_word(name: &str) -> Option<Value>
     ensures { result ≡ literal_word name.now }
 {
+    if name.len() < 4 || 5 < name.len() {
+        return None;
+    }
     match name {
         "true" => Some(Value::from_bool(true)),
         "True" => Some(Value::from_bool(true)),
