@@ -3,15 +3,23 @@ use Rattle.std.specs.Prelude.{◌≡◌, ◌⊎◌, List, [], ◌∷◌, ◌++�
 use Rattle.template_values_errors.specs.declared.ErrorKind.{ErrorKind}
 use Rattle.template_values_errors.specs.declared.ErrorKind.TheVariants.{TooLarge, OutOfMemory}
 use Rattle.template_values_model.specs.Val.{Val}
+use Rattle.template_code_marks.specs.declared.marks.Mark.{Mark}
 use Rattle.template_code.specs.Code.{load_const}
-use Rattle.template_code.specs.Listing.{code_in, IsSameTemplate}
+use Rattle.template_code.specs.Listing.{name_in, source_in, code_in, places_in}
 use Rattle.template_code.specs.declared.listing.Instructions.{Instructions}
 use Rattle.template_compiler_codegen.specs.Expressions.{Coded, nothing, one, then_code}
+
+-- the name and the source stay, and so does where instructions come from: marks come behind the others alone
+pub record Keeps (old new : Instructions) : Type 0 where
+  pub name : name_in new ≡ name_in old
+  pub source : source_in new ≡ source_in old
+  pub later : List Mark
+  pub places : places_in new ≡ places_in old ++ later
 
 -- a piece of code stands behind the instructions, from the place where they ended
 pub record Puts (piece : Coded) (old new : Instructions) : Type 0 where
   pub code : code_in new ≡ code_in old ++ piece (length (code_in old))
-  pub same : IsSameTemplate old new
+  pub same : Keeps old new
 
 -- there would be too many instructions, or a growth was refused
 abbrev pub NoRoom : List ErrorKind → Type 0

@@ -1,13 +1,15 @@
 //! Instructions that are put behind others, and jumps whose targets are told later.
 ghost use Rattle.std.specs.Prelude.{◌≡◌, OnOk, IfOk, IfErr, length};
 ghost use Rattle.std.proofs.Math.ListN.{set};
+ghost use Rattle.template_code.specs.Code.{load_const};
 ghost use Rattle.template_code.specs.View.{code_of};
-ghost use Rattle.template_code.specs.Listing.{code_in, IsSameTemplate};
+ghost use Rattle.template_code.specs.Listing.{code_in};
 ghost use Rattle.template_compiler_codegen.specs.Expressions.{one};
 ghost use Rattle.template_compiler_emission.specs.Leaps.{leap_code};
-ghost use Rattle.template_compiler_emission.specs.Puts.{Puts, NoRoom, held};
+ghost use Rattle.template_compiler_emission.specs.Puts.{Keeps, Puts, NoRoom, held};
 
 use template_code::{Instruction, Instructions};
+use template_tree::Span;
 use template_values_core::Value;
 use template_values_errors::Error;
 
@@ -41,61 +43,117 @@ impl Leap {
     }
 }
 
-/// Puts one instruction behind the others.
+// Puts one instruction behind the others, and answers its place. It comes from a span of the source, or else from
+// where the one before it comes.
+#[inline(always)]
+fn add_from<'source>(
+    code: &mut Instructions<'source>,
+    instruction: Instruction<'source>,
+    from: Option<Span>,
+) -> Result<u32, Error>
+    ensures place { IfOk result (λ place. place ≡ length (code_in code.old)) }
+    ensures put { OnOk result (Puts (one (code_of instruction.entry)) code.old code.new) }
+    ensures refused { IfErr result NoRoom }
+{
+    match from {
+        Some(span) => add_at(code, instruction, span),
+        None => code.add(instruction),
+    }
+}
+
+// Puts one instruction behind the others, which comes from a span of the source, and answers its place.
+#[inline(never)]
+fn add_at<'source>(
+    code: &mut Instructions<'source>,
+    instruction: Instruction<'source>,
+    span: Span,
+) -> Result<u32, Error>
+    ensures place { IfOk result (λ place. place ≡ length (code_in code.old)) }
+    ensures put { OnOk result (Puts (one (code_of instruction.entry)) code.old code.new) }
+    ensures refused { IfErr result NoRoom }
+{
+    code.add_with_span(instruction, span)
+}
+
+/// Puts one instruction behind the others. It comes from a span of the source, or else from where the one before it
+/// comes.
 ///
 /// # Errors
 ///
 /// Those of [`Instructions::add`].
+#[inline(always)]
 pub fn put<'source>(
     code: &mut Instructions<'source>,
     instruction: Instruction<'source>,
+    from: Option<Span>,
 ) -> Result<(), Error>
     ensures put { OnOk result (Puts (one (code_of instruction.entry)) code.old code.new) }
     ensures refused { IfErr result NoRoom }
 {
-    code.add(instruction)?;
+    add_from(code, instruction, from)?;
     Ok(())
 }
 
-/// Puts a jump behind the others whose target is told later, and answers its place.
+/// Puts a jump behind the others whose target is told later, and answers its place. It comes from where [`put`] says.
 ///
 /// # Errors
 ///
 /// Those of [`Instructions::add`].
-pub fn reserve<'source>(code: &mut Instructions<'source>, leap: Leap) -> Result<u32, Error>
+pub fn reserve<'source>(
+    code: &mut Instructions<'source>,
+    leap: Leap,
+    from: Option<Span>,
+) -> Result<u32, Error>
     ensures place { IfOk result (λ place. place ≡ length (code_in code.old)) }
     ensures put { OnOk result (Puts (one (leap_code leap 0)) code.old code.new) }
     ensures refused { IfErr result NoRoom }
 {
-    code.add(leap.to(0))
+    add_from(code, leap.to(0), from)
 }
 
 /// Tells the jump at a place its target: the place behind the last instruction. Where none stands, nothing
 /// changes.
 pub fn land<'source>(code: &mut Instructions<'source>, place: u32, leap: Leap)
     ensures landed { code_in code.new ≡ set (code_in code.old) place (leap_code leap (length (code_in code.old))) }
-    ensures same { IsSameTemplate code.old code.new }
+    ensures same { Keeps code.old code.new }
 {
     let target = code.len() as u32;
     code.replace(place, leap.to(target));
 }
 
-/// Puts the load of a constant behind the others, where there is one.
+/// Puts the load of a constant behind the others, where there is one. It comes from where [`put`] says.
 ///
 /// # Errors
 ///
 /// Those of [`Instructions::add`].
-pub fn load<'source>(code: &mut Instructions<'source>, constant: Option<Value>) -> Result<(), Error>
+pub fn load<'source>(
+    code: &mut Instructions<'source>,
+    constant: Option<Value>,
+    from: Option<Span>,
+) -> Result<(), Error>
     ensures put { OnOk result (Puts (held constant) code.old code.new) }
     ensures refused { IfErr result NoRoom }
 {
     match constant {
-        Some(value) => put(code, Instruction::LoadConst(value)),
+        Some(value) => load_value(code, value, from),
         None => Ok(()),
     }
 }
 
-/// Puts the load of a copy of a constant behind the others, where there is one.
+// Puts the load of a constant behind the others.
+#[inline(never)]
+fn load_value<'source>(
+    code: &mut Instructions<'source>,
+    value: Value,
+    from: Option<Span>,
+) -> Result<(), Error>
+    ensures put { OnOk result (Puts (one (load_const value)) code.old code.new) }
+    ensures refused { IfErr result NoRoom }
+{
+    put(code, Instruction::LoadConst(value), from)
+}
+
+/// Puts the load of a copy of a constant behind the others, where there is one. It comes from where [`put`] says.
 ///
 /// # Errors
 ///
@@ -103,12 +161,13 @@ pub fn load<'source>(code: &mut Instructions<'source>, constant: Option<Value>) 
 pub fn load_copy<'source>(
     code: &mut Instructions<'source>,
     constant: &Option<Value>,
+    from: Option<Span>,
 ) -> Result<(), Error>
     ensures put { OnOk result (Puts (held constant.now) code.old code.new) }
     ensures refused { IfErr result NoRoom }
 {
     match constant {
-        Some(value) => put(code, Instruction::LoadConst(value.copy()?)),
+        Some(value) => load_value(code, value.copy()?, from),
         None => Ok(()),
     }
 }

@@ -7,15 +7,16 @@ use Rattle.template_tree.specs.declared.operators.CompareOpKind.{CompareOpKind}
 use Rattle.template_tree.specs.Tree.{Expression, Links, no_links, links_more}
 use Rattle.template_walk.specs.Constants.{chain_constant, chain_decided}
 use Rattle.template_code.specs.Code.{Code, compare_and_preserve, jump_if_false_or_pop}
-use Rattle.template_code.specs.Listing.{code_in, IsSameTemplate}
+use Rattle.template_code.specs.Listing.{code_in}
 use Rattle.template_code.specs.declared.listing.Instructions.{Instructions}
 use Rattle.template_compiler_codegen.specs.Expressions.{Coded, one, then_code, expression_code}
+use Rattle.template_compiler_emission.specs.Puts.{Keeps}
 
 -- some code stands behind the instructions
 pub record Grows (old new : Instructions) : Type 0 where
   pub rest : List Code
   pub code : code_in new ≡ code_in old ++ rest
-  pub same : IsSameTemplate old new
+  pub same : Keeps old new
 
 -- a comparison behind the value at its left
 abbrev pub link_code : CompareOpKind → Expression → Coded

@@ -1,4 +1,6 @@
-//! Expressions. A tree is gone along its left parts in a loop; its other parts nest at most 150 deep.
+//! Expressions. A tree is gone along its left parts in a loop; its other parts nest at most 150 deep. The code of
+//! an expression comes from one span: it is told with the first instruction that is put, and none is told with the
+//! others, which come from where the one before them comes.
 ghost use Rattle.std.specs.Prelude.{◌≡◌, IsNone, None, OnOk, IfOk, IfErr, length, option_and_then};
 ghost use Rattle.template_values_model.specs.Val.{none, silent_undefined};
 ghost use Rattle.template_tree.specs.Tree.{list_literal, tuple_literal, map_literal};
@@ -26,7 +28,7 @@ use template_compiler_emission::{
 use template_compiler_folding::{
     fold_binary, fold_comparison, fold_list, fold_map, fold_tuple, fold_unary,
 };
-use template_tree::{BinOpKind, CompareOp, Expr, UnaryOpKind};
+use template_tree::{BinOpKind, CompareOp, Expr, Span, UnaryOpKind};
 use template_tree_spines::{left, spine};
 use template_values_core::Value;
 use template_values_errors::Error;
@@ -43,6 +45,7 @@ pub fn fold_expr<'source>(
     alloc: Global,
     code: &mut Instructions<'source>,
     expr: &Expr<'source>,
+    from: Option<Span>,
 ) -> Result<Option<Value>, Error>
     requires { IsRunnable (expression_of expr.now) }
     ensures constant { IfOk result (λ o. o ≡ constant_of (expression_of expr.now)) }
@@ -50,36 +53,42 @@ pub fn fold_expr<'source>(
     ensures refused { IfErr result NoRoom }
 {
     if left(expr).is_none() {
-        return fold_node(alloc, code, expr, None);
+        return fold_node(alloc, code, expr, None, from);
     }
     let nodes = spine(alloc, expr)?;
     let mut constant = None;
     let mut i = 0;
     while i < nodes.len() {
-        constant = fold_node(alloc, code, nodes[i], constant)?;
+        let told = first_from(i, &constant, from);
+        constant = fold_node(alloc, code, nodes[i], constant, told)?;
         i += 1;
     }
     Ok(constant)
 }
 
-/// Puts the code of an expression behind the instructions. Linear in the expression, besides what the
-/// operators of constant trees cost.
-///
-/// # Errors
-///
-/// Those of [`Instructions::add`].
+// Where the next node of a left chain comes from: the span is still to be told where nothing is put yet.
+fn first_from(passed: usize, constant: &Option<Value>, from: Option<Span>) -> Option<Span> {
+    if passed == 0 || constant.is_some() {
+        from
+    } else {
+        None
+    }
+}
+
+// Puts the code of an expression behind the instructions.
 #[cycle(expression)]
-pub fn compile_expr<'source>(
+pub(crate) fn compile_expr<'source>(
     alloc: Global,
     code: &mut Instructions<'source>,
     expr: &Expr<'source>,
+    from: Option<Span>,
 ) -> Result<(), Error>
     requires { IsRunnable (expression_of expr.now) }
     ensures put { OnOk result (Puts (expression_code (expression_of expr.now)) code.old code.new) }
     ensures refused { IfErr result NoRoom }
 {
-    let constant = fold_expr(alloc, code, expr)?;
-    load(code, constant)?;
+    let constant = fold_expr(alloc, code, expr, from)?;
+    load(code, constant, from)?;
     Ok(())
 }
 
@@ -90,6 +99,7 @@ fn fold_node<'source>(
     code: &mut Instructions<'source>,
     expr: &Expr<'source>,
     left: Option<Value>,
+    from: Option<Span>,
 ) -> Result<Option<Value>, Error>
     requires { IsRunnable (expression_of expr.now) }
     ensures constant { IfOk result (λ o. o ≡ own_constant left (expression_of expr.now)) }
@@ -98,17 +108,17 @@ fn fold_node<'source>(
 {
     match expr {
         Expr::Var(n) => {
-            put(code, Instruction::Lookup(CowStr::Borrowed(n.node.id)))?;
+            put(code, Instruction::Lookup(CowStr::Borrowed(n.node.id)), from)?;
             Ok(None)
         }
         Expr::Const(n) => {
             let value = n.node.value.copy()?;
             Ok(Some(value))
         }
-        Expr::UnaryOp(n) => fold_unary_operator(alloc, code, n.node.op, &n.node.expr),
+        Expr::UnaryOp(n) => fold_unary_operator(alloc, code, n.node.op, &n.node.expr, from),
         Expr::BinOp(n) => match leap_of(n.node.op) {
-            Some(leap) => fold_choice(alloc, code, n.node.op, leap, left, &n.node.right),
-            None => fold_operator(alloc, code, n.node.op, left, &n.node.right),
+            Some(leap) => fold_choice(alloc, code, n.node.op, leap, left, &n.node.right, from),
+            None => fold_operator(alloc, code, n.node.op, left, &n.node.right, from),
         },
         Expr::IfExpr(n) => {
             let node = &n.node;
@@ -118,29 +128,42 @@ fn fold_node<'source>(
                 &node.test_expr,
                 &node.true_expr,
                 &node.false_expr,
+                from,
             )?;
             Ok(None)
         }
         Expr::GetAttr(n) => {
-            load(code, left)?;
-            put(code, Instruction::GetAttr(CowStr::Borrowed(n.node.name)))?;
+            load(code, left, from)?;
+            put(
+                code,
+                Instruction::GetAttr(CowStr::Borrowed(n.node.name)),
+                None,
+            )?;
             Ok(None)
         }
         Expr::GetItem(n) => {
-            compile_item(alloc, code, left, &n.node.subscript_expr)?;
+            compile_item(alloc, code, left, &n.node.subscript_expr, from)?;
             Ok(None)
         }
         Expr::Filter(_) => unreachable!(),
         Expr::Test(_) => unreachable!(),
         Expr::Call(_) => unreachable!(),
         Expr::Slice(n) => {
-            compile_slice(alloc, code, left, &n.node.start, &n.node.stop, &n.node.step)?;
+            compile_slice(
+                alloc,
+                code,
+                left,
+                &n.node.start,
+                &n.node.stop,
+                &n.node.step,
+                from,
+            )?;
             Ok(None)
         }
-        Expr::Compare(n) => fold_chain(alloc, code, left, &n.node.ops),
-        Expr::List(n) => fold_list_literal(alloc, code, &n.node.items),
-        Expr::Tuple(n) => fold_tuple_literal(alloc, code, &n.node.items),
-        Expr::Map(n) => fold_map_literal(alloc, code, &n.node.keys, &n.node.values),
+        Expr::Compare(n) => fold_chain(alloc, code, left, &n.node.ops, from),
+        Expr::List(n) => fold_list_literal(alloc, code, &n.node.items, from),
+        Expr::Tuple(n) => fold_tuple_literal(alloc, code, &n.node.items, from),
+        Expr::Map(n) => fold_map_literal(alloc, code, &n.node.keys, &n.node.values, from),
     }
 }
 
@@ -151,6 +174,7 @@ fn fold_unary_operator<'source>(
     code: &mut Instructions<'source>,
     op: UnaryOpKind,
     operand: &Expr<'source>,
+    from: Option<Span>,
 ) -> Result<Option<Value>, Error>
     requires { IsRunnable (expression_of operand.now) }
     ensures constant { IfOk result (λ o. o ≡ unary_folded op (constant_of (expression_of operand.now))) }
@@ -159,15 +183,15 @@ fn fold_unary_operator<'source>(
     ensures refused { IfErr result NoRoom }
 {
     let begins = code.len();
-    let constant = fold_expr(alloc, code, operand)?;
+    let constant = fold_expr(alloc, code, operand, from)?;
     match fold_unary(op, &constant)? {
         Some(value) => {
             code.truncate(begins);
             Ok(Some(value))
         }
         None => {
-            load(code, constant)?;
-            put(code, unary_instruction(op))?;
+            load(code, constant, from)?;
+            put(code, unary_instruction(op), None)?;
             Ok(None)
         }
     }
@@ -183,6 +207,7 @@ fn fold_choice<'source>(
     leap: Leap,
     left: Option<Value>,
     right: &Expr<'source>,
+    from: Option<Span>,
 ) -> Result<Option<Value>, Error>
     requires { IsRunnable (expression_of right.now) }
     ensures constant { IfOk result (λ o. o ≡ binary_folded op left (constant_of (expression_of right.now))) }
@@ -191,16 +216,16 @@ fn fold_choice<'source>(
     ensures refused { IfErr result NoRoom }
 {
     let begins = code.len();
-    load_copy(code, &left)?;
-    let jump = reserve(code, leap)?;
-    let constant = fold_expr(alloc, code, right)?;
+    load_copy(code, &left, from)?;
+    let jump = reserve(code, leap, None)?;
+    let constant = fold_expr(alloc, code, right, None)?;
     match fold_binary(alloc, op, &left, &constant)? {
         Some(value) => {
             code.truncate(begins);
             Ok(Some(value))
         }
         None => {
-            load(code, constant)?;
+            load(code, constant, None)?;
             land(code, jump, leap);
             Ok(None)
         }
@@ -216,6 +241,7 @@ fn fold_operator<'source>(
     op: BinOpKind,
     left: Option<Value>,
     right: &Expr<'source>,
+    from: Option<Span>,
 ) -> Result<Option<Value>, Error>
     requires right { IsRunnable (expression_of right.now) }
     requires op { IsNone (leap_of op) }
@@ -225,16 +251,16 @@ fn fold_operator<'source>(
     ensures refused { IfErr result NoRoom }
 {
     let begins = code.len();
-    load_copy(code, &left)?;
-    let constant = fold_expr(alloc, code, right)?;
+    load_copy(code, &left, from)?;
+    let constant = fold_expr(alloc, code, right, None)?;
     match fold_binary(alloc, op, &left, &constant)? {
         Some(value) => {
             code.truncate(begins);
             Ok(Some(value))
         }
         None => {
-            load(code, constant)?;
-            put(code, operator_instruction(op))?;
+            load(code, constant, None)?;
+            put(code, operator_instruction(op), None)?;
             Ok(None)
         }
     }
@@ -253,8 +279,8 @@ fn compile_optional<'source>(
     ensures refused { IfErr result NoRoom }
 {
     match expr {
-        Some(expr) => compile_expr(alloc, code, expr),
-        None => put(code, Instruction::LoadConst(missing)),
+        Some(expr) => compile_expr(alloc, code, expr, None),
+        None => put(code, Instruction::LoadConst(missing), None),
     }
 }
 
@@ -266,6 +292,7 @@ fn compile_choice<'source>(
     test: &Expr<'source>,
     branch: &Expr<'source>,
     otherwise: &Option<Expr<'source>>,
+    from: Option<Span>,
 ) -> Result<(), Error>
     requires test { IsRunnable (expression_of test.now) }
     requires branch { IsRunnable (expression_of branch.now) }
@@ -276,10 +303,10 @@ fn compile_choice<'source>(
         code.old code.new) }
     ensures refused { IfErr result NoRoom }
 {
-    compile_expr(alloc, code, test)?;
-    let second = reserve(code, Leap::IfFalse)?;
-    compile_expr(alloc, code, branch)?;
-    let end = reserve(code, Leap::Always)?;
+    compile_expr(alloc, code, test, from)?;
+    let second = reserve(code, Leap::IfFalse, None)?;
+    compile_expr(alloc, code, branch, None)?;
+    let end = reserve(code, Leap::Always, None)?;
     land(code, second, Leap::IfFalse);
     compile_optional(alloc, code, otherwise, Value::silent_undefined())?;
     land(code, end, Leap::Always);
@@ -293,15 +320,16 @@ fn compile_item<'source>(
     code: &mut Instructions<'source>,
     left: Option<Value>,
     key: &Expr<'source>,
+    from: Option<Span>,
 ) -> Result<(), Error>
     requires { IsRunnable (expression_of key.now) }
     ensures put { OnOk result
         (Puts (behind left (then_code (expression_code (expression_of key.now)) (one get_item))) code.old code.new) }
     ensures refused { IfErr result NoRoom }
 {
-    load(code, left)?;
-    compile_expr(alloc, code, key)?;
-    put(code, Instruction::GetItem)
+    load(code, left, from)?;
+    compile_expr(alloc, code, key, None)?;
+    put(code, Instruction::GetItem, None)
 }
 
 // A slice of the left part; a bound that is left out is none.
@@ -313,6 +341,7 @@ fn compile_slice<'source>(
     start: &Option<Expr<'source>>,
     stop: &Option<Expr<'source>>,
     step: &Option<Expr<'source>>,
+    from: Option<Span>,
 ) -> Result<(), Error>
     requires start { IsRunnableIfGiven (optional_in start.now) }
     requires stop { IsRunnableIfGiven (optional_in stop.now) }
@@ -322,11 +351,11 @@ fn compile_slice<'source>(
         (then_code (optional_code none (optional_in step.now)) (one slice))))) code.old code.new) }
     ensures refused { IfErr result NoRoom }
 {
-    load(code, left)?;
+    load(code, left, from)?;
     compile_optional(alloc, code, start, Value::none())?;
     compile_optional(alloc, code, stop, Value::none())?;
     compile_optional(alloc, code, step, Value::none())?;
-    put(code, Instruction::Slice)
+    put(code, Instruction::Slice, None)
 }
 
 // The expressions, from the first to the last.
@@ -335,13 +364,16 @@ fn compile_items<'source>(
     alloc: Global,
     code: &mut Instructions<'source>,
     items: &[Expr<'source>],
+    from: Option<Span>,
 ) -> Result<(), Error>
     requires { AreRunnable (expressions_in items.now) }
     ensures put { OnOk result (Puts (expressions_code (expressions_in items.now)) code.old code.new) }
     ensures refused { IfErr result NoRoom }
 {
+    let mut told = from;
     for item in items {
-        compile_expr(alloc, code, item)?;
+        compile_expr(alloc, code, item, told)?;
+        told = None;
     }
     Ok(())
 }
@@ -353,6 +385,7 @@ fn compile_entries<'source>(
     code: &mut Instructions<'source>,
     keys: &[Expr<'source>],
     values: &[Expr<'source>],
+    from: Option<Span>,
 ) -> Result<usize, Error>
     requires keys { AreRunnable (expressions_in keys.now) }
     requires values { AreRunnable (expressions_in values.now) }
@@ -361,12 +394,14 @@ fn compile_entries<'source>(
         (Puts (entries_code (expressions_in keys.now) (codes_of (expressions_in values.now))) code.old code.new) }
     ensures refused { IfErr result NoRoom }
 {
+    let mut told = from;
     for (i, key) in keys.iter().enumerate() {
         if values.len() <= i {
             return Ok(i);
         }
-        compile_expr(alloc, code, key)?;
-        compile_expr(alloc, code, &values[i])?;
+        compile_expr(alloc, code, key, told)?;
+        compile_expr(alloc, code, &values[i], None)?;
+        told = None;
     }
     Ok(keys.len())
 }
@@ -377,6 +412,7 @@ fn fold_list_literal<'source>(
     alloc: Global,
     code: &mut Instructions<'source>,
     items: &[Expr<'source>],
+    from: Option<Span>,
 ) -> Result<Option<Value>, Error>
     requires { AreRunnable (expressions_in items.now) }
     ensures constant { IfOk result (λ o. o ≡ constant_of (list_literal (expressions_in items.now))) }
@@ -388,8 +424,8 @@ fn fold_list_literal<'source>(
     match fold_list(alloc, items)? {
         Some(value) => Ok(Some(value)),
         None => {
-            compile_items(alloc, code, items)?;
-            put(code, Instruction::BuildList(Some(items.len())))?;
+            compile_items(alloc, code, items, from)?;
+            put(code, Instruction::BuildList(Some(items.len())), None)?;
             Ok(None)
         }
     }
@@ -401,6 +437,7 @@ fn fold_tuple_literal<'source>(
     alloc: Global,
     code: &mut Instructions<'source>,
     items: &[Expr<'source>],
+    from: Option<Span>,
 ) -> Result<Option<Value>, Error>
     requires { AreRunnable (expressions_in items.now) }
     ensures constant { IfOk result (λ o. o ≡ constant_of (tuple_literal (expressions_in items.now))) }
@@ -412,8 +449,8 @@ fn fold_tuple_literal<'source>(
     match fold_tuple(alloc, items)? {
         Some(value) => Ok(Some(value)),
         None => {
-            compile_items(alloc, code, items)?;
-            put(code, Instruction::BuildTuple(Some(items.len())))?;
+            compile_items(alloc, code, items, from)?;
+            put(code, Instruction::BuildTuple(Some(items.len())), None)?;
             Ok(None)
         }
     }
@@ -426,6 +463,7 @@ fn fold_map_literal<'source>(
     code: &mut Instructions<'source>,
     keys: &[Expr<'source>],
     values: &[Expr<'source>],
+    from: Option<Span>,
 ) -> Result<Option<Value>, Error>
     requires keys { AreRunnable (expressions_in keys.now) }
     requires values { AreRunnable (expressions_in values.now) }
@@ -439,8 +477,8 @@ fn fold_map_literal<'source>(
     match fold_map(alloc, keys, values)? {
         Some(value) => Ok(Some(value)),
         None => {
-            let count = compile_entries(alloc, code, keys, values)?;
-            put(code, Instruction::BuildMap(count))?;
+            let count = compile_entries(alloc, code, keys, values, from)?;
+            put(code, Instruction::BuildMap(count), None)?;
             Ok(None)
         }
     }
@@ -474,9 +512,9 @@ fn compile_link<'source>(
     ensures put { OnOk result (Puts (link_code link.now.op (expression_of link.now.expr)) code.old code.new) }
     ensures refused { IfErr result NoRoom }
 {
-    let right = fold_expr(alloc, code, &link.expr)?;
-    load_copy(code, &right)?;
-    put(code, comparison_instruction(link.op))?;
+    let right = fold_expr(alloc, code, &link.expr, None)?;
+    load_copy(code, &right, None)?;
+    put(code, comparison_instruction(link.op), None)?;
     match fold_comparison(link.op, left, &right)? {
         Some(holds) => Ok(Link {
             holds: Some(holds),
@@ -513,7 +551,7 @@ fn compile_links<'source>(
             let Link { holds, .. } = link;
             return Ok(Linked { holds, leaps });
         }
-        leaps.push(reserve(code, Leap::IfFalseOrPop)?)?;
+        leaps.push(reserve(code, Leap::IfFalseOrPop, None)?)?;
         link = compile_link(alloc, code, &link.left, next)?;
     }
     let Link { holds, .. } = link;
@@ -544,8 +582,8 @@ fn compile_chain<'source>(
         Some(holds) => Ok(Some(holds)),
         None => {
             tell_leaps(code, leaps);
-            put(code, Instruction::Swap)?;
-            put(code, Instruction::DiscardTop)?;
+            put(code, Instruction::Swap, None)?;
+            put(code, Instruction::DiscardTop, None)?;
             Ok(None)
         }
     }
@@ -558,6 +596,7 @@ fn fold_chain<'source>(
     code: &mut Instructions<'source>,
     left: Option<Value>,
     links: &[CompareOp<'source>],
+    from: Option<Span>,
 ) -> Result<Option<Value>, Error>
     requires { IsRunnableChain (links_in links.now) }
     ensures constant { IfOk result (λ o. o ≡ option_and_then (λ v. chain_constant v (links_in links.now)) left) }
@@ -565,7 +604,7 @@ fn fold_chain<'source>(
     ensures refused { IfErr result NoRoom }
 {
     let begins = code.len();
-    load_copy(code, &left)?;
+    load_copy(code, &left, from)?;
     match compile_chain(alloc, code, &left, links)? {
         Some(holds) => {
             code.truncate(begins);

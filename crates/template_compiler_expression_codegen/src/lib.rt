@@ -3,5 +3,7 @@
 
 mod chains;
 mod expressions;
+mod whole;
 
-pub use expressions::{compile_expr, fold_expr};
+pub use expressions::fold_expr;
+pub use whole::compile_expr;

@@ -166,6 +166,11 @@ pub record Generates (piece : Coded) (old new : Draft) : Type 0 where
   pub line : new.line ≡ old.line
   pub spans : new.spans ≡ old.spans
 
+-- where earlier instructions come from stays: marks come behind the others alone
+pub record MarksBehind (old new : Draft) : Type 0 where
+  pub later : List Mark
+  pub marks : new.marks ≡ old.marks ++ later
+
 -- how many bytes of text an instruction writes as it stands
 abbrev pub raw_length : Code → ℕ
 raw_length (steps.emit_raw text) = length text

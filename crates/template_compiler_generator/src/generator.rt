@@ -11,7 +11,7 @@ ghost use Rattle.template_compiler_codegen.specs.Expressions.{expression_code};
 ghost use Rattle.template_compiler_codegen.specs.Statements.{no_ways, statements_code, target_code};
 ghost use Rattle.template_compiler_emission.specs.Puts.{NoRoom};
 ghost use Rattle.template_compiler_statement_codegen.specs.Listed.{IsRunnableTree, body_in};
-ghost use Rattle.template_compiler_generator.specs.Drafts.{Generates, IsTooLong, is_branch, is_choice, is_loop, jumps_of, leap_of, loop_flags, next_jump, raw_length, span_on, with_block, with_blocks, with_choice, with_choice_end, with_chosen, with_code, with_code_from, with_else, with_end, with_if, with_jump, with_line, with_loop, with_loop_end, with_span, with_told, without_span};
+ghost use Rattle.template_compiler_generator.specs.Drafts.{Generates, IsTooLong, MarksBehind, is_branch, is_choice, is_loop, jumps_of, leap_of, loop_flags, next_jump, raw_length, span_on, with_block, with_blocks, with_choice, with_choice_end, with_chosen, with_code, with_code_from, with_else, with_end, with_if, with_jump, with_line, with_loop, with_loop_end, with_span, with_told, without_span};
 ghost use Rattle.template_compiler_generator.specs.View.{draft_of, open_of};
 
 use crate::blocks::{Block, Jump};
@@ -342,7 +342,8 @@ impl<'source> CodeGenerator<'source> {
         }
     }
 
-    /// Adds the instructions of an expression, which gives its value. Their lines are not told.
+    /// Adds the instructions of an expression, which gives its value. They come from the expression, whatever line and
+    /// spans are open.
     ///
     /// # Errors
     ///
@@ -350,12 +351,14 @@ impl<'source> CodeGenerator<'source> {
     pub fn compile_expr(&mut self, expr: &Expr<'source>) -> Result<(), Error>
         requires { IsRunnable (expression_of expr.now) }
         ensures added { OnOk result (Generates (expression_code (expression_of expr.now)) (draft_of self.old) (draft_of self.new)) }
+        ensures places { OnOk result (MarksBehind (draft_of self.old) (draft_of self.new)) }
         ensures refused { IfErr result NoRoom }
     {
         compile_expr(self.alloc, &mut self.code, expr)
     }
 
-    /// Adds the instructions of a whole template. Their lines are not told.
+    /// Adds the instructions of a whole template. They come from its expressions and statements, whatever line and spans
+    /// are open.
     ///
     /// # Errors
     ///
@@ -364,12 +367,14 @@ impl<'source> CodeGenerator<'source> {
         requires { IsRunnableTree (statement_of tree.now) }
         ensures added { OnOk result
             (Generates (statements_code no_ways (body_in (statement_of tree.now))) (draft_of self.old) (draft_of self.new)) }
+        ensures places { OnOk result (MarksBehind (draft_of self.old) (draft_of self.new)) }
         ensures refused { IfErr result NoRoom }
     {
         compile_template(self.alloc, &mut self.code, tree)
     }
 
-    /// Adds the instructions that store the value on top in a target. Their lines are not told.
+    /// Adds the instructions that store the value on top in a target. They come from the names in it, whatever line and
+    /// spans are open.
     ///
     /// # Errors
     ///
@@ -377,6 +382,7 @@ impl<'source> CodeGenerator<'source> {
     pub fn compile_assignment(&mut self, target: &Expr<'source>) -> Result<(), Error>
         requires { IsTarget (expression_of target.now) }
         ensures added { OnOk result (Generates (target_code (expression_of target.now)) (draft_of self.old) (draft_of self.new)) }
+        ensures places { OnOk result (MarksBehind (draft_of self.old) (draft_of self.new)) }
         ensures refused { IfErr result NoRoom }
     {
         compile_assignment(&mut self.code, target)

@@ -1,6 +1,7 @@
 //! The breaks of a loop, which are told their target once the loop's end is known.
 ghost use Rattle.std.specs.Prelude.{◌≡◌, length};
-ghost use Rattle.template_code.specs.Listing.{code_in, IsSameTemplate};
+ghost use Rattle.template_code.specs.Listing.{code_in};
+ghost use Rattle.template_compiler_emission.specs.Puts.{Keeps};
 ghost use Rattle.template_compiler_lowering.specs.Breaks.{led};
 
 use template_code::Instructions;
@@ -9,7 +10,7 @@ use template_compiler_emission::{Leap, land};
 /// Tells the jumps at the places where they lead: behind the last instruction. Linear in their number.
 pub fn tell_breaks<'source>(code: &mut Instructions<'source>, breaks: Vec<u32>)
     ensures told { code_in code.new ≡ led (length (code_in code.old)) breaks.items (code_in code.old) }
-    ensures same { IsSameTemplate code.old code.new }
+    ensures same { Keeps code.old code.new }
 {
     let mut left = breaks;
     while let Some(place) = left.pop() {

@@ -6,13 +6,13 @@ use Rattle.template_tree.specs.Tree.{Statements, no_statements, statements_more}
 use Rattle.template_tree.specs.declared.statements.IfCond.{IfCond}
 use Rattle.template_tree.specs.declared.statements.Stmt.{Stmt}
 use Rattle.template_walk.specs.Runnable.{AreRunnableStatements, IsRunnableStatement}
-use Rattle.template_code.specs.Listing.{code_in, IsSameTemplate}
+use Rattle.template_code.specs.Listing.{code_in}
 use Rattle.template_code.specs.declared.listing.Instructions.{Instructions}
 use Rattle.template_compiler_codegen.specs.Expressions.{Coded, one, nothing, then_code}
 use Rattle.template_compiler_codegen.specs.Statements.{Ways, branches_code, statement_code, statements_code}
 use Rattle.template_compiler_emission.specs.declared.leaps.Leap.TheVariants.{Always, IfFalse}
 use Rattle.template_compiler_emission.specs.Leaps.{leap_code}
-use Rattle.template_compiler_emission.specs.Puts.{Puts}
+use Rattle.template_compiler_emission.specs.Puts.{Keeps, Puts}
 use Rattle.template_compiler_lowering.specs.Breaks.{Places, no_places, then_places, branches_places, breaks_of, breaks_in}
 use Rattle.template_tree_parts.specs.Listed.{statements_in}
 use Rattle.template_compiler_statement_codegen.specs.Listed.{body_deep, condition_deep, condition_of}
@@ -23,7 +23,7 @@ use Rattle.template_compiler_statement_codegen.proofs.Lowering.{branch_alone, br
 -- a branch without an else part
 pub alone : {e : Coded} {f : Coded} {ps : Places} (ss : List Stmt) (w : Ways) {b x y z d : Instructions} {s t : Round} → ss ≡ []
     → Puts e b x → Puts (one (leap_code IfFalse 0)) x y → Lowers f ps y z s t
-    → code_in d ≡ set (code_in z) (length (code_in x)) (leap_code IfFalse (length (code_in z))) → IsSameTemplate z d
+    → code_in d ≡ set (code_in z) (length (code_in x)) (leap_code IfFalse (length (code_in z))) → Keeps z d
     → Remains (then_code e (branches_code (statements_in ss) f (statements_code w (statements_in ss))))
     (then_places e no_places (branches_places (statements_in ss) f ps (breaks_in w (statements_in ss))))
     (statements_code w (statements_in ss)) (breaks_in w (statements_in ss)) [] b d s t
@@ -34,7 +34,7 @@ alone (x ∷ ss) w none test first branch landed same = cc
 pub before_other : {e : Coded} {f : Coded} {ps : Places} (ss : List Stmt) (w : Ways) (end : ℕ) {b x y z c d : Instructions} {s t : Round} → (ss ≡ [] → ⊥)
     → end ≡ length (code_in z)
     → Puts e b x → Puts (one (leap_code IfFalse 0)) x y → Lowers f ps y z s t → Puts (one (leap_code Always 0)) z c
-    → code_in d ≡ set (code_in c) (length (code_in x)) (leap_code IfFalse (length (code_in c))) → IsSameTemplate c d
+    → code_in d ≡ set (code_in c) (length (code_in x)) (leap_code IfFalse (length (code_in c))) → Keeps c d
     → Remains (then_code e (branches_code (statements_in ss) f (statements_code w (statements_in ss))))
     (then_places e no_places (branches_places (statements_in ss) f ps (breaks_in w (statements_in ss))))
     (statements_code w (statements_in ss)) (breaks_in w (statements_in ss)) (end ∷ []) b d s t

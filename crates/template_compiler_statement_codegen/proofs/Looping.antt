@@ -4,13 +4,13 @@ use Rattle.std.proofs.Math.ListN.{set}
 use Rattle.template_tree.specs.Tree.{Statements}
 use Rattle.template_tree.specs.declared.statements.Stmt.{Stmt}
 use Rattle.template_code.specs.Code.{jump, iterate, pop_loop_frame, push_did_not_iterate}
-use Rattle.template_code.specs.Listing.{code_in, IsSameTemplate}
+use Rattle.template_code.specs.Listing.{code_in}
 use Rattle.template_code.specs.declared.listing.Instructions.{Instructions}
 use Rattle.template_compiler_codegen.specs.Expressions.{Coded, one}
 use Rattle.template_compiler_codegen.specs.Statements.{Ways, loop_end_code, own_ways, rounds_code, statements_code}
 use Rattle.template_compiler_emission.specs.declared.leaps.Leap.TheVariants.{IfFalse, Iterate}
 use Rattle.template_compiler_emission.specs.Leaps.{leap_code}
-use Rattle.template_compiler_emission.specs.Puts.{Puts}
+use Rattle.template_compiler_emission.specs.Puts.{Keeps, Puts}
 use Rattle.template_compiler_emission.proofs.Putting.{same_then}
 use Rattle.template_compiler_lowering.specs.Breaks.{Places, breaks_in, led, loop_end_places}
 use Rattle.template_compiler_lowering.proofs.Rounds.{rounds_told}
@@ -23,8 +23,8 @@ use Rattle.template_compiler_statement_codegen.proofs.Lowering.{lowers_behind, l
 -- the rounds, whose end and breaks are told at the end
 pub puts_rounds : (target : Coded) (ss : Statements) (asks : ℕ) {x a b c d e f : Instructions} (r s : Round) → asks ≡ length (code_in x)
     → r.asks ≡ asks → r.closings.items ≡ [] → r.breaks.items ≡ [] → Puts (one (leap_code Iterate 0)) x a → Puts target a b → LowersBody ss b c r s
-    → Puts (one (jump asks)) c d → code_in e ≡ set (code_in d) asks (leap_code Iterate (length (code_in d))) → IsSameTemplate d e
-    → code_in f ≡ led (length (code_in e)) s.breaks.items (code_in e) → IsSameTemplate e f
+    → Puts (one (jump asks)) c d → code_in e ≡ set (code_in d) asks (leap_code Iterate (length (code_in d))) → Keeps d e
+    → code_in f ≡ led (length (code_in e)) s.breaks.items (code_in e) → Keeps e f
     → Puts (rounds_code target (λ break_to continue_to. statements_code (own_ways break_to continue_to) ss)) x f
 puts_rounds target ss asks {x} {a} {b} {c} {d} {e} {f} r s at asked none_open no_breaks first stored body back landed same told same_last =
     let n = length (code_in x) in
@@ -52,7 +52,7 @@ ends_alone (s ∷ ss) f ps {a} {b} r none p = cc
 -- and with one
 pub ends_otherwise : (ss : List Stmt) {f : Coded} {ps : Places} {a b c d e g : Instructions} {r s : Round} → (ss ≡ [] → ⊥) → Puts (one push_did_not_iterate) a b
     → Puts (one pop_loop_frame) b c → Puts (one (leap_code IfFalse 0)) c d → Lowers f ps d e r s
-    → code_in g ≡ set (code_in e) (length (code_in c)) (leap_code IfFalse (length (code_in e))) → IsSameTemplate e g
+    → code_in g ≡ set (code_in e) (length (code_in c)) (leap_code IfFalse (length (code_in e))) → Keeps e g
     → Lowers (loop_end_code (statements_in ss) f) (loop_end_places (statements_in ss) ps) a g r s
 ends_otherwise [] some first second leap body landed same = absurd (some refl)
 ends_otherwise (x ∷ ss) some first second leap body landed same =

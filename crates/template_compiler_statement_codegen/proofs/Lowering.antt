@@ -3,14 +3,14 @@ use Rattle.std.proofs.Common.{◌≡◌, ℕ, ◌+◌, suc, List, [], ◌∷◌,
 use Rattle.std.proofs.Math.ListN.{set}
 use Rattle.std.proofs.lemmas.List.{length-set}
 use Rattle.template_code.specs.Code.{Code, jump, jump_if_false}
-use Rattle.template_code.specs.Listing.{code_in, IsSameTemplate}
+use Rattle.template_code.specs.Listing.{code_in}
 use Rattle.template_code.specs.declared.listing.Instructions.{Instructions}
 use Rattle.template_compiler_codegen.specs.Expressions.{Coded, one, nothing, then_code, skipped, either_code}
 use Rattle.template_compiler_codegen.specs.Statements.{Ways}
 use Rattle.template_compiler_emission.specs.declared.leaps.Leap.{Leap}
 use Rattle.template_compiler_emission.specs.declared.leaps.Leap.TheVariants.{Always, IfFalse}
 use Rattle.template_compiler_emission.specs.Leaps.{leap_code}
-use Rattle.template_compiler_emission.specs.Puts.{Puts}
+use Rattle.template_compiler_emission.specs.Puts.{Keeps, Puts}
 use Rattle.template_compiler_emission.proofs.Pieces.{two_pieces, one_longer, either_one}
 use Rattle.template_compiler_emission.proofs.Putting.{same_itself, same_then, puts_then, puts_skipped}
 use Rattle.template_compiler_lowering.specs.Breaks.{Places, no_places, then_places, next_places, either_places, led}
@@ -57,7 +57,7 @@ lowers_before {f} {g} {ps} {a} {b} {c} {r} {s} p q = lowers_then p (lowers_put s
 
 -- a piece that may be leapt over
 pub lowers_skipped : (leap : Leap) {f : Coded} {ps : Places} {a b c d : Instructions} {r s : Round} → Puts (one (leap_code leap 0)) a b
-    → Lowers f ps b c r s → code_in d ≡ set (code_in c) (length (code_in a)) (leap_code leap (length (code_in c))) → IsSameTemplate c d
+    → Lowers f ps b c r s → code_in d ≡ set (code_in c) (length (code_in a)) (leap_code leap (length (code_in c))) → Keeps c d
     → Lowers (skipped (leap_code leap) f) (next_places ps) a d r s
 lowers_skipped leap {f} {ps} {a} {b} {c} {d} {r} {s} first p landed same = record {
   put = puts_skipped leap first p.put landed same;
@@ -113,7 +113,7 @@ remains_none {piece} {places} {a} {b} {r} {s} p = record {
 
 -- nothing is left but the jumps to the end
 pub remains_told : {piece : Coded} {places : Places} {ends : List ℕ} {a b c : Instructions} {r s : Round}
-    → Remains piece places nothing no_places ends a b r s → code_in c ≡ led (length (code_in b)) ends (code_in b) → IsSameTemplate b c
+    → Remains piece places nothing no_places ends a b r s → code_in c ≡ led (length (code_in b)) ends (code_in b) → Keeps b c
     → Lowers piece places a c r s
 remains_told {piece} {places} {ends} {a} {b} {c} {r} {s} p told same = record {
   put = record {
@@ -157,7 +157,7 @@ remains_trans {f} {g} {h} {ps} {qs} {us} {ends} {more} {a} {b} {c} {r} {s} {t} p
 -- a test and its branch: nothing is left
 pub branch_alone : {e f : Coded} {ps : Places} {b x y z d : Instructions} {s t : Round}
     → Puts e b x → Puts (one (leap_code IfFalse 0)) x y → Lowers f ps y z s t
-    → code_in d ≡ set (code_in z) (length (code_in x)) (leap_code IfFalse (length (code_in z))) → IsSameTemplate z d
+    → code_in d ≡ set (code_in z) (length (code_in x)) (leap_code IfFalse (length (code_in z))) → Keeps z d
     → Remains (then_code e (skipped jump_if_false f)) (then_places e no_places (next_places ps)) nothing no_places [] b d s t
 branch_alone {e} {f} {ps} {b} {x} {y} {z} {d} {s} {t} test first branch landed same =
     let whole = lowers_behind test (lowers_skipped IfFalse first branch landed same) in
@@ -172,7 +172,7 @@ branch_alone {e} {f} {ps} {b} {x} {y} {z} {d} {s} {t} test first branch landed s
 -- a test and its branch: what runs where it does not hold is left, and a jump to the end
 pub branch_before : {e f g : Coded} {ps qs : Places} {b x y z c d : Instructions} {s t : Round}
     → Puts e b x → Puts (one (leap_code IfFalse 0)) x y → Lowers f ps y z s t → Puts (one (leap_code Always 0)) z c
-    → code_in d ≡ set (code_in c) (length (code_in x)) (leap_code IfFalse (length (code_in c))) → IsSameTemplate c d
+    → code_in d ≡ set (code_in c) (length (code_in x)) (leap_code IfFalse (length (code_in c))) → Keeps c d
     → Remains (then_code e (either_code f g)) (then_places e no_places (either_places f ps qs)) g qs (length (code_in z) ∷ []) b d s t
 branch_before {e} {f} {g} {ps} {qs} {b} {x} {y} {z} {c} {d} {s} {t} test first branch leap landed same =
     let n = length (code_in b) in

@@ -3,11 +3,11 @@ use Rattle.std.specs.Prelude.{◌≡◌, ℕ, List, [], ◌∷◌, ◌++◌, len
 use Rattle.template_tree.specs.Tree.{Statement, Statements}
 use Rattle.template_tree.specs.declared.statements.IfCond.{IfCond}
 use Rattle.template_code.specs.Code.{Code, pop_frame, pop_auto_escape}
-use Rattle.template_code.specs.Listing.{code_in, IsSameTemplate}
+use Rattle.template_code.specs.Listing.{code_in}
 use Rattle.template_code.specs.declared.listing.Instructions.{Instructions}
 use Rattle.template_compiler_codegen.specs.Expressions.{Coded, one, then_code}
 use Rattle.template_compiler_codegen.specs.Statements.{Ways, closing_with, statement_code, statements_code}
-use Rattle.template_compiler_emission.specs.Puts.{Puts}
+use Rattle.template_compiler_emission.specs.Puts.{Keeps, Puts}
 use Rattle.template_compiler_lowering.specs.Breaks.{Places, no_places, then_places, breaks_of, breaks_in, led}
 use Rattle.template_tree_parts.specs.Listed.{statements_in}
 use Rattle.template_compiler_statement_codegen.specs.Listed.{condition_of}
@@ -39,7 +39,7 @@ pub record Lowers (piece : Coded) (places : Places) (old new : Instructions) (ro
 pub record Remains (piece : Coded) (places : Places) (left : Coded) (left_places : Places) (ends : List ℕ) (old now : Instructions) (round later : Round) : Type 0 where
   pub code : (let all = code_in now ++ left (length (code_in now)) in led (length all) ends all) ≡ code_in old ++ piece (length (code_in old))
   pub breaks : later.breaks.items ++ left_places (length (code_in now)) ≡ round.breaks.items ++ places (length (code_in old))
-  pub same : IsSameTemplate old now
+  pub same : Keeps old now
   pub asks : later.asks ≡ round.asks
   pub closings : later.closings.items ≡ round.closings.items
 

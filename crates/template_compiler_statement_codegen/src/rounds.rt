@@ -10,6 +10,7 @@ ghost use Rattle.template_compiler_statement_codegen.specs.Rounds.{Lowers, close
 use std::alloc::Global;
 use template_code::{Instruction, Instructions};
 use template_compiler_emission::{Leap, put, reserve};
+use template_tree::Span;
 use template_values_errors::Error;
 
 // What stands open around statements inside a loop.
@@ -56,7 +57,11 @@ impl Round {
 }
 
 // Puts what closes all that is open, the innermost first.
-fn close_all<'source>(code: &mut Instructions<'source>, closings: &[Closing]) -> Result<(), Error>
+fn close_all<'source>(
+    code: &mut Instructions<'source>,
+    closings: &[Closing],
+    span: Span,
+) -> Result<(), Error>
     ensures put { OnOk result (Puts (λ place. closed_by closings.now) code.old code.new) }
     ensures refused { IfErr result NoRoom }
 {
@@ -64,7 +69,7 @@ fn close_all<'source>(code: &mut Instructions<'source>, closings: &[Closing]) ->
     while left > 0 {
         left -= 1;
         let closing = closings[left];
-        put(code, closing.instruction())?;
+        put(code, closing.instruction(), Some(span))?;
     }
     Ok(())
 }
@@ -73,13 +78,14 @@ fn close_all<'source>(code: &mut Instructions<'source>, closings: &[Closing]) ->
 pub(crate) fn put_break<'source>(
     code: &mut Instructions<'source>,
     round: &mut Round,
+    span: Span,
 ) -> Result<(), Error>
     ensures lowered { OnOk result (Lowers (statement_code (ways_of round.old) break_loop) (breaks_of (ways_of round.old) break_loop)
         code.old code.new round.old round.new) }
     ensures refused { IfErr result NoRoom }
 {
-    close_all(code, &round.closings)?;
-    let place = reserve(code, Leap::Always)?;
+    close_all(code, &round.closings, span)?;
+    let place = reserve(code, Leap::Always, Some(span))?;
     round.breaks.push(place)?;
     Ok(())
 }
@@ -88,10 +94,11 @@ pub(crate) fn put_break<'source>(
 pub(crate) fn put_continue<'source>(
     code: &mut Instructions<'source>,
     round: &Round,
+    span: Span,
 ) -> Result<(), Error>
     ensures put { OnOk result (Puts (statement_code (ways_of round.now) continue_loop) code.old code.new) }
     ensures refused { IfErr result NoRoom }
 {
-    close_all(code, &round.closings)?;
-    put(code, Instruction::Jump(round.asks))
+    close_all(code, &round.closings, span)?;
+    put(code, Instruction::Jump(round.asks), Some(span))
 }

@@ -22,7 +22,7 @@ use template_code::{Instruction, Instructions, LOOP_FLAG_WITH_LOOP_VAR};
 use template_compiler_emission::{Leap, land, put, reserve};
 use template_compiler_expression_codegen::compile_expr;
 use template_compiler_lowering::tell_breaks;
-use template_tree::{Expr, IfCond, Stmt};
+use template_tree::{Expr, IfCond, Span, Stmt};
 use template_values_errors::Error;
 
 /// Puts the code of a whole template behind the instructions. Linear in the template, besides what the
@@ -104,11 +104,15 @@ fn compile_statement<'source>(
     ensures refused { IfErr result NoRoom }
 {
     match statement {
-        Stmt::EmitRaw(n) => put(code, Instruction::EmitRaw(CowStr::Borrowed(n.node.raw))),
+        Stmt::EmitRaw(n) => put(
+            code,
+            Instruction::EmitRaw(CowStr::Borrowed(n.node.raw)),
+            Some(n.span),
+        ),
         Stmt::EmitExpr(n) => compile_print(alloc, code, &n.node.expr),
         Stmt::Set(n) => compile_set(alloc, code, &n.node.target, &n.node.expr),
         Stmt::Include(n) => compile_include(alloc, code, &n.node.name, n.node.ignore_missing),
-        Stmt::IfCond(n) => compile_condition(alloc, code, round, &n.node),
+        Stmt::IfCond(n) => compile_condition(alloc, code, round, &n.node, n.span),
         Stmt::ForLoop(n) => {
             let node = &n.node;
             compile_loop(
@@ -119,16 +123,24 @@ fn compile_statement<'source>(
                 &node.iter,
                 &node.body,
                 &node.else_body,
+                n.span,
             )
         }
         Stmt::WithBlock(n) => {
-            compile_with(alloc, code, round, &n.node.assignments, &n.node.body)
+            compile_with(
+                alloc,
+                code,
+                round,
+                &n.node.assignments,
+                &n.node.body,
+                n.span,
+            )
         }
         Stmt::AutoEscape(n) => {
-            compile_auto_escape(alloc, code, round, &n.node.enabled, &n.node.body)
+            compile_auto_escape(alloc, code, round, &n.node.enabled, &n.node.body, n.span)
         }
-        Stmt::Continue(_) => put_continue(code, &*round),
-        Stmt::Break(_) => put_break(code, round),
+        Stmt::Continue(n) => put_continue(code, &*round, n.span),
+        Stmt::Break(n) => put_break(code, round, n.span),
         Stmt::Template(_) => unreachable!(),
         Stmt::SetBlock(_) => unreachable!(),
         Stmt::FilterBlock(_) => unreachable!(),
@@ -153,7 +165,7 @@ fn compile_print<'source>(
     ensures refused { IfErr result NoRoom }
 {
     compile_expr(alloc, code, expr)?;
-    put(code, Instruction::Emit)
+    put(code, Instruction::Emit, None)
 }
 
 // A value that is stored in a target.
@@ -186,7 +198,7 @@ fn compile_include<'source>(
     ensures refused { IfErr result NoRoom }
 {
     compile_expr(alloc, code, name)?;
-    put(code, Instruction::Include(ignore_missing))
+    put(code, Instruction::Include(ignore_missing), None)
 }
 
 // A body inside of what is closed behind it.
@@ -197,6 +209,7 @@ fn compile_closed<'source>(
     round: &mut Round,
     closing: Closing,
     body: &[Stmt<'source>],
+    span: Span,
 ) -> Result<(), Error>
     requires { AreRunnableStatements true (statements_in body.now) }
     ensures lowered { OnOk result
@@ -208,7 +221,7 @@ fn compile_closed<'source>(
     round.closings.push(closing)?;
     compile_body(alloc, code, round, body)?;
     round.closings.truncate(open);
-    put(code, closing.instruction())?;
+    put(code, closing.instruction(), Some(span))?;
     Ok(())
 }
 
@@ -220,6 +233,7 @@ fn compile_with<'source>(
     round: &mut Round,
     assignments: &[(Expr<'source>, Expr<'source>)],
     body: &[Stmt<'source>],
+    span: Span,
 ) -> Result<(), Error>
     requires assignments { AreAssignments (assignments_in assignments.now) }
     requires body { AreRunnableStatements true (statements_in body.now) }
@@ -227,9 +241,9 @@ fn compile_with<'source>(
         (LowersStatement (with_block (assignments_in assignments.now) (statements_in body.now)) code.old code.new round.old round.new) }
     ensures refused { IfErr result NoRoom }
 {
-    put(code, Instruction::PushWith)?;
+    put(code, Instruction::PushWith, Some(span))?;
     compile_assignments(alloc, code, assignments)?;
-    compile_closed(alloc, code, round, Closing::Frame, body)
+    compile_closed(alloc, code, round, Closing::Frame, body, span)
 }
 
 // Another escape, around a body.
@@ -240,6 +254,7 @@ fn compile_auto_escape<'source>(
     round: &mut Round,
     enabled: &Expr<'source>,
     body: &[Stmt<'source>],
+    span: Span,
 ) -> Result<(), Error>
     requires enabled { IsRunnable (expression_of enabled.now) }
     requires body { AreRunnableStatements true (statements_in body.now) }
@@ -248,8 +263,8 @@ fn compile_auto_escape<'source>(
     ensures refused { IfErr result NoRoom }
 {
     compile_expr(alloc, code, enabled)?;
-    put(code, Instruction::PushAutoEscape)?;
-    compile_closed(alloc, code, round, Closing::AutoEscape, body)
+    put(code, Instruction::PushAutoEscape, None)?;
+    compile_closed(alloc, code, round, Closing::AutoEscape, body, span)
 }
 
 // A loop: its items, its rounds, and what runs where no item was given.
@@ -262,6 +277,7 @@ fn compile_loop<'source>(
     items: &Expr<'source>,
     body: &[Stmt<'source>],
     otherwise: &[Stmt<'source>],
+    span: Span,
 ) -> Result<(), Error>
     requires target { IsTarget (expression_of target.now) }
     requires items { IsRunnable (expression_of items.now) }
@@ -273,18 +289,20 @@ fn compile_loop<'source>(
     ensures refused { IfErr result NoRoom }
 {
     compile_expr(alloc, code, items)?;
-    put(code, Instruction::PushLoop(LOOP_FLAG_WITH_LOOP_VAR))?;
-    compile_rounds(alloc, code, target, body)?;
+    put(code, Instruction::PushLoop(LOOP_FLAG_WITH_LOOP_VAR), None)?;
+    compile_rounds(alloc, code, target, body, span)?;
     compile_loop_end(alloc, code, round, otherwise)
 }
 
-// The rounds of a loop, whose ways out are its own.
+// The rounds of a loop, whose ways out are its own. They ask where the items come from, and go back where the loop
+// does.
 #[cycle(statement)]
 fn compile_rounds<'source>(
     alloc: Global,
     code: &mut Instructions<'source>,
     target: &Expr<'source>,
     body: &[Stmt<'source>],
+    span: Span,
 ) -> Result<(), Error>
     requires target { IsTarget (expression_of target.now) }
     requires body { AreRunnableStatements true (statements_in body.now) }
@@ -293,18 +311,18 @@ fn compile_rounds<'source>(
         code.old code.new) }
     ensures refused { IfErr result NoRoom }
 {
-    let asks = reserve(code, Leap::Iterate)?;
+    let asks = reserve(code, Leap::Iterate, None)?;
     compile_assignment(code, target)?;
     let mut round = Round::new(alloc, asks);
     compile_body(alloc, code, &mut round, body)?;
-    put(code, Instruction::Jump(asks))?;
+    put(code, Instruction::Jump(asks), Some(span))?;
     land(code, asks, Leap::Iterate);
     let Round { breaks, .. } = round;
     tell_breaks(code, breaks);
     Ok(())
 }
 
-// What stands behind the rounds of a loop.
+// What stands behind the rounds of a loop, and comes from where these go back.
 #[cycle(statement)]
 fn compile_loop_end<'source>(
     alloc: Global,
@@ -320,11 +338,11 @@ fn compile_loop_end<'source>(
     ensures refused { IfErr result NoRoom }
 {
     if otherwise.is_empty() {
-        return put(code, Instruction::PopLoopFrame);
+        return put(code, Instruction::PopLoopFrame, None);
     }
-    put(code, Instruction::PushDidNotIterate)?;
-    put(code, Instruction::PopLoopFrame)?;
-    let end = reserve(code, Leap::IfFalse)?;
+    put(code, Instruction::PushDidNotIterate, None)?;
+    put(code, Instruction::PopLoopFrame, None)?;
+    let end = reserve(code, Leap::IfFalse, None)?;
     compile_body(alloc, code, round, otherwise)?;
     land(code, end, Leap::IfFalse);
     Ok(())
@@ -337,6 +355,7 @@ fn compile_condition<'source>(
     code: &mut Instructions<'source>,
     round: &mut Round,
     condition: &IfCond<'source>,
+    span: Span,
 ) -> Result<(), Error>
     requires { IsRunnableStatement true (condition_of condition.now) }
     ensures lowered { OnOk result (LowersStatement (condition_of condition.now) code.old code.new round.old round.new) }
@@ -344,10 +363,12 @@ fn compile_condition<'source>(
 {
     let mut ends = Vec::new(alloc);
     let mut left = Some(condition);
+    let mut own = span;
     while let Some(at) = left {
-        let end = compile_branch(alloc, code, round, at)?;
+        let end = compile_branch(alloc, code, round, at, own)?;
         keep(&mut ends, end)?;
         left = elif(&at.false_body);
+        own = elif_span(&at.false_body, own);
         if left.is_none() {
             compile_body(alloc, code, round, &at.false_body)?;
         }
@@ -364,19 +385,20 @@ fn compile_branch<'source>(
     code: &mut Instructions<'source>,
     round: &mut Round,
     condition: &IfCond<'source>,
+    span: Span,
 ) -> Result<Option<u32>, Error>
     requires { IsRunnableStatement true (condition_of condition.now) }
     ensures lowered { IfOk result (λ end. LowersBranch condition.now (places_in end) code.old code.new round.old round.new) }
     ensures refused { IfErr result NoRoom }
 {
     compile_expr(alloc, code, &condition.expr)?;
-    let next = reserve(code, Leap::IfFalse)?;
+    let next = reserve(code, Leap::IfFalse, None)?;
     compile_body(alloc, code, round, &condition.true_body)?;
     if condition.false_body.is_empty() {
         land(code, next, Leap::IfFalse);
         return Ok(None);
     }
-    let end = reserve(code, Leap::Always)?;
+    let end = reserve(code, Leap::Always, Some(span))?;
     land(code, next, Leap::IfFalse);
     Ok(Some(end))
 }
@@ -420,5 +442,14 @@ fn elif<'ast, 'source>(otherwise: &'ast [Stmt<'source>]) -> Option<&'ast IfCond<
         Stmt::Continue(_) => return None,
         Stmt::Break(_) => return None,
         Stmt::Do(_) => return None,
+    }
+}
+
+// The span of the condition that an else part begins with; where it begins with another statement, that of the
+// condition before it.
+fn elif_span(otherwise: &[Stmt<'_>], before: Span) -> Span {
+    match otherwise.first() {
+        Some(Stmt::IfCond(n)) => n.span,
+        _ => before,
     }
 }

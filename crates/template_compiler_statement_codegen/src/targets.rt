@@ -12,7 +12,7 @@ use std::borrow::CowStr;
 use template_code::{Instruction, Instructions};
 use template_compiler_emission::put;
 use template_compiler_expression_codegen::compile_expr;
-use template_tree::Expr;
+use template_tree::{Expr, Span};
 use template_values_errors::Error;
 
 /// Puts the code that stores the value on top in a target behind the instructions: under a name, or
@@ -31,8 +31,12 @@ pub fn compile_assignment<'source>(
     ensures refused { IfErr result NoRoom }
 {
     match target {
-        Expr::Var(n) => put(code, Instruction::StoreLocal(CowStr::Borrowed(n.node.id))),
-        Expr::List(n) => compile_targets(code, &n.node.items),
+        Expr::Var(n) => put(
+            code,
+            Instruction::StoreLocal(CowStr::Borrowed(n.node.id)),
+            Some(n.span),
+        ),
+        Expr::List(n) => compile_targets(code, &n.node.items, n.span),
         Expr::Const(_) => unreachable!(),
         Expr::Slice(_) => unreachable!(),
         Expr::UnaryOp(_) => unreachable!(),
@@ -54,12 +58,13 @@ pub fn compile_assignment<'source>(
 fn compile_targets<'source>(
     code: &mut Instructions<'source>,
     targets: &[Expr<'source>],
+    span: Span,
 ) -> Result<(), Error>
     requires { AreTargets (expressions_in targets.now) }
     ensures put { OnOk result (Puts (target_code (list_literal (expressions_in targets.now))) code.old code.new) }
     ensures refused { IfErr result NoRoom }
 {
-    put(code, Instruction::UnpackList(targets.len()))?;
+    put(code, Instruction::UnpackList(targets.len()), Some(span))?;
     for target in targets {
         compile_assignment(code, target)?;
     }

@@ -1,5 +1,6 @@
 use Rattle.std.proofs.Common.{◌≡◌, ℕ, ◌+◌, ◌<◌, ◌++◌, ◌∷◌, [], List, length, take, drop, false, Option, None, ap, sym, subst, ◌∙◌, arith, refl}
 use Rattle.std.proofs.Math.ListN.{set}
+use Rattle.std.proofs.lemmas.Result.{on_ok_weaker}
 use Rattle.std.specs.Prelude.{option_and_then}
 use Rattle.template_values_model.specs.Val.{Val}
 use Rattle.template_tree.specs.Tree.{Expression, Links, chain, links_more, list_literal, map_literal, tuple_literal}
@@ -25,7 +26,7 @@ use Rattle.template_compiler_expression_codegen.proofs.Along.{alone_put, nothing
 use Rattle.template_compiler_expression_codegen.proofs.Items.{item_runnable, number_is, puts_item}
 use Rattle.template_compiler_expression_codegen.proofs.Linked.{behind_none, link_goes, link_known, link_more, link_runnable, links_at, place_more}
 use Rattle.template_compiler_expression_codegen.proofs.Own.{known, add_own, no_left, own_step}
-use Rattle.template_compiler_expression_codegen.proofs.Putting.{grows_by, grows_then, landed_at, puts_as, puts_behind, puts_chain, puts_optional, puts_whole}
+use Rattle.template_compiler_expression_codegen.proofs.Putting.{grows_back_at, grows_by, grows_itself, grows_then, landed_at, puts_as, puts_back_at, puts_behind, puts_chain, puts_optional, puts_whole}
 use Rattle.template_compiler_expression_codegen.proofs.Sizes.{item_deep, link_deep}
 use Rattle.template_compiler_expression_codegen.proofs.Trees.{chain_deep, chain_is, keys_deep, list_deep, list_is, map_is, tuple_deep, tuple_is, values_deep}
 use Rattle.template_compiler_expression_codegen.proofs.expressions.+expression.Goals as goal
@@ -297,3 +298,45 @@ fold_node-returns-in-Compare-clause-put t c =
     let read = c.deref-in-Compare-2.ensures.value ∙ ap (λ (x : Compare). (out-Compare x).ops.items) c.deref-in-Compare.ensures in
     let tree = chain_is c.args.expr.now c.in-Compare.n c.deref-in-Compare-2.result.now c.in-Compare.is read in
     rw tree c.fold_chain.ensures.put
+
+pub compile_links-loop-next-init : goal.compile_links-loop-next-init
+compile_links-loop-next-init t c = record {
+  stays = c.requires.first;
+  constant = refl;
+  leaps = ap (λ (qs : List ℕ). qs ++ leaps_in (links_in c.args.links.now) (length (code_in c.args.code.now))) c.new-leaps.ensures.items;
+  code = refl;
+  grown = grows_itself c.args.code.now;
+}
+
+pub compile_slice-returns-clause-put : goal.compile_slice-returns-clause-put
+compile_slice-returns-clause-put t c = on_ok_weaker c.put.result (λ last.
+    puts_behind c.args.left c.in_ok-load.ensures.put
+    (puts_then (puts_optional (optional_in c.args.start.now) c.none.ensures c.in_ok-compile_optional.ensures.put)
+    (puts_then (puts_optional (optional_in c.args.stop.now) c.none-2.ensures c.in_ok-compile_optional-2.ensures.put)
+    (puts_then (puts_optional (optional_in c.args.step.now) c.none-3.ensures c.in_ok-compile_optional-3.ensures.put) last)))) c.put.ensures.put
+
+pub fold_chain-returns-in-Some-clause-put : goal.fold_chain-returns-in-Some-clause-put
+fold_chain-returns-in-Some-clause-put t c =
+    grows_back_at c.len-begins.result c.len-begins.ensures.len (grows_then (grows_by c.in_ok-load_copy.ensures.put) c.in_ok-holds.ensures.grown)
+    c.truncate.ensures.kept c.truncate.ensures.same c.truncate.ensures.places
+
+pub fold_choice-returns-in-Some-clause-put : goal.fold_choice-returns-in-Some-clause-put
+fold_choice-returns-in-Some-clause-put t c =
+    puts_back_at c.len-begins.result c.len-begins.ensures.len
+    (puts_then c.in_ok-load_copy.ensures.put (puts_then c.in_ok-jump.ensures.put c.in_ok-constant.ensures.put))
+    c.truncate.ensures.kept c.truncate.ensures.same c.truncate.ensures.places
+
+pub fold_operator-returns-in-Some-clause-put : goal.fold_operator-returns-in-Some-clause-put
+fold_operator-returns-in-Some-clause-put t c =
+    puts_back_at c.len-begins.result c.len-begins.ensures.len (puts_then c.in_ok-load_copy.ensures.put c.in_ok-constant.ensures.put)
+    c.truncate.ensures.kept c.truncate.ensures.same c.truncate.ensures.places
+
+pub fold_unary_operator-returns-in-Some-clause-put : goal.fold_unary_operator-returns-in-Some-clause-put
+fold_unary_operator-returns-in-Some-clause-put t c =
+    puts_back_at c.len-begins.result c.len-begins.ensures.len c.in_ok-constant.ensures.put
+    c.truncate.ensures.kept c.truncate.ensures.same c.truncate.ensures.places
+
+pub fold_unary_operator-returns-in_ok-put-in-None-clause-put : goal.fold_unary_operator-returns-in_ok-put-in-None-clause-put
+fold_unary_operator-returns-in_ok-put-in-None-clause-put t c =
+    let whole = puts_whole (expression_of c.args.operand.now) c.in_ok-constant.ensures.constant c.in_ok-constant.ensures.put c.in_ok-load-in-None.ensures.put in
+    puts_then whole (puts_as c.unary_instruction.ensures c.in_ok-put-in-None.ensures.put)

@@ -2,9 +2,9 @@
 use Rattle.std.proofs.Common.{◌≡◌, ◌+◌, ◌-◌, ◌*◌, ◌≤◌, ◌++◌, None, length, max, take, drop}
 use Rattle.template_tree.specs.View.{expressions_in, links_in}
 use Rattle.template_tree.specs.declared.expressions.Expr.{size-Expr}
-use Rattle.template_code.specs.Listing.{code_in, IsSameTemplate}
+use Rattle.template_code.specs.Listing.{code_in}
 use Rattle.template_compiler_codegen.specs.Expressions.{codes_of, entry_count, expressions_code}
-use Rattle.template_compiler_emission.specs.Puts.{Puts}
+use Rattle.template_compiler_emission.specs.Puts.{Keeps, Puts}
 use Rattle.template_compiler_expression_codegen.specs.Chains.{Grows, constant_behind, leaps_in, linked_to}
 use Rattle.template_compiler_expression_codegen.proofs.Along.{so_far}
 use Rattle.template_compiler_expression_codegen.proofs.Entries.{count_from, entries_from}
@@ -76,7 +76,7 @@ abbrev pub invariant-fold_expr-loop-i : goal.invariant-fold_expr-loop-i
 invariant-fold_expr-loop-i l = record {
   constant : l.constant ≡ (so_far (length (code_in l.initial.code)) (take l.i l.nodes.items)).0;
   code : code_in l.code ≡ code_in l.initial.code ++ (so_far (length (code_in l.initial.code)) (take l.i l.nodes.items)).1;
-  same : IsSameTemplate l.initial.code l.code;
+  same : Keeps l.initial.code l.code;
 }
 
 -- the items so far
@@ -90,7 +90,7 @@ invariant-compile_entries-loop-i l = record {
   count : l.i + count_from l.keys l.values l.i ≡ entry_count (expressions_in l.keys) (codes_of (expressions_in l.values));
   code : code_in l.code ++ entries_from l.keys l.values l.i (length (code_in l.code))
       ≡ code_in l.initial.code ++ entries_from l.keys l.values 0 (length (code_in l.initial.code));
-  same : IsSameTemplate l.initial.code l.code;
+  same : Keeps l.initial.code l.code;
 }
 
 -- the comparisons that are left make the whole chain

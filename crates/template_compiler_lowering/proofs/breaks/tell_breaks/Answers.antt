@@ -2,6 +2,7 @@ use Rattle.std.proofs.Common.{◌≡◌, ◌∷◌, [], ◌++◌, length, ap, �
 use Rattle.std.proofs.lemmas.List.{length-set}
 use Rattle.template_code.specs.Code.{jump}
 use Rattle.template_code.specs.Listing.{code_in}
+use Rattle.template_compiler_emission.proofs.Putting.{same_then}
 use Rattle.template_compiler_lowering.proofs.Leading.{one_told}
 use Rattle.template_compiler_lowering.proofs.breaks.tell_breaks.Goals as goal
 
@@ -14,8 +15,5 @@ loop-place-preserved c =
       told = one_told (length (code_in c.args.code.now)) place c.loop-place.left.items c.pop.new.self.items now (code_in c.land.new.code)
           split c.loop-place.invariant.long c.land.ensures.landed ∙ c.loop-place.invariant.told;
       long = ap length c.land.ensures.landed ∙ length-set now place (jump (length now)) ∙ c.loop-place.invariant.long;
-      same = record {
-        name = c.land.ensures.same.name ∙ c.loop-place.invariant.same.name;
-        source = c.land.ensures.same.source ∙ c.loop-place.invariant.same.source;
-      };
+      same = same_then c.loop-place.invariant.same c.land.ensures.same;
     }

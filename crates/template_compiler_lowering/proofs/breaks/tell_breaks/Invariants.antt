@@ -1,6 +1,7 @@
 -- The jumps that are left, led to the end, make what all of them make of the first code.
 use Rattle.std.proofs.Common.{◌≡◌, length, vec_len}
-use Rattle.template_code.specs.Listing.{code_in, IsSameTemplate}
+use Rattle.template_code.specs.Listing.{code_in}
+use Rattle.template_compiler_emission.specs.Puts.{Keeps}
 use Rattle.template_compiler_lowering.specs.Breaks.{led}
 use Rattle.template_compiler_lowering.proofs.breaks.tell_breaks.Given as goal
 
@@ -8,7 +9,7 @@ abbrev pub invariant-loop-place : goal.invariant-loop-place
 invariant-loop-place l = record {
   told : led (length (code_in l.initial.code)) l.left.items (code_in l.code) ≡ led (length (code_in l.initial.code)) l.fn.breaks.items (code_in l.initial.code);
   long : length (code_in l.code) ≡ length (code_in l.initial.code);
-  same : IsSameTemplate l.initial.code l.code;
+  same : Keeps l.initial.code l.code;
 }
 
 abbrev pub decreases-loop-place : goal.decreases-loop-place

@@ -1,4 +1,5 @@
 use Rattle.std.proofs.Common.{◌≡◌, ◌+◌, ◌<◌, length, true, false, Option, Bor, ap, subst, ◌∙◌, arith, refl}
+use Rattle.std.proofs.lemmas.Result.{on_ok_weaker}
 use Rattle.template_tree.specs.StatementView.{assignments_in, statement_of}
 use Rattle.template_tree.specs.Tree.{Statement, absent, auto_escape, for_loop, with_block}
 use Rattle.template_tree.specs.declared.statements.AutoEscape.{AutoEscape as AutoEscapeNode}
@@ -20,6 +21,7 @@ use Rattle.template_compiler_statement_codegen.proofs.Bodies.{no_items, some_ite
 use Rattle.template_compiler_statement_codegen.proofs.Closings.{lowers_closed}
 use Rattle.template_compiler_statement_codegen.proofs.Elifs.{alone, at_left, before_other, chain_on, chain_stops, left_runs, left_smaller, LeftRuns, left_deep}
 use Rattle.template_compiler_statement_codegen.proofs.Looping.{ends_otherwise, puts_rounds}
+use Rattle.template_compiler_statement_codegen.proofs.Lowering.{lowers_behind}
 use Rattle.template_compiler_statement_codegen.proofs.Nodes.{call_no_statement, condition_is, condition_within, escape_deep, escape_is, loop_deep, loop_is, loop_other_deep, with_deep, with_is}
 use Rattle.template_compiler_statement_codegen.proofs.statements.+statement.Goals as goal
 
@@ -205,3 +207,8 @@ compile_statement-returns-in-AutoEscape-clause-lowered t c =
     (ap (λ (a : AutoEscapeNode). a.enabled) c.deref-in-AutoEscape.ensures)
     (c.deref-in-AutoEscape-3.ensures.value ∙ ap (λ (a : AutoEscapeNode). a.body.items) c.deref-in-AutoEscape-2.ensures) in
     rw tree c.compile_auto_escape.ensures.lowered
+
+pub compile_loop-returns-clause-lowered : goal.compile_loop-returns-clause-lowered
+compile_loop-returns-clause-lowered t c = on_ok_weaker c.compile_loop_end.result (λ last.
+    lowers_behind c.in_ok-compile_expr.ensures.put
+    (lowers_behind c.in_ok-put.ensures.put (lowers_behind c.in_ok-compile_rounds.ensures.put last))) c.compile_loop_end.ensures.lowered
