@@ -3,4 +3,5 @@ mod compiling;
 mod constants;
 mod names;
 mod parsing;
+mod places;
 mod tokenizing;
