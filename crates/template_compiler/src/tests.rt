@@ -9,6 +9,7 @@ mod expressions;
 mod generating;
 mod names;
 mod parsing;
+mod places;
 mod tokenizing;
 
 // The tree of a template's text.
