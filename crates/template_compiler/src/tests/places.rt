@@ -1,7 +1,7 @@
 //! Where the instructions of templates come from, as rows.
 use crate::{CompiledTemplate, Error, Instructions, TemplateConfig};
 use std::alloc::Global;
-use std::test::Fail;
+use std::process::Abort;
 
 // Whether two instructions come from the same line and the same span.
 fn are_together(code: &Instructions<'_>, first: u32, second: u32) -> bool {
@@ -9,9 +9,7 @@ fn are_together(code: &Instructions<'_>, first: u32, second: u32) -> bool {
 }
 
 // The runs of instructions that come from one place: its line, how many they are, and the text at its span.
-fn runs(alloc: Global, source: &str) -> Result<String, Error> {
-    let template = CompiledTemplate::new(alloc, "t.txt", source, &TemplateConfig::new())?;
-    let code = template.instructions();
+fn runs_of(alloc: Global, source: &str, code: &Instructions<'_>) -> Result<String, Error> {
     let count = code.len() as u32;
     let mut shown = String::new(alloc);
     let mut run: u32 = 0;
@@ -28,6 +26,21 @@ fn runs(alloc: Global, source: &str) -> Result<String, Error> {
         run = 0;
     }
     Ok(shown)
+}
+
+// The runs of a template's source.
+fn runs(alloc: Global, source: &str) -> Result<String, Error> {
+    let template = CompiledTemplate::new(alloc, "t.txt", source, &TemplateConfig::new())?;
+    runs_of(alloc, source, template.instructions())
+}
+
+// Asserts the runs of each source.
+fn assert_runs<R: AllocGlobal + Abort>(rt: &R, rows: &[(&str, &str)]) -> Result<(), Error> {
+    for (source, wanted) in rows {
+        let shown = runs(rt.alloc(), source)?;
+        assert_eq!(rt; shown.as_str(), *wanted, "{source}");
+    }
+    Ok(())
 }
 
 // Written from the rule: an expression's code comes from the expression, and so does what takes its value at once; a
@@ -113,9 +126,6 @@ const ROWS: [(&str, &str); 48] = [
 ];
 
 #[test]
-fn instructions_come_from_their_expression_or_statement(rt: HostRuntime) -> Result<(), Fail> {
-    for (source, want) in ROWS {
-        assert_eq!(rt; runs(rt.alloc(), source)?.as_str(), want, "{source}");
-    }
-    Ok(())
+fn instructions_come_from_their_expression_or_statement(rt: HostRuntime) -> Result<(), Error> {
+    assert_runs(&rt, ROWS.as_slice())
 }
