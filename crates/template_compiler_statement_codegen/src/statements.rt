@@ -284,7 +284,8 @@ fn compile_loop<'source>(
     requires body { AreRunnableStatements true (statements_in body.now) }
     requires otherwise { AreRunnableStatements true (statements_in otherwise.now) }
     ensures lowered { OnOk result
-        (LowersStatement (for_loop (expression_of target.now) (expression_of items.now) absent false (statements_in body.now) (statements_in otherwise.now))
+        (LowersStatement (for_loop (expression_of target.now) (expression_of items.now) absent false (statements_in body.now)
+        (statements_in otherwise.now))
         code.old code.new round.old round.new) }
     ensures refused { IfErr result NoRoom }
 {
@@ -307,7 +308,8 @@ fn compile_rounds<'source>(
     requires target { IsTarget (expression_of target.now) }
     requires body { AreRunnableStatements true (statements_in body.now) }
     ensures put { OnOk result
-        (Puts (rounds_code (target_code (expression_of target.now)) (λ break_to continue_to. statements_code (own_ways break_to continue_to) (statements_in body.now)))
+        (Puts (rounds_code (target_code (expression_of target.now)) (λ break_to continue_to. statements_code
+        (own_ways break_to continue_to) (statements_in body.now)))
         code.old code.new) }
     ensures refused { IfErr result NoRoom }
 {
