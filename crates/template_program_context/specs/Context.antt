@@ -29,8 +29,8 @@ defined_under [] name = None
 defined_under (d ∷ later) name = option_or (defined_under later name) (if bytes_eq d.0 name then Some d.1 else None)
 
 -- the names and the texts of definitions
-abbrev pub texts_in : List (String Global × String Global) → List (List ℕ × List ℕ)
-texts_in definitions = each (λ d. (string_bytes d.0, string_bytes d.1)) definitions
+abbrev pub text_pairs : List (String Global × String Global) → List (List ℕ × List ℕ)
+text_pairs definitions = each (λ d. (string_bytes d.0, string_bytes d.1)) definitions
 
 -- under every name: the text of its last definition, else the member's value
 abbrev pub context_under : Option (List ℕ) → List (List ℕ × List ℕ) → List ℕ → Option Val
@@ -41,5 +41,5 @@ abbrev pub IsTextMap : Val → Type 0
 IsTextMap v = (pairs : List (Val × Val)) × (v ≡ map (pairs_of pairs)) × All IsPlainText (keys_of pairs)
 
 -- the context: such a map that has this under every name
-abbrev pub IsContext : Option (List ℕ) → List (List ℕ × List ℕ) → Val → Type 0
-IsContext json definitions v = IsTextMap v × ((name : List ℕ) → value_at name v ≡ context_under json definitions name)
+abbrev pub IsContextOf : Option (List ℕ) → List (List ℕ × List ℕ) → Val → Type 0
+IsContextOf json definitions v = IsTextMap v × ((name : List ℕ) → value_at name v ≡ context_under json definitions name)

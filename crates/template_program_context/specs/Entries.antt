@@ -4,7 +4,7 @@ use Rattle.std.specs.declared.alloc.Global.{Global}
 use Rattle.template_values_core.specs.Maps.{last_at}
 use Rattle.template_values_core.specs.Shape.{pairs_in}
 use Rattle.template_values_core.specs.declared.value.Entry.{Entry}
-use Rattle.template_program_context.specs.Context.{member_under, context_under, texts_in}
+use Rattle.template_program_context.specs.Context.{member_under, context_under, text_pairs}
 
 -- the entries say the same as the members of the JSON
 abbrev pub SayJson : Option (List ℕ) → List Entry → Type 0
@@ -12,4 +12,4 @@ SayJson json entries = (name : List ℕ) → last_at name (pairs_in entries) ≡
 
 -- the entries say what the context has under every name
 abbrev pub SayContext : Option (List ℕ) → List (String Global × String Global) → List Entry → Type 0
-SayContext json definitions entries = (name : List ℕ) → last_at name (pairs_in entries) ≡ context_under json (texts_in definitions) name
+SayContext json definitions entries = (name : List ℕ) → last_at name (pairs_in entries) ≡ context_under json (text_pairs definitions) name

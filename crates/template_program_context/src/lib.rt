@@ -4,7 +4,7 @@
 ghost use Rattle.std.specs.Prelude.{◌≡◌, None, IfOk, IfErr, string_bytes, option_copied};
 ghost use Rattle.template_values_model.specs.Val.{text};
 ghost use Rattle.template_values_errors.specs.Memory.{NoMemory};
-ghost use Rattle.template_program_context.specs.Context.{fault_of_json, texts_in, IsContext};
+ghost use Rattle.template_program_context.specs.Context.{fault_of_json, text_pairs, IsContextOf};
 ghost use Rattle.template_program_context.specs.Entries.{SayJson, SayContext};
 ghost use Rattle.template_values_json.specs.Entries.{ArePlain};
 ghost use Rattle.template_values_json.specs.Json.{IsRefusal};
@@ -36,7 +36,7 @@ pub fn read_context(
     definitions: &[(String, String)],
 ) -> Result<Value, Error>
     ensures faultless { IfOk result (λ _. fault_of_json (option_copied json.entry) ≡ None) }
-    ensures context { IfOk result (IsContext (option_copied json.entry) (texts_in definitions.now)) }
+    ensures context { IfOk result (IsContextOf (option_copied json.entry) (text_pairs definitions.now)) }
     ensures refused { IfErr result (IsRefusal (fault_of_json (option_copied json.entry))) }
 {
     Value::from_map(alloc, context_entries(alloc, json, definitions)?)

@@ -6,9 +6,9 @@ use Rattle.template_program_files.specs.declared.faults.FileFault.{FileFault}
 use Rattle.template_program_files.specs.declared.faults.FileFault.TheVariants.{File, Memory}
 
 -- want of memory is told apart from every other error
-abbrev pub fault_of : ErrorKind → FileFault
-fault_of kind.OutOfMemory = Memory
-fault_of _ = File
+abbrev pub fault_of_read : ErrorKind → FileFault
+fault_of_read kind.OutOfMemory = Memory
+fault_of_read _ = File
 
 -- the read failed, and not for want of memory
 abbrev pub is_file_fault : Result ℕ FileFault → Bool

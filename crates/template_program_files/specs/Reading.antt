@@ -18,6 +18,6 @@ GivesNoText before after =
     (taken : List ℕ) × Consumes before after taken × IsAtEnd after × ¬ (IsUtf8 taken)
 
 -- this many bytes were taken from it and put behind the old ones
-abbrev pub Adds : Option (List ℕ) → Option (List ℕ) → List ℕ → List ℕ → ℕ → Type 0
-Adds before after old new count =
+abbrev pub AddsPiece : Option (List ℕ) → Option (List ℕ) → List ℕ → List ℕ → ℕ → Type 0
+AddsPiece before after old new count =
     (taken : List ℕ) × Consumes before after taken × (new ≡ old ++ taken) × (length taken ≡ count)

@@ -1,7 +1,7 @@
 //! Why an input was refused.
 ghost use Rattle.std.specs.Prelude.{◌≡◌};
 ghost use Rattle.std.specs.IoError.{error_kind};
-ghost use Rattle.template_program_files.specs.Faults.{fault_of};
+ghost use Rattle.template_program_files.specs.Faults.{fault_of_read};
 ghost use Rattle.template_program_files.specs.declared.faults.FileFault.TheVariants.{Memory};
 
 use std::alloc::{AllocError, AllocFailed};
@@ -33,7 +33,7 @@ impl<T: Drop> From<AllocFailed<T>> for FileFault {
 }
 
 impl From<io::Error> for FileFault {
-    ghost from_gives = { λ error fault. fault ≡ fault_of (error_kind error) };
+    ghost from_gives = { λ error fault. fault ≡ fault_of_read (error_kind error) };
 
     fn from(error: io::Error) -> FileFault {
         match error.kind() {

@@ -2,7 +2,7 @@
 ghost use Rattle.std.specs.Prelude.{◌≡◌, ◌<◌, ◌≤◌, ◌⊎◌, IfOk, IfSome, IsErrOf};
 ghost use Rattle.std.specs.Prelude.{IsTrue, OnOk, length, string_bytes, string_len, vec_len};
 ghost use Rattle.std.specs.Io.KnownBytes.{Consumes, IsAtEnd};
-ghost use Rattle.template_program_files.specs.Reading.{Adds, GivesAtMost, GivesCount, GivesNoText};
+ghost use Rattle.template_program_files.specs.Reading.{AddsPiece, GivesAtMost, GivesCount, GivesNoText};
 
 use crate::{FileFault, Source};
 use std::alloc::Global;
@@ -79,7 +79,7 @@ fn read_more<S: Source>(
     bytes: &mut Vec<u8>,
 ) -> Result<usize, FileFault>
     ensures count { IfOk result (λ count. count ≤ length piece.old) }
-    ensures adds { IfOk result (λ count. Adds (S.remaining source.old) (S.remaining source.new)
+    ensures adds { IfOk result (λ count. AddsPiece (S.remaining source.old) (S.remaining source.new)
         bytes.old.items bytes.new.items count) }
     ensures end { IfOk result (λ count. count ≡ 0 → 0 < length piece.old
         → IsAtEnd (S.remaining source.new)) }

@@ -4,7 +4,7 @@ use Rattle.std.proofs.lemmas.Bool.Decides.{eqb_tells}
 use Rattle.template_values_model.specs.Val.{Val}
 use Rattle.template_machine_meaning.specs.Meaning.{Standing}
 use Rattle.template_environment.specs.declared.registry.Registry.{Registry}
-use Rattle.template_program_run.specs.Answers.{Rendered, Told}
+use Rattle.template_program_run.specs.Answers.{Rendered, TellsNames}
 use Rattle.template_program_run.specs.Ids.{IsLastId, behind_one, behind_request, last_id}
 use Rattle.template_program_run.specs.declared.outcome.Outcome.{Outcome}
 use Rattle.template_program_run.specs.declared.outcome.Outcome.TheVariants.{Done, Render, Context, Template}
@@ -37,7 +37,7 @@ takes_two e t context id (Template kinds) before after failed fails rendered nex
 
 -- and so does a telling of names
 takes_one : (e : Registry) (t : Standing) (outcome : Outcome) (before after : Option (List ℕ)) (failed fails : ℕ)
-    → Told e t outcome before after failed fails
+    → TellsNames e t outcome before after failed fails
     → (next : ℕ) → behind_request asked.Names outcome next ≡ behind_one next
 takes_one e t Done before after failed fails told next = refl
 takes_one e t (Render kinds) before after failed fails told next = refl
@@ -53,7 +53,7 @@ rendered_counts e t context id outcome before after failed fails rendered comman
     ∙ ap (λ (c : Command). behind_request c outcome next) (sym is)
 
 pub told_counts : (e : Registry) (t : Standing) (outcome : Outcome) (before after : Option (List ℕ)) (failed fails : ℕ)
-    → Told e t outcome before after failed fails
+    → TellsNames e t outcome before after failed fails
     → (command : Command) → command ≡ asked.Names → (next end : ℕ) → end ≡ behind_one next
     → end ≡ behind_request command outcome next
 told_counts e t outcome before after failed fails told command is next end first =

@@ -12,7 +12,7 @@ use Rattle.template_program_run.specs.Additions.{AllAreAccepted}
 use Rattle.template_program_run.specs.Environments.{IsMade}
 use Rattle.template_program_run.specs.History.{source_for, standing}
 use Rattle.template_program_run.specs.Ids.{IsLastId}
-use Rattle.template_program_run.specs.Answers.{Answers, Does, HasContext, IsTemplateOf, Rendered, definitions_of}
+use Rattle.template_program_run.specs.Answers.{AnswersRequest, Does, HasContext, IsTemplateOf, Rendered, definitions_of}
 use Rattle.template_program_run.specs.declared.outcome.Outcome.{Outcome}
 use Rattle.template_program_run.specs.declared.request.Command.{Command}
 use Rattle.template_program_run.specs.declared.request.Command.TheVariants as asked
@@ -56,7 +56,7 @@ pub answers_done : (request : Request) (additions : List (List ℕ × List ℕ))
     → (c : Compiled) → source_at e (string_bytes request.main) ≡ Some c.source → IsEscapeOf c.source.escapes (string_bytes request.main) c.escape
     → (command : Command) → request.command ≡ command
     → Does command e (standing_of c) request json next outcome before after failed fails
-    → Answers request additions json next outcome before after failed fails
+    → AnswersRequest request additions json next outcome before after failed fails
 answers_done request additions json next outcome before after failed fails context has had accepted e made c found rule command is does =
     let there = found_there request additions e c made found rule in
     let done = subst (λ (k : Command). Does k e (standing_of c) request json next outcome before after failed fails) (sym is) does in

@@ -14,7 +14,8 @@ AllAreAccepted (addition ∷ later) = IsAccepted (source_for addition.1) × AllA
 -- a source is refused with these kinds, and each before it is accepted
 abbrev pub RefusesOne : List (List ℕ × List ℕ) → List ErrorKind → Type 0
 RefusesOne [] kinds = ⊥
-RefusesOne (addition ∷ later) kinds = IsRefusedWith (source_for addition.1) kinds ⊎ (IsAccepted (source_for addition.1) × RefusesOne later kinds)
+RefusesOne (addition ∷ later) kinds =
+    IsRefusedWith (source_for addition.1) kinds ⊎ (IsAccepted (source_for addition.1) × RefusesOne later kinds)
 
 -- the kinds that the additions are refused with: there is no state id, or else the first refused one's
 abbrev pub IsRefusedAddition : List (List ℕ × List ℕ) → ℕ → List ErrorKind → Type 0

@@ -20,7 +20,7 @@ use Rattle.template_environment.specs.Sources.{tree_in}
 use Rattle.template_environment.specs.Isolated.{AgreeAmong}
 use Rattle.template_environment.specs.Standing.{setting_of}
 use Rattle.template_environment.specs.declared.registry.Registry.{Registry}
-use Rattle.template_program_context.specs.Context.{fault_of_json, IsContext, texts_in}
+use Rattle.template_program_context.specs.Context.{fault_of_json, IsContextOf, text_pairs}
 use Rattle.template_values_json.specs.Json.{IsRefusal}
 use Rattle.template_program_run.specs.Additions.{AllAreAccepted, IsRefusedAddition}
 use Rattle.template_program_run.specs.Environments.{IsMade}
@@ -39,7 +39,7 @@ IsUntouched before after failed fails = (after ≡ before) × (fails ≡ failed)
 
 -- the request's definitions
 abbrev pub definitions_of : Request → List (List ℕ × List ℕ)
-definitions_of request = texts_in request.texts.items
+definitions_of request = text_pairs request.texts.items
 
 -- the JSON is refused; it is read for a render alone
 abbrev pub IsRefusedContext : Command → Option (List ℕ) → List ErrorKind → Type 0
@@ -48,14 +48,14 @@ IsRefusedContext asked.Names json kinds = ⊥
 
 -- the JSON is not refused, and a render has this context
 abbrev pub HasContext : Command → Option (List ℕ) → List (List ℕ × List ℕ) → Val → Type 0
-HasContext asked.Render json definitions context = (fault_of_json json ≡ None) × IsContext json definitions context
+HasContext asked.Render json definitions context = (fault_of_json json ≡ None) × IsContextOf json definitions context
 HasContext asked.Names json definitions context = Unit {0}
 
 -- an outcome of a render: done, or an error
-abbrev pub EndsWith : Outcome → Result (Unit {0}) (List ErrorKind) → Type 0
-EndsWith Done (Ok _) = Unit {0}
-EndsWith (Render kinds) (Err others) = kinds ≡ others
-EndsWith _ _ = ⊥
+abbrev pub IsOutcomeOf : Outcome → Result (Unit {0}) (List ErrorKind) → Type 0
+IsOutcomeOf Done (Ok _) = Unit {0}
+IsOutcomeOf (Render kinds) (Err others) = kinds ≡ others
+IsOutcomeOf _ _ = ⊥
 
 -- a template that stands is the tree of the text, with the escape of the name
 pub record IsTemplateOf (name text : List ℕ) (t : Standing) : Type 0 where
@@ -74,7 +74,7 @@ pub record IsRendered (e : Registry) (t : Standing) (context : Val) (result : Re
 abbrev pub Rendered : Registry → Standing → Val → ℕ → Outcome → Option (List ℕ) → Option (List ℕ) → ℕ → ℕ → Type 0
 Rendered e t context next outcome before after failed fails =
     (IsLastId next → (outcome ≡ Render (InvalidOperation ∷ [])) × IsUntouched before after failed fails)
-    × (¬ IsLastId next → (result : Result (Unit {0}) (List ErrorKind)) × EndsWith outcome result
+    × (¬ IsLastId next → (result : Result (Unit {0}) (List ErrorKind)) × IsOutcomeOf outcome result
     × TellsFailures result failed fails × IsRendered e t context result before after)
 
 -- The set has just the names that can matter to a render of the template: contexts that agree at these make no difference, at
@@ -87,25 +87,25 @@ HasNames e t names = IsOrdered string_cmp names
 
 -- The names that can matter are written in their order, one a line; or a beginning of that, for want of
 -- memory or of a sink that works. Where they cannot be found for want of memory, nothing is written.
-abbrev pub Told : Registry → Standing → Outcome → Option (List ℕ) → Option (List ℕ) → ℕ → ℕ → Type 0
-Told e t Done before after failed fails =
+abbrev pub TellsNames : Registry → Standing → Outcome → Option (List ℕ) → Option (List ℕ) → ℕ → ℕ → Type 0
+TellsNames e t Done before after failed fails =
     (names : BTreeSet (String Global)) × HasNames e t names × Appends before after (lines_of names.keys) × (fails ≡ failed)
-Told e t (Render kinds) before after failed fails =
+TellsNames e t (Render kinds) before after failed fails =
     (names : BTreeSet (String Global)) × HasNames e t names × IsWant kinds
     × AppendsBeginning before after (lines_of names.keys)
     × ((result : Result (Unit {0}) (List ErrorKind)) × (result ≡ Err kinds) × TellsFailures result failed fails)
-Told e t (Template kinds) before after failed fails =
+TellsNames e t (Template kinds) before after failed fails =
     NoMemory kinds × IsUntouched before after failed fails
-Told e t _ before after failed fails = ⊥
+TellsNames e t _ before after failed fails = ⊥
 
 -- what is done with the main template
 abbrev pub Does : Command → Registry → Standing → Request → Option (List ℕ) → ℕ → Outcome
     → Option (List ℕ) → Option (List ℕ) → ℕ → ℕ → Type 0
 Does asked.Render e t request json next outcome before after failed fails =
-    (context : Val) × IsContext json (definitions_of request) context
+    (context : Val) × IsContextOf json (definitions_of request) context
     × Rendered e t context (next + 1) outcome before after failed fails
 Does asked.Names e t request json next outcome before after failed fails =
-    Told e t outcome before after failed fails
+    TellsNames e t outcome before after failed fails
 
 -- The main template stands, in an environment of the request, and that is done with it.
 abbrev pub Performed : Command → Request → List (List ℕ × List ℕ) → Option (List ℕ) → ℕ → Outcome
@@ -118,8 +118,9 @@ Performed command request additions json next outcome before after failed fails 
 
 -- The context of a render is refused; or else the additions are, or the main template does not stand; or else
 -- what is asked is done. With no state id left the additions are refused.
-abbrev pub Answers : Request → List (List ℕ × List ℕ) → Option (List ℕ) → ℕ → Outcome → Option (List ℕ) → Option (List ℕ) → ℕ → ℕ → Type 0
-Answers request additions json next outcome before after failed fails =
+abbrev pub AnswersRequest : Request → List (List ℕ × List ℕ) → Option (List ℕ) → ℕ → Outcome
+    → Option (List ℕ) → Option (List ℕ) → ℕ → ℕ → Type 0
+AnswersRequest request additions json next outcome before after failed fails =
     ((kinds : List ErrorKind) × (outcome ≡ Context kinds) × IsRefusedContext request.command json kinds
     × IsUntouched before after failed fails)
     ⊎ (((context : Val) × HasContext request.command json (definitions_of request) context)

@@ -8,7 +8,7 @@ use Rattle.template_program_run.specs.History.{source_standing}
 use Rattle.template_program_run.specs.declared.request.Request.{Request}
 
 -- it is set to what the request asks for
-pub record HasSettings (request : Request) (s : Settings) : Type 0 where
+pub record IsSetFor (request : Request) (s : Settings) : Type 0 where
   pub syntax : s.syntax ≡ default_syntax
   pub escapes : s.escapes ≡ ByName
   pub fuel : s.fuel ≡ request.fuel
@@ -18,4 +18,4 @@ pub record HasSettings (request : Request) (s : Settings) : Type 0 where
 -- the additions stand in it
 pub record IsMade (request : Request) (additions : List (List ℕ × List ℕ)) (e : Registry) : Type 0 where
   pub sources : (name : List ℕ) → source_at e name ≡ source_standing additions name
-  pub settings : HasSettings request (settings_of e)
+  pub settings : IsSetFor request (settings_of e)

@@ -7,12 +7,12 @@ use Rattle.template_machine_escape.specs.declared.EscapeRule.TheVariants.{ByName
 use Rattle.template_environment.specs.Sources.{Source}
 
 -- the one given last under the name
-abbrev pub last_under : List ℕ → Option (List ℕ) → List (List ℕ × List ℕ) → Option (List ℕ)
-last_under name before [] = before
-last_under name before (addition ∷ later) = last_under name (if bytes_eq addition.0 name then Some addition.1 else before) later
+abbrev pub text_under : List ℕ → Option (List ℕ) → List (List ℕ × List ℕ) → Option (List ℕ)
+text_under name before [] = before
+text_under name before (addition ∷ later) = text_under name (if bytes_eq addition.0 name then Some addition.1 else before) later
 
 abbrev pub standing : List (List ℕ × List ℕ) → List ℕ → Option (List ℕ)
-standing additions name = last_under name None additions
+standing additions name = text_under name None additions
 
 -- a text, under the syntax of the program, with escapes by name
 abbrev pub source_for : List ℕ → Source

@@ -2,9 +2,9 @@
 ghost use Rattle.std.specs.Prelude.{◌≡◌, ◌+◌, ℕ, List, [], ◌∷◌, None, IfOk, IfErr, OnOk};
 ghost use Rattle.template_environment.specs.Reading.{callback_of, registry_of};
 ghost use Rattle.template_environment.specs.Standing.{settings_of, source_at};
-ghost use Rattle.template_program_context.specs.Context.{texts_in};
+ghost use Rattle.template_program_context.specs.Context.{text_pairs};
 ghost use Rattle.template_program_run.specs.Additions.{AllAreAccepted, IsRefusedAddition};
-ghost use Rattle.template_program_run.specs.Environments.{HasSettings, IsMade};
+ghost use Rattle.template_program_run.specs.Environments.{IsSetFor, IsMade};
 ghost use Rattle.template_program_run.specs.Ids.{IsLastId, behind_one};
 
 use crate::request::Request;
@@ -25,11 +25,11 @@ pub(crate) fn environment_of<'source>(
     request: &Request,
     ids: &mut StateIds,
 ) -> Result<Environment<'source>, Error>
-    ensures accepted { IfOk result (λ e. AllAreAccepted (texts_in templates.entry.now)) }
-    ensures made { IfOk result (λ e. IsMade request.now (texts_in templates.entry.now) (registry_of e)) }
+    ensures accepted { IfOk result (λ e. AllAreAccepted (text_pairs templates.entry.now)) }
+    ensures made { IfOk result (λ e. IsMade request.now (text_pairs templates.entry.now) (registry_of e)) }
     ensures had_one { OnOk result (¬ IsLastId ids.old) }
     ensures counted { ids.new ≡ behind_one ids.old }
-    ensures refused { IfErr result (IsRefusedAddition (texts_in templates.entry.now) ids.old) }
+    ensures refused { IfErr result (IsRefusedAddition (text_pairs templates.entry.now) ids.old) }
 {
     let mut environment = set_up(alloc, request, ids)?;
     for (name, source) in templates {
@@ -45,7 +45,7 @@ fn set_up<'source>(
     ids: &mut StateIds,
 ) -> Result<Environment<'source>, Error>
     ensures empty { IfOk result (λ e. (name : List ℕ) → source_at (registry_of e) name ≡ None) }
-    ensures settings { IfOk result (λ e. HasSettings request.now (settings_of (registry_of e))) }
+    ensures settings { IfOk result (λ e. IsSetFor request.now (settings_of (registry_of e))) }
     ensures callback { IfOk result (λ e. callback_of e ≡ None) }
     ensures had_one { OnOk result (¬ IsLastId ids.old) }
     ensures counted { ids.new ≡ behind_one ids.old }

@@ -1,12 +1,12 @@
 //! The run of a request.
 ghost use Rattle.std.specs.Prelude.{◌≡◌, ℕ, List, Some, option_copied, string_bytes, IfOk, IfErr};
-ghost use Rattle.template_program_context.specs.Context.{texts_in};
+ghost use Rattle.template_program_context.specs.Context.{text_pairs};
 ghost use Rattle.template_machine_escape.specs.Rule.{IsEscapeOf};
 ghost use Rattle.template_environment.specs.Compiled.{standing_of};
 ghost use Rattle.template_environment.specs.Plain.{IsPlain, text_kept};
 ghost use Rattle.template_environment.specs.Reading.{registry_of};
 ghost use Rattle.template_environment.specs.Views.{compiled_in, environment_of as place_of, name_of, source_of};
-ghost use Rattle.template_program_run.specs.Answers.{Answers, HasContext, IsRefusedContext, Rendered, Told, definitions_of};
+ghost use Rattle.template_program_run.specs.Answers.{AnswersRequest, HasContext, IsRefusedContext, Rendered, TellsNames, definitions_of};
 ghost use Rattle.template_program_run.specs.History.{source_for, standing};
 ghost use Rattle.template_program_run.specs.Ids.{behind_one, behind_request};
 ghost use Rattle.template_program_run.specs.Plain.{WritesOnDone, WritesOnRender};
@@ -44,12 +44,12 @@ pub fn run<S: Sink>(
     ids: &mut StateIds,
     sink: &mut S,
 ) -> Outcome
-    ensures answers { Answers request.now (texts_in templates.now) (option_copied context.entry) ids.old result
+    ensures answers { AnswersRequest request.now (text_pairs templates.now) (option_copied context.entry) ids.old result
         (S.taken sink.old) (S.taken sink.new) (S.failures sink.old) (S.failures sink.new) }
     ensures counted { ids.new ≡ behind_request request.now.command result ids.old }
 
     // A main template in which no marker starts renders to its text, without the newline at its end.
-    ensures plain { (text : List ℕ) → standing (texts_in templates.now) (string_bytes request.now.main) ≡ Some text
+    ensures plain { (text : List ℕ) → standing (text_pairs templates.now) (string_bytes request.now.main) ≡ Some text
         → IsPlain (source_for text) →
         WritesOnRender request.now.command (S.taken sink.old) (S.taken sink.new) (text_kept (source_for text)) result }
 {
@@ -111,7 +111,7 @@ fn tell_names<'source, S: Sink>(
     template: &Template<'_, 'source>,
     sink: &mut S,
 ) -> Outcome
-    ensures told { Told (registry_of environment.now) (standing_of (compiled_in template.now.compiled)) result
+    ensures told { TellsNames (registry_of environment.now) (standing_of (compiled_in template.now.compiled)) result
         (S.taken sink.old) (S.taken sink.new) (S.failures sink.old) (S.failures sink.new) }
     ensures rule { IsEscapeOf (source_of template.now).escapes (name_of template.now) (compiled_in template.now.compiled).escape }
 {

@@ -6,13 +6,13 @@ use Rattle.clap.specs.Words.{Kinds, Row}
 use Rattle.template_values_modes.specs.declared.UndefinedBehavior.{UndefinedBehavior}
 use Rattle.template_values_modes.specs.declared.UndefinedBehavior.TheVariants.{Lenient}
 use Rattle.template_program_files.specs.declared.faults.FileFault.{FileFault}
-use Rattle.template_program_words.specs.Reading.{Reads, default_limit, parts_of}
-use Rattle.template_program_words.specs.Refusals.{Refuses}
+use Rattle.template_program_words.specs.Reading.{ReadsWords, default_limit, parts_of}
+use Rattle.template_program_words.specs.Refusals.{RefusesWords}
 use Rattle.template_program_words.specs.declared.faults.WordsFault.{WordsFault}
 use Rattle.template_program_words.specs.declared.faults.WordsFault.TheVariants.{Memory, Help, Usage, Definition}
 use Rattle.template_program_words.specs.declared.words.Words.{Words}
 use Rattle.template_program_words.specs.declared.words.Words.TheVariants as asks
-use Rattle.template_program_run.specs.Answers.{Answers, definitions_of}
+use Rattle.template_program_run.specs.Answers.{AnswersRequest, definitions_of}
 use Rattle.template_program_run.specs.declared.outcome.Outcome.{Outcome}
 use Rattle.template_program_run.specs.declared.request.Command.TheVariants as asked
 use Rattle.template_program_run.specs.declared.request.Request.{Request}
@@ -32,8 +32,8 @@ template_names [] = codes "<stdin>" ∷ []
 template_names (path ∷ paths) = path ∷ paths
 
 -- the names of templates
-abbrev pub names_in : List (List ℕ × List ℕ) → List (List ℕ)
-names_in additions = map (λ a. a.0) additions
+abbrev pub addition_names : List (List ℕ × List ℕ) → List (List ℕ)
+addition_names additions = map (λ a. a.0) additions
 
 -- the first of the names
 abbrev pub first_name : List (List ℕ) → List ℕ
@@ -43,22 +43,22 @@ first_name (name ∷ names) = name
 -- the templates have the names that the words give, and the main one is the one named, else the first
 abbrev pub IsNamed : Option (List ℕ) → List (List ℕ) → Request → List (List ℕ × List ℕ) → Type 0
 IsNamed main paths request additions =
-    (names_in additions ≡ template_names paths)
-    × (string_bytes request.main ≡ unwrap_or main (first_name (names_in additions)))
+    (addition_names additions ≡ template_names paths)
+    × (string_bytes request.main ≡ unwrap_or main (first_name (addition_names additions)))
 
 -- the fuel, the limit, and what may be done with undefined values
-abbrev pub HasSettings : Request → Option ℕ → ℕ → UndefinedBehavior → Type 0
-HasSettings request fuel limit undefined =
+abbrev pub HasLimits : Request → Option ℕ → ℕ → UndefinedBehavior → Type 0
+HasLimits request fuel limit undefined =
     (request.fuel ≡ fuel) × (request.limit ≡ limit) × (request.undefined ≡ undefined)
 
 -- The request is what the words ask for. Names are told in an environment set as one begins.
 abbrev pub IsAsked : Words → Request → List (List ℕ × List ℕ) → Type 0
 IsAsked (asks.Render read) request additions = (request.command ≡ asked.Render)
-    × HasSettings request read.fuel read.limit read.undefined
+    × HasLimits request read.fuel read.limit read.undefined
     × (definitions_of request ≡ map parts_of read.definitions.items)
     × IsNamed (option_map (λ name. name.now) read.main) (map (λ path. path.now) read.files.items) request additions
 IsAsked (asks.Names read) request additions = (request.command ≡ asked.Names)
-    × HasSettings request None default_limit Lenient
+    × HasLimits request None default_limit Lenient
     × IsNamed (option_map (λ name. name.now) read.main) (map (λ path. path.now) read.files.items) request additions
 
 -- a template holds what stands under its name, where that is told
@@ -91,19 +91,19 @@ AreRead content input (asks.Names read) additions json =
 abbrev pub RunsFlushed : Request → List (List ℕ × List ℕ) → Option (List ℕ) → Option (List ℕ) → Outcome → Type 0
 RunsFlushed request additions json before outcome =
     (ran : Outcome) × (flush : Result (Unit {0}) Error) × (outcome ≡ flushed flush ran)
-    × ((written : Option (List ℕ)) × (fails : ℕ) × Answers request additions json 0 ran before written 0 fails)
+    × ((written : Option (List ℕ)) × (fails : ℕ) × AnswersRequest request additions json 0 ran before written 0 fails)
 
 -- The status is that of the outcome; it is 6 where there is no memory for the output's buffer.
-abbrev pub Performs : Request → List (List ℕ × List ℕ) → Option (List ℕ) → Option (List ℕ) → ℕ → Type 0
-Performs request additions json before result = (result ≡ 6)
+abbrev pub PerformsRequest : Request → List (List ℕ × List ℕ) → Option (List ℕ) → Option (List ℕ) → ℕ → Type 0
+PerformsRequest request additions json before result = (result ≡ 6)
     ⊎ ((outcome : Outcome) × RunsFlushed request additions json (append_known before []) outcome × IsStatusOf outcome result)
 
 -- Words that are refused have their status. Else the files are read, or refused with the status of the fault, and what
 -- the words ask for is done with them.
 abbrev pub Starts : Kinds → Option (List ℕ × List Row) → (List ℕ → Option (List ℕ)) → Option (List ℕ) → Option (List ℕ) → ℕ → Type 0
 Starts kinds found content input before result =
-    ((fault : WordsFault) × Refuses kinds found fault × (result ≡ words_status fault))
-    ⊎ ((words : Words) × Reads found words × (kinds ≡ []) × (((fault : FileFault) × (result ≡ file_status fault))
+    ((fault : WordsFault) × RefusesWords kinds found fault × (result ≡ words_status fault))
+    ⊎ ((words : Words) × ReadsWords found words × (kinds ≡ []) × (((fault : FileFault) × (result ≡ file_status fault))
     ⊎ ((request : Request) × (additions : List (List ℕ × List ℕ)) × (json : Option (List ℕ))
     × IsAsked words request additions × AreRead content input words additions json
-    × Performs request additions json before result)))
+    × PerformsRequest request additions json before result)))

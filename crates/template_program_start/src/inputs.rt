@@ -1,8 +1,8 @@
 //! The templates, the context and the request, by the words.
 ghost use Rattle.std.specs.Prelude.{◌≡◌, [], All, map, IfOk, unwrap_or, option_map, string_bytes};
-ghost use Rattle.template_program_context.specs.Context.{texts_in};
+ghost use Rattle.template_program_context.specs.Context.{text_pairs};
 ghost use Rattle.template_program_words.specs.Reading.{parts_of};
-ghost use Rattle.template_program_start.specs.Starts.{AreRead, AreTemplates, IsAsked, IsContextFile, IsInput, IsReadFrom, first_name, names_in, template_names};
+ghost use Rattle.template_program_start.specs.Starts.{AreRead, AreTemplates, IsAsked, IsContextFile, IsInput, IsReadFrom, first_name, addition_names, template_names};
 
 use std::alloc::Global;
 use template_program_files::{
@@ -32,9 +32,9 @@ pub(crate) fn read_inputs<R: FileSystem + AllocGlobal, I: Reader>(
     words: &Words<'_>,
     input: &mut I,
 ) -> Result<Inputs, FileFault>
-    ensures asked { IfOk result (λ inputs. IsAsked words.now inputs.request (texts_in inputs.templates.items)) }
+    ensures asked { IfOk result (λ inputs. IsAsked words.now inputs.request (text_pairs inputs.templates.items)) }
     ensures read { IfOk result (λ inputs. AreRead (R.content rt.now) (I.remaining input.old) words.now
-        (texts_in inputs.templates.items) (option_map (λ bytes. bytes.items) inputs.context)) }
+        (text_pairs inputs.templates.items) (option_map (λ bytes. bytes.items) inputs.context)) }
 {
     match words {
         Words::Render(words) => read_render(rt, words, input),
@@ -47,9 +47,9 @@ fn read_render<R: FileSystem + AllocGlobal, I: Reader>(
     words: &RenderWords<'_>,
     input: &mut I,
 ) -> Result<Inputs, FileFault>
-    ensures asked { IfOk result (λ inputs. IsAsked (Words.Render words.now) inputs.request (texts_in inputs.templates.items)) }
+    ensures asked { IfOk result (λ inputs. IsAsked (Words.Render words.now) inputs.request (text_pairs inputs.templates.items)) }
     ensures read { IfOk result (λ inputs. AreRead (R.content rt.now) (I.remaining input.old) (Words.Render words.now)
-        (texts_in inputs.templates.items) (option_map (λ bytes. bytes.items) inputs.context)) }
+        (text_pairs inputs.templates.items) (option_map (λ bytes. bytes.items) inputs.context)) }
 {
     let templates = read_templates(rt, words.files.as_slice(), input)?;
     let context = read_context_file(rt, words.context)?;
@@ -73,9 +73,9 @@ fn read_names<R: FileSystem + AllocGlobal, I: Reader>(
     words: &NamesWords<'_>,
     input: &mut I,
 ) -> Result<Inputs, FileFault>
-    ensures asked { IfOk result (λ inputs. IsAsked (Words.Names words.now) inputs.request (texts_in inputs.templates.items)) }
+    ensures asked { IfOk result (λ inputs. IsAsked (Words.Names words.now) inputs.request (text_pairs inputs.templates.items)) }
     ensures read { IfOk result (λ inputs. AreRead (R.content rt.now) (I.remaining input.old) (Words.Names words.now)
-        (texts_in inputs.templates.items) (option_map (λ bytes. bytes.items) inputs.context)) }
+        (text_pairs inputs.templates.items) (option_map (λ bytes. bytes.items) inputs.context)) }
 {
     let templates = read_templates(rt, words.files.as_slice(), input)?;
     let request = Request {
@@ -99,10 +99,10 @@ fn read_templates<R: FileSystem + AllocGlobal, I: Reader>(
     paths: &[&str],
     input: &mut I,
 ) -> Result<Vec<(String, String)>, FileFault>
-    ensures named { IfOk result (λ templates. names_in (texts_in templates.items)
+    ensures named { IfOk result (λ templates. addition_names (text_pairs templates.items)
         ≡ template_names (map (λ path. path.now) paths.now)) }
     ensures read { IfOk result (λ templates. AreTemplates (R.content rt.now) (I.remaining input.old)
-        (map (λ path. path.now) paths.now) (texts_in templates.items)) }
+        (map (λ path. path.now) paths.now) (text_pairs templates.items)) }
 {
     if paths.is_empty() {
         return read_input(rt.alloc(), input);
@@ -112,8 +112,8 @@ fn read_templates<R: FileSystem + AllocGlobal, I: Reader>(
 
 /// The input, as a template named `<stdin>`.
 fn read_input<I: Reader>(alloc: Global, input: &mut I) -> Result<Vec<(String, String)>, FileFault>
-    ensures named { IfOk result (λ templates. names_in (texts_in templates.items) ≡ template_names []) }
-    ensures read { IfOk result (λ templates. IsInput (I.remaining input.old) (texts_in templates.items)) }
+    ensures named { IfOk result (λ templates. addition_names (text_pairs templates.items) ≡ template_names []) }
+    ensures read { IfOk result (λ templates. IsInput (I.remaining input.old) (text_pairs templates.items)) }
 {
     let name = String::from_str(alloc, "<stdin>")?;
     let source = read_text(alloc, &mut ReadWrapper::new(input), INPUT_LIMIT)?;
@@ -127,8 +127,8 @@ fn read_files<R: FileSystem + AllocGlobal>(
     rt: &R,
     paths: &[&str],
 ) -> Result<Vec<(String, String)>, FileFault>
-    ensures named { IfOk result (λ templates. names_in (texts_in templates.items) ≡ map (λ path. path.now) paths.now) }
-    ensures read { IfOk result (λ templates. All (IsReadFrom (R.content rt.now)) (texts_in templates.items)) }
+    ensures named { IfOk result (λ templates. addition_names (text_pairs templates.items) ≡ map (λ path. path.now) paths.now) }
+    ensures read { IfOk result (λ templates. All (IsReadFrom (R.content rt.now)) (text_pairs templates.items)) }
 {
     let alloc = rt.alloc();
     let mut templates = Vec::new(alloc);
@@ -161,7 +161,7 @@ fn main_name(
     templates: &[(String, String)],
 ) -> Result<String, FileFault>
     ensures { IfOk result (λ name. string_bytes name
-        ≡ unwrap_or (option_map (λ main. main.now) main.entry) (first_name (names_in (texts_in templates.now)))) }
+        ≡ unwrap_or (option_map (λ main. main.now) main.entry) (first_name (addition_names (text_pairs templates.now)))) }
 {
     match (main, templates.first()) {
         (Some(main), _) => Ok(String::from_str(alloc, main)?),
@@ -175,7 +175,7 @@ fn owned_definitions(
     alloc: Global,
     definitions: &[Definition<'_>],
 ) -> Result<Vec<(String, String)>, FileFault>
-    ensures { IfOk result (λ texts. texts_in texts.items ≡ map parts_of definitions.now) }
+    ensures { IfOk result (λ texts. text_pairs texts.items ≡ map parts_of definitions.now) }
 {
     let mut texts = Vec::new(alloc);
     for definition in definitions {

@@ -2,9 +2,9 @@
 ghost use Rattle.std.specs.Prelude.{◌≡◌, option_copied, option_map};
 ghost use Rattle.std.specs.IoError.{error_kind};
 ghost use Rattle.template_machine_output.specs.Wrapper.{failure_count};
-ghost use Rattle.template_program_context.specs.Context.{texts_in};
+ghost use Rattle.template_program_context.specs.Context.{text_pairs};
 ghost use Rattle.template_program_start.specs.Flushes.{flush_kind, flushed};
-ghost use Rattle.template_program_start.specs.Starts.{Performs, RunsFlushed};
+ghost use Rattle.template_program_start.specs.Starts.{PerformsRequest, RunsFlushed};
 
 use crate::faults::write_error;
 use crate::inputs::Inputs;
@@ -23,7 +23,7 @@ pub(crate) fn perform<O: Write + Drop, F: Write>(
     out: &mut O,
     fault: &mut F,
 ) -> u8
-    ensures { Performs inputs.now.request (texts_in inputs.now.templates.items)
+    ensures { PerformsRequest inputs.now.request (text_pairs inputs.now.templates.items)
         (option_map (λ bytes. bytes.items) inputs.now.context) (O.contents out.old) result }
 {
     let Ok(buffer) = BufWriter::new(alloc, out) else {
@@ -43,7 +43,7 @@ pub(crate) fn perform<O: Write + Drop, F: Write>(
 // Runs the request, and flushes what it has written.
 fn run_flushed<W: Write>(alloc: Global, inputs: &Inputs, sink: &mut WriteWrapper<W>) -> Outcome
     requires { failure_count sink.old ≡ 0 }
-    ensures { RunsFlushed inputs.now.request (texts_in inputs.now.templates.items)
+    ensures { RunsFlushed inputs.now.request (text_pairs inputs.now.templates.items)
         (option_map (λ bytes. bytes.items) inputs.now.context) (W.contents sink.old.w) result }
 {
     let mut ids = StateIds::new(0);

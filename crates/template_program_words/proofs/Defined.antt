@@ -3,7 +3,7 @@ use Rattle.std.proofs.Common.{◌≡◌, ◌∙◌, ◌<◌, ◌++◌, ℕ, zero
 use Rattle.std.proofs.lemmas.List.{get_or-map, map-append}
 use Rattle.std.proofs.lemmas.List.Elements.{All-append}
 use Rattle.std.proofs.Math.ListN.{length-map}
-use Rattle.template_program_words.specs.Definitions.{equals_sign, name_in, text_in}
+use Rattle.template_program_words.specs.Definitions.{equals_sign, definition_name, definition_text}
 use Rattle.template_program_words.specs.Reading.{Defines, parts_in, parts_of}
 use Rattle.template_program_words.specs.Refusals.{LacksSign}
 use Rattle.template_program_words.specs.declared.definitions.Definition.{Definition}
@@ -14,7 +14,7 @@ All-one P x p (suc k) d lt = absurd (omega arith)
 
 -- one more definition
 pub Defines-more : (words : List (List ℕ)) (definitions : List Definition) (text : List ℕ) (definition : Definition)
-    → Defines words definitions → Contains text equals_sign → definition.name.now ≡ name_in text → definition.text.now ≡ text_in text
+    → Defines words definitions → Contains text equals_sign → definition.name.now ≡ definition_name text → definition.text.now ≡ definition_text text
     → Defines (words ++ text ∷ []) (definitions ++ definition ∷ [])
 Defines-more words definitions text definition before sign name rest =
     let pair : parts_of definition ≡ parts_in text = ap₂ (λ a b. (a, b)) name rest in

@@ -9,7 +9,7 @@ use Rattle.clap.specs.declared.parser.matches.ArgMatches.TheViews.{out-ArgMatche
 use Rattle.template_values_modes.specs.declared.UndefinedBehavior.{UndefinedBehavior}
 use Rattle.template_program_words.specs.Modes.{mode_of}
 use Rattle.template_program_words.specs.Reading.{ReadsNumber, values_of}
-use Rattle.template_program_words.specs.Refusals.{IsFaultOf, IsUsage, NamesNoMode, Refuses, RefusesDefinitions, RefusesMode, RefusesRender}
+use Rattle.template_program_words.specs.Refusals.{IsWordsFault, IsUsage, NamesNoMode, RefusesWords, RefusesDefinitions, RefusesMode, RefusesRender}
 use Rattle.template_program_words.specs.declared.faults.WordsFault.{WordsFault}
 use Rattle.template_program_words.specs.declared.faults.WordsFault.TheVariants.{Memory, Help, Usage, Definition}
 
@@ -48,12 +48,12 @@ pub name_of_rows : (m : ArgMatches) → option_map (λ f. f.0) (subcommand_rows_
 name_of_rows m = option_map-map _ (out-ArgMatches m).subcommand
 
 -- what is refused behind `render` is refused of the whole
-pub Refuses-render : (found : Option (List ℕ × List Row)) (rows : List Row) (fault : WordsFault) → found ≡ Some (codes "render", rows)
-    → RefusesRender rows fault → Refuses [] found fault
-Refuses-render found rows Memory is h = tt
-Refuses-render found rows (Help text) is h = absurd h
-Refuses-render found rows (Usage text) is h = inr (refl, inr (rows, is, h))
-Refuses-render found rows Definition is h = (refl, (rows, is, h))
+pub RefusesWords-render : (found : Option (List ℕ × List Row)) (rows : List Row) (fault : WordsFault) → found ≡ Some (codes "render", rows)
+    → RefusesRender rows fault → RefusesWords [] found fault
+RefusesWords-render found rows Memory is h = tt
+RefusesWords-render found rows (Help text) is h = absurd h
+RefusesWords-render found rows (Usage text) is h = inr (refl, inr (rows, is, h))
+RefusesWords-render found rows Definition is h = (refl, (rows, is, h))
 
 -- a text for the user is right where no mode has the name
 pub RefusesMode-usage : (rows : List Row) (fault : WordsFault) → IsUsage fault → NamesNoMode rows → RefusesMode rows fault
@@ -72,15 +72,15 @@ RefusesRender-definitions rows mode (Usage text) named h = absurd h
 RefusesRender-definitions rows mode Definition named h = ((λ none. cc), h)
 
 -- an error of one of these kinds is refused
-pub Refuses-kind : (kinds : Kinds) (found : Option (List ℕ × List Row)) (kind : ErrorKind) (fault : WordsFault)
-    → (kind ≡ OutOfMemory) ⊎ IsAmong kind kinds → IsFaultOf kind fault → Refuses kinds found fault
-Refuses-kind kinds found kind Memory among h = tt
-Refuses-kind kinds found kind (Help text) (inl e) (inl h) = cc
-Refuses-kind kinds found kind (Help text) (inl e) (inr h) = cc
-Refuses-kind kinds found kind (Help text) (inr a) h = (kind, a, h)
-Refuses-kind kinds found kind (Usage text) (inl e) h = absurd (h.2 e)
-Refuses-kind kinds found kind (Usage text) (inr a) h = inl (kind, a, h)
-Refuses-kind kinds found kind Definition among h = absurd h
+pub RefusesWords-kind : (kinds : Kinds) (found : Option (List ℕ × List Row)) (kind : ErrorKind) (fault : WordsFault)
+    → (kind ≡ OutOfMemory) ⊎ IsAmong kind kinds → IsWordsFault kind fault → RefusesWords kinds found fault
+RefusesWords-kind kinds found kind Memory among h = tt
+RefusesWords-kind kinds found kind (Help text) (inl e) (inl h) = cc
+RefusesWords-kind kinds found kind (Help text) (inl e) (inr h) = cc
+RefusesWords-kind kinds found kind (Help text) (inr a) h = (kind, a, h)
+RefusesWords-kind kinds found kind (Usage text) (inl e) h = absurd (h.2 e)
+RefusesWords-kind kinds found kind (Usage text) (inr a) h = inl (kind, a, h)
+RefusesWords-kind kinds found kind Definition among h = absurd h
 
 pub OnOk-always : {T E : Type 0} (r : Result T E) (P : Type 0) → P → OnOk r P
 OnOk-always (Ok x) P p = p

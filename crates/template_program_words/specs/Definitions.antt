@@ -7,9 +7,9 @@ abbrev pub equals_sign : ℕ
 equals_sign = 61
 
 -- what stands before the first `=`
-abbrev pub name_in : List ℕ → List ℕ
-name_in words = before_first (λ byte. nat_eq byte equals_sign) words
+abbrev pub definition_name : List ℕ → List ℕ
+definition_name words = before_first (λ byte. nat_eq byte equals_sign) words
 
 -- what stands behind the first `=`
-abbrev pub text_in : List ℕ → List ℕ
-text_in words = after_first (λ byte. nat_eq byte equals_sign) words
+abbrev pub definition_text : List ℕ → List ℕ
+definition_text words = after_first (λ byte. nat_eq byte equals_sign) words

@@ -3,7 +3,7 @@ use Rattle.std.specs.Prelude.{◌≡◌, ◌<◌, ◌^◌, ℕ, List, [], map, c
 use Rattle.std.specs.Option.{SomeIff}
 use Rattle.std.specs.Str.Parse.{IsNumeral, digits_value, without_leading_plus}
 use Rattle.clap.specs.Words.{Row, all_of, first_of, one_of}
-use Rattle.template_program_words.specs.Definitions.{equals_sign, name_in, text_in}
+use Rattle.template_program_words.specs.Definitions.{equals_sign, definition_name, definition_text}
 use Rattle.template_program_words.specs.Modes.{mode_of}
 use Rattle.template_program_words.specs.declared.definitions.Definition.{Definition}
 use Rattle.template_program_words.specs.declared.words.NamesWords.{NamesWords}
@@ -20,7 +20,7 @@ abbrev pub parts_of : Definition → List ℕ × List ℕ
 parts_of definition = (definition.name.now, definition.text.now)
 
 abbrev pub parts_in : List ℕ → List ℕ × List ℕ
-parts_in words = (name_in words, text_in words)
+parts_in words = (definition_name words, definition_text words)
 
 -- these definitions stand in these words, one in each
 pub record Defines (words : List (List ℕ)) (definitions : List Definition) : Type 0 where
@@ -58,8 +58,8 @@ pub record ReadsNames (rows : List Row) (read : NamesWords) : Type 0 where
   pub files : map (λ path. path.now) read.files.items ≡ values_of (codes "files") rows
 
 -- the command that was found, and the words behind it
-abbrev pub Reads : Option (List ℕ × List Row) → Words → Type 0
-Reads found (Render read) =
+abbrev pub ReadsWords : Option (List ℕ × List Row) → Words → Type 0
+ReadsWords found (Render read) =
     (rows : List Row) × (found ≡ Some (codes "render", rows)) × ReadsRender rows read
-Reads found (Names read) =
+ReadsWords found (Names read) =
     (rows : List Row) × (found ≡ Some (codes "names", rows)) × ReadsNames rows read

@@ -19,11 +19,11 @@ abbrev pub IsMistake : ErrorKind → Type 0
 IsMistake kind = (kind ≢ DisplayHelp) × (kind ≢ DisplayVersion) × (kind ≢ OutOfMemory)
 
 -- the fault that an error of this kind is; that no memory is left may also be seen late
-abbrev pub IsFaultOf : ErrorKind → WordsFault → Type 0
-IsFaultOf kind Memory = ⊤
-IsFaultOf kind (Help text) = IsRequest kind
-IsFaultOf kind (Usage text) = IsMistake kind
-IsFaultOf kind Definition = ⊥
+abbrev pub IsWordsFault : ErrorKind → WordsFault → Type 0
+IsWordsFault kind Memory = ⊤
+IsWordsFault kind (Help text) = IsRequest kind
+IsWordsFault kind (Usage text) = IsMistake kind
+IsWordsFault kind Definition = ⊥
 
 -- a text for the user; that no memory is left may be seen here too
 abbrev pub IsUsage : WordsFault → Type 0
@@ -61,12 +61,12 @@ abbrev pub RefusesFound : Option (List ℕ × List Row) → WordsFault → Type 
 RefusesFound found fault = (rows : List Row) × (found ≡ Some (codes "render", rows)) × RefusesRender rows fault
 
 -- `clap`'s refusals come first
-abbrev pub Refuses : Kinds → Option (List ℕ × List Row) → WordsFault → Type 0
-Refuses kinds found Memory = ⊤
-Refuses kinds found (Help text) = (kind : ErrorKind) × IsAmong kind kinds × IsRequest kind
-Refuses kinds found (Usage text) = ((kind : ErrorKind) × IsAmong kind kinds × IsMistake kind)
+abbrev pub RefusesWords : Kinds → Option (List ℕ × List Row) → WordsFault → Type 0
+RefusesWords kinds found Memory = ⊤
+RefusesWords kinds found (Help text) = (kind : ErrorKind) × IsAmong kind kinds × IsRequest kind
+RefusesWords kinds found (Usage text) = ((kind : ErrorKind) × IsAmong kind kinds × IsMistake kind)
     ⊎ ((kinds ≡ []) × (FindsNone found ⊎ RefusesFound found (Usage text)))
-Refuses kinds found Definition = (kinds ≡ []) × RefusesFound found Definition
+RefusesWords kinds found Definition = (kinds ≡ []) × RefusesFound found Definition
 
 -- the same of the definitions alone
 abbrev pub RefusesDefinitions : List (List ℕ) → WordsFault → Type 0

@@ -1,7 +1,7 @@
 //! Why the words were refused.
 ghost use Rattle.std.specs.Prelude.{◌≡◌};
 ghost use Rattle.clap.specs.Words.{kind_of};
-ghost use Rattle.template_program_words.specs.Refusals.{IsFaultOf, IsUsage};
+ghost use Rattle.template_program_words.specs.Refusals.{IsWordsFault, IsUsage};
 ghost use Rattle.template_program_words.specs.declared.faults.WordsFault.TheVariants.{Memory};
 
 use clap::error::ErrorKind;
@@ -38,7 +38,7 @@ impl<T: Drop> From<AllocFailed<T>> for WordsFault {
 
 /// The fault that `error` is.
 pub(crate) fn fault_from(alloc: Global, error: &clap::Error) -> WordsFault
-    ensures { IsFaultOf (kind_of error.now) result }
+    ensures { IsWordsFault (kind_of error.now) result }
 {
     if error.kind() == ErrorKind::OutOfMemory {
         return WordsFault::Memory;

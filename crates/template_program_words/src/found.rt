@@ -2,8 +2,8 @@
 ghost use Rattle.std.specs.Prelude.{◌≡◌, [], Some, codes, map, IfErr, IfOk};
 ghost use Rattle.clap.specs.Words.{first_of, found_of, rows_of, subcommand_rows_of};
 ghost use Rattle.template_program_words.specs.Modes.{mode_of};
-ghost use Rattle.template_program_words.specs.Reading.{Defines, Reads, ReadsNames, ReadsRender, values_of};
-ghost use Rattle.template_program_words.specs.Refusals.{Refuses, RefusesDefinitions, RefusesMode, RefusesRender};
+ghost use Rattle.template_program_words.specs.Reading.{Defines, ReadsWords, ReadsNames, ReadsRender, values_of};
+ghost use Rattle.template_program_words.specs.Refusals.{RefusesWords, RefusesDefinitions, RefusesMode, RefusesRender};
 
 use crate::definitions::{Definition, split_definition};
 use crate::faults::{WordsFault, unknown_mode};
@@ -18,8 +18,8 @@ const DEFAULT_LIMIT: u16 = 500;
 
 /// What the matches ask for.
 pub(crate) fn words_in<'a>(alloc: Global, matches: &ArgMatches<'a>) -> Result<Words<'a>, WordsFault>
-    ensures reads { IfOk result (Reads (subcommand_rows_of matches.now)) }
-    ensures refuses { IfErr result (Refuses [] (subcommand_rows_of matches.now)) }
+    ensures reads { IfOk result (ReadsWords (subcommand_rows_of matches.now)) }
+    ensures refuses { IfErr result (RefusesWords [] (subcommand_rows_of matches.now)) }
 {
     if let Some(render) = matches.subcommand_matches("render") {
         return Ok(Words::Render(render_words(alloc, render)?));

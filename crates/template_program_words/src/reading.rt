@@ -2,8 +2,8 @@
 ghost use Rattle.std.specs.Prelude.{◌≡◌, [], map, IfErr, IfOk, OnOk};
 ghost use Rattle.clap.specs.Words.{fault_of, subcommand_of};
 ghost use Rattle.template_program_words.specs.CommandLine.{program};
-ghost use Rattle.template_program_words.specs.Reading.{Reads};
-ghost use Rattle.template_program_words.specs.Refusals.{Refuses};
+ghost use Rattle.template_program_words.specs.Reading.{ReadsWords};
+ghost use Rattle.template_program_words.specs.Refusals.{RefusesWords};
 
 use crate::faults::{WordsFault, fault_from};
 use crate::found::words_in;
@@ -15,11 +15,11 @@ use std::alloc::Global;
 /// told before a definition without `=` is.
 pub fn read_words<'a>(alloc: Global, words: &'a [&'a str]) -> Result<Words<'a>, WordsFault>
     // What `clap` finds in the words, by its own account of a command line.
-    ensures reads { IfOk result (Reads (subcommand_of program (map (λ word. word.now) words.entry.now))) }
+    ensures reads { IfOk result (ReadsWords (subcommand_of program (map (λ word. word.now) words.entry.now))) }
     ensures taken { OnOk result (fault_of program (map (λ word. word.now) words.entry.now) ≡ []) }
 
     // An error of `clap` has one of the kinds that this account lists.
-    ensures refuses { IfErr result (Refuses
+    ensures refuses { IfErr result (RefusesWords
         (fault_of program (map (λ word. word.now) words.entry.now))
         (subcommand_of program (map (λ word. word.now) words.entry.now))) }
 {

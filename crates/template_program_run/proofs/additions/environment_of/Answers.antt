@@ -7,7 +7,7 @@ use Rattle.template_machine_escape.specs.declared.EscapeRule.TheVariants.{ByName
 use Rattle.template_environment.specs.Sources.{IsAccepted, IsRefusedWith, Source}
 use Rattle.template_environment.specs.Reading.{registry_of, rule_for}
 use Rattle.template_environment.specs.Standing.{Settings, source_at}
-use Rattle.template_program_run.specs.Environments.{HasSettings}
+use Rattle.template_program_run.specs.Environments.{IsSetFor}
 use Rattle.template_program_run.specs.History.{source_for}
 use Rattle.template_program_run.proofs.Histories.{accepted-next, refuses-at, source-next}
 use Rattle.template_program_run.proofs.additions.environment_of.Goals as goal
@@ -57,6 +57,6 @@ loop-name-preserved c =
           ∙ ap (λ n. if bytes_eq n q then Some (source_for (string_bytes (get_or xs i d).1)) else source_at before q) name
           ∙ ap (λ o. if bytes_eq (string_bytes (get_or xs i d).0) q then Some (source_for (string_bytes (get_or xs i d).1)) else o) (c.loop-name.invariant.stands q)
           ∙ sym (source-next xs i d c.loop-name-test.true q);
-      settings = subst (λ (s : Settings). HasSettings c.args.request.now s) (sym c.in_ok-add_template.ensures.settings) c.loop-name.invariant.settings;
+      settings = subst (λ (s : Settings). IsSetFor c.args.request.now s) (sym c.in_ok-add_template.ensures.settings) c.loop-name.invariant.settings;
       callback = c.in_ok-add_template.ensures.callback ∙ c.loop-name.invariant.callback;
     }

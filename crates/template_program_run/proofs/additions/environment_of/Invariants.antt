@@ -1,17 +1,17 @@
 use Rattle.std.proofs.Common.{◌≡◌, ℕ, List, None, take}
 use Rattle.template_environment.specs.Reading.{callback_of, registry_of}
 use Rattle.template_environment.specs.Standing.{settings_of, source_at}
-use Rattle.template_program_context.specs.Context.{texts_in}
+use Rattle.template_program_context.specs.Context.{text_pairs}
 use Rattle.template_program_run.specs.Additions.{AllAreAccepted}
-use Rattle.template_program_run.specs.Environments.{HasSettings}
+use Rattle.template_program_run.specs.Environments.{IsSetFor}
 use Rattle.template_program_run.specs.History.{source_standing}
 use Rattle.template_program_run.proofs.additions.environment_of.Given as goal
 
 -- the additions so far are accepted, and they stand, under the settings of the request
 abbrev pub invariant-loop-name : goal.invariant-loop-name
 invariant-loop-name l = record {
-  accepted : AllAreAccepted (texts_in (take l.name-index l.templates));
-  stands : (q : List ℕ) → source_at (registry_of l.environment) q ≡ source_standing (texts_in (take l.name-index l.templates)) q;
-  settings : HasSettings l.request (settings_of (registry_of l.environment));
+  accepted : AllAreAccepted (text_pairs (take l.name-index l.templates));
+  stands : (q : List ℕ) → source_at (registry_of l.environment) q ≡ source_standing (text_pairs (take l.name-index l.templates)) q;
+  settings : IsSetFor l.request (settings_of (registry_of l.environment));
   callback : callback_of l.environment ≡ None;
 }

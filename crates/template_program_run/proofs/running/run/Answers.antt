@@ -3,7 +3,7 @@ use Rattle.template_machine_escape.specs.Rule.{IsEscapeOf}
 use Rattle.template_environment.specs.Compiled.{standing_of}
 use Rattle.template_environment.specs.Reading.{registry_of}
 use Rattle.template_environment.specs.Views.{compiled_in, environment_of, source_of}
-use Rattle.template_program_context.specs.Context.{texts_in}
+use Rattle.template_program_context.specs.Context.{text_pairs}
 use Rattle.template_program_run.specs.Environments.{IsMade}
 use Rattle.template_program_run.specs.declared.request.Command.TheVariants as asked
 use Rattle.template_program_run.proofs.Counting.{one_more, rendered_counts, told_counts}
@@ -14,9 +14,9 @@ pub returns-in-Render-clause-answers : goal.returns-in-Render-clause-answers
 returns-in-Render-clause-answers g c =
     let e = c.in-Ok-environment_of in
     let t = c.in-Ok-get_template in
-    let made = subst (λ x. IsMade c.args.request.now (texts_in c.args.templates.now) (registry_of x)) (sym t.ensures.here) e.ensures.made in
+    let made = subst (λ x. IsMade c.args.request.now (text_pairs c.args.templates.now) (registry_of x)) (sym t.ensures.here) e.ensures.made in
     let main = c.as_str.ensures.value in
-    answers_done c.args.request.now (texts_in c.args.templates.now) (option_copied c.args.context) c.args.ids.now c.render.result _ _ _ _
+    answers_done c.args.request.now (text_pairs c.args.templates.now) (option_copied c.args.context) c.args.ids.now c.render.result _ _ _ _
     c.in-Ok.context c.in-Ok.ensures.has e.ensures.had_one e.ensures.accepted (registry_of (environment_of t.template)) made (compiled_in t.template.compiled)
     (search rules) (subst (λ (n : List ℕ). IsEscapeOf (source_of t.template).escapes n (compiled_in t.template.compiled).escape) (t.ensures.named ∙ main) c.render.ensures.rule)
     asked.Render (search rules)
@@ -29,7 +29,7 @@ returns-in-Names-clause-answers g c =
     let e = c.in-Ok-environment_of in
     let t = c.in-Ok-get_template in
     let main = c.as_str.ensures.value in
-    answers_done c.args.request.now (texts_in c.args.templates.now) (option_copied c.args.context) c.args.ids.now c.tell_names.result _ _ _ _
+    answers_done c.args.request.now (text_pairs c.args.templates.now) (option_copied c.args.context) c.args.ids.now c.tell_names.result _ _ _ _
     c.in-Ok.context c.in-Ok.ensures.has e.ensures.had_one e.ensures.accepted (registry_of e.environment) e.ensures.made (compiled_in t.template.compiled)
     (search rules) (subst (λ (n : List ℕ). IsEscapeOf (source_of t.template).escapes n (compiled_in t.template.compiled).escape) (t.ensures.named ∙ main) c.tell_names.ensures.rule)
     asked.Names (search rules) c.tell_names.ensures.told

@@ -1,9 +1,9 @@
 use Rattle.std.proofs.Common.{ap}
-use Rattle.template_program_context.specs.Context.{texts_in}
+use Rattle.template_program_context.specs.Context.{text_pairs}
 use Rattle.template_program_start.proofs.Flushing.{runs_flushed}
 use Rattle.template_program_start.proofs.performing.run_flushed.Goals as goal
 
 pub returns : goal.returns
 returns g c =
     runs_flushed c.args.inputs.now.request _ _ _ _ _ _ _ _ _ _ _ _
-    (ap texts_in c.as_slice.ensures.value) c.context_bytes.ensures c.new-ids.ensures c.requires c.after_flush.ensures c.run-outcome.ensures.answers
+    (ap text_pairs c.as_slice.ensures.value) c.context_bytes.ensures c.new-ids.ensures c.requires c.after_flush.ensures c.run-outcome.ensures.answers
