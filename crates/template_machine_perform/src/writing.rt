@@ -12,6 +12,7 @@ use template_machine_operands::Operands;
 use template_machine_operations as values;
 use template_machine_output::Sink;
 use template_machine_state::State;
+use template_values_core::Value;
 use template_values_errors::Error;
 use template_values_modes::UndefinedBehavior;
 use template_values_text::NoRecords;
@@ -55,6 +56,17 @@ pub fn emit<S: Sink>(
     ensures failures { TellsFailures result (S.failures sink.old) (S.failures sink.new) }
 {
     let value = operands.take()?;
-    let escape = state.auto_escape();
-    values::print(mode, escape, &value, &NoRecords, scratch, sink)
+    emit_value(mode, state, &value, scratch, sink)
+}
+
+/// Prints a value under the escape in force.
+#[inline(always)]
+pub fn emit_value<S: Sink>(
+    mode: UndefinedBehavior,
+    state: &State<'_>,
+    value: &Value,
+    scratch: &mut String,
+    sink: &mut S,
+) -> Result<(), Error> {
+    values::print(mode, state.auto_escape(), value, &NoRecords, scratch, sink)
 }
