@@ -5,3 +5,4 @@ pub mod Choosing
 pub mod Failing
 pub mod Stretching
 mod Onward
+mod Following

@@ -1,6 +1,6 @@
 //! Instructions that write.
-ghost use Rattle.std.specs.Prelude.{ℕ, suc, List, Option};
-ghost use Rattle.template_code.specs.Code.{Operand, emit_raw, emit};
+ghost use Rattle.std.specs.Prelude.{◌∷◌, ℕ, suc, List, Option};
+ghost use Rattle.template_code.specs.Code.{Operand, single, emit_raw, emit};
 ghost use Rattle.template_machine_meaning.specs.Surroundings.{Program, Programs};
 ghost use Rattle.template_machine_meaning.specs.World.{World};
 ghost use Rattle.template_machine_operands.specs.Operands.{operands_in};
@@ -59,7 +59,11 @@ pub fn emit<S: Sink>(
     emit_value(mode, state, &value, scratch, sink)
 }
 
-/// Prints a value under the escape in force.
+/// Prints a value where it stands, under the escape in force, as [`emit`] prints one that it takes.
+///
+/// # Errors
+///
+/// Those of [`values::print`].
 #[inline(always)]
 pub fn emit_value<S: Sink>(
     mode: UndefinedBehavior,
@@ -67,6 +71,12 @@ pub fn emit_value<S: Sink>(
     value: &Value,
     scratch: &mut String,
     sink: &mut S,
-) -> Result<(), Error> {
-    values::print(mode, state.auto_escape(), value, &NoRecords, scratch, sink)
+) -> Result<(), Error>
+    ensures steps { (program : ℕ → List ℕ → Option Program) (limit : ℕ) (below : List Operand) →
+        StepsWriting (ruled program limit mode) emit (single value.now ∷ below) state.now (S.taken sink.old)
+        result suc below state.now (S.taken sink.new) }
+    ensures failures { TellsFailures result (S.failures sink.old) (S.failures sink.new) }
+{
+    let escape = state.auto_escape();
+    values::print(mode, escape, value, &NoRecords, scratch, sink)
 }

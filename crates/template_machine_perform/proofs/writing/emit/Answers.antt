@@ -1,13 +1,9 @@
-use Rattle.std.proofs.Common.{refl, subst}
-use Rattle.template_values_forms.specs.Escaped.{escaped}
-use Rattle.template_values_forms.specs.Known.{nothing_known}
+use Rattle.std.proofs.Common.{suc, refl, sym, subst}
 use Rattle.template_code.specs.Code as codes
-use Rattle.template_machine_meaning.specs.Replies.{guarded, kinded}
-use Rattle.template_machine_meaning.specs.Undefined.{forbids_printing}
-use Rattle.template_machine_operations.specs.Outcomes.{Prints}
+use Rattle.template_machine_operands.specs.Operands.{operands_in}
 use Rattle.template_machine_steps.specs.Performs.{ruled}
+use Rattle.template_machine_perform.specs.Performs.{StepsWriting}
 use Rattle.template_machine_steps.proofs.Stepping.{lost_one}
-use Rattle.template_machine_perform.proofs.Texts.{print_out}
 use Rattle.template_machine_perform.proofs.Lifting.{stray_tells, steps_write}
 use Rattle.template_machine_perform.proofs.writing.emit.Goals as goal
 
@@ -21,5 +17,6 @@ returns-in_err-value-clause-steps g c program limit =
 
 pub returns-clause-steps : goal.returns-clause-steps
 returns-clause-steps g c program limit =
-    print_out (ruled program limit c.args.mode) c.in_ok-value.value _ _ c.args.state.now _ _ _ c.in_ok-value.ensures.taken
-    (subst (λ e. Prints (guarded (forbids_printing c.args.mode c.in_ok-value.value) (kinded (escaped e nothing_known c.in_ok-value.value))) c.print.result (g.S.Sink.taken c.args.sink.now) (g.S.Sink.taken c.print.new.sink)) c.auto_escape-escape.ensures c.print.ensures.written)
+    subst (λ o. StepsWriting (ruled program limit c.args.mode) codes.emit o c.args.state.now (g.S.Sink.taken c.args.sink.now) c.emit_value.result suc
+    (operands_in c.take.new.self) c.args.state.now (g.S.Sink.taken c.emit_value.new.sink)) (sym c.in_ok-value.ensures.taken)
+    (c.emit_value.ensures.steps program limit (operands_in c.take.new.self))
