@@ -2,7 +2,6 @@
 use crate::{Environment, Error, ErrorKind, StateIds, UndefinedBehavior};
 use std::alloc::Global;
 use std::borrow::CowStr;
-use std::process::Abort;
 use std::test::Fail;
 use template_values_core::Value;
 
@@ -17,24 +16,10 @@ fn number(
     let mut environment = Environment::new(alloc, &mut ids)?;
     environment.set_fuel(fuel);
     environment.set_undefined_behavior(undefined);
-    value_in(alloc, &environment, &mut ids, source)
-}
-
-fn value_in(
-    alloc: Global,
-    environment: &Environment<'static>,
-    ids: &mut StateIds,
-    source: &'static str,
-) -> Result<Option<i128>, Error> {
-    let context = two(alloc)?;
     let expression = environment.compile_expression(source)?;
-    Ok(expression.eval(ids, context)?.as_int())
-}
-
-// A context where `a` is 2.
-fn two(alloc: Global) -> Result<Value, Error> {
     let two = Value::from_int(2);
-    Value::from_pairs(alloc, vec![in alloc; ("a", two)]?)
+    let context = Value::from_pairs(alloc, vec![in alloc; ("a", two)]?)?;
+    Ok(expression.eval(&mut ids, context)?.as_int())
 }
 
 fn kind_of<T>(answer: Result<T, Error>) -> Result<T, ErrorKind> {
@@ -44,99 +29,44 @@ fn kind_of<T>(answer: Result<T, Error>) -> Result<T, ErrorKind> {
     }
 }
 
-// The source of an expression, the fuel and the mode under which it is evaluated, and what it comes to.
-type Row = (
-    &'static str,
-    Option<u64>,
-    UndefinedBehavior,
-    Result<Option<i128>, ErrorKind>,
-);
-
-fn assert_values<R: AllocGlobal + Abort>(rt: &R, rows: &[Row]) {
-    for (source, fuel, undefined, value) in rows {
-        let found = kind_of(number(rt.alloc(), source, *fuel, *undefined));
-        assert_eq!(rt; found, *value, "{source}");
+#[test]
+fn values_and_faults(rt: HostRuntime) {
+    let lenient = UndefinedBehavior::Lenient;
+    let strict = UndefinedBehavior::Strict;
+    let rows = [
+        ("a", lenient, Ok(Some(2))),
+        ("a + 1", lenient, Ok(Some(3))),
+        ("a if a > 2 else [4, 5][1]", lenient, Ok(Some(5))),
+        ("b", strict, Ok(None)),
+        ("b.c", lenient, Err(ErrorKind::UndefinedError)),
+        ("b == 1", strict, Err(ErrorKind::UndefinedError)),
+        ("a - 'x'", lenient, Err(ErrorKind::InvalidOperation)),
+        ("a +", lenient, Err(ErrorKind::SyntaxError)),
+        ("{{ a }}", lenient, Err(ErrorKind::SyntaxError)),
+        ("f(a)", lenient, Err(ErrorKind::SyntaxError)),
+    ];
+    for (source, undefined, value) in rows {
+        let found = kind_of(number(rt.alloc(), source, None, undefined));
+        assert_eq!(rt; found, value, "{source}");
     }
 }
 
 #[test]
-fn values_and_faults(rt: HostRuntime) {
-    assert_values(
-        &rt,
-        &[
-            ("a", None, UndefinedBehavior::Lenient, Ok(Some(2))),
-            ("a + 1", None, UndefinedBehavior::Lenient, Ok(Some(3))),
-            (
-                "a if a > 2 else [4, 5][1]",
-                None,
-                UndefinedBehavior::Lenient,
-                Ok(Some(5)),
-            ),
-            ("b", None, UndefinedBehavior::Strict, Ok(None)),
-            (
-                "b.c",
-                None,
-                UndefinedBehavior::Lenient,
-                Err(ErrorKind::UndefinedError),
-            ),
-            (
-                "b == 1",
-                None,
-                UndefinedBehavior::Strict,
-                Err(ErrorKind::UndefinedError),
-            ),
-            (
-                "a - 'x'",
-                None,
-                UndefinedBehavior::Lenient,
-                Err(ErrorKind::InvalidOperation),
-            ),
-            (
-                "a +",
-                None,
-                UndefinedBehavior::Lenient,
-                Err(ErrorKind::SyntaxError),
-            ),
-            (
-                "{{ a }}",
-                None,
-                UndefinedBehavior::Lenient,
-                Err(ErrorKind::SyntaxError),
-            ),
-            (
-                "f(a)",
-                None,
-                UndefinedBehavior::Lenient,
-                Err(ErrorKind::SyntaxError),
-            ),
-        ],
-    );
-}
-
-#[test]
 fn fuels_cut_values(rt: HostRuntime) {
-    assert_values(
-        &rt,
-        &[
-            ("1", Some(0), UndefinedBehavior::Lenient, Ok(Some(1))),
-            ("1", Some(1), UndefinedBehavior::Lenient, Ok(Some(1))),
-            ("1 + 2", Some(0), UndefinedBehavior::Lenient, Ok(Some(3))),
-            (
-                "a",
-                Some(1),
-                UndefinedBehavior::Lenient,
-                Err(ErrorKind::OutOfFuel),
-            ),
-            ("a", Some(2), UndefinedBehavior::Lenient, Ok(Some(2))),
-            (
-                "a + 1",
-                Some(2),
-                UndefinedBehavior::Lenient,
-                Err(ErrorKind::OutOfFuel),
-            ),
-            ("a + 1", Some(3), UndefinedBehavior::Lenient, Ok(Some(3))),
-        ],
-    );
+    let out = Err(ErrorKind::OutOfFuel);
+    let rows = [
+        ("1", 0, Ok(Some(1))),
+        ("1", 1, Ok(Some(1))),
+        ("1 + 2", 0, Ok(Some(3))),
+        ("a", 1, out),
+        ("a", 2, Ok(Some(2))),
+        ("a + 1", 2, out),
+        ("a + 1", 3, Ok(Some(3))),
+    ];
+    for (source, fuel, value) in rows {
+        let found = kind_of(number(rt.alloc(), source, Some(fuel), UndefinedBehavior::Lenient));
+        assert_eq!(rt; found, value, "{source} under {fuel}");
+    }
 }
 
 #[test]

@@ -6,7 +6,6 @@ use crate::{
 use std::alloc::Global;
 use std::borrow::CowStr;
 use std::collections::BTreeSet;
-use std::process::Abort;
 use std::test::Fail;
 use template_values_core::Value;
 
@@ -56,32 +55,20 @@ fn a_fuel_of_five_leaves_one(rt: HostRuntime) {
     assert_eq!(rt; out.as_str(), "Hello World!");
 }
 
-// Asserts what is written under a fuel that runs out.
-fn assert_cut<R: AllocGlobal + Abort>(rt: &R, fuel: u64, text: &str) {
-    let mut out = String::new(rt.alloc());
-    let levels = kind_of(rendered(rt.alloc(), Some(fuel), &mut out));
-    assert_eq!(rt; levels, Err(ErrorKind::OutOfFuel), "under {fuel}");
-    assert_eq!(rt; out.as_str(), text, "under {fuel}");
-}
-
-fn assert_cuts<R: AllocGlobal + Abort>(rt: &R, rows: &[(u64, &str)]) {
-    for (fuel, text) in rows {
-        assert_cut(rt, *fuel, text);
-    }
-}
-
 #[test]
 fn fuels_cut_the_text(rt: HostRuntime) {
-    assert_cuts(
-        &rt,
-        &[
-            (4, "Hello World"),
-            (3, "Hello "),
-            (2, "Hello "),
-            (1, ""),
-            (0, ""),
-        ],
-    );
+    for (fuel, text) in [
+        (4, "Hello World"),
+        (3, "Hello "),
+        (2, "Hello "),
+        (1, ""),
+        (0, ""),
+    ] {
+        let mut out = String::new(rt.alloc());
+        let levels = kind_of(rendered(rt.alloc(), Some(fuel), &mut out));
+        assert_eq!(rt; levels, Err(ErrorKind::OutOfFuel), "under {fuel}");
+        assert_eq!(rt; out.as_str(), text, "under {fuel}");
+    }
 }
 
 fn add(environment: &mut Environment<'static>, source: &'static str) -> Result<(), ErrorKind> {
@@ -143,95 +130,41 @@ fn ended(
     Ok(())
 }
 
-// A source, the limit and the mode under which it is rendered, how that ends, and what is written.
-type Row = (
-    &'static str,
-    usize,
-    UndefinedBehavior,
-    Result<(), ErrorKind>,
-    &'static str,
-);
-
-// How a source is rendered under a limit and a mode; its text goes to `out`.
-fn ended_under(
-    alloc: Global,
-    source: &'static str,
-    limit: usize,
-    undefined: UndefinedBehavior,
-    out: &mut String,
-) -> Result<(), Error> {
-    let mut ids = StateIds::new(0);
-    let mut environment = Environment::new(alloc, &mut ids)?;
-    environment.add_template("t.txt", source)?;
-    environment.set_recursion_limit(limit);
-    environment.set_undefined_behavior(undefined);
-    ended(alloc, &environment, &mut ids, out)
-}
-
-fn assert_ended<R: AllocGlobal + Abort>(rt: &R, row: Row) {
-    let (source, limit, undefined, end, text) = row;
-    let mut out = String::new(rt.alloc());
-    let ended = kind_of(ended_under(rt.alloc(), source, limit, undefined, &mut out));
-    assert_eq!(rt; ended, end, "{source}");
-    assert_eq!(rt; out.as_str(), text, "{source}");
-}
-
-fn assert_all_ended<R: AllocGlobal + Abort>(rt: &R, rows: &[Row]) {
-    for row in rows {
-        assert_ended(rt, *row);
-    }
-}
-
 #[test]
-fn environments_decide_how_deep_and_how_strict(rt: HostRuntime) {
-    assert_all_ended(
-        &rt,
-        &[
-            (
-                "{% for x in [1] %}{{ x }}{% endfor %}",
-                1,
-                UndefinedBehavior::Lenient,
-                Err(ErrorKind::InvalidOperation),
-                "",
-            ),
-            (
-                "{% for x in [1] %}{{ x }}{% endfor %}",
-                2,
-                UndefinedBehavior::Lenient,
-                Ok(()),
-                "1",
-            ),
-            (
-                "{{ x.y }}",
-                500,
-                UndefinedBehavior::Lenient,
-                Err(ErrorKind::UndefinedError),
-                "",
-            ),
-            ("{{ x.y }}", 500, UndefinedBehavior::Chainable, Ok(()), ""),
-            (
-                "{{ x }}",
-                500,
-                UndefinedBehavior::Strict,
-                Err(ErrorKind::UndefinedError),
-                "",
-            ),
-        ],
-    );
-}
-
-// Asserts how a template ends that includes what stands now, and what it writes.
-fn assert_includes<R: AllocGlobal + Abort>(
-    rt: &R,
-    environment: &Environment<'static>,
-    ids: &mut StateIds,
-    end: Result<(), ErrorKind>,
-    text: &str,
-) {
-    let mut out = String::new(rt.alloc());
-    let ended = kind_of(ended(rt.alloc(), environment, ids, &mut out));
-    assert_eq!(rt; ended, end);
-    assert_eq!(rt; out.as_str(), text);
+fn environments_decide_how_deep_and_how_strict(rt: HostRuntime) -> Result<(), Fail> {
+    let round = "{% for x in [1] %}{{ x }}{% endfor %}";
+    let lenient = UndefinedBehavior::Lenient;
+    let rows = [
+        (round, 1, lenient, Err(ErrorKind::InvalidOperation), ""),
+        (round, 2, lenient, Ok(()), "1"),
+        (
+            "{{ x.y }}",
+            500,
+            lenient,
+            Err(ErrorKind::UndefinedError),
+            "",
+        ),
+        ("{{ x.y }}", 500, UndefinedBehavior::Chainable, Ok(()), ""),
+        (
+            "{{ x }}",
+            500,
+            UndefinedBehavior::Strict,
+            Err(ErrorKind::UndefinedError),
+            "",
+        ),
+    ];
+    for (source, limit, undefined, end, text) in rows {
+        let mut ids = StateIds::new(0);
+        let mut environment = Environment::new(rt.alloc(), &mut ids)?;
+        environment.add_template("t.txt", source)?;
+        environment.set_recursion_limit(limit);
+        environment.set_undefined_behavior(undefined);
+        let mut out = String::new(rt.alloc());
+        let ended = kind_of(ended(rt.alloc(), &environment, &mut ids, &mut out));
+        assert_eq!(rt; ended, end, "{source}");
+        assert_eq!(rt; out.as_str(), text, "{source}");
+    }
+    Ok(())
 }
 
 #[test]
@@ -239,13 +172,17 @@ fn includes_find_what_stands_now(rt: HostRuntime) -> Result<(), Fail> {
     let mut ids = StateIds::new(0);
     let mut environment = Environment::new(rt.alloc(), &mut ids)?;
     environment.add_template("t.txt", "x{% include 'b' %}")?;
-    environment.add_template("b", "1")?;
-    assert_includes(&rt, &environment, &mut ids, Ok(()), "x1");
-    environment.add_template("b", "{{ 2 * 3 }}")?;
-    assert_includes(&rt, &environment, &mut ids, Ok(()), "x6");
+    for (source, text) in [("1", "x1"), ("{{ 2 * 3 }}", "x6")] {
+        environment.add_template("b", source)?;
+        let mut out = String::new(rt.alloc());
+        ended(rt.alloc(), &environment, &mut ids, &mut out)?;
+        assert_eq!(rt; out.as_str(), text);
+    }
     environment.remove_template("b");
-    let missing = Err(ErrorKind::TemplateNotFound);
-    assert_includes(&rt, &environment, &mut ids, missing, "x");
+    let mut out = String::new(rt.alloc());
+    let end = kind_of(ended(rt.alloc(), &environment, &mut ids, &mut out));
+    assert_eq!(rt; end, Err(ErrorKind::TemplateNotFound));
+    assert_eq!(rt; out.as_str(), "x");
     Ok(())
 }
 
@@ -261,44 +198,23 @@ fn written(
     Ok(())
 }
 
-// Asserts what a writer has of a text that has room for fewer bytes than it, or for all of them.
-fn assert_written<R: AllocGlobal + Abort>(
-    rt: &R,
-    template: &Template<'_, '_>,
-    ids: &mut StateIds,
-    room: usize,
-    whole: &[u8],
-) {
-    let mut bytes = [0u8; 64];
-    let room = room.min(64).min(whole.len());
-    let end = kind_of(written(rt.alloc(), template, ids, &mut bytes[..room]));
-    let answer = if room < whole.len() {
-        Err(ErrorKind::WriteFailure)
-    } else {
-        Ok(())
-    };
-    assert_eq!(rt; end, answer, "after {room} bytes");
-    assert_eq!(rt; &bytes[..room], &whole[..room], "after {room} bytes");
-}
-
-// Asserts this of each room.
-fn assert_each_room<R: AllocGlobal + Abort>(
-    rt: &R,
-    template: &Template<'_, '_>,
-    ids: &mut StateIds,
-    whole: &[u8],
-) {
-    for room in 0..=whole.len() {
-        assert_written(rt, template, ids, room, whole);
-    }
-}
-
 #[test]
 fn a_full_writer_has_the_bytes_before(rt: HostRuntime) -> Result<(), Fail> {
     let mut ids = StateIds::new(0);
-    let environment = hello(rt.alloc(), &mut ids, None)?;
-    let template = environment.get_template("t.txt")?;
-    assert_each_room(&rt, &template, &mut ids, b"Hello World!");
+    let environment = kind_of(hello(rt.alloc(), &mut ids, None))?;
+    let template = kind_of(environment.get_template("t.txt"))?;
+    let whole = b"Hello World!";
+    for room in 0..=12usize {
+        let mut bytes = [0u8; 12];
+        let end = kind_of(written(rt.alloc(), &template, &mut ids, &mut bytes[..room]));
+        let answer = if room < 12 {
+            Err(ErrorKind::WriteFailure)
+        } else {
+            Ok(())
+        };
+        assert_eq!(rt; end, answer, "after {room} bytes");
+        assert_eq!(rt; &bytes[..room], &whole[..room], "after {room} bytes");
+    }
     let captured = template.render_captured_to(&mut ids, world(rt.alloc())?, &mut NullWriter)?;
     assert!(rt; captured.fuel_levels().is_none());
     Ok(())
@@ -314,9 +230,19 @@ fn a_page_is_cut_at_each_byte(rt: HostRuntime) -> Result<(), Fail> {
     let mut environment = Environment::new(rt.alloc(), &mut ids)?;
     environment.add_template("page.html", PAGE)?;
     environment.add_template("part.html", "{{ '<' }}")?;
-    let template = environment.get_template("page.html")?;
-    let whole = b"<ul><li>1?&lt;</li><li>2!&lt;</li></ul>World".as_slice();
-    assert_each_room(&rt, &template, &mut ids, whole);
+    let template = kind_of(environment.get_template("page.html"))?;
+    let whole = b"<ul><li>1?&lt;</li><li>2!&lt;</li></ul>World";
+    for room in 0..=44usize {
+        let mut bytes = [0u8; 44];
+        let end = kind_of(written(rt.alloc(), &template, &mut ids, &mut bytes[..room]));
+        let answer = if room < 44 {
+            Err(ErrorKind::WriteFailure)
+        } else {
+            Ok(())
+        };
+        assert_eq!(rt; end, answer, "after {room} bytes");
+        assert_eq!(rt; &bytes[..room], &whole[..room], "after {room} bytes");
+    }
     Ok(())
 }
 
@@ -339,26 +265,6 @@ fn a_state_knows_what_was_stored(rt: HostRuntime) -> Result<(), Fail> {
     assert_eq!(rt; told(alloc, &state.exports()?)?.as_str(), "x ");
     let known = told(alloc, &state.known_variables()?)?;
     assert_eq!(rt; known.as_str(), "_z x y ");
-    Ok(())
-}
-
-#[test]
-fn states_begin_without_frames(rt: HostRuntime) -> Result<(), Fail> {
-    let mut ids = StateIds::new(0);
-    let mut environment = Environment::new(rt.alloc(), &mut ids)?;
-    environment.add_template("t.html", "{% set x = 1 %}")?;
-    environment.set_fuel(Some(7));
-    let template = environment.get_template("t.html")?;
-    let state = template.new_state(&mut ids)?;
-    assert_eq!(rt; state.name(), "t.html");
-    assert!(rt; state.auto_escape() == AutoEscape::Html);
-    assert_eq!(rt; state.fuel_levels(), Some((0, 7)));
-    assert!(rt; state.lookup("x")?.is_none() && state.exports()?.is_empty());
-    let unknown = environment.empty_state(&mut ids)?;
-    assert_eq!(rt; unknown.name(), "<unknown>");
-    assert!(rt; unknown.auto_escape() == AutoEscape::None);
-    assert!(rt; unknown.known_variables()?.is_empty());
-    assert!(rt; unknown.id() == state.id() + 1);
     Ok(())
 }
 
@@ -424,20 +330,6 @@ fn signed(
     environment.get_template(name)?.render(ids, context)
 }
 
-// Asserts what the templates of some names make of `<`.
-fn assert_signed<R: AllocGlobal + Abort>(
-    rt: &R,
-    environment: &Environment<'static, ShortNames>,
-    ids: &mut StateIds,
-    rows: &[(&str, &str)],
-) -> Result<(), Error> {
-    for (name, text) in rows {
-        let out = signed(rt.alloc(), environment, ids, name)?;
-        assert_eq!(rt; out.as_str(), *text, "{name}");
-    }
-    Ok(())
-}
-
 #[test]
 fn a_rule_of_ones_own_decides_from_then_on(rt: HostRuntime) -> Result<(), Fail> {
     let mut ids = StateIds::new(0);
@@ -454,25 +346,9 @@ fn a_rule_of_ones_own_decides_from_then_on(rt: HostRuntime) -> Result<(), Fail> 
     }
     environment.set_auto_escape_callback(ShortNames { length: 0 });
     environment.add_template("last", "{{ sign }}")?;
-    assert_signed(
-        &rt,
-        &environment,
-        &mut ids,
-        &[("short", "&lt;"), ("long.html", "<"), ("last", "<")],
-    )?;
-    Ok(())
-}
-
-// Asserts the render of each source.
-fn assert_given<R: AllocGlobal + Abort>(
-    rt: &R,
-    environment: &Environment<'static>,
-    ids: &mut StateIds,
-    rows: &[(&'static str, &str)],
-) -> Result<(), Error> {
-    for (source, text) in rows {
-        let given = environment.render_named_str("t.html", source, ids, Value::undefined())?;
-        assert_eq!(rt; given.as_str(), *text);
+    for (name, text) in [("short", "&lt;"), ("long.html", "<"), ("last", "<")] {
+        let out = signed(rt.alloc(), &environment, &mut ids, name)?;
+        assert_eq!(rt; out.as_str(), text, "{name}");
     }
     Ok(())
 }
@@ -481,16 +357,14 @@ fn assert_given<R: AllocGlobal + Abort>(
 fn a_text_without_markers_renders_to_itself(rt: HostRuntime) -> Result<(), Fail> {
     let mut ids = StateIds::new(0);
     let mut environment = Environment::new(rt.alloc(), &mut ids)?;
-    assert_given(
-        &rt,
-        &environment,
-        &mut ids,
-        &[
-            ("{ a } % # <b>\r\n", "{ a } % # <b>"),
-            ("\n", ""),
-            ("a\n\n", "a\n"),
-        ],
-    )?;
+    for (source, text) in [
+        ("{ a } % # <b>\r\n", "{ a } % # <b>"),
+        ("\n", ""),
+        ("a\n\n", "a\n"),
+    ] {
+        let given = environment.render_named_str("t.html", source, &mut ids, Value::undefined())?;
+        assert_eq!(rt; given.as_str(), text);
+    }
     environment.set_fuel(Some(2));
     let paid = environment.render_str("a", &mut ids, Value::undefined())?;
     assert_eq!(rt; paid.as_str(), "a");
