@@ -269,6 +269,26 @@ fn a_state_knows_what_was_stored(rt: HostRuntime) -> Result<(), Fail> {
 }
 
 #[test]
+fn states_begin_without_frames(rt: HostRuntime) -> Result<(), Fail> {
+    let mut ids = StateIds::new(0);
+    let mut environment = Environment::new(rt.alloc(), &mut ids)?;
+    environment.add_template("t.html", "{% set x = 1 %}")?;
+    environment.set_fuel(Some(7));
+    let template = environment.get_template("t.html")?;
+    let state = template.new_state(&mut ids)?;
+    assert_eq!(rt; state.name(), "t.html");
+    assert!(rt; state.auto_escape() == AutoEscape::Html);
+    assert_eq!(rt; state.fuel_levels(), Some((0, 7)));
+    assert!(rt; state.lookup("x")?.is_none() && state.exports()?.is_empty());
+    let unknown = environment.empty_state(&mut ids)?;
+    assert_eq!(rt; unknown.name(), "<unknown>");
+    assert!(rt; unknown.auto_escape() == AutoEscape::None);
+    assert!(rt; unknown.known_variables()?.is_empty());
+    assert!(rt; unknown.id() == state.id() + 1);
+    Ok(())
+}
+
+#[test]
 fn sources_render_without_standing(rt: HostRuntime) -> Result<(), Fail> {
     let mut ids = StateIds::new(0);
     let environment = Environment::new(rt.alloc(), &mut ids)?;
