@@ -16,7 +16,7 @@ use std::borrow::CowStr;
 use std::collections::BTreeSet;
 use std::marker::Model;
 use template_code::Instructions;
-use template_compiler_expression_codegen::compile_expr;
+use template_compiler_statement_codegen::compile_expr;
 use template_compiler_runnable::is_runnable_expr;
 use template_compiler_sources::parse_expr;
 use template_names_undeclared::find_undeclared;

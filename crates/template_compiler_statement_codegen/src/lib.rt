@@ -7,3 +7,4 @@ mod targets;
 
 pub use statements::compile_template;
 pub use targets::{compile_assignment, compile_assignments};
+pub use template_compiler_expression_codegen::compile_expr;

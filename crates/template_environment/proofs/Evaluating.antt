@@ -12,7 +12,7 @@ use Rattle.template_machine_meaning.specs.World.{World, first_world}
 use Rattle.template_machine_meaning.specs.Surroundings.{Programs}
 use Rattle.template_machine_meaning.specs.Meaning.{evaluated}
 use Rattle.template_machine_codes.specs.Codes.{codes_of}
-use Rattle.template_machine_loop.specs.Runs.{Evaluates}
+use Rattle.template_machine_renders.specs.Runs.{Evaluates}
 use Rattle.template_machine_renders.specs.Renders.{GivesValue}
 use Rattle.template_machine_renders.proofs.Coming.{expressions_evaluate}
 use Rattle.template_compiled.specs.Expressions.{IsFaithfulExpression, expression_in}

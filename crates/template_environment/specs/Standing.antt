@@ -6,7 +6,7 @@ use Rattle.template_values_modes.specs.declared.UndefinedBehavior.TheVariants.{L
 use Rattle.template_compiler_syntax.specs.Syntax.{Syntax}
 use Rattle.template_machine_escape.specs.declared.EscapeRule.{EscapeRule}
 use Rattle.template_machine_meaning.specs.Meaning.{Setting}
-use Rattle.template_machine_loop.specs.Programs as units
+use Rattle.template_machine_renders.specs.Programs as units
 use Rattle.template_compiled.specs.Compiled.{Compiled, code_for, standing_of}
 use Rattle.template_compiled.specs.Sources.{Source}
 use Rattle.template_compiled.specs.Standing.{compiled_at}

@@ -1,7 +1,7 @@
 //! What renders see of an environment.
 use std::alloc::Global;
 use template_compiled::{CompiledTemplates, TemplateConfig};
-use template_machine_loop::{Compiled, Rules, Templates};
+use template_machine_renders::{Compiled, Rules, Templates};
 use template_values_modes::UndefinedBehavior;
 
 /// The templates that stand, by name, and what each render keeps to: all of an environment but its own rule of escapes.

@@ -1,2 +1,4 @@
 pub mod Renders
 pub mod Laws
+pub use Rattle.template_machine_loop.specs.Programs
+pub use Rattle.template_machine_loop.specs.Runs

@@ -9,3 +9,4 @@ mod status;
 
 pub use starting::{refuse_arguments, start};
 pub use status::status_of;
+pub use template_program_run::{Command, Outcome, Request, run};

@@ -3,7 +3,7 @@ use std::alloc::Global;
 use std::process::Abort;
 use std::test::Fail;
 use template_machine_ids::StateIds;
-use template_program_run::{Command, Outcome, Request, run};
+use template_program_start::{Command, Outcome, Request, run};
 use template_values_modes::UndefinedBehavior;
 
 /// A request whose main template is the first, what is written, and how it ends.

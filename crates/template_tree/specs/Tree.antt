@@ -1,7 +1,7 @@
 -- The trees of templates: what the grammar reads, and what walks, prices, names and code are defined on.
 -- They know no places in the source. Names and texts are lists of bytes.
 use Rattle.std.specs.Prelude.{ℕ, Bool, List}
-use Rattle.template_values_model.specs.Val.{Val}
+use Rattle.template_values_core.specs.Val.{Val}
 use Rattle.template_tree.specs.declared.operators.UnaryOpKind.{UnaryOpKind}
 use Rattle.template_tree.specs.declared.operators.BinOpKind.{BinOpKind}
 use Rattle.template_tree.specs.declared.operators.CompareOpKind.{CompareOpKind}

@@ -11,3 +11,4 @@ pub mod Kept
 pub mod Held
 pub mod Falls
 pub mod Answers
+pub use Rattle.template_values_model.specs.Val

@@ -5,3 +5,4 @@ pub mod Printed
 pub mod Json
 pub mod Escaped
 pub mod Truth
+pub mod Concatenation

@@ -1,6 +1,6 @@
 //! `~`.
 ghost use Rattle.template_values_model.specs.Gives.{Gives};
-ghost use Rattle.template_values_text.specs.Concatenation.{concatenation_of};
+ghost use Rattle.template_values_forms.specs.Concatenation.{concatenation_of};
 
 use crate::print::print_to;
 use std::alloc::Global;

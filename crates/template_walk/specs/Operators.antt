@@ -11,7 +11,7 @@ use Rattle.template_values_operators.specs.Arithmetic.{difference_of, quotient_o
 use Rattle.template_values_operators.specs.Sums.{sum_of}
 use Rattle.template_values_operators.specs.Products.{product_of}
 use Rattle.template_values_operators.specs.Contains.{contained}
-use Rattle.template_values_text.specs.Concatenation.{concatenation_of}
+use Rattle.template_values_forms.specs.Concatenation.{concatenation_of}
 use Rattle.template_tree.specs.declared.operators.BinOpKind.{BinOpKind}
 use Rattle.template_tree.specs.declared.operators.BinOpKind.TheVariants.{Eq, Ne, Lt, Lte, Gt, Gte, ScAnd, ScOr, Add, Sub, Mul, Div, FloorDiv, Rem, Pow, Concat, In}
 use Rattle.template_tree.specs.declared.operators.CompareOpKind.{CompareOpKind}
