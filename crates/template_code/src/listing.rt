@@ -245,8 +245,18 @@ impl<'source> Instructions<'source> {
     }
 }
 
-// The span, unless it is the default one.
+// The span, unless it is the default one, as few are that end behind the first byte.
 fn told(span: Span) -> Option<Span>
+    ensures { result ≡ told_span span }
+{
+    match span.end_offset {
+        0 => told_at_start(span),
+        _ => Some(span),
+    }
+}
+
+#[inline(never)]
+fn told_at_start(span: Span) -> Option<Span>
     ensures { result ≡ told_span span }
 {
     if span == Span::default() {

@@ -2,5 +2,7 @@
 #![tactic(auto)]
 
 mod place;
+mod stretch;
 
 pub use place::Place;
+pub use stretch::Stretch;

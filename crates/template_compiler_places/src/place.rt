@@ -49,7 +49,7 @@ impl Place {
         }
     }
 
-    fn after_bytes(self, bytes: &[u8]) -> Place
+    pub(crate) fn after_bytes(self, bytes: &[u8]) -> Place
         ensures { (before : List ℕ) → IsBehind before self → IsBehind (before ++ bytes.now) result }
     {
         let Counts { newlines, column } = count(self.column, bytes);
@@ -88,7 +88,7 @@ fn are_plain(bytes: &[u8]) -> bool
 }
 
 // An ASCII byte that is no newline.
-fn is_plain(byte: u8) -> bool
+pub(crate) fn is_plain(byte: u8) -> bool
     ensures line { IsTrue result → is_newline byte ≡ false }
     ensures character { IsTrue result → begins_character byte ≡ true }
 {
@@ -102,7 +102,7 @@ struct Counts {
     column: usize,
 }
 
-fn saturate(count: usize) -> u16
+pub(crate) fn saturate(count: usize) -> u16
     ensures { result ≡ min count 65535 }
 {
     count.min(u16::MAX as usize) as u16

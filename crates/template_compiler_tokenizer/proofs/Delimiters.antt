@@ -1,5 +1,6 @@
 -- Where segments end, and where they don't.
-use Rattle.std.proofs.Common.{◌≡◌, ℕ, suc, ◌+◌, ◌<◌, ◌≤◌, inl, inr, true, false, List, [], length, slice_index, Option, None, Some, refl, sym, subst, arith}
+use Rattle.std.proofs.Common.{◌≡◌, ℕ, suc, ◌+◌, ◌<◌, ◌≤◌, inl, inr, true, false, List, [], length, slice_index, Option, None, Some, refl, sym, ◌∙◌, subst, arith}
+use Rattle.std.proofs.lemmas.Bool.{false≢true}
 use Rattle.std.proofs.lemmas.List.{get_or_past}
 use Rattle.std.specs.Char.{is_ascii_whitespace}
 use Rattle.template_compiler_syntax.specs.declared.StartMarker.{StartMarker}
@@ -43,6 +44,15 @@ finds_block_end x s i (Some p) end = block_end (end.0) (end.1)
 
 pub finds_no_end : (x : Syntax) (s : List ℕ) (i : ℕ) → FindsEnd x s Comment i None × FindsEnd x s LineComment i None
 finds_no_end x s i = (λ h. no_comment_end (h.2), λ h. no_line_comment_end (h.2))
+
+-- white space ends no other segment than a line statement
+pub no_blank_end : (x : Syntax) (s : List ℕ) (k : StartMarker) (i : ℕ) → is_ascii_whitespace (slice_index s i) ≡ true → (k ≡ LineStatement → ⊥) →
+    FindsEnd x s k i None
+no_blank_end x s Variable i white other = λ h. false≢true (sym ((print_ends (h.2)).0) ∙ white)
+no_blank_end x s Block i white other = λ h. false≢true (sym ((block_ends (h.2)).0) ∙ white)
+no_blank_end x s Comment i white other = λ h. no_comment_end (h.2)
+no_blank_end x s LineStatement i white other = λ h. other refl
+no_blank_end x s LineComment i white other = λ h. no_line_comment_end (h.2)
 
 pub line_goes_on : (x : Syntax) (s : List ℕ) (i : ℕ) → newline_len s i ≡ 0 → i < length s → FindsEnd x s LineStatement i None
 line_goes_on x s i none within h = elim (line_has_end (h.2)) [ inl newline ↦ omega arith | inr past ↦ omega arith ]

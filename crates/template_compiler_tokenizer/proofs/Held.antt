@@ -4,7 +4,8 @@ use Rattle.std.proofs.lemmas.List.{map-append}
 use Rattle.template_values_errors.specs.declared.ErrorKind.{ErrorKind}
 use Rattle.template_tree.specs.declared.span.Span.{Span}
 use Rattle.template_compiler_syntax.specs.Syntax.{Syntax}
-use Rattle.template_compiler_places.specs.Places.{IsBehind, IsBetween}
+use Rattle.template_compiler_places.specs.Places.{IsBetween}
+use Rattle.template_compiler_places.specs.Stretches.{BeginsBy}
 use Rattle.template_compiler_tokens.specs.Left.{IsRefused}
 use Rattle.template_compiler_tokens.specs.View.{token_of}
 use Rattle.template_compiler_tokens.specs.declared.token.Token.{Token}
@@ -13,7 +14,7 @@ use Rattle.template_compiler_tokenizer.specs.Left.{Placed, placed, left_at, toke
 use Rattle.template_compiler_tokenizer.specs.Reads.{IsStage, IsRefusedKind, ReadsPiece}
 use Rattle.template_compiler_tokenizer.specs.Spans.{Spanned, spanned, span_between, spans_in, words_in}
 use Rattle.template_compiler_tokenizer.specs.Tokenizer.{TokenizerView, placed_at, view_of, IsStanding}
-use Rattle.template_compiler_places.specs.declared.place.Place.{Place}
+use Rattle.template_compiler_places.specs.declared.stretch.Stretch.{Stretch}
 use Rattle.template_compiler_segments.specs.declared.starts.StartFinder.{StartFinder}
 use Rattle.template_compiler_tokenizer.specs.declared.tokenizer.State.{State}
 use Rattle.template_compiler_tokenizer.specs.declared.tokenizer.State.TheVariants.{Refused}
@@ -47,10 +48,10 @@ module _ (x : Syntax) (s : List ℕ) (at next : Standing) (piece : Piece) (stage
   pub fewer_left : ReadsPiece x s at.from (left_of x s at) piece → length (left_of x s next) < length (left_of x s at)
   fewer_left read = let e = ap length (left_there read) in omega arith
 
-  pub stands_next : ReadsPiece x s at.from (left_of x s at) piece → IsBehind (take piece.next s) next.place → StandsIn x s next
-  stands_next read behind = (
+  pub stands_next : ReadsPiece x s at.from (left_of x s at) piece → BeginsBy s piece.next next.stretch → StandsIn x s next
+  stands_next read begins = (
     subst (λ n. IsStage x s next.stage n) (sym from) (subst (λ (g : Stage). IsStage x s g piece.next) (sym stage) read.stage),
-    subst (λ n. IsBehind (take n s) next.place) (sym from) behind,
+    subst (λ n. BeginsBy s n next.stretch) (sym from) begins,
   )
 
   pub holds_next : (old held more : List (Token × Span)) (left : List Placed) → ReadsPiece x s at.from (left_of x s at) piece →
@@ -89,10 +90,10 @@ view_words name whole x s state i v e =
     subst (λ (v : TokenizerView). words_in v.spans ≡ v.left) e (words_spans s (placed_at x s state i))
 
 -- one that was refused tells why
-pub view_refused : (name whole : List ℕ) (x : Syntax) (s : List ℕ) (finder : StartFinder) (state : State) (i : ℕ) (place : Place) (stage : Stage)
-    (kind : ErrorKind) (v : TokenizerView) → view_of name whole x s state i ≡ v → IsStanding x s finder state i place → state ≡ Refused kind stage →
+pub view_refused : (name whole : List ℕ) (x : Syntax) (s : List ℕ) (finder : StartFinder) (state : State) (i : ℕ) (stretch : Stretch) (stage : Stage)
+    (kind : ErrorKind) (v : TokenizerView) → view_of name whole x s state i ≡ v → IsStanding x s finder state i stretch → state ≡ Refused kind stage →
     IsRefused (words_in v.spans) (kind ∷ [])
-view_refused name whole x s finder state i place stage kind v e standing refused =
-    let why = refused_words s (left_at x s stage i) kind (subst (λ (g : State). IsStanding x s finder g i place) refused standing) in
+view_refused name whole x s finder state i stretch stage kind v e standing refused =
+    let why = refused_words s (left_at x s stage i) kind (subst (λ (g : State). IsStanding x s finder g i stretch) refused standing) in
     subst (λ (v : TokenizerView). IsRefused (words_in v.spans) (kind ∷ [])) e
     (subst (λ (g : State). IsRefused (words_in (spans_in s (placed_at x s g i))) (kind ∷ [])) (sym refused) why)

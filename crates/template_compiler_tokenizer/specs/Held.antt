@@ -4,7 +4,7 @@ use Rattle.template_values_errors.specs.declared.ErrorKind.{ErrorKind}
 use Rattle.template_values_errors.specs.declared.ErrorKind.TheVariants.{OutOfMemory}
 use Rattle.template_tree.specs.declared.span.Span.{Span}
 use Rattle.template_compiler_syntax.specs.Syntax.{Syntax}
-use Rattle.template_compiler_places.specs.Places.{IsBehind}
+use Rattle.template_compiler_places.specs.Stretches.{BeginsBy}
 use Rattle.template_compiler_tokens.specs.Left.{IsRefused}
 use Rattle.template_compiler_tokens.specs.View.{token_of}
 use Rattle.template_compiler_tokens.specs.declared.token.Token.{Token}
@@ -20,7 +20,7 @@ spanned_of ts = map (λ t. spanned (token_of t.0) t.1) ts
 
 -- a reader can go on from where it stands
 abbrev pub StandsIn : Syntax → List ℕ → Standing → Type 0
-StandsIn x s at = IsStage x s at.stage at.from × IsBehind (take at.from s) at.place
+StandsIn x s at = IsStage x s at.stage at.from × BeginsBy s at.from at.stretch
 
 -- the tokens that are left there
 abbrev pub left_of : Syntax → List ℕ → Standing → List Placed
@@ -38,7 +38,7 @@ HoldsRead s old left held rest = spanned_of old ++ spans_in s left ≡ spanned_o
 abbrev pub Holds : List ℕ → Piece → List (Token × Span) → List (Token × Span) → Result Standing ErrorKind → Type 0
 Holds s piece old held (Ok at) =
     (spanned_of held ≡ spanned_of old ++ spanned (token_of piece.token) (span_between (take (piece.begin) s) (take (piece.end) s)) ∷ []) ×
-    (at.stage ≡ piece.stage) × (at.from ≡ piece.next) × IsBehind (take (piece.next) s) at.place
+    (at.stage ≡ piece.stage) × (at.from ≡ piece.next) × BeginsBy s (piece.next) at.stretch
 Holds s piece old held (Err kind) = (held ≡ old) × (kind ≡ OutOfMemory)
 
 -- the tokens before one that is refused, and why it is

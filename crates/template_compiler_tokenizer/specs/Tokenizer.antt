@@ -1,10 +1,10 @@
 -- A tokenizer, as contracts see it.
-use Rattle.std.specs.Prelude.{ℕ, List, [], take, Option, None, Some}
+use Rattle.std.specs.Prelude.{ℕ, List, [], Option, None, Some}
 use Rattle.template_values_errors.specs.declared.ErrorKind.{ErrorKind}
 use Rattle.template_compiler_syntax.specs.Syntax.{Syntax}
 use Rattle.template_compiler_tokens.specs.Token.{Token}
-use Rattle.template_compiler_places.specs.Places.{IsBehind}
-use Rattle.template_compiler_places.specs.declared.place.Place.{Place}
+use Rattle.template_compiler_places.specs.Stretches.{BeginsBy}
+use Rattle.template_compiler_places.specs.declared.stretch.Stretch.{Stretch}
 use Rattle.template_compiler_segments.specs.Known.{Knows}
 use Rattle.template_compiler_segments.specs.declared.starts.StartFinder.{StartFinder}
 use Rattle.template_compiler_tokenizer.specs.Left.{Placed, tokens_in, left_at}
@@ -41,7 +41,7 @@ view_of name whole x s state i = record {
 }
 
 -- it can read on from its place; or what stands there is refused
-abbrev pub IsStanding : Syntax → List ℕ → StartFinder → State → ℕ → Place → Type 0
-IsStanding x s finder (Reading stage) i place = IsStage x s stage i × Knows x s i finder × IsBehind (take i s) place
-IsStanding x s finder Ended i place = Unit {0}
-IsStanding x s finder (Refused kind stage) i place = IsRefusedKind (left_at x s stage i) kind
+abbrev pub IsStanding : Syntax → List ℕ → StartFinder → State → ℕ → Stretch → Type 0
+IsStanding x s finder (Reading stage) i stretch = IsStage x s stage i × Knows x s i finder × BeginsBy s i stretch
+IsStanding x s finder Ended i stretch = Unit {0}
+IsStanding x s finder (Refused kind stage) i stretch = IsRefusedKind (left_at x s stage i) kind

@@ -1,7 +1,6 @@
 // All tokens that are left, in one go.
-ghost use Rattle.std.specs.Prelude.{◌≡◌, ◌∷◌, [], ◌++◌, take, MatchResult};
-ghost use Rattle.std.specs.Str.{IsCharBoundary};
-ghost use Rattle.template_compiler_places.specs.Places.{IsBehind};
+ghost use Rattle.std.specs.Prelude.{◌≡◌, ◌∷◌, [], ◌++◌, MatchResult};
+ghost use Rattle.template_compiler_places.specs.Stretches.{BeginsBy};
 ghost use Rattle.template_compiler_segments.specs.Known.{Knows};
 ghost use Rattle.template_compiler_tokenizer.specs.Held.{Holds, ReadsAll, ReadsSome, StandsIn, left_of};
 ghost use Rattle.template_compiler_tokenizer.specs.Reads.{IsCut};
@@ -9,9 +8,9 @@ ghost use Rattle.template_compiler_tokenizer.specs.Reads.{IsCut};
 use crate::inside::{Piece, next_inside};
 use crate::read::next_piece;
 use crate::stage::Stage;
-use crate::tokenizer::place_at;
+use crate::tokenizer::span_in;
 use std::alloc::Global;
-use template_compiler_places::Place;
+use template_compiler_places::Stretch;
 use template_compiler_segments::StartFinder;
 use template_compiler_syntax::SyntaxConfig;
 use template_compiler_tokens::Token;
@@ -23,7 +22,7 @@ use template_values_errors::ErrorKind;
 pub struct Standing {
     pub stage: Stage,
     pub from: usize,
-    pub place: Place,
+    pub stretch: Stretch,
 }
 
 /// Reads the tokens that are left, and puts them behind those that are held.
@@ -80,8 +79,7 @@ fn hold<'source>(
     tokens: &mut Vec<(Token<'source>, Span)>,
 ) -> Result<Standing, ErrorKind>
     requires cut { IsCut source.now at.from piece }
-    requires from { IsCharBoundary source.now at.from }
-    requires place { IsBehind (take at.from source.now) at.place }
+    requires begins { BeginsBy source.now at.from at.stretch }
     ensures { Holds source.now piece.entry tokens.old.items tokens.new.items result }
 {
     let Piece {
@@ -91,14 +89,12 @@ fn hold<'source>(
         end,
         next,
     } = piece;
-    let start = place_at(source, at.place, at.from, begin);
-    let stop = place_at(source, start, begin, end);
-    let place = place_at(source, stop, end, next);
-    push(tokens, token, start.to(stop))?;
+    let (span, stretch) = span_in(source, at.stretch, begin, end);
+    push(tokens, token, span)?;
     Ok(Standing {
         stage,
         from: next,
-        place,
+        stretch,
     })
 }
 

@@ -33,6 +33,7 @@ pub(crate) enum Step<'source> {
 }
 
 /// A step over the data at a place, behind what stands on its left: the data, or what begins behind it.
+#[inline(always)]
 pub(crate) fn data_step<'source>(
     alloc: Global,
     source: &'source str,
@@ -81,6 +82,7 @@ fn last_data<'source>(
 }
 
 // The data before a start marker, or what begins there.
+#[inline(always)]
 fn before_start<'source>(
     alloc: Global,
     source: &'source str,
@@ -112,6 +114,7 @@ fn before_start<'source>(
 }
 
 /// What begins at a start marker.
+#[inline(always)]
 pub(crate) fn enter<'source>(
     alloc: Global,
     source: &'source str,
@@ -173,6 +176,7 @@ fn enter_line_statement<'source>(
 }
 
 // A block begins, or raw data.
+#[inline(always)]
 fn enter_block<'source>(
     alloc: Global,
     source: &'source str,

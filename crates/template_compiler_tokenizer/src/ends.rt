@@ -1,5 +1,5 @@
 // Where segments end.
-ghost use Rattle.std.specs.Prelude.{◌≡◌, ◌≤◌, length, slice_index, IfSome};
+ghost use Rattle.std.specs.Prelude.{◌≡◌, ◌≤◌, true, length, slice_index, IfSome};
 ghost use Rattle.std.specs.Str.{IsUtf8, IsCharBoundary};
 ghost use Rattle.std.specs.Char.{is_ascii_whitespace as white};
 ghost use Rattle.template_compiler_syntax.specs.Syntax.{Syntax};
@@ -43,6 +43,25 @@ pub(crate) fn end_at(
         ),
         StartMarker::LineStatement => line_end_at(bytes, place),
         StartMarker::Comment | StartMarker::LineComment => None,
+    }
+}
+
+/// The same at white space, which ends line statements alone.
+#[inline(always)]
+pub(crate) fn blank_end_at(
+    bytes: &[u8],
+    syntax: &SyntaxConfig,
+    kind: StartMarker,
+    place: usize,
+) -> Option<(Sign, usize)>
+    requires within { place ≤ length bytes.now }
+    requires blank { white (slice_index bytes.now place) ≡ true }
+    ensures found { FindsEnd syntax.now bytes.now kind place result }
+    ensures cut { IfSome result (λ p. IsUtf8 bytes.now → IsCharBoundary bytes.now p.1) }
+{
+    match kind {
+        StartMarker::LineStatement => end_at(bytes, syntax, kind, place),
+        _ => None,
     }
 }
 

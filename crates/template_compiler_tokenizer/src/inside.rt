@@ -7,7 +7,7 @@ ghost use Rattle.template_compiler_tokenizer.specs.Finds.{FindsPlace};
 ghost use Rattle.template_compiler_tokenizer.specs.Left.{end_token as token_of_end};
 ghost use Rattle.template_compiler_tokenizer.specs.Reads.{ReadsInside};
 
-use crate::ends::{end_at, is_white_at};
+use crate::ends::{blank_end_at, end_at, is_white_at};
 use crate::stage::Stage;
 use std::alloc::Global;
 use template_compiler_scanner::scan_token;
@@ -39,17 +39,20 @@ pub(crate) fn next_place(
 {
     let bytes = source.as_bytes();
     let mut place = from;
-    'blanks: loop {
+    'blanks: while is_white_at(bytes, place) {
         if depth == 0 {
-            if let Some((last, next)) = end_at(bytes, syntax, kind, place) {
+            if let Some((last, next)) = blank_end_at(bytes, syntax, kind, place) {
                 return Found::End(place, last, next);
             }
         }
-        if !is_white_at(bytes, place) {
-            return Found::Token(place);
-        }
         place += 1;
     }
+    if depth == 0 {
+        if let Some((last, next)) = end_at(bytes, syntax, kind, place) {
+            return Found::End(place, last, next);
+        }
+    }
+    Found::Token(place)
 }
 
 /// A token, with the places where its text begins and ends, and where what follows stands.

@@ -17,6 +17,7 @@ use template_compiler_syntax::{StartMarker, SyntaxConfig};
 use template_values_errors::ErrorKind;
 
 /// The next token from a place in data on, behind what stands on its left; none at the end. Comments are passed.
+#[inline(always)]
 pub(crate) fn next_in_data<'source>(
     alloc: Global,
     source: &'source str,

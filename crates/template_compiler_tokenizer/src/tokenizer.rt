@@ -1,7 +1,7 @@
 //! The tokenizer.
-ghost use Rattle.std.specs.Prelude.{◌≤◌, take};
-ghost use Rattle.std.specs.Str.{IsCharBoundary};
-ghost use Rattle.template_compiler_places.specs.Places.{IsBehind};
+ghost use Rattle.std.specs.Prelude.{◌≡◌, ◌≤◌, length, take};
+ghost use Rattle.template_compiler_places.specs.Stretches.{BeginsBy};
+ghost use Rattle.template_compiler_tokenizer.specs.Spans.{span_between};
 
 use crate::all::{Standing, read_all};
 use crate::inside::Piece;
@@ -10,7 +10,7 @@ use crate::stage::Stage;
 use crate::text::template_text;
 use std::alloc::Global;
 use std::marker::Model;
-use template_compiler_places::Place;
+use template_compiler_places::Stretch;
 use template_compiler_segments::{Edge, StartFinder};
 use template_compiler_syntax::SyntaxConfig;
 use template_compiler_tokens::Token;
@@ -39,7 +39,7 @@ pub struct Tokenizer<'source> {
     finder: StartFinder,
     state: State,
     from: usize,
-    place: Place,
+    stretch: Stretch,
 }
 
 impl<'source> Model for Tokenizer<'source> {
@@ -49,7 +49,7 @@ impl<'source> Model for Tokenizer<'source> {
 
     ghost view = { λ t. view_of t.filename.now t.source.now t.syntax t.text.now t.state t.from };
 
-    ghost invariant = { λ t. IsStanding t.syntax t.text.now t.finder t.state t.from t.place };
+    ghost invariant = { λ t. IsStanding t.syntax t.text.now t.finder t.state t.from t.stretch };
 }
 
 impl<'source> Tokenizer<'source> {
@@ -83,7 +83,7 @@ impl<'source> Tokenizer<'source> {
             finder,
             state: State::Reading(Stage::Data(Edge::Nothing)),
             from: 0,
-            place: Place::start(),
+            stretch: Stretch::start(),
         }
     }
 
@@ -118,7 +118,7 @@ impl<'source> Tokenizer<'source> {
             finder,
             state,
             from,
-            place,
+            stretch,
             ..
         } = self;
         let stage = match state {
@@ -126,7 +126,11 @@ impl<'source> Tokenizer<'source> {
             State::Ended => return Ok(()),
             State::Refused(kind, _) => return Err(Error::new(kind)),
         };
-        let first = Standing { stage, from, place };
+        let first = Standing {
+            stage,
+            from,
+            stretch,
+        };
         let mut finder = finder;
         match read_all(alloc, text, &syntax, &mut finder, first, tokens) {
             Ok(()) => Ok(()),
@@ -167,12 +171,11 @@ impl<'source> Tokenizer<'source> {
                     end,
                     next,
                 } = piece;
-                let start = place_at(self.text, self.place, self.from, begin);
-                let stop = place_at(self.text, start, begin, end);
-                self.place = place_at(self.text, stop, end, next);
+                let (span, stretch) = span_in(self.text, self.stretch, begin, end);
+                self.stretch = stretch;
                 self.state = State::Reading(stage);
                 self.from = next;
-                Ok(Some((token, start.to(stop))))
+                Ok(Some((token, span)))
             }
             Ok(None) => {
                 self.state = State::Ended;
@@ -186,16 +189,16 @@ impl<'source> Tokenizer<'source> {
     }
 }
 
-// The place further on in a text.
-pub(crate) fn place_at(text: &str, place: Place, from: usize, to: usize) -> Place
-    requires ordered { from ≤ to }
-    requires start { IsCharBoundary text.now from }
-    requires end { IsCharBoundary text.now to }
-    ensures { IsBehind (take from text.now) place → IsBehind (take to text.now) result }
+// The span between two places of a text, and the stretch that the second one stands in.
+#[inline(always)]
+pub(crate) fn span_in(text: &str, stretch: Stretch, begin: usize, end: usize) -> (Span, Stretch)
+    requires begins { BeginsBy text.now begin stretch }
+    requires ordered { begin ≤ end }
+    requires within { end ≤ length text.now }
+    ensures span { result.0 ≡ span_between (take begin text.now) (take end text.now) }
+    ensures begins { BeginsBy text.now end result.1 }
 {
-    if from == to {
-        place
-    } else {
-        place.after(&text[from..to])
-    }
+    let starts = stretch.reaching(text, begin);
+    let ends = starts.reaching(text, end);
+    (starts.place(begin).to(ends.place(end)), ends)
 }

@@ -269,7 +269,7 @@ impl<'source> Expr<'source> {
     ghost use Rattle.std.specs.Prelude.{◌<◌, IfSome};
     ghost use Rattle.template_tree.specs.declared.expressions.Expr.{size-Expr};
 
-    // The expression on the left of this one; its other parts are dropped.
+    // The expression on the left of this one; its other parts are dropped. Most are names and literals, and have none.
     #[cycle(expr)]
     fn into_left(self) -> Option<Expr<'source>>
         ensures { IfSome result (λ e. size-Expr e < size-Expr self.entry) }
@@ -277,10 +277,17 @@ impl<'source> Expr<'source> {
         match self {
             Expr::Var(_) => None,
             Expr::Const(_) => None,
-            Expr::Slice(n) => {
-                let Slice { expr, .. } = Box::into_inner(n.node);
-                Some(expr)
-            }
+            expr => expr.into_first_operand(),
+        }
+    }
+
+    // The same for operators and look-ups, which most of the others are.
+    #[cycle(expr)]
+    #[inline(never)]
+    fn into_first_operand(self) -> Option<Expr<'source>>
+        ensures { IfSome result (λ e. size-Expr e < size-Expr self.entry) }
+    {
+        match self {
             Expr::UnaryOp(n) => {
                 let UnaryOp { expr, .. } = Box::into_inner(n.node);
                 Some(expr)
@@ -288,6 +295,29 @@ impl<'source> Expr<'source> {
             Expr::BinOp(n) => {
                 let BinOp { left, .. } = Box::into_inner(n.node);
                 Some(left)
+            }
+            Expr::GetAttr(n) => {
+                let GetAttr { expr, .. } = Box::into_inner(n.node);
+                Some(expr)
+            }
+            Expr::GetItem(n) => {
+                let GetItem { expr, .. } = Box::into_inner(n.node);
+                Some(expr)
+            }
+            expr => expr.into_first_part(),
+        }
+    }
+
+    // The same for the rest.
+    #[cycle(expr)]
+    #[inline(never)]
+    fn into_first_part(self) -> Option<Expr<'source>>
+        ensures { IfSome result (λ e. size-Expr e < size-Expr self.entry) }
+    {
+        match self {
+            Expr::Slice(n) => {
+                let Slice { expr, .. } = Box::into_inner(n.node);
+                Some(expr)
             }
             Expr::Compare(n) => {
                 let Compare { expr, .. } = Box::into_inner(n.node);
@@ -305,18 +335,16 @@ impl<'source> Expr<'source> {
                 let Test { expr, .. } = Box::into_inner(n.node);
                 Some(expr)
             }
-            Expr::GetAttr(n) => {
-                let GetAttr { expr, .. } = Box::into_inner(n.node);
-                Some(expr)
-            }
-            Expr::GetItem(n) => {
-                let GetItem { expr, .. } = Box::into_inner(n.node);
-                Some(expr)
-            }
             Expr::Call(n) => {
                 let Call { expr, .. } = Box::into_inner(n.node);
                 Some(expr)
             }
+            Expr::Var(_) => None,
+            Expr::Const(_) => None,
+            Expr::UnaryOp(_) => None,
+            Expr::BinOp(_) => None,
+            Expr::GetAttr(_) => None,
+            Expr::GetItem(_) => None,
             Expr::List(_) => None,
             Expr::Tuple(_) => None,
             Expr::Map(_) => None,

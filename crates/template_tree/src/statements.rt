@@ -250,9 +250,22 @@ impl<'source> Stmt<'source> {
     ghost use Rattle.std.specs.Prelude.{◌<◌, IfSome};
     ghost use Rattle.template_tree.specs.declared.statements.Stmt.{size-Stmt};
 
-    // The last statement of a condition's `false_body`, such as an `elif`; all else that stands here is dropped.
+    // The last statement of a condition's `false_body`, such as an `elif`; all else that stands here is dropped. Most
+    // statements are texts.
     #[cycle(stmt)]
     fn into_rest(self) -> Option<Stmt<'source>>
+        ensures { IfSome result (λ s. size-Stmt s < size-Stmt self.entry) }
+    {
+        match self {
+            Stmt::EmitRaw(_) => None,
+            statement => statement.into_rest_of_tag(),
+        }
+    }
+
+    // The same for those that are no texts.
+    #[cycle(stmt)]
+    #[inline(never)]
+    fn into_rest_of_tag(self) -> Option<Stmt<'source>>
         ensures { IfSome result (λ s. size-Stmt s < size-Stmt self.entry) }
     {
         match self {

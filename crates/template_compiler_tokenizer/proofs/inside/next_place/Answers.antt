@@ -20,11 +20,24 @@ returns-in-Some c =
           c.if-depth-eq0.true c.blanks.invariant.low c.blanks.invariant.cut c.blanks.invariant.same c.in-Some.ensures.found,
     )
 
+pub returns-in-Some-end_at : goal.returns-in-Some-end_at
+returns-in-Some-end_at c =
+    let x = c.args.syntax.now in
+    let s = c.args.source.now in
+    let b = c.as_bytes-bytes.result.now in
+    let place = c.blanks.place in (
+      place_ended x s b c.args.kind c.args.depth place c.args.from c.in-Some-end_at.next c.in-Some-end_at.last
+          c.as_bytes-bytes.ensures.value c.if-depth-eq0-2.true c.blanks.invariant.inside c.in-Some-end_at.ensures.found,
+      subst (λ t. IsCharBoundary t c.in-Some-end_at.next) c.as_bytes-bytes.ensures.value (c.in-Some-end_at.ensures.cut c.as_bytes-bytes.ensures.utf8),
+      next_end x s b c.args.kind c.args.depth place c.args.from c.in-Some-end_at.next c.in-Some-end_at.last c.as_bytes-bytes.ensures.value
+          c.if-depth-eq0-2.true c.blanks.invariant.low c.blanks.invariant.cut c.blanks.invariant.same c.in-Some-end_at.ensures.found,
+    )
+
 pub blanks-preserved : goal.blanks-preserved
 blanks-preserved c =
     let x = c.args.syntax.now in
     let b = c.as_bytes-bytes.result.now in
-    let white = sym c.is_white_at.ensures ∙ c.if-not-is_white_at.false in
+    let white = sym c.is_white_at.ensures ∙ c.blanks-test.true in
     let low = c.blanks.invariant.low in
     let none : c.args.depth ≡ 0 → IsOver x b c.args.kind c.blanks.place → ⊥ = λ closed over. elim c.if-depth-eq0.branch [
       | then-depth-eq0+in_default w ↦ w.in_default.ensures.found over

@@ -6,7 +6,7 @@ pub invariant_of-result : goal.invariant_of-result
 invariant_of-result c = (
   IsCharBoundary-start c.template_text-text.result.now c.template_text-text.utf8,
   c.new-finder.ensures c.template_text-text.result.now,
-  c.start.ensures,
+  c.start.ensures c.template_text-text.result.now,
 )
 
 pub returns-clause-tokens : goal.returns-clause-tokens

@@ -11,7 +11,7 @@ returns-in-Refused-clause-taken c =
       spans,
       refl,
       subst (λ e. IsRefused (words_in spans) e) (sym c.new.ensures)
-          (view_refused t.filename.now t.source.now t.syntax t.text.now t.finder t.state t.from t.place c.in-Refused.field-1 c.in-Refused.kind c.args.self
+          (view_refused t.filename.now t.source.now t.syntax t.text.now t.finder t.state t.from t.stretch c.in-Refused.field-1 c.in-Refused.kind c.args.self
           c.self.view_is c.self.invariant c.in-Refused.is),
     )
 
