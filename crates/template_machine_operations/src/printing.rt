@@ -108,8 +108,8 @@ fn short_text(value: &Value, escape: AutoEscape) -> Option<&str>
     ensures is { IfSome result (λ text. (known : Known) → escaped escape known value.now ≡ Ok (html text.now)) }
     ensures short { IfSome result (λ text. length text.now ≤ SHORT_TEXT) }
 {
-    match (value.content(), escape) {
-        (Content::Text(text), AutoEscape::Html) if text.len() <= SHORT_TEXT => Some(text),
+    match (value.as_str(), escape) {
+        (Some(text), AutoEscape::Html) if text.len() <= SHORT_TEXT && !is_safe(value) => Some(text),
         _ => None,
     }
 }
@@ -133,12 +133,20 @@ fn write_html<S: Sink>(text: &str, sink: &mut S) -> Result<(), Error>
 fn standing_text(value: &Value, escape: AutoEscape) -> Option<&str>
     ensures { IfSome result (λ text. (known : Known) → escaped escape known value.now ≡ Ok text.now) }
 {
-    match (value.content(), escape) {
-        (_, AutoEscape::Custom(_)) => None,
-        (Content::SafeText(text), _) => Some(text),
-        (Content::Text(text), AutoEscape::None) => Some(text),
+    let text = value.as_str()?;
+    match escape {
+        AutoEscape::None => Some(text),
+        AutoEscape::Custom(_) => None,
+        _ if is_safe(value) => Some(text),
         _ => None,
     }
+}
+
+/// Whether a value is a text that is written without escapes.
+#[inline(always)]
+fn is_safe(value: &Value) -> bool
+{
+    matches!(value.content(), Content::SafeText(_))
 }
 
 /// Makes the text of a value under an escape in `scratch`.
