@@ -1,5 +1,5 @@
 //! Texts and values on their way into a sink.
-ghost use Rattle.std.specs.Prelude.{◌≡◌, ◌≤◌, [], Ok, IfSome, length, string_bytes};
+ghost use Rattle.std.specs.Prelude.{◌≡◌, ◌≤◌, [], Ok, IfSome, length, option_copied, string_bytes};
 ghost use Rattle.template_values_forms.specs.Answers.{AppendsOrRefuses};
 ghost use Rattle.template_values_forms.specs.Escaped.{escaped};
 ghost use Rattle.template_values_forms.specs.Escapes.{html};
@@ -7,6 +7,7 @@ ghost use Rattle.template_values_forms.specs.Known.{Known};
 ghost use Rattle.template_machine_meaning.specs.Undefined.{forbids_printing};
 ghost use Rattle.template_machine_meaning.specs.Replies.{guarded, kinded};
 ghost use Rattle.template_machine_operations.specs.Outcomes.{TellsFailures, Writes, Prints};
+ghost use Rattle.template_machine_operations.specs.Texts.{safe_text_in};
 
 use crate::undefined::{forbids_printing, refusal};
 use std::str;
@@ -108,8 +109,8 @@ fn short_text(value: &Value, escape: AutoEscape) -> Option<&str>
     ensures is { IfSome result (λ text. (known : Known) → escaped escape known value.now ≡ Ok (html text.now)) }
     ensures short { IfSome result (λ text. length text.now ≤ SHORT_TEXT) }
 {
-    match (value.as_str(), escape) {
-        (Some(text), AutoEscape::Html) if text.len() <= SHORT_TEXT && !is_safe(value) => Some(text),
+    match (value.content(), escape) {
+        (Content::Text(text), AutoEscape::Html) if text.len() <= SHORT_TEXT => Some(text),
         _ => None,
     }
 }
@@ -133,20 +134,22 @@ fn write_html<S: Sink>(text: &str, sink: &mut S) -> Result<(), Error>
 fn standing_text(value: &Value, escape: AutoEscape) -> Option<&str>
     ensures { IfSome result (λ text. (known : Known) → escaped escape known value.now ≡ Ok text.now) }
 {
-    let text = value.as_str()?;
     match escape {
-        AutoEscape::None => Some(text),
+        AutoEscape::None => value.as_str(),
+        AutoEscape::Html | AutoEscape::Json => safe_text(value),
         AutoEscape::Custom(_) => None,
-        _ if is_safe(value) => Some(text),
-        _ => None,
     }
 }
 
-/// Whether a value is a text that is written without escapes.
+/// The text of a safe text.
 #[inline(always)]
-fn is_safe(value: &Value) -> bool
+fn safe_text(value: &Value) -> Option<&str>
+    ensures { option_copied result ≡ safe_text_in value.now }
 {
-    matches!(value.content(), Content::SafeText(_))
+    match value.content() {
+        Content::SafeText(text) => Some(text),
+        _ => None,
+    }
 }
 
 /// Makes the text of a value under an escape in `scratch`.
