@@ -1,8 +1,7 @@
 //! The locals of a frame.
-ghost use Rattle.std.specs.Prelude.{◌≡◌, ℕ, List, ◌||◌, [], ◌∷◌, ◌++◌, is_some, not, IsTrue, IfErr, OnOk, OnErr, option_copied};
+ghost use Rattle.std.specs.Prelude.{◌≡◌, ◌==◌, ℕ, List, ◌||◌, [], ◌∷◌, ◌++◌, length, is_some, not, IsTrue, IfErr, OnOk, OnErr, option_copied};
 ghost use Rattle.std.specs.BTreeSet.{contains_text};
 ghost use Rattle.std.specs.List.{find, position};
-ghost use Rattle.std.specs.Str.{bytes_eq};
 ghost use Rattle.template_values_errors.specs.Memory.{NoMemory};
 ghost use Rattle.template_machine_meaning.specs.World.{local_at, put_local};
 ghost use Rattle.template_machine_frames.specs.Locals.{is_named};
@@ -12,7 +11,7 @@ use crate::names::{add_name, is_private};
 use std::alloc::Global;
 use std::collections::BTreeSet;
 use std::marker::Model;
-use template_values_core::Value;
+use template_values_core::{Value, is_same};
 use template_values_errors::{Error, ErrorKind};
 
 #[derive(Drop)]
@@ -50,29 +49,17 @@ impl<'env> Local<'env> {
     }
 }
 
-// Whether two names are the same. Names are short, and mostly differ at once.
-#[inline(always)]
-fn is_same(name: &str, other: &str) -> bool
-    ensures { result ≡ bytes_eq name.now other.now }
-{
-    if name.len() != other.len() {
-        return false;
-    }
-    let others = other.as_bytes();
-    for (place, byte) in name.as_bytes().iter().enumerate() {
-        if *byte != others[place] {
-            return false;
-        }
-    }
-    true
-}
-
 // The local of a name.
 #[inline(always)]
 fn find<'a, 'env>(locals: &'a [Local<'env>], name: &str) -> Option<&'a Local<'env>>
     ensures { option_copied result ≡ find (is_named name.now) locals.now }
 {
-    locals.iter().find(|local| is_same(local.name, name))
+    for local in locals {
+        if is_same(local.name, name) {
+            return Some(local);
+        }
+    }
+    None
 }
 
 // Where the local of a name stands.
@@ -80,7 +67,12 @@ fn find<'a, 'env>(locals: &'a [Local<'env>], name: &str) -> Option<&'a Local<'en
 fn position(locals: &[Local<'_>], name: &str) -> Option<usize>
     ensures { result ≡ position (is_named name.now) locals.now }
 {
-    locals.iter().position(|local| is_same(local.name, name))
+    for (place, local) in locals.iter().enumerate() {
+        if is_same(local.name, name) {
+            return Some(place);
+        }
+    }
+    None
 }
 
 // A local goes behind the others.
@@ -181,6 +173,14 @@ impl<'env> Locals<'env> {
             }
         }
         Ok(())
+    }
+
+    // Whether there are no names.
+    #[inline(always)]
+    pub(crate) fn is_empty(&self) -> bool
+        ensures { result ≡ (length self.now == 0) }
+    {
+        self.locals.is_empty()
     }
 
     /// No names any more.

@@ -67,6 +67,17 @@ impl Items {
         ensures { option_copied result ≡ slice_get self.now place }
     {
         match &self.held {
+            Held::Items(value) => items_shared(value).get(place),
+            _ => self.get_of_any(place),
+        }
+    }
+
+    // The same. Most loops go over a list or a tuple, which needs no call.
+    #[inline(never)]
+    fn get_of_any(&self, place: usize) -> Option<&Value>
+        ensures { option_copied result ≡ slice_get self.now place }
+    {
+        match &self.held {
             Held::One(value) => only(value, place),
             Held::Items(value) => items_shared(value).get(place),
             Held::Keys(value) => key_at(entries_shared(value), place),

@@ -1,3 +1,4 @@
+pub mod Words
 pub mod Deep
 pub mod PairLemmas
 pub mod Rising

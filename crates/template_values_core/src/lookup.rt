@@ -1,19 +1,31 @@
 //! What a value has under a key.
 ghost use Rattle.std.specs.Prelude.{◌≡◌, option_copied};
-ghost use Rattle.std.specs.Str.{bytes_eq};
 ghost use Rattle.template_values_model.specs.Lookup.{entry_at, is_text, value_at};
 ghost use Rattle.template_values_core.specs.Kept.{IsRising};
 ghost use Rattle.template_values_core.specs.Maps.{pairs_of, entry_under};
 ghost use Rattle.template_values_core.specs.Reads.{value_under};
 ghost use Rattle.template_values_core.specs.Shape.{pairs_in};
 
+use crate::names::is_same;
 use crate::order::compare_to_text;
 use crate::value::{Entry, Repr, Value};
 
 impl Value {
     /// The value under the text `name` in a map, a keyword map or a module. Takes log n
     /// comparisons for n entries.
+    #[inline(always)]
     pub fn value_at(&self, name: &str) -> Option<&Value>
+        ensures { option_copied result ≡ value_at name.now self.now }
+    {
+        match &self.repr {
+            Repr::Map(entries) => entry_at(entries.as_ref().as_slice(), name),
+            _ => self.value_at_of_any(name),
+        }
+    }
+
+    // The same. Most values that are asked so are maps, which need no call.
+    #[inline(never)]
+    fn value_at_of_any(&self, name: &str) -> Option<&Value>
         ensures { option_copied result ≡ value_at name.now self.now }
     {
         match &self.repr {
@@ -41,6 +53,7 @@ impl Value {
 // Among so many entries one pass finds a name sooner than halving does.
 const FEW: usize = 8;
 
+#[inline(never)]
 fn entry_at<'a>(entries: &'a [Entry], name: &str) -> Option<&'a Value>
     requires { IsRising entries.now }
     ensures { option_copied result ≡ entry_at name.now (pairs_of (pairs_in entries.now)) }
@@ -69,28 +82,10 @@ fn first_at<'a>(entries: &'a [Entry], name: &str) -> Option<&'a Value>
 fn is_text(key: &Value, name: &str) -> bool
     ensures { result ≡ is_text name.now key.now }
 {
-    match &key.repr {
-        Repr::Text(text) => is_same(text.as_str(), name),
-        Repr::SafeText(text) => is_same(text.as_str(), name),
-        _ => false,
+    match key.as_str() {
+        Some(text) => is_same(text, name),
+        None => false,
     }
-}
-
-// Whether two texts are the same. Names are short, and mostly differ at once.
-#[inline(always)]
-fn is_same(text: &str, other: &str) -> bool
-    ensures { result ≡ bytes_eq text.now other.now }
-{
-    if text.len() != other.len() {
-        return false;
-    }
-    let others = other.as_bytes();
-    for (place, byte) in text.as_bytes().iter().enumerate() {
-        if *byte != others[place] {
-            return false;
-        }
-    }
-    true
 }
 
 // The same, by halving.
