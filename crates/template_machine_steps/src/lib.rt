@@ -16,6 +16,6 @@ pub use operators::{compare_and_preserve, invert, negate, operate, operate_at_on
 pub use parts::{get_attr, get_attr_at_once, get_item, slice};
 pub use truths::{
     jump, jump_if_false, jump_if_false_at_once, jump_if_false_or_pop, jump_if_false_or_pop_at_once,
-    jump_if_true_or_pop, jump_if_true_or_pop_at_once,
+    jump_if_true_or_pop, jump_if_true_or_pop_at_once, jump_if_value_false,
 };
 pub use ways::{AtOnce, Begun, Way, behind};
