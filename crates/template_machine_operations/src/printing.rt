@@ -1,5 +1,5 @@
 //! Texts and values on their way into a sink.
-ghost use Rattle.std.specs.Prelude.{◌≡◌, ◌≤◌, [], Ok, IfSome, length, string_bytes};
+ghost use Rattle.std.specs.Prelude.{◌≡◌, ◌≤◌, [], Ok, IfSome, length, option_copied, string_bytes};
 ghost use Rattle.template_values_forms.specs.Answers.{AppendsOrRefuses};
 ghost use Rattle.template_values_forms.specs.Escaped.{escaped};
 ghost use Rattle.template_values_forms.specs.Escapes.{html};
@@ -7,6 +7,7 @@ ghost use Rattle.template_values_forms.specs.Known.{Known};
 ghost use Rattle.template_machine_meaning.specs.Undefined.{forbids_printing};
 ghost use Rattle.template_machine_meaning.specs.Replies.{guarded, kinded};
 ghost use Rattle.template_machine_operations.specs.Outcomes.{TellsFailures, Writes, Prints};
+ghost use Rattle.template_machine_operations.specs.Texts.{safe_text_in};
 
 use crate::undefined::{forbids_printing, refusal};
 use std::str;
@@ -133,10 +134,20 @@ fn write_html<S: Sink>(text: &str, sink: &mut S) -> Result<(), Error>
 fn standing_text(value: &Value, escape: AutoEscape) -> Option<&str>
     ensures { IfSome result (λ text. (known : Known) → escaped escape known value.now ≡ Ok text.now) }
 {
-    match (value.content(), escape) {
-        (_, AutoEscape::Custom(_)) => None,
-        (Content::SafeText(text), _) => Some(text),
-        (Content::Text(text), AutoEscape::None) => Some(text),
+    match escape {
+        AutoEscape::None => value.as_str(),
+        AutoEscape::Html | AutoEscape::Json => safe_text(value),
+        AutoEscape::Custom(_) => None,
+    }
+}
+
+/// The text of a safe text.
+#[inline(always)]
+fn safe_text(value: &Value) -> Option<&str>
+    ensures { option_copied result ≡ safe_text_in value.now }
+{
+    match value.content() {
+        Content::SafeText(text) => Some(text),
         _ => None,
     }
 }

@@ -13,5 +13,5 @@ pub use asides::{made_of, number_given};
 pub use at_once::{begin_at_once, perform_at_once};
 pub use plain::{perform, perform_at_length};
 pub use rules::Rules;
-pub use template_machine_scopes::store_number;
+pub use template_machine_scopes::{pop_loop_frame, push_loop, store_number};
 pub use writing::{emit, emit_raw, emit_value};
