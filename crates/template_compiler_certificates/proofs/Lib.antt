@@ -3,3 +3,4 @@ pub mod Plain
 pub mod Moving
 pub mod Running
 pub mod Whole
+pub mod Pieces

@@ -1,8 +1,9 @@
-//! Generated code is accepted by the check of streams: it has a certificate. The functions do nothing:
-//! each stands for the law in its contract.
+//! Generated code is accepted by the check of streams: it has a certificate. And its pieces do what their walks do
+//! wherever they stand. The functions do nothing: each stands for the law in its contract.
 #![tactic(auto)]
 
 ghost use Rattle.template_compiler_certificates.specs.Laws.{TemplatesAreCertified, ExpressionsAreCertified, TemplatesGoOn, ExpressionsGoOn};
+ghost use Rattle.template_compiler_certificates.specs.Pieces.{ExpressionsPerformAnywhere, StatementsPerformAnywhere};
 
 use template_code_shapes::{certified_is_good, good_goes_on};
 
@@ -34,3 +35,15 @@ pub fn expressions_go_on()
     certified_is_good();
     good_goes_on();
 }
+
+/// Wherever in a code the code of an expression stands, over whatever operands, it does there what its walk does,
+/// whatever is told, and the code goes on behind it with the value on top.
+pub fn expressions_perform_anywhere()
+    ensures { ExpressionsPerformAnywhere }
+{}
+
+/// The same of the code of statements, over the same operands behind it as before it: where `break` or `continue` leads
+/// out, the code does what the exits of the walk do.
+pub fn statements_perform_anywhere()
+    ensures { StatementsPerformAnywhere }
+{}
