@@ -77,6 +77,7 @@ fn parts(tokens: &mut TokenStream, name: String) -> Result<String, AllocError>
 ///
 /// The fault of the token that is none of these, or want of memory.
 #[tactic(auto, using(crate::proofs::Words::word_primary), unfolding(template_compiler_expressions::specs::Reader::primary_by))]
+#[inline(always)]
 pub fn literal<'source>(
     alloc: Global,
     tokens: &mut TokenStream<'source>,

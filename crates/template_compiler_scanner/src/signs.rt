@@ -55,6 +55,7 @@ fn short_sign(byte: u8) -> Option<Token<'static>>
 }
 
 /// The longest sign that the text begins with, and how many bytes it takes; `SyntaxError` where none stands.
+#[inline(always)]
 pub fn scan_sign<'source>(text: &[u8]) -> Result<(Token<'source>, usize), ErrorKind>
     ensures { ScansSign text.now result }
 {

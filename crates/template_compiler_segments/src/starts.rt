@@ -53,6 +53,7 @@ impl StartFinder {
 
     /// The next start marker from a place on: the leftmost that is eligible, and there the longest.
     /// The searches of one source go from left to right.
+    #[inline(always)]
     pub fn next_start(
         &mut self,
         bytes: &[u8],
@@ -71,6 +72,7 @@ impl StartFinder {
         }
     }
 
+    #[inline(never)]
     fn find_nearest(
         &mut self,
         bytes: &[u8],

@@ -10,6 +10,7 @@ use template_compiler_syntax::{StartMarker, SyntaxConfig};
 
 /// The data between two places of a source, less the white space that what stands beside it takes.
 /// It takes time for the white space that goes alone.
+#[inline(always)]
 pub fn data_text<'source>(
     source: &'source str,
     syntax: &SyntaxConfig,

@@ -18,6 +18,7 @@ use template_compiler_syntax::{StartMarker, SyntaxConfig};
 use template_compiler_tokens::Token;
 
 /// The sign of a block's end, and the place behind it, if this is the block's only word. Its inside begins at the place.
+#[inline(always)]
 pub(crate) fn only_word(
     alloc: Global,
     source: &str,
