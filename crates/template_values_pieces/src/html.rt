@@ -60,7 +60,9 @@ fn put_plain(block: &mut [u8; HTML_BLOCK], used: usize, byte: u8) -> usize
     used + 1
 }
 
-/// Writes a text with references for HTML's markup.
+/// Writes a text with references for HTML's markup. It stands alone, so that a piece that is written as it is pays nothing for
+/// the block.
+#[inline(never)]
 pub(crate) fn push_html(out: &mut String, piece: &str) -> Result<(), Error>
     ensures { Writes Html (string_bytes out.old) (Ok piece.now) result (string_bytes out.new) }
 {
