@@ -4,6 +4,7 @@
 #![tactic(auto)]
 
 ghost use Rattle.template_environment_histories.specs.Laws.{AgreeingComeToTheSame, LastDecides, RefusedMakeNoDifference, TouchesOrNot, UntouchedStays};
+ghost use Rattle.template_environment_histories.specs.Registries.{AgreeingComeToOneSetting, AgreeingRenderTheSame};
 
 /// What stands under a name after any changes is what the last one that touches it says: the source that was added, or
 /// none where it was removed or all were; or what stood there before, where none touches it. There is no third case.
@@ -21,4 +22,11 @@ pub fn refused_make_no_difference<E, S>()
 /// Histories that agree on each name come to environments where the same stands under each name.
 pub fn agreeing_come_to_the_same<E, S>()
     ensures { AgreeingComeToTheSame E S }
+{}
+
+/// Histories of environments that agree on each name come to one setting, where both keep to the same limit and let
+/// undefined values do the same, so each template renders there to the same.
+pub fn agreeing_come_to_one_setting()
+    ensures setting { AgreeingComeToOneSetting }
+    ensures renders { AgreeingRenderTheSame }
 {}
