@@ -53,8 +53,26 @@ pub fn fold_expr<'source>(
     ensures refused { IfErr result NoRoom }
 {
     if left(expr).is_none() {
-        return fold_node(alloc, code, expr, None, from);
+        fold_node(alloc, code, expr, None, from)
+    } else {
+        fold_spine(alloc, code, expr, from)
     }
+}
+
+// The same by the list of its left parts, of which the last one comes first.
+#[cycle(expression)]
+#[inline(never)]
+fn fold_spine<'source>(
+    alloc: Global,
+    code: &mut Instructions<'source>,
+    expr: &Expr<'source>,
+    from: Option<Span>,
+) -> Result<Option<Value>, Error>
+    requires { IsRunnable (expression_of expr.now) }
+    ensures constant { IfOk result (λ o. o ≡ constant_of (expression_of expr.now)) }
+    ensures put { IfOk result (λ o. Puts (unless o (expression_code (expression_of expr.now))) code.old code.new) }
+    ensures refused { IfErr result NoRoom }
+{
     let nodes = spine(alloc, expr)?;
     let mut constant = None;
     let mut i = 0;
@@ -75,7 +93,7 @@ fn first_from(passed: usize, constant: &Option<Value>, from: Option<Span>) -> Op
     }
 }
 
-// Puts the code of an expression behind the instructions.
+// Puts the code of an expression behind the instructions. Many are names alone.
 #[cycle(expression)]
 pub(crate) fn compile_expr<'source>(
     alloc: Global,
@@ -87,6 +105,9 @@ pub(crate) fn compile_expr<'source>(
     ensures put { OnOk result (Puts (expression_code (expression_of expr.now)) code.old code.new) }
     ensures refused { IfErr result NoRoom }
 {
+    if let Expr::Var(n) = expr {
+        return put(code, Instruction::Lookup(CowStr::Borrowed(n.node.id)), from);
+    }
     let constant = fold_expr(alloc, code, expr, from)?;
     load(code, constant, from)?;
     Ok(())

@@ -38,11 +38,11 @@ fold_choice-returns-clause-put t c =
     ap (λ m. set (code_in c.load.new.code) m (leap_code c.args.leap (length (code_in c.load.new.code)))) c.in_ok-jump.ensures.place in
     puts_behind c.args.left c.in_ok-load_copy.ensures.put (puts_skipped c.args.leap c.in_ok-jump.ensures.put whole landed c.land.ensures.same)
 
-pub fold_expr-loop-i-preserved : goal.fold_expr-loop-i-preserved
-fold_expr-loop-i-preserved t c =
+pub fold_spine-loop-i-preserved : goal.fold_spine-loop-i-preserved
+fold_spine-loop-i-preserved t c =
     let ns = c.in_ok-nodes.nodes.items in
     let within : c.loop-i.i < length ns = omega arith in
-    let more = one_node ns c.loop-i.i c.index.result.now (code_in c.args.code.now) (code_in c.loop-i.code) (code_in c.fold_node-in-loop-i.new.code)
+    let more = one_node ns c.loop-i.i c.index.result.now (code_in c.args.code.now) (code_in c.loop-i.code) (code_in c.fold_node.new.code)
     c.loop-i.constant c.in_ok-constant.constant within c.index.ensures
     (runnable_at (expression_of c.args.expr.now) ns c.requires c.in_ok-nodes.ensures.nodes c.loop-i.i c.index.result.now within c.index.ensures)
     c.loop-i.invariant.constant c.loop-i.invariant.code c.in_ok-constant.ensures.constant c.in_ok-constant.ensures.put.code in
@@ -54,16 +54,16 @@ fold_expr-returns-then-is_none-clause-put t c =
     let none = nothing_left c.left.result c.is_none.result e c.is_none.ensures c.if-is_none.true c.left.ensures.left in
     alone_put e c.args.code.now c.fold_node.new.code c.fold_node.result c.requires none c.fold_node.ensures.constant c.fold_node.ensures.put
 
-pub fold_expr-returns-clause-constant : goal.fold_expr-returns-clause-constant
-fold_expr-returns-clause-constant t c =
+pub fold_spine-returns-clause-constant : goal.fold_spine-returns-clause-constant
+fold_spine-returns-clause-constant t c =
     let ns = c.in_ok-nodes.nodes.items in
     let p = length (code_in c.args.code.now) in
     let e = expression_of c.args.expr.now in
     let all = walked (known p) (add_own p) no_left (own_step p) ns e c.loop-i.i (so_far p (take c.loop-i.i ns)) c.in_ok-nodes.ensures.nodes (omega arith) refl in
     c.loop-i.invariant.constant ∙ ap (λ a. a.0) all
 
-pub fold_expr-fold_node-requires-in-loop-i : goal.fold_expr-fold_node-requires-in-loop-i
-fold_expr-fold_node-requires-in-loop-i t c =
+pub fold_spine-fold_node-requires : goal.fold_spine-fold_node-requires
+fold_spine-fold_node-requires t c =
     let ns = c.in_ok-nodes.nodes.items in
     let within : c.loop-i.i < length ns = omega arith in
     let deep = depth_at (size-Expr c.args.expr.now) ns c.in_ok-nodes.ensures.depth c.loop-i.i c.index.result.now within c.index.ensures in (
@@ -71,8 +71,8 @@ fold_expr-fold_node-requires-in-loop-i t c =
       runnable_at (expression_of c.args.expr.now) ns c.requires c.in_ok-nodes.ensures.nodes c.loop-i.i c.index.result.now within c.index.ensures,
     )
 
-pub fold_expr-returns-clause-put : goal.fold_expr-returns-clause-put
-fold_expr-returns-clause-put t c =
+pub fold_spine-returns-clause-put : goal.fold_spine-returns-clause-put
+fold_spine-returns-clause-put t c =
     let ns = c.in_ok-nodes.nodes.items in
     let p = length (code_in c.args.code.now) in
     let e = expression_of c.args.expr.now in
