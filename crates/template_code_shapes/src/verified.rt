@@ -9,41 +9,16 @@ ghost use Rattle.template_code_shapes.specs.Outlines.{shape_of};
 ghost use Rattle.template_code_shapes.specs.Ways.{effect_in, jump_of};
 ghost use Rattle.template_code_shapes.specs.Passes.{StandsAt, IsBad, Noted, AgreesWith, home_of, effect_at};
 ghost use Rattle.template_code_shapes.specs.Noted.{noted_in, places_in};
+ghost use Rattle.template_code_shapes.specs.Checked.{kind_in, stream_in};
 
 use crate::StreamKind;
+use crate::checked::Checked;
 use crate::notes::{Notes, Stop};
 use crate::outline::Outline;
 use crate::ways::{Jump, Ways, ways_at};
 use std::alloc::Global;
 use template_code::{Instruction, Instructions};
 use template_values_errors::{Error, ErrorKind};
-
-/// Instructions that [`verify`] accepted: whatever a run of them is answered, none ever lacks an
-/// operand, and at their end a template's leave nothing and an expression's leave its value.
-#[derive(Drop)]
-pub struct Checked<'source> {
-    instructions: Instructions<'source>,
-    kind: StreamKind,
-    ghost good: { IsGood kind (code_in instructions) },
-}
-
-impl<'source> Checked<'source> {
-    /// The instructions.
-    pub fn instructions(&self) -> &Instructions<'source>
-        ensures same { result.now ≡ self.now.instructions }
-        ensures good { IsGood self.now.kind (code_in result.now) }
-    {
-        &self.instructions
-    }
-
-    /// What the instructions are of: they are run as that alone.
-    pub fn kind(&self) -> StreamKind
-        ensures same { result ≡ self.now.kind }
-        ensures good { IsGood result (code_in self.now.instructions) }
-    {
-        self.kind
-    }
-}
 
 // Notes the shape at an `Iterate`, to which later jumps lead back.
 fn note_home(
@@ -186,8 +161,8 @@ pub fn verify<'source>(
     alloc: Global,
     instructions: Instructions<'source>,
 ) -> Result<Checked<'source>, (Error, Instructions<'source>)>
-    ensures good { IfOk result (λ checked. IsGood checked.kind (code_in instructions.entry)) }
-    ensures accepted { IfOk result (λ checked. checked.instructions ≡ instructions.entry) }
+    ensures good { IfOk result (λ checked. IsGood (kind_in checked) (code_in instructions.entry)) }
+    ensures accepted { IfOk result (λ checked. stream_in checked ≡ instructions.entry) }
     ensures bad { IfErr result (λ back. back.0 ≡ ErrorKind.BadStream ∷ [] → IsBad (code_in instructions.entry)) }
     ensures refused { IfErr result (λ back. (back.0 ≡ ErrorKind.BadStream ∷ []) ⊎ (back.0 ≡ ErrorKind.OutOfMemory ∷ [])) }
     ensures unchanged { IfErr result (λ back. back.1 ≡ instructions.entry) }
