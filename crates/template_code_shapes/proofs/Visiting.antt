@@ -3,13 +3,14 @@ use Rattle.std.proofs.Common.{◌≡◌, ℕ, suc, ◌<◌, ◌≤◌, inl, inr,
 use Rattle.std.specs.Prelude.{IfSome, IsSomeAnd, IfOk, option_map}
 use Rattle.template_code.specs.Code.{Code}
 use Rattle.template_code_shapes.specs.declared.StreamKind.{StreamKind}
+use Rattle.template_code_shapes.specs.declared.StreamKind.TheVariants.{Template, Expression}
 use Rattle.template_code_shapes.specs.declared.outline.Outline.{Outline}
 use Rattle.template_code_shapes.specs.declared.notes.Stop.{Stop}
 use Rattle.template_code_shapes.specs.declared.ways.Jump.{Jump}
 use Rattle.template_code_shapes.specs.declared.ways.Ways.{Ways}
 use Rattle.template_code_shapes.specs.Shapes.{Shape}
 use Rattle.template_code_shapes.specs.Outlines.{shape_of}
-use Rattle.template_code_shapes.specs.Streams.{end_of}
+use Rattle.template_code_shapes.specs.Streams.{Reached, IsGood, end_of}
 use Rattle.template_code_shapes.specs.Ways.{effect_in, jump_of}
 use Rattle.template_code_shapes.specs.Passes.{StandsAt, IsBad, Noted, Agree, joined, AgreesWith, effect_at}
 use Rattle.template_code_shapes.proofs.Standing.{VisitsAt, code_at, effect_is, leads_well, followed, bad_jump, fell, bad_fall, passes, bad_end}
@@ -70,3 +71,13 @@ ends_badly code notes (Some s) k h = bad_end code notes s k h
 
 pub stands_there : (code : List Code) (notes : ℕ → Option Shape) (hand : Option Shape) (a b : ℕ) → a ≡ b → StandsAt code notes hand a → StandsAt code notes hand b
 stands_there code notes hand a b e k = let P : ℕ → Type 0 = λ n. StandsAt code notes hand n in subst P e k
+
+-- what is good as a template's is told as that, since the shape in hand at the end is reached
+pub told_first : (code : List Code) (notes : ℕ → Option Shape) (hand : Option Shape) → StandsAt code notes hand (length code)
+    → (kind : StreamKind) → (kind ≡ Expression → hand ≡ Some (end_of kind)) → IsGood Template code → kind ≡ Template
+told_first code notes hand k Template at_end good = refl
+told_first code notes hand k Expression at_end good =
+    let reached : Reached code (length code) (end_of Expression) = k.partial.reached (length code) (end_of Expression) (k.here ∙ at_end refl) in
+    let same : end_of Expression ≡ end_of Template = good.over (end_of Expression) reached in
+    let wrong : (end_of Expression).operands ≡ (end_of Template).operands = ap (λ (s : Shape). s.operands) same in
+    cc

@@ -6,3 +6,4 @@ pub mod Outlines
 pub mod Ways
 pub mod Passes
 pub mod Noted
+pub mod Checked

@@ -4,12 +4,14 @@
 
 ghost use Rattle.template_code_shapes.specs.Laws.{CertifiedIsGood, GoodEndsWell, GoodGoesOn};
 
+mod checked;
 mod notes;
 mod outline;
 mod verified;
 mod ways;
 
-pub use verified::{Checked, verify};
+pub use checked::Checked;
+pub use verified::verify;
 
 /// Which of the two kinds a stream is.
 #[derive(Clone, Copy, Debug, PartialEq, Eq)]

@@ -2,7 +2,7 @@
 
 ghost use Rattle.std.specs.Prelude.{◌≡◌, ◌↔◌, IsTrue, if◌then◌else◌, Some, None, IfOk, IfSome, IsNone, vec_len};
 ghost use Rattle.template_code_shapes.specs.Shapes.{taken, given, opened, with_frame, escape_closed, frame_closed, innermost_loop, loop_closed, loop_opened, with_escape, floor_of, start};
-ghost use Rattle.template_code_shapes.specs.Outlines.{shape_of};
+ghost use Rattle.template_code_shapes.specs.Outlines.{shape_of, values_in};
 ghost use Rattle.template_code_shapes.specs.Streams.{end_of};
 ghost use Rattle.template_code_shapes.specs.declared.StreamKind.{StreamKind};
 
@@ -120,7 +120,7 @@ impl Outline {
 
     /// How many values there are.
     pub fn values(&self) -> usize
-        ensures { result ≡ self.now.operands }
+        ensures { result ≡ values_in self.now }
     {
         self.operands
     }

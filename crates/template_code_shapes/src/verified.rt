@@ -9,41 +9,16 @@ ghost use Rattle.template_code_shapes.specs.Outlines.{shape_of};
 ghost use Rattle.template_code_shapes.specs.Ways.{effect_in, jump_of};
 ghost use Rattle.template_code_shapes.specs.Passes.{StandsAt, IsBad, Noted, AgreesWith, home_of, effect_at};
 ghost use Rattle.template_code_shapes.specs.Noted.{noted_in, places_in};
+ghost use Rattle.template_code_shapes.specs.Checked.{kind_in, stream_in};
 
 use crate::StreamKind;
+use crate::checked::Checked;
 use crate::notes::{Notes, Stop};
 use crate::outline::Outline;
 use crate::ways::{Jump, Ways, ways_at};
 use std::alloc::Global;
 use template_code::{Instruction, Instructions};
 use template_values_errors::{Error, ErrorKind};
-
-/// Instructions that [`verify`] accepted: whatever a run of them is answered, none ever lacks an
-/// operand, and at their end a template's leave nothing and an expression's leave its value.
-#[derive(Drop)]
-pub struct Checked<'source> {
-    instructions: Instructions<'source>,
-    kind: StreamKind,
-    ghost good: { IsGood kind (code_in instructions) },
-}
-
-impl<'source> Checked<'source> {
-    /// The instructions.
-    pub fn instructions(&self) -> &Instructions<'source>
-        ensures same { result.now ≡ self.now.instructions }
-        ensures good { IsGood self.now.kind (code_in result.now) }
-    {
-        &self.instructions
-    }
-
-    /// What the instructions are of: they are run as that alone.
-    pub fn kind(&self) -> StreamKind
-        ensures same { result ≡ self.now.kind }
-        ensures good { IsGood result (code_in self.now.instructions) }
-    {
-        self.kind
-    }
-}
 
 // Notes the shape at an `Iterate`, to which later jumps lead back.
 fn note_home(
@@ -146,6 +121,7 @@ fn go_on(
 // What kind of stream ends with a shape; where none reaches the end, a template's.
 fn kind_at_end(hand: Option<Outline>) -> Option<StreamKind>
     ensures kind { IfSome result (λ kind. (s : Shape) → option_map shape_of hand ≡ Some s → s ≡ end_of kind) }
+    ensures expression { IfSome result (λ kind. kind ≡ StreamKind.Expression → option_map shape_of hand ≡ Some (end_of kind)) }
     ensures none { IsNone result → IsSomeAnd (option_map shape_of hand) (λ s. (kind : StreamKind) → s ≡ end_of kind → ⊥) }
 {
     match hand {
@@ -157,6 +133,7 @@ fn kind_at_end(hand: Option<Outline>) -> Option<StreamKind>
 // What kind of stream the instructions are, in one ascending pass.
 fn kind_of(alloc: Global, code: &Instructions<'_>) -> Result<StreamKind, Stop>
     ensures good { IfOk result (λ kind. IsGood kind (code_in code.now)) }
+    ensures first { IfOk result (λ kind. IsGood StreamKind.Template (code_in code.now) → kind ≡ StreamKind.Template) }
     ensures bad { IsErrOf result Stop.Bad → IsBad (code_in code.now) }
 {
     let mut notes = match Notes::blank(alloc, code.len() + 1) {
@@ -175,8 +152,9 @@ fn kind_of(alloc: Global, code: &Instructions<'_>) -> Result<StreamKind, Stop>
 
 /// Accepts a stream in which each place has one shape however it is reached, each reached instruction
 /// is admissible with that shape, and at the end nothing is open and no operand is left, which is a
-/// template's, or one value, which is an expression's. Takes one pass over the instructions, at each as
-/// long as the shape there is deep, and memory for a shape at each target of a jump.
+/// template's, or one value, which is an expression's. What is good as both, since no way leads to its end, is told as
+/// a template's. Takes one pass over the instructions, at each as long as the shape there is deep, and memory for a
+/// shape at each target of a jump.
 ///
 /// # Errors
 ///
@@ -186,8 +164,9 @@ pub fn verify<'source>(
     alloc: Global,
     instructions: Instructions<'source>,
 ) -> Result<Checked<'source>, (Error, Instructions<'source>)>
-    ensures good { IfOk result (λ checked. IsGood checked.kind (code_in instructions.entry)) }
-    ensures accepted { IfOk result (λ checked. checked.instructions ≡ instructions.entry) }
+    ensures good { IfOk result (λ checked. IsGood (kind_in checked) (code_in instructions.entry)) }
+    ensures first { IfOk result (λ checked. IsGood StreamKind.Template (code_in instructions.entry) → kind_in checked ≡ StreamKind.Template) }
+    ensures accepted { IfOk result (λ checked. stream_in checked ≡ instructions.entry) }
     ensures bad { IfErr result (λ back. back.0 ≡ ErrorKind.BadStream ∷ [] → IsBad (code_in instructions.entry)) }
     ensures refused { IfErr result (λ back. (back.0 ≡ ErrorKind.BadStream ∷ []) ⊎ (back.0 ≡ ErrorKind.OutOfMemory ∷ [])) }
     ensures unchanged { IfErr result (λ back. back.1 ≡ instructions.entry) }

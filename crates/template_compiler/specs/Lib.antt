@@ -1,4 +1,5 @@
 pub use Rattle.template_values_errors.specs.Causes
+pub use Rattle.template_values_errors.specs.Memory
 pub use Rattle.template_values_errors.specs.Names
 pub use Rattle.template_values_model.specs.Val
 pub use Rattle.template_compiler_tokens.specs.Token
@@ -8,15 +9,25 @@ pub use Rattle.template_compiler_tokens.specs.Lexical
 pub use Rattle.template_compiler_syntax.specs.Syntax
 pub use Rattle.template_compiler_syntax.specs.Settings
 pub use Rattle.template_compiler_segments.specs.Segments
+pub use Rattle.template_compiler_segments.specs.Flat
 pub use Rattle.template_compiler_tokenizer.specs.Tokenizer
 pub use Rattle.template_compiler_tokenizer.specs.Stream
+pub use Rattle.template_compiler_tokenizer.specs.Held
+pub use Rattle.template_compiler_tokenizer.specs.Spans
 pub use Rattle.template_tree.specs.Tree
 pub use Rattle.template_tree.specs.View as TreeView
 pub use Rattle.template_tree.specs.StatementView
+pub use Rattle.template_tree.specs.CallView
+pub use Rattle.template_tree.specs.Kinds
+pub use Rattle.template_tree.specs.Places
 pub use Rattle.template_compiler_expressions.specs.Grammar as ExpressionGrammar
 pub use Rattle.template_compiler_statements.specs.Grammar
+pub use Rattle.template_compiler_statements.specs.Reader as StatementReader
+pub use Rattle.template_compiler_reading.specs.Blame
 pub use Rattle.template_compiler_sources.specs.Source
+pub use Rattle.template_compiler_sources.specs.Parsers
 pub use Rattle.template_names.specs.Names as UsedNames
+pub use Rattle.template_names_undeclared.specs.Found
 pub use Rattle.template_process.specs.Process
 pub use Rattle.template_process.specs.Drive
 pub use Rattle.template_process.specs.Whole
@@ -29,9 +40,21 @@ pub use Rattle.template_code.specs.View as CodeView
 pub use Rattle.template_code.specs.Steps
 pub use Rattle.template_code.specs.Prices
 pub use Rattle.template_code.specs.Listing
+pub use Rattle.template_code.specs.Laws as CodeLaws
+pub use Rattle.template_code_references.specs.References
 pub use Rattle.template_compiler_codegen.specs.Expressions as ExpressionCode
 pub use Rattle.template_compiler_codegen.specs.Statements as StatementCode
 pub use Rattle.template_compiler_codegen.specs.Laws
+pub use Rattle.template_compiler_emission.specs.Puts
+pub use Rattle.template_compiler_statement_codegen.specs.Listed
+pub use Rattle.template_compiler_generator.specs.Drafts
+pub use Rattle.template_compiler_generator.specs.View as DraftView
+pub use Rattle.template_compiler_generator.specs.Laws as DraftLaws
 pub use Rattle.template_compiler_runnable.specs.Runs
 pub use Rattle.template_compiled.specs.Sources
 pub use Rattle.template_compiled.specs.Compiled
+pub use Rattle.template_compiled.specs.Expressions as ExpressionSources
+pub use Rattle.template_compiled.specs.Names as TemplateNames
+pub use Rattle.template_compiled.specs.Plain
+pub use Rattle.template_compiled.specs.Standing
+pub use Rattle.template_machine_escape.specs.Rule

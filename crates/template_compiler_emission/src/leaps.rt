@@ -3,10 +3,10 @@ ghost use Rattle.std.specs.Prelude.{◌≡◌, OnOk, IfOk, IfErr, length};
 ghost use Rattle.std.proofs.Math.ListN.{set};
 ghost use Rattle.template_code.specs.Code.{load_const};
 ghost use Rattle.template_code.specs.View.{code_of};
-ghost use Rattle.template_code.specs.Listing.{code_in};
+ghost use Rattle.template_code.specs.Listing.{code_in, TakesNoMore};
 ghost use Rattle.template_compiler_codegen.specs.Expressions.{one};
 ghost use Rattle.template_compiler_emission.specs.Leaps.{leap_code};
-ghost use Rattle.template_compiler_emission.specs.Puts.{Keeps, Puts, NoRoom, held};
+ghost use Rattle.template_compiler_emission.specs.Puts.{Keeps, Puts, held};
 
 use template_code::{Instruction, Instructions};
 use template_tree::Span;
@@ -53,7 +53,7 @@ fn add_from<'source>(
 ) -> Result<u32, Error>
     ensures place { IfOk result (λ place. place ≡ length (code_in code.old)) }
     ensures put { OnOk result (Puts (one (code_of instruction.entry)) code.old code.new) }
-    ensures refused { IfErr result NoRoom }
+    ensures refused { IfErr result (TakesNoMore (code_in code.new)) }
 {
     match from {
         Some(span) => add_at(code, instruction, span),
@@ -70,7 +70,7 @@ fn add_at<'source>(
 ) -> Result<u32, Error>
     ensures place { IfOk result (λ place. place ≡ length (code_in code.old)) }
     ensures put { OnOk result (Puts (one (code_of instruction.entry)) code.old code.new) }
-    ensures refused { IfErr result NoRoom }
+    ensures refused { IfErr result (TakesNoMore (code_in code.new)) }
 {
     code.add_with_span(instruction, span)
 }
@@ -88,7 +88,7 @@ pub fn put<'source>(
     from: Option<Span>,
 ) -> Result<(), Error>
     ensures put { OnOk result (Puts (one (code_of instruction.entry)) code.old code.new) }
-    ensures refused { IfErr result NoRoom }
+    ensures refused { IfErr result (TakesNoMore (code_in code.new)) }
 {
     add_from(code, instruction, from)?;
     Ok(())
@@ -106,7 +106,7 @@ pub fn reserve<'source>(
 ) -> Result<u32, Error>
     ensures place { IfOk result (λ place. place ≡ length (code_in code.old)) }
     ensures put { OnOk result (Puts (one (leap_code leap 0)) code.old code.new) }
-    ensures refused { IfErr result NoRoom }
+    ensures refused { IfErr result (TakesNoMore (code_in code.new)) }
 {
     add_from(code, leap.to(0), from)
 }
@@ -132,7 +132,7 @@ pub fn load<'source>(
     from: Option<Span>,
 ) -> Result<(), Error>
     ensures put { OnOk result (Puts (held constant) code.old code.new) }
-    ensures refused { IfErr result NoRoom }
+    ensures refused { IfErr result (TakesNoMore (code_in code.new)) }
 {
     match constant {
         Some(value) => load_value(code, value, from),
@@ -148,7 +148,7 @@ fn load_value<'source>(
     from: Option<Span>,
 ) -> Result<(), Error>
     ensures put { OnOk result (Puts (one (load_const value)) code.old code.new) }
-    ensures refused { IfErr result NoRoom }
+    ensures refused { IfErr result (TakesNoMore (code_in code.new)) }
 {
     put(code, Instruction::LoadConst(value), from)
 }
@@ -164,7 +164,7 @@ pub fn load_copy<'source>(
     from: Option<Span>,
 ) -> Result<(), Error>
     ensures put { OnOk result (Puts (held constant.now) code.old code.new) }
-    ensures refused { IfErr result NoRoom }
+    ensures refused { IfErr result (TakesNoMore (code_in code.new)) }
 {
     match constant {
         Some(value) => load_value(code, value.copy()?, from),

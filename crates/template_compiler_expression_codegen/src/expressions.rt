@@ -9,11 +9,11 @@ ghost use Rattle.template_walk.specs.Constants.{constant_of, chain_constant};
 ghost use Rattle.template_walk.specs.Runnable.{IsRunnable, IsRunnableIfGiven, AreRunnable, IsRunnableChain, AreRunnableLinks};
 ghost use Rattle.template_walk.specs.Statements.{number_of};
 ghost use Rattle.template_code.specs.Code.{build_list, build_map, build_tuple, get_item, operate, slice};
-ghost use Rattle.template_code.specs.Listing.{code_in};
+ghost use Rattle.template_code.specs.Listing.{code_in, TakesNoMore};
 ghost use Rattle.template_compiler_codegen.specs.Expressions.{one, then_code, skipped, either_code, unary_code, expression_code, optional_code, expressions_code, entries_code, codes_of, entry_count, chain_code};
 ghost use Rattle.template_compiler_folding.specs.Folding.{unary_folded, binary_folded, comparison_folded};
 ghost use Rattle.template_compiler_emission.specs.Leaps.{leap_code, leap_of};
-ghost use Rattle.template_compiler_emission.specs.Puts.{Puts, NoRoom, unless, behind};
+ghost use Rattle.template_compiler_emission.specs.Puts.{Puts, unless, behind};
 ghost use Rattle.template_compiler_expression_codegen.specs.Chains.{Grows, constant_behind, leaps_in, left_behind, link_code, linked_to};
 ghost use Rattle.template_compiler_expression_codegen.specs.Own.{own_constant, own_code};
 
@@ -50,7 +50,7 @@ pub fn fold_expr<'source>(
     requires { IsRunnable (expression_of expr.now) }
     ensures constant { IfOk result (λ o. o ≡ constant_of (expression_of expr.now)) }
     ensures put { IfOk result (λ o. Puts (unless o (expression_code (expression_of expr.now))) code.old code.new) }
-    ensures refused { IfErr result NoRoom }
+    ensures refused { IfErr result (TakesNoMore (code_in code.new)) }
 {
     if left(expr).is_none() {
         return fold_node(alloc, code, expr, None, from);
@@ -85,7 +85,7 @@ pub(crate) fn compile_expr<'source>(
 ) -> Result<(), Error>
     requires { IsRunnable (expression_of expr.now) }
     ensures put { OnOk result (Puts (expression_code (expression_of expr.now)) code.old code.new) }
-    ensures refused { IfErr result NoRoom }
+    ensures refused { IfErr result (TakesNoMore (code_in code.new)) }
 {
     let constant = fold_expr(alloc, code, expr, from)?;
     load(code, constant, from)?;
@@ -104,7 +104,7 @@ fn fold_node<'source>(
     requires { IsRunnable (expression_of expr.now) }
     ensures constant { IfOk result (λ o. o ≡ own_constant left (expression_of expr.now)) }
     ensures put { IfOk result (λ o. Puts (unless o (own_code left (expression_of expr.now))) code.old code.new) }
-    ensures refused { IfErr result NoRoom }
+    ensures refused { IfErr result (TakesNoMore (code_in code.new)) }
 {
     match expr {
         Expr::Var(n) => {
@@ -180,7 +180,7 @@ fn fold_unary_operator<'source>(
     ensures constant { IfOk result (λ o. o ≡ unary_folded op (constant_of (expression_of operand.now))) }
     ensures put { IfOk result
         (λ o. Puts (unless o (then_code (expression_code (expression_of operand.now)) (one (unary_code op)))) code.old code.new) }
-    ensures refused { IfErr result NoRoom }
+    ensures refused { IfErr result (TakesNoMore (code_in code.new)) }
 {
     let begins = code.len();
     let constant = fold_expr(alloc, code, operand, from)?;
@@ -213,7 +213,7 @@ fn fold_choice<'source>(
     ensures constant { IfOk result (λ o. o ≡ binary_folded op left (constant_of (expression_of right.now))) }
     ensures put { IfOk result
         (λ o. Puts (unless o (behind left (skipped (leap_code leap) (expression_code (expression_of right.now))))) code.old code.new) }
-    ensures refused { IfErr result NoRoom }
+    ensures refused { IfErr result (TakesNoMore (code_in code.new)) }
 {
     let begins = code.len();
     load_copy(code, &left, from)?;
@@ -248,7 +248,7 @@ fn fold_operator<'source>(
     ensures constant { IfOk result (λ o. o ≡ binary_folded op left (constant_of (expression_of right.now))) }
     ensures put { IfOk result
         (λ o. Puts (unless o (behind left (then_code (expression_code (expression_of right.now)) (one (operate op))))) code.old code.new) }
-    ensures refused { IfErr result NoRoom }
+    ensures refused { IfErr result (TakesNoMore (code_in code.new)) }
 {
     let begins = code.len();
     load_copy(code, &left, from)?;
@@ -276,7 +276,7 @@ fn compile_optional<'source>(
 ) -> Result<(), Error>
     requires { IsRunnableIfGiven (optional_in expr.now) }
     ensures put { OnOk result (Puts (optional_code missing (optional_in expr.now)) code.old code.new) }
-    ensures refused { IfErr result NoRoom }
+    ensures refused { IfErr result (TakesNoMore (code_in code.new)) }
 {
     match expr {
         Some(expr) => compile_expr(alloc, code, expr, None),
@@ -301,7 +301,7 @@ fn compile_choice<'source>(
         (Puts (then_code (expression_code (expression_of test.now))
         (either_code (expression_code (expression_of branch.now)) (optional_code silent_undefined (optional_in otherwise.now))))
         code.old code.new) }
-    ensures refused { IfErr result NoRoom }
+    ensures refused { IfErr result (TakesNoMore (code_in code.new)) }
 {
     compile_expr(alloc, code, test, from)?;
     let second = reserve(code, Leap::IfFalse, None)?;
@@ -325,7 +325,7 @@ fn compile_item<'source>(
     requires { IsRunnable (expression_of key.now) }
     ensures put { OnOk result
         (Puts (behind left (then_code (expression_code (expression_of key.now)) (one get_item))) code.old code.new) }
-    ensures refused { IfErr result NoRoom }
+    ensures refused { IfErr result (TakesNoMore (code_in code.new)) }
 {
     load(code, left, from)?;
     compile_expr(alloc, code, key, None)?;
@@ -349,7 +349,7 @@ fn compile_slice<'source>(
     ensures put { OnOk result
         (Puts (behind left (then_code (optional_code none (optional_in start.now)) (then_code (optional_code none (optional_in stop.now))
         (then_code (optional_code none (optional_in step.now)) (one slice))))) code.old code.new) }
-    ensures refused { IfErr result NoRoom }
+    ensures refused { IfErr result (TakesNoMore (code_in code.new)) }
 {
     load(code, left, from)?;
     compile_optional(alloc, code, start, Value::none())?;
@@ -368,7 +368,7 @@ fn compile_items<'source>(
 ) -> Result<(), Error>
     requires { AreRunnable (expressions_in items.now) }
     ensures put { OnOk result (Puts (expressions_code (expressions_in items.now)) code.old code.new) }
-    ensures refused { IfErr result NoRoom }
+    ensures refused { IfErr result (TakesNoMore (code_in code.new)) }
 {
     let mut told = from;
     for item in items {
@@ -392,7 +392,7 @@ fn compile_entries<'source>(
     ensures count { IfOk result (λ count. count ≡ entry_count (expressions_in keys.now) (codes_of (expressions_in values.now))) }
     ensures put { OnOk result
         (Puts (entries_code (expressions_in keys.now) (codes_of (expressions_in values.now))) code.old code.new) }
-    ensures refused { IfErr result NoRoom }
+    ensures refused { IfErr result (TakesNoMore (code_in code.new)) }
 {
     let mut told = from;
     for (i, key) in keys.iter().enumerate() {
@@ -419,7 +419,7 @@ fn fold_list_literal<'source>(
     ensures put { IfOk result (λ o. Puts (unless o
         (then_code (expressions_code (expressions_in items.now)) (one (build_list (number_of (expressions_in items.now))))))
         code.old code.new) }
-    ensures refused { IfErr result NoRoom }
+    ensures refused { IfErr result (TakesNoMore (code_in code.new)) }
 {
     match fold_list(alloc, items)? {
         Some(value) => Ok(Some(value)),
@@ -444,7 +444,7 @@ fn fold_tuple_literal<'source>(
     ensures put { IfOk result (λ o. Puts (unless o
         (then_code (expressions_code (expressions_in items.now)) (one (build_tuple (number_of (expressions_in items.now))))))
         code.old code.new) }
-    ensures refused { IfErr result NoRoom }
+    ensures refused { IfErr result (TakesNoMore (code_in code.new)) }
 {
     match fold_tuple(alloc, items)? {
         Some(value) => Ok(Some(value)),
@@ -472,7 +472,7 @@ fn fold_map_literal<'source>(
         (then_code (entries_code (expressions_in keys.now) (codes_of (expressions_in values.now)))
         (one (build_map (entry_count (expressions_in keys.now) (codes_of (expressions_in values.now)))))))
         code.old code.new) }
-    ensures refused { IfErr result NoRoom }
+    ensures refused { IfErr result (TakesNoMore (code_in code.new)) }
 {
     match fold_map(alloc, keys, values)? {
         Some(value) => Ok(Some(value)),
@@ -510,7 +510,7 @@ fn compile_link<'source>(
     ensures holds { IfOk result (λ l. l.holds ≡ comparison_folded link.now.op left.now (constant_of (expression_of link.now.expr))) }
     ensures left { IfOk result (λ l. l.left ≡ left_behind l.holds (constant_of (expression_of link.now.expr))) }
     ensures put { OnOk result (Puts (link_code link.now.op (expression_of link.now.expr)) code.old code.new) }
-    ensures refused { IfErr result NoRoom }
+    ensures refused { IfErr result (TakesNoMore (code_in code.new)) }
 {
     let right = fold_expr(alloc, code, &link.expr, None)?;
     load_copy(code, &right, None)?;
@@ -542,7 +542,7 @@ fn compile_links<'source>(
     ensures leaps { IfOk result (λ l. l.holds ≡ None → l.leaps.items ≡ leaps_in (links_in links.now) (length (code_in code.old))) }
     ensures put { IfOk result (λ l. l.holds ≡ None → Puts (linked_to 0 (links_in links.now)) code.old code.new) }
     ensures grown { OnOk result (Grows code.old code.new) }
-    ensures refused { IfErr result NoRoom }
+    ensures refused { IfErr result (TakesNoMore (code_in code.new)) }
 {
     let mut link = first;
     let mut leaps = Vec::new(alloc);
@@ -570,7 +570,7 @@ fn compile_chain<'source>(
     ensures constant { IfOk result (λ o. o ≡ option_and_then (λ v. chain_constant v (links_in links.now)) left.now) }
     ensures put { IfOk result (λ o. o ≡ None → Puts (chain_code (links_in links.now)) code.old code.new) }
     ensures grown { OnOk result (Grows code.old code.new) }
-    ensures refused { IfErr result NoRoom }
+    ensures refused { IfErr result (TakesNoMore (code_in code.new)) }
 {
     let (first, later) = match links.split_first() {
         Some(parts) => parts,
@@ -601,7 +601,7 @@ fn fold_chain<'source>(
     requires { IsRunnableChain (links_in links.now) }
     ensures constant { IfOk result (λ o. o ≡ option_and_then (λ v. chain_constant v (links_in links.now)) left) }
     ensures put { IfOk result (λ o. Puts (unless o (behind left (chain_code (links_in links.now)))) code.old code.new) }
-    ensures refused { IfErr result NoRoom }
+    ensures refused { IfErr result (TakesNoMore (code_in code.new)) }
 {
     let begins = code.len();
     load_copy(code, &left, from)?;

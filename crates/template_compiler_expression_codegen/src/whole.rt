@@ -2,8 +2,9 @@
 ghost use Rattle.std.specs.Prelude.{OnOk, IfErr};
 ghost use Rattle.template_tree.specs.View.{expression_of};
 ghost use Rattle.template_walk.specs.Runnable.{IsRunnable};
+ghost use Rattle.template_code.specs.Listing.{code_in, TakesNoMore};
 ghost use Rattle.template_compiler_codegen.specs.Expressions.{expression_code};
-ghost use Rattle.template_compiler_emission.specs.Puts.{Puts, NoRoom};
+ghost use Rattle.template_compiler_emission.specs.Puts.{Puts};
 
 use crate::expressions;
 use std::alloc::Global;
@@ -24,7 +25,7 @@ pub fn compile_expr<'source>(
 ) -> Result<(), Error>
     requires { IsRunnable (expression_of expr.now) }
     ensures put { OnOk result (Puts (expression_code (expression_of expr.now)) code.old code.new) }
-    ensures refused { IfErr result NoRoom }
+    ensures refused { IfErr result (TakesNoMore (code_in code.new)) }
 {
     expressions::compile_expr(alloc, code, expr, Some(expr.span()))
 }

@@ -9,7 +9,6 @@ ghost use Rattle.template_tree.specs.View.{expression_of};
 ghost use Rattle.template_walk.specs.Runnable.{IsRunnable, IsTarget};
 ghost use Rattle.template_compiler_codegen.specs.Expressions.{expression_code};
 ghost use Rattle.template_compiler_codegen.specs.Statements.{no_ways, statements_code, target_code};
-ghost use Rattle.template_compiler_emission.specs.Puts.{NoRoom};
 ghost use Rattle.template_compiler_statement_codegen.specs.Listed.{IsRunnableTree, body_in};
 ghost use Rattle.template_compiler_generator.specs.Drafts.{Generates, IsTooLong, MarksBehind, is_branch, is_choice, is_loop, jumps_of, leap_of, loop_flags, next_jump, raw_length, span_on, with_block, with_blocks, with_choice, with_choice_end, with_chosen, with_code, with_code_from, with_else, with_end, with_if, with_jump, with_line, with_loop, with_loop_end, with_span, with_told, without_span};
 ghost use Rattle.template_compiler_generator.specs.View.{draft_of, open_of};
@@ -352,7 +351,7 @@ impl<'source> CodeGenerator<'source> {
         requires { IsRunnable (expression_of expr.now) }
         ensures added { OnOk result (Generates (expression_code (expression_of expr.now)) (draft_of self.old) (draft_of self.new)) }
         ensures places { OnOk result (MarksBehind (draft_of self.old) (draft_of self.new)) }
-        ensures refused { IfErr result NoRoom }
+        ensures refused { IfErr result (TakesNoMore (draft_of self.new).code) }
     {
         compile_expr(self.alloc, &mut self.code, expr)
     }
@@ -368,7 +367,7 @@ impl<'source> CodeGenerator<'source> {
         ensures added { OnOk result
             (Generates (statements_code no_ways (body_in (statement_of tree.now))) (draft_of self.old) (draft_of self.new)) }
         ensures places { OnOk result (MarksBehind (draft_of self.old) (draft_of self.new)) }
-        ensures refused { IfErr result NoRoom }
+        ensures refused { IfErr result (TakesNoMore (draft_of self.new).code) }
     {
         compile_template(self.alloc, &mut self.code, tree)
     }
@@ -383,7 +382,7 @@ impl<'source> CodeGenerator<'source> {
         requires { IsTarget (expression_of target.now) }
         ensures added { OnOk result (Generates (target_code (expression_of target.now)) (draft_of self.old) (draft_of self.new)) }
         ensures places { OnOk result (MarksBehind (draft_of self.old) (draft_of self.new)) }
-        ensures refused { IfErr result NoRoom }
+        ensures refused { IfErr result (TakesNoMore (draft_of self.new).code) }
     {
         compile_assignment(&mut self.code, target)
     }

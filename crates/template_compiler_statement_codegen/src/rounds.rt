@@ -2,8 +2,9 @@
 ghost use Rattle.std.specs.Prelude.{◌≡◌, [], ◌∷◌, OnOk, IfErr};
 ghost use Rattle.template_tree.specs.Tree.{break_loop, continue_loop};
 ghost use Rattle.template_code.specs.View.{code_of};
+ghost use Rattle.template_code.specs.Listing.{code_in, TakesNoMore};
 ghost use Rattle.template_compiler_codegen.specs.Statements.{statement_code};
-ghost use Rattle.template_compiler_emission.specs.Puts.{Puts, NoRoom};
+ghost use Rattle.template_compiler_emission.specs.Puts.{Puts};
 ghost use Rattle.template_compiler_lowering.specs.Breaks.{breaks_of};
 ghost use Rattle.template_compiler_statement_codegen.specs.Rounds.{Lowers, closed_by, closing_code, ways_of};
 
@@ -63,7 +64,7 @@ fn close_all<'source>(
     span: Span,
 ) -> Result<(), Error>
     ensures put { OnOk result (Puts (λ place. closed_by closings.now) code.old code.new) }
-    ensures refused { IfErr result NoRoom }
+    ensures refused { IfErr result (TakesNoMore (code_in code.new)) }
 {
     let mut left = closings.len();
     while left > 0 {
@@ -82,7 +83,7 @@ pub(crate) fn put_break<'source>(
 ) -> Result<(), Error>
     ensures lowered { OnOk result (Lowers (statement_code (ways_of round.old) break_loop) (breaks_of (ways_of round.old) break_loop)
         code.old code.new round.old round.new) }
-    ensures refused { IfErr result NoRoom }
+    ensures refused { IfErr result (TakesNoMore (code_in code.new)) }
 {
     close_all(code, &round.closings, span)?;
     let place = reserve(code, Leap::Always, Some(span))?;
@@ -97,7 +98,7 @@ pub(crate) fn put_continue<'source>(
     span: Span,
 ) -> Result<(), Error>
     ensures put { OnOk result (Puts (statement_code (ways_of round.now) continue_loop) code.old code.new) }
-    ensures refused { IfErr result NoRoom }
+    ensures refused { IfErr result (TakesNoMore (code_in code.new)) }
 {
     close_all(code, &round.closings, span)?;
     put(code, Instruction::Jump(round.asks), Some(span))

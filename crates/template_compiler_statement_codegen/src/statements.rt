@@ -6,9 +6,10 @@ ghost use Rattle.template_tree.specs.StatementView.{statement_of, assignments_in
 ghost use Rattle.template_tree.specs.View.{expression_of};
 ghost use Rattle.template_walk.specs.Runnable.{IsRunnable, IsTarget, AreAssignments, IsRunnableStatement, AreRunnableStatements};
 ghost use Rattle.template_code.specs.Code.{emit, include};
+ghost use Rattle.template_code.specs.Listing.{code_in, TakesNoMore};
 ghost use Rattle.template_compiler_codegen.specs.Expressions.{then_code, one, expression_code};
 ghost use Rattle.template_compiler_codegen.specs.Statements.{loop_end_code, no_ways, own_ways, rounds_code, statements_code, target_code};
-ghost use Rattle.template_compiler_emission.specs.Puts.{Puts, NoRoom};
+ghost use Rattle.template_compiler_emission.specs.Puts.{Puts};
 ghost use Rattle.template_compiler_lowering.specs.Breaks.{breaks_in, loop_end_places};
 ghost use Rattle.template_tree_parts.specs.Listed.{statements_in};
 ghost use Rattle.template_compiler_statement_codegen.specs.Listed.{IsRunnableTree, body_deep, body_in, condition_deep, condition_of};
@@ -38,7 +39,7 @@ pub fn compile_template<'source>(
 ) -> Result<(), Error>
     requires { IsRunnableTree (statement_of tree.now) }
     ensures put { OnOk result (Puts (statements_code no_ways (body_in (statement_of tree.now))) code.old code.new) }
-    ensures refused { IfErr result NoRoom }
+    ensures refused { IfErr result (TakesNoMore (code_in code.new)) }
 {
     let mut round = Round::new(alloc, 0);
     compile_body(alloc, code, &mut round, children(tree))?;
@@ -84,7 +85,7 @@ fn compile_body<'source>(
 ) -> Result<(), Error>
     requires { AreRunnableStatements true (statements_in body.now) }
     ensures lowered { OnOk result (LowersBody (statements_in body.now) code.old code.new round.old round.new) }
-    ensures refused { IfErr result NoRoom }
+    ensures refused { IfErr result (TakesNoMore (code_in code.new)) }
 {
     for statement in body {
         compile_statement(alloc, code, round, statement)?;
@@ -101,7 +102,7 @@ fn compile_statement<'source>(
 ) -> Result<(), Error>
     requires { IsRunnableStatement true (statement_of statement.now) }
     ensures lowered { OnOk result (LowersStatement (statement_of statement.now) code.old code.new round.old round.new) }
-    ensures refused { IfErr result NoRoom }
+    ensures refused { IfErr result (TakesNoMore (code_in code.new)) }
 {
     match statement {
         Stmt::EmitRaw(n) => put(
@@ -162,7 +163,7 @@ fn compile_print<'source>(
 ) -> Result<(), Error>
     requires { IsRunnable (expression_of expr.now) }
     ensures put { OnOk result (Puts (then_code (expression_code (expression_of expr.now)) (one emit)) code.old code.new) }
-    ensures refused { IfErr result NoRoom }
+    ensures refused { IfErr result (TakesNoMore (code_in code.new)) }
 {
     compile_expr(alloc, code, expr)?;
     put(code, Instruction::Emit, None)
@@ -179,7 +180,7 @@ fn compile_set<'source>(
     requires expr { IsRunnable (expression_of expr.now) }
     ensures put { OnOk result
         (Puts (then_code (expression_code (expression_of expr.now)) (target_code (expression_of target.now))) code.old code.new) }
-    ensures refused { IfErr result NoRoom }
+    ensures refused { IfErr result (TakesNoMore (code_in code.new)) }
 {
     compile_expr(alloc, code, expr)?;
     compile_assignment(code, target)
@@ -195,7 +196,7 @@ fn compile_include<'source>(
     requires { IsRunnable (expression_of name.now) }
     ensures put { OnOk result
         (Puts (then_code (expression_code (expression_of name.now)) (one (include ignore_missing))) code.old code.new) }
-    ensures refused { IfErr result NoRoom }
+    ensures refused { IfErr result (TakesNoMore (code_in code.new)) }
 {
     compile_expr(alloc, code, name)?;
     put(code, Instruction::Include(ignore_missing), None)
@@ -215,7 +216,7 @@ fn compile_closed<'source>(
     ensures lowered { OnOk result
         (Lowers (closed_code (closing_code closing) (ways_of round.old) (statements_in body.now))
         (closed_places (closing_code closing) (ways_of round.old) (statements_in body.now)) code.old code.new round.old round.new) }
-    ensures refused { IfErr result NoRoom }
+    ensures refused { IfErr result (TakesNoMore (code_in code.new)) }
 {
     let open = round.closings.len();
     round.closings.push(closing)?;
@@ -239,7 +240,7 @@ fn compile_with<'source>(
     requires body { AreRunnableStatements true (statements_in body.now) }
     ensures lowered { OnOk result
         (LowersStatement (with_block (assignments_in assignments.now) (statements_in body.now)) code.old code.new round.old round.new) }
-    ensures refused { IfErr result NoRoom }
+    ensures refused { IfErr result (TakesNoMore (code_in code.new)) }
 {
     put(code, Instruction::PushWith, Some(span))?;
     compile_assignments(alloc, code, assignments)?;
@@ -260,7 +261,7 @@ fn compile_auto_escape<'source>(
     requires body { AreRunnableStatements true (statements_in body.now) }
     ensures lowered { OnOk result
         (LowersStatement (auto_escape (expression_of enabled.now) (statements_in body.now)) code.old code.new round.old round.new) }
-    ensures refused { IfErr result NoRoom }
+    ensures refused { IfErr result (TakesNoMore (code_in code.new)) }
 {
     compile_expr(alloc, code, enabled)?;
     put(code, Instruction::PushAutoEscape, None)?;
@@ -287,7 +288,7 @@ fn compile_loop<'source>(
         (LowersStatement (for_loop (expression_of target.now) (expression_of items.now) absent false (statements_in body.now)
         (statements_in otherwise.now))
         code.old code.new round.old round.new) }
-    ensures refused { IfErr result NoRoom }
+    ensures refused { IfErr result (TakesNoMore (code_in code.new)) }
 {
     compile_expr(alloc, code, items)?;
     put(code, Instruction::PushLoop(LOOP_FLAG_WITH_LOOP_VAR), None)?;
@@ -311,7 +312,7 @@ fn compile_rounds<'source>(
         (Puts (rounds_code (target_code (expression_of target.now)) (λ break_to continue_to. statements_code
         (own_ways break_to continue_to) (statements_in body.now)))
         code.old code.new) }
-    ensures refused { IfErr result NoRoom }
+    ensures refused { IfErr result (TakesNoMore (code_in code.new)) }
 {
     let asks = reserve(code, Leap::Iterate, None)?;
     compile_assignment(code, target)?;
@@ -337,7 +338,7 @@ fn compile_loop_end<'source>(
         (Lowers (loop_end_code (statements_in otherwise.now) (statements_code (ways_of round.old) (statements_in otherwise.now)))
         (loop_end_places (statements_in otherwise.now) (breaks_in (ways_of round.old) (statements_in otherwise.now)))
         code.old code.new round.old round.new) }
-    ensures refused { IfErr result NoRoom }
+    ensures refused { IfErr result (TakesNoMore (code_in code.new)) }
 {
     if otherwise.is_empty() {
         return put(code, Instruction::PopLoopFrame, None);
@@ -361,7 +362,7 @@ fn compile_condition<'source>(
 ) -> Result<(), Error>
     requires { IsRunnableStatement true (condition_of condition.now) }
     ensures lowered { OnOk result (LowersStatement (condition_of condition.now) code.old code.new round.old round.new) }
-    ensures refused { IfErr result NoRoom }
+    ensures refused { IfErr result (TakesNoMore (code_in code.new)) }
 {
     let mut ends = Vec::new(alloc);
     let mut left = Some(condition);
@@ -391,7 +392,7 @@ fn compile_branch<'source>(
 ) -> Result<Option<u32>, Error>
     requires { IsRunnableStatement true (condition_of condition.now) }
     ensures lowered { IfOk result (λ end. LowersBranch condition.now (places_in end) code.old code.new round.old round.new) }
-    ensures refused { IfErr result NoRoom }
+    ensures refused { IfErr result (TakesNoMore (code_in code.new)) }
 {
     compile_expr(alloc, code, &condition.expr)?;
     let next = reserve(code, Leap::IfFalse, None)?;

@@ -4,8 +4,9 @@ ghost use Rattle.template_tree.specs.Tree.{list_literal};
 ghost use Rattle.template_tree.specs.StatementView.{assignments_in};
 ghost use Rattle.template_tree.specs.View.{expression_of, expressions_in};
 ghost use Rattle.template_walk.specs.Runnable.{IsTarget, AreTargets, AreAssignments};
+ghost use Rattle.template_code.specs.Listing.{code_in, TakesNoMore};
 ghost use Rattle.template_compiler_codegen.specs.Statements.{assignments_code, target_code};
-ghost use Rattle.template_compiler_emission.specs.Puts.{Puts, NoRoom};
+ghost use Rattle.template_compiler_emission.specs.Puts.{Puts};
 
 use std::alloc::Global;
 use std::borrow::CowStr;
@@ -28,7 +29,7 @@ pub fn compile_assignment<'source>(
 ) -> Result<(), Error>
     requires { IsTarget (expression_of target.now) }
     ensures put { OnOk result (Puts (target_code (expression_of target.now)) code.old code.new) }
-    ensures refused { IfErr result NoRoom }
+    ensures refused { IfErr result (TakesNoMore (code_in code.new)) }
 {
     match target {
         Expr::Var(n) => put(
@@ -62,7 +63,7 @@ fn compile_targets<'source>(
 ) -> Result<(), Error>
     requires { AreTargets (expressions_in targets.now) }
     ensures put { OnOk result (Puts (target_code (list_literal (expressions_in targets.now))) code.old code.new) }
-    ensures refused { IfErr result NoRoom }
+    ensures refused { IfErr result (TakesNoMore (code_in code.new)) }
 {
     put(code, Instruction::UnpackList(targets.len()), Some(span))?;
     for target in targets {
@@ -84,7 +85,7 @@ pub fn compile_assignments<'source>(
 ) -> Result<(), Error>
     requires { AreAssignments (assignments_in assignments.now) }
     ensures put { OnOk result (Puts (assignments_code (assignments_in assignments.now)) code.old code.new) }
-    ensures refused { IfErr result NoRoom }
+    ensures refused { IfErr result (TakesNoMore (code_in code.new)) }
 {
     for (target, value) in assignments {
         compile_expr(alloc, code, value)?;

@@ -7,6 +7,7 @@ pub use Rattle.template_machine_escape.specs.Rule
 pub use Rattle.template_machine_output.specs.Failures
 pub use Rattle.template_machine_output.specs.Wrapper
 pub use Rattle.template_machine_output.specs.Writes
+pub use Rattle.template_machine_output.specs.Answered
 pub use Rattle.template_process.specs.Process
 pub use Rattle.template_process.specs.Trace
 pub use Rattle.template_process.specs.Fuel
@@ -15,6 +16,12 @@ pub use Rattle.template_process.specs.Laws as ProcessLaws
 pub use Rattle.template_code_shapes.specs.Shapes
 pub use Rattle.template_code_shapes.specs.Streams
 pub use Rattle.template_code_shapes.specs.Laws as StreamLaws
+pub use Rattle.template_code_shapes.specs.Passes
+pub use Rattle.template_code_shapes.specs.Checked
+pub use Rattle.template_code.specs.Code
+pub use Rattle.template_code.specs.Steps
+pub use Rattle.template_code.specs.Listing
+pub use Rattle.template_machine_operands.specs.Operands
 pub use Rattle.template_machine_meaning.specs.World
 pub use Rattle.template_machine_meaning.specs.Undefined
 pub use Rattle.template_machine_meaning.specs.Replies
@@ -22,6 +29,15 @@ pub use Rattle.template_machine_meaning.specs.Includes
 pub use Rattle.template_machine_meaning.specs.Surroundings
 pub use Rattle.template_machine_meaning.specs.Meaning
 pub use Rattle.template_machine_meaning.specs.Laws
+pub use Rattle.template_machine_frames.specs.Frames
+pub use Rattle.template_machine_frames.specs.Names as ExportedNames
+pub use Rattle.template_machine_state.specs.Callers
+pub use Rattle.template_machine_state.specs.Changes
+pub use Rattle.template_compiler_syntax.specs.Syntax
+pub use Rattle.template_names.specs.Names as UsedNames
+pub use Rattle.template_compiled.specs.Sources
+pub use Rattle.template_compiled.specs.Expressions as ExpressionSources
+pub use Rattle.template_compiled.specs.Plain as PlainSources
 pub use Rattle.template_environment.specs.Isolation
 pub use Rattle.template_environment.specs.Outcomes
 pub use Rattle.template_environment.specs.Renders
@@ -30,3 +46,6 @@ pub use Rattle.template_environment.specs.Renderings
 pub use Rattle.template_environment.specs.States
 pub use Rattle.template_environment.specs.Isolated
 pub use Rattle.template_environment.specs.Views
+pub use Rattle.template_environment.specs.Evaluations
+pub use Rattle.template_environment.specs.Plain as PlainRenders
+pub use Rattle.template_environment.specs.Reading

@@ -59,6 +59,7 @@ pub use template_machine_frames::{Context, Frame, LoopState};
 pub use template_machine_ids::StateIds;
 pub use template_machine_isolation::{expression_isolation, isolation};
 pub use template_machine_meaning::{every_evaluation_gives, every_run_ends, one_meaning};
+pub use template_machine_operands::Operands;
 pub use template_machine_output::{NullWriter, Sink, SinkFault, WriteWrapper, write_text};
 pub use template_machine_state::{Caller, State as MachineState};
 pub use template_process::{enough_is_enough, fuel_adds_up, writes_beginning};

@@ -1,3 +1,4 @@
 pub mod Answered
 pub mod Faults
 pub mod Reading
+pub mod Wrapper

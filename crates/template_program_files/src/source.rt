@@ -6,6 +6,7 @@ ghost use Rattle.std.specs.declared.io.Error.{Error as IoError};
 ghost use Rattle.template_machine_output.specs.Answered.{AnswersOnce};
 ghost use Rattle.template_program_files.specs.Answered.{TellsRead};
 ghost use Rattle.template_program_files.specs.Faults.{is_file_fault};
+ghost use Rattle.template_program_files.specs.Wrapper.{reader_in, failed_before};
 
 use crate::FileFault;
 use std::io::{self, Read};
@@ -95,17 +96,17 @@ impl<'a, R: Reader> ReadWrapper<'a, R> {
 }
 
 impl<R: Reader> Source for ReadWrapper<'_, R> {
-    ghost remaining = { λ source. R.remaining source.reader.now };
+    ghost remaining = { λ source. R.remaining (reader_in source) };
 
-    ghost has_failed = { λ source. source.has_failed };
+    ghost has_failed = { failed_before };
 
     fn read_piece(&mut self, piece: &mut [u8]) -> Result<usize, FileFault>
         ensures bound { ReadsAtMost result piece.new }
-        ensures bytes { ReadConsumes (R.remaining self.old.reader.now) (R.remaining self.new.reader.now) result piece.new }
-        ensures failed { self.new.has_failed ≡ (self.old.has_failed || is_file_fault result) }
+        ensures bytes { ReadConsumes (R.remaining (reader_in self.old)) (R.remaining (reader_in self.new)) result piece.new }
+        ensures failed { failed_before self.new ≡ (failed_before self.old || is_file_fault result) }
 
         // Beyond the trait: one read is made, and its answer decides.
-        ensures answered { AnswersOnce (R.answers self.old.reader.now) (R.answers self.new.reader.now) (TellsRead result) }
+        ensures answered { AnswersOnce (R.answers (reader_in self.old)) (R.answers (reader_in self.new)) (TellsRead result) }
     {
         match self.reader.read_once(piece) {
             Ok(count) => Ok(count),

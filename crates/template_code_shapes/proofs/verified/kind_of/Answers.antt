@@ -6,7 +6,7 @@ use Rattle.template_code_shapes.specs.Outlines.{shape_of}
 use Rattle.template_code_shapes.specs.Passes.{StandsAt}
 use Rattle.template_code_shapes.specs.Noted.{noted_in}
 use Rattle.template_code_shapes.proofs.Standing.{stands_first, good_end}
-use Rattle.template_code_shapes.proofs.Visiting.{ends_badly, stands_there}
+use Rattle.template_code_shapes.proofs.Visiting.{ends_badly, stands_there, told_first}
 use Rattle.template_code_shapes.proofs.verified.kind_of.Goals as goal
 
 pub loop-place-init : goal.loop-place-init
@@ -33,3 +33,10 @@ returns-clause-bad c =
     let at_end : c.loop-place.place ≡ length code = omega (arith, c.loop-place.invariant.end, c.loop-place.auto.place-end, c.loop-place-test.false) in
     let k = stands_there code (noted_in c.loop-place.notes) (option_map shape_of c.loop-place.hand) c.loop-place.place (length code) at_end c.loop-place.invariant.stands in
     λ is. ends_badly code (noted_in c.loop-place.notes) (option_map shape_of c.loop-place.hand) k (c.in-None.ensures.none refl)
+
+pub returns-in-Some-clause-first : goal.returns-in-Some-clause-first
+returns-in-Some-clause-first c =
+    let code = code_in c.args.code.now in
+    let at_end : c.loop-place.place ≡ length code = omega (arith, c.loop-place.invariant.end, c.loop-place.auto.place-end, c.loop-place-test.false) in
+    let k = stands_there code (noted_in c.loop-place.notes) (option_map shape_of c.loop-place.hand) c.loop-place.place (length code) at_end c.loop-place.invariant.stands in
+    told_first code (noted_in c.loop-place.notes) (option_map shape_of c.loop-place.hand) k c.in-Some.kind c.in-Some.ensures.expression

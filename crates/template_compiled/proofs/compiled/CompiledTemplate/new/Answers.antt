@@ -30,6 +30,14 @@ returns-in_err-tree-clause-plain c = λ plain.
     let room = plain_room (read_by c.args.config.now c.args.source.now) c.in_ok-clone.field-0 shared c.usable.ensures plain c.in_err-tree.ensures.refused in
     search rules
 
+pub returns-in_err-compile_template-clause-refused : goal.returns-in_err-compile_template-clause-refused
+returns-in_err-compile_template-clause-refused c =
+    inr (inr (elim c.in_err-compile_template.ensures.refused [ inl full ↦ inl full.1 | inr want ↦ inr want ]))
+
+pub returns-in_err-compile_template-clause-plain : goal.returns-in_err-compile_template-clause-plain
+returns-in_err-compile_template-clause-plain c = λ plain.
+    elim c.in_err-compile_template.ensures.refused [ inl full ↦ inl full.1 | inr want ↦ inr want ]
+
 pub invariant_of-result : goal.invariant_of-result
 invariant_of-result c =
     let tree = statement_of c.in_ok-tree.tree in

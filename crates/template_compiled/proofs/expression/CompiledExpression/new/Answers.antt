@@ -1,4 +1,4 @@
-use Rattle.std.proofs.Common.{◌≡◌, true, List, ◌++◌, length, ap, ◌∙◌, rules}
+use Rattle.std.proofs.Common.{◌≡◌, true, List, ◌++◌, length, inl, inr, ap, ◌∙◌, rules}
 use Rattle.template_tree.specs.View.{expression_of}
 use Rattle.template_code.specs.Code.{Code}
 use Rattle.template_compiler_codegen.specs.Expressions.{expression_code}
@@ -22,3 +22,7 @@ returns-clause-faithful c =
     (kept_alone c.args.source.now _ _ e (put.same.source ∙ c.new-instructions.ensures.source) c.in_ok-tree.ensures.too_large
     c.in_ok-tree.ensures.found (c.is_runnable_expr.ensures.0 runs)
     (put.code ∙ ap (λ (l : List Code). l ++ expression_code e (length l)) c.new-instructions.ensures.empty)).0
+
+pub returns-in_err-compile_expr-clause-refused : goal.returns-in_err-compile_expr-clause-refused
+returns-in_err-compile_expr-clause-refused c =
+    inr (inr (elim c.in_err-compile_expr.ensures.refused [ inl full ↦ inl full.1 | inr want ↦ inr want ]))
