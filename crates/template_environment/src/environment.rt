@@ -11,6 +11,7 @@ ghost use Rattle.template_machine_escape.specs.Rule.{IsEscapeOf};
 ghost use Rattle.template_compiled.specs.Compiled.{IsFaithful};
 ghost use Rattle.template_compiled.specs.Sources.{IsAccepted, IsRefusedWith};
 ghost use Rattle.template_compiled.specs.Plain.{IsPlain, text_kept};
+ghost use Rattle.template_environment_histories.specs.Histories as changes;
 ghost use Rattle.template_environment.specs.Plain.{IsRefusedForRoom, ReadGivesItself};
 ghost use Rattle.template_environment.specs.Standing.{greatest_limit, new_settings};
 
@@ -88,6 +89,7 @@ impl<'source> Environment<'source> {
 
 impl<'source, R: AutoEscapeRule> Environment<'source, R> {
     ghost use Rattle.template_environment.specs.Standing.{settings_of, source_at, unnamed};
+    ghost use Rattle.template_environment.specs.Changes.{Changes};
     ghost use Rattle.template_environment.specs.Reading.{IsUnchanged, callback_of, read_under, registry_of, rule_for};
     ghost use Rattle.template_values_model.specs.Val.{Val};
     ghost use Rattle.template_environment.specs.Isolated.{AgreeForSource, IsSameForSource};
@@ -155,13 +157,12 @@ impl<'source, R: AutoEscapeRule> Environment<'source, R> {
     /// Those of [`CompiledTemplate::new`]. After a refusal all is as before.
     pub fn add_template(&mut self, name: &'source str, source: &'source str) -> Result<(), Error>
         ensures accepted { OnOk result (IsAccepted (read_under R.answer self.old name.now source.now)) }
-        ensures stands { OnOk result ((other : List ℕ) → source_at (registry_of self.new) other
-            ≡ (if bytes_eq name.now other then Some (read_under R.answer self.old name.now source.now)
-            else source_at (registry_of self.old) other)) }
+        ensures stands { OnOk result (Changes (changes.added name.now (read_under R.answer self.old name.now source.now)) self.old self.new) }
         ensures settings { settings_of (registry_of self.new) ≡ settings_of (registry_of self.old) }
         ensures callback { callback_of self.new ≡ callback_of self.old }
         ensures refused { IfErr result (IsRefusedWith (read_under R.answer self.old name.now source.now)) }
         ensures plain { IsPlain (read_under R.answer self.old name.now source.now) → IfErr result IsRefusedForRoom }
+        ensures stays { OnErr result (Changes (changes.refused name.now (read_under R.answer self.old name.now source.now)) self.old self.new) }
         ensures unchanged { OnErr result (IsUnchanged self.old self.new) }
     {
         let compiled = self.compile(name, source)?;
@@ -177,16 +178,16 @@ impl<'source, R: AutoEscapeRule> Environment<'source, R> {
     /// As [`Environment::add_template`].
     pub fn add_template_owned(&mut self, name: CowStr<'_>, source: CowStr<'_>) -> Result<(), Error>
         ensures accepted { OnOk result (IsAccepted (read_under R.answer self.old (cow_str_bytes name.entry) (cow_str_bytes source.entry))) }
-        ensures stands { OnOk result ((other : List ℕ) → source_at (registry_of self.new) other
-            ≡ (if bytes_eq (cow_str_bytes name.entry) other
-            then Some (read_under R.answer self.old (cow_str_bytes name.entry) (cow_str_bytes source.entry))
-            else source_at (registry_of self.old) other)) }
+        ensures stands { OnOk result (Changes (changes.added (cow_str_bytes name.entry)
+            (read_under R.answer self.old (cow_str_bytes name.entry) (cow_str_bytes source.entry))) self.old self.new) }
         ensures settings { settings_of (registry_of self.new) ≡ settings_of (registry_of self.old) }
         ensures callback { callback_of self.new ≡ callback_of self.old }
         ensures refused { IfErr result
             (IsRefusedWith (read_under R.answer self.old (cow_str_bytes name.entry) (cow_str_bytes source.entry))) }
         ensures plain { IsPlain (read_under R.answer self.old (cow_str_bytes name.entry) (cow_str_bytes source.entry)) →
             IfErr result IsRefusedForRoom }
+        ensures stays { OnErr result (Changes (changes.refused (cow_str_bytes name.entry)
+            (read_under R.answer self.old (cow_str_bytes name.entry) (cow_str_bytes source.entry))) self.old self.new) }
         ensures unchanged { OnErr result (IsUnchanged self.old self.new) }
     {
         let alloc = self.registry.alloc;
@@ -232,8 +233,7 @@ impl<'source, R: AutoEscapeRule> Environment<'source, R> {
 
     /// No template stands under the name any more. Takes a look-up among the names.
     pub fn remove_template(&mut self, name: &str)
-        ensures removed { (other : List ℕ) → source_at (registry_of self.new) other
-            ≡ (if bytes_eq name.now other then None else source_at (registry_of self.old) other) }
+        ensures removed { Changes (changes.removed name.now) self.old self.new }
         ensures settings { settings_of (registry_of self.new) ≡ settings_of (registry_of self.old) }
         ensures callback { callback_of self.new ≡ callback_of self.old }
     {
@@ -242,7 +242,7 @@ impl<'source, R: AutoEscapeRule> Environment<'source, R> {
 
     /// No template stands any more.
     pub fn clear_templates(&mut self)
-        ensures empty { (name : List ℕ) → source_at (registry_of self.new) name ≡ None }
+        ensures cleared { Changes changes.cleared self.old self.new }
         ensures settings { settings_of (registry_of self.new) ≡ settings_of (registry_of self.old) }
         ensures callback { callback_of self.new ≡ callback_of self.old }
     {
@@ -488,6 +488,7 @@ impl<'source, R: AutoEscapeRule> Environment<'source, R> {
     {
         isolation();
         let template = self.template_from_named_str(name, source)?;
+        template.ends();
         template.render(ids, context)
     }
 

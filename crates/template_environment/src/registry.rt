@@ -1,4 +1,9 @@
 //! What renders see of an environment.
+ghost use Rattle.std.specs.Prelude.{ℕ, List};
+ghost use Rattle.std.specs.Option.{ForSome};
+ghost use Rattle.template_machine_escape.specs.Rule.{IsEscapeOf};
+ghost use Rattle.template_compiled.specs.Standing.{compiled_at};
+
 use std::alloc::Global;
 use template_compiled::{CompiledTemplates, TemplateConfig};
 use template_machine_renders::{Compiled, Rules, Templates};
@@ -14,6 +19,8 @@ pub struct Registry<'source> {
     pub(crate) fuel: Option<u64>,
     pub(crate) recursion_limit: usize,
     pub(crate) undefined_behavior: UndefinedBehavior,
+    // What stands has the escape of the name that it stands under.
+    ghost escaped: { (name : List ℕ) → ForSome (compiled_at templates name) (λ t. IsEscapeOf t.source.escapes name t.escape) },
 }
 
 impl<'source> Templates for Registry<'source> {
