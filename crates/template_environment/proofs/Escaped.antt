@@ -8,7 +8,7 @@ use Rattle.template_compiled.specs.declared.templates.CompiledTemplates.{Compile
 
 -- each has the escape of its name
 abbrev pub AreEscaped : CompiledTemplates → Type 0
-AreEscaped templates = (name : List ℕ) (c : Compiled) → compiled_at templates name ≡ Some c → IsEscapeOf c.source.escapes name c.escape
+AreEscaped templates = (name : List ℕ) (c : Compiled) → compiled_at templates name ≡ Some c → ∥ IsEscapeOf c.source.escapes name c.escape ∥₁
 
 none_some : {c : Compiled} → None ≡ Some c → ⊥
 none_some at = cc
@@ -24,10 +24,10 @@ by_test P test given old new before false is c at = before c at
 -- where one thing stands under a name from then on
 changed : (given : List ℕ) (there : Option Compiled) (old new : CompiledTemplates)
     → ((name : List ℕ) → compiled_at new name ≡ cond (bytes_eq given name) there (compiled_at old name))
-    → ((name : List ℕ) (c : Compiled) → there ≡ Some c → bytes_eq given name ≡ true → IsEscapeOf c.source.escapes name c.escape)
+    → ((name : List ℕ) (c : Compiled) → there ≡ Some c → bytes_eq given name ≡ true → ∥ IsEscapeOf c.source.escapes name c.escape ∥₁)
     → AreEscaped old → AreEscaped new
 changed given there old new is own escaped = λ name c at.
-    by_test (λ d. IsEscapeOf d.source.escapes name d.escape) (bytes_eq given name) there (compiled_at old name) (own name) (escaped name)
+    by_test (λ d. ∥ IsEscapeOf d.source.escapes name d.escape ∥₁) (bytes_eq given name) there (compiled_at old name) (own name) (escaped name)
     (bytes_eq given name) (λ i. bytes_eq given name) c (sym (is name) ∙ at)
 
 -- behind an insertion, or where it was refused
@@ -36,8 +36,8 @@ pub inserted : {X E : Type 0} (result : Result X E) (c : Compiled) (old new : Co
     → OnErr result ((name : List ℕ) → compiled_at new name ≡ compiled_at old name) → AreEscaped old → AreEscaped new
 inserted (Ok _) c old new faithful stands stays escaped =
     changed c.name (Some c) old new stands (λ name d at yes.
-    subst (λ (t : Compiled). IsEscapeOf t.source.escapes name t.escape) (some_is at)
-    (subst (λ (n : List ℕ). IsEscapeOf c.source.escapes n c.escape) ((bytes_eq-Decides c.name name).0 yes) faithful.is_escape)) escaped
+    subst (λ (t : Compiled). ∥ IsEscapeOf t.source.escapes name t.escape ∥₁) (some_is at)
+    ∣ subst (λ (n : List ℕ). IsEscapeOf c.source.escapes n c.escape) ((bytes_eq-Decides c.name name).0 yes) faithful.is_escape ∣₁) escaped
 inserted (Err _) c old new faithful stands stays escaped = λ name d at. escaped name d (sym (stays name) ∙ at)
 
 -- behind a removal, and behind a clearing

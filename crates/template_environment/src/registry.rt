@@ -20,7 +20,7 @@ pub struct Registry<'source> {
     pub(crate) recursion_limit: usize,
     pub(crate) undefined_behavior: UndefinedBehavior,
     // What stands has the escape of the name that it stands under.
-    ghost escaped: { (name : List ℕ) → ForSome (compiled_at templates name) (λ t. IsEscapeOf t.source.escapes name t.escape) },
+    ghost escaped: { (name : List ℕ) → ForSome (compiled_at templates name) (λ t. ∥ IsEscapeOf t.source.escapes name t.escape ∥₁) },
 }
 
 impl<'source> Templates for Registry<'source> {

@@ -53,12 +53,15 @@ nothing_written : (additions : List (List ℕ × List ℕ)) (a b : Answer) → a
     → IsUntouched b.before b.after b.failed b.fails → AreAlike additions a b
 nothing_written additions a b same untouched too = record {
   end = inl same;
-  write = ([], record {
-    first = writes_nothing a.before a.after untouched.0;
-    second = writes_nothing b.before b.after too.0;
-    quiet = untouched.1;
-    quiet_too = too.1;
-  });
+  write = (
+    [],
+    record {
+      first = writes_nothing a.before a.after untouched.0;
+      second = writes_nothing b.before b.after too.0;
+      quiet = untouched.1;
+      quiet_too = too.1;
+    },
+  );
 }
 
 -- what the outcome does not want
@@ -76,12 +79,15 @@ rendered_alike : (additions : List (List ℕ × List ℕ)) (a b : Answer) (r q :
     → IsWhole a.outcome a.before a.after r → IsWhole b.outcome b.before b.after q → a.fails ≡ a.failed → b.fails ≡ b.failed → AreAlike additions a b
 rendered_alike additions a b r q same one other quiet too = record {
   end = inl (one_end a.outcome b.outcome a.before a.after b.before b.after r q same one other);
-  write = (text_of r.items, record {
-    first = one.text;
-    second = subst (λ (items : List Item). Appends b.before b.after (text_of items)) (sym same.0) other.text;
-    quiet = quiet;
-    quiet_too = too;
-  });
+  write = (
+    text_of r.items,
+    record {
+      first = one.text;
+      second = subst (λ (items : List Item). Appends b.before b.after (text_of items)) (sym same.0) other.text;
+      quiet = quiet;
+      quiet_too = too;
+    },
+  );
 }
 
 -- two renders of one template over contexts that agree
@@ -135,12 +141,15 @@ tells_alike request additions a b e f made more t u standing one other =
     (same_sets (setting_of e) (setting_of f) t u setting standing one.names other.names one.has.1 other.has.1) in
     record {
       end = inl (one.done ∙ sym other.done);
-      write = (lines_of one.names.keys, record {
-        first = one.text;
-        second = subst (λ (text : List ℕ). Appends b.before b.after text) (sym lines) other.text;
-        quiet = one.quiet;
-        quiet_too = other.quiet;
-      });
+      write = (
+        lines_of one.names.keys,
+        record {
+          first = one.text;
+          second = subst (λ (text : List ℕ). Appends b.before b.after text) (sym lines) other.text;
+          quiet = one.quiet;
+          quiet_too = other.quiet;
+        },
+      );
     }
 
 -- what is done with the main template
@@ -171,14 +180,23 @@ one_answer isolates request additions json a b (inl p) (inr (had, q)) ua ub =
 one_answer isolates request additions json a b (inr (had, p)) (inl q) ua ub =
     absurd (refused_or_had request.command json (definitions_of request) q.0 had.0 q.2 (unwanted b ub (Context q.0) q.1) had.1)
 one_answer isolates request additions json a b (inr (had, inl p)) (inr (has, inl q)) ua ub = record {
-  end = inr (p.0, q.0, p.1, q.1, same_refused additions p.0 q.0 (refuses additions a.next p.0 p.2 ua.first_id) (refuses additions b.next q.0 q.2 ub.first_id)
-      (unwanted a ua (Template p.0) p.1) (unwanted b ub (Template q.0) q.1));
-  write = ([], record {
-    first = writes_nothing a.before a.after p.3.0;
-    second = writes_nothing b.before b.after q.3.0;
-    quiet = p.3.1;
-    quiet_too = q.3.1;
-  });
+  end = inr (
+    p.0,
+    q.0,
+    p.1,
+    q.1,
+    same_refused additions p.0 q.0 (refuses additions a.next p.0 p.2 ua.first_id) (refuses additions b.next q.0 q.2 ub.first_id)
+        (unwanted a ua (Template p.0) p.1) (unwanted b ub (Template q.0) q.1),
+  );
+  write = (
+    [],
+    record {
+      first = writes_nothing a.before a.after p.3.0;
+      second = writes_nothing b.before b.after q.3.0;
+      quiet = p.3.1;
+      quiet_too = q.3.1;
+    },
+  );
 }
 one_answer isolates request additions json a b (inr (had, inl p)) (inr (has, inr q)) ua ub =
     absurd (all_or_refused additions p.0 (refuses additions a.next p.0 p.2 ua.first_id) (unwanted a ua (Template p.0) p.1) q.1)

@@ -62,6 +62,6 @@ one_end a b before after first last r q same one other = elim one.end [
   | inr faulted ↦ elim other.end [
     | inl over ↦ absurd (subst IsOver (sym same.1 ∙ faulted.2) over.1)
     | inr faulted_too ↦
-      faulted.1 ∙ ap (λ (ks : List ErrorKind). Render ks) (faults_are (sym faulted.2 ∙ same.1 ∙ faulted_too.2)) ∙ sym faulted_too.1
+        faulted.1 ∙ ap (λ (ks : List ErrorKind). Render ks) (faults_are (sym faulted.2 ∙ same.1 ∙ faulted_too.2)) ∙ sym faulted_too.1
   ]
 ]

@@ -1,6 +1,8 @@
 -- Sets of the same names are told by the same lines.
-use Rattle.std.proofs.Common.{◌≡◌, ◌∙◌, ℕ, Bool, true, false, List, [], ◌∷◌, ◌++◌, IsTrue, ◌↔◌, map, String, string_bytes, refl, sym, ap, bytes_eq}
-use Rattle.std.specs.BTreeSet.{BTreeSet, IsOrdered, btree_set, contains, contains_text, is_at}
+use Rattle.std.proofs.Common.{◌≡◌, ◌∙◌, ℕ, Bool, true, false, ◌||◌, List, [], ◌∷◌, ◌++◌, IsTrue, ◌↔◌, map, String, string_bytes, refl, sym, ap}
+use Rattle.std.specs.BTreeSet.{BTreeSet, IsOrdered, contains_text}
+use Rattle.std.specs.BTreeMap.{is_at}
+use Rattle.std.specs.Layout.BTreeSet.{btree_set}
 use Rattle.std.specs.Cmp.Lexicographic.{slice_cmp}
 use Rattle.std.specs.List.{AllByRecursion, list_any}
 use Rattle.std.specs.List.Sorted.{IsStrictlySortedBy}
@@ -42,9 +44,6 @@ both_or_none true false same = absurd (same.0 tt)
 both_or_none false true same = absurd (same.1 tt)
 both_or_none false false same = refl
 
-texts_of : {A : Type 0} → BTreeSet (String A) → BTreeSet (List ℕ)
-texts_of names = btree_set (map string_bytes names.keys)
-
 same_texts : {A B : Type 0} (names : BTreeSet (String A)) (others : BTreeSet (String B)) → IsOrdered string_cmp names → IsOrdered string_cmp others
     → ((name : List ℕ) → contains_text names name ≡ contains_text others name) → map string_bytes names.keys ≡ map string_bytes others.keys
 same_texts names others ordered ascend same =
@@ -53,12 +52,11 @@ same_texts names others ordered ascend same =
     (λ q. found_alike q names.keys ∙ same q ∙ sym (found_alike q others.keys)) exact
 
 -- the lines are those of the texts
-lines_in : List (List ℕ) → List ℕ
+abbrev lines_in : List (List ℕ) → List ℕ
 lines_in [] = []
 lines_in (text ∷ texts) = line_of text ++ lines_in texts
 
 lines_are : {A : Type 0} (names : List (String A)) → lines_of names ≡ lines_in (map string_bytes names)
-unfolding lines_in
 lines_are [] = refl
 lines_are (name ∷ names) = ap (λ rest. line_of (string_bytes name) ++ rest) (lines_are names)
 
