@@ -1,5 +1,5 @@
 //! Environments.
-ghost use Rattle.std.specs.Prelude.{◌≡◌, ◌+◌, ◌≢◌, ◌∷◌, [], ℕ, List, None, Some, Option, Err, IfOk, IfErr, OnOk, OnErr, bytes_eq, min, if◌then◌else◌, map, option_map, All, string_bytes};
+ghost use Rattle.std.specs.Prelude.{◌≡◌, ◌+◌, ◌≢◌, ◌∷◌, [], ℕ, List, None, Some, Option, Err, IfOk, IfErr, OnOk, OnErr, bytes_eq, min, map, option_map, All, string_bytes};
 ghost use Rattle.std.specs.Cmp.Lexicographic.{slice_cmp};
 ghost use Rattle.std.specs.Cow.{cow_str_bytes};
 ghost use Rattle.std.specs.List.{find};
@@ -157,12 +157,14 @@ impl<'source, R: AutoEscapeRule> Environment<'source, R> {
     /// Those of [`CompiledTemplate::new`]. After a refusal all is as before.
     pub fn add_template(&mut self, name: &'source str, source: &'source str) -> Result<(), Error>
         ensures accepted { OnOk result (IsAccepted (read_under R.answer self.old name.now source.now)) }
-        ensures stands { OnOk result (Changes (changes.added name.now (read_under R.answer self.old name.now source.now)) self.old self.new) }
+        ensures stands { OnOk result
+            (Changes (changes.added name.now (read_under R.answer self.old name.now source.now)) self.old self.new) }
         ensures settings { settings_of (registry_of self.new) ≡ settings_of (registry_of self.old) }
         ensures callback { callback_of self.new ≡ callback_of self.old }
         ensures refused { IfErr result (IsRefusedWith (read_under R.answer self.old name.now source.now)) }
         ensures plain { IsPlain (read_under R.answer self.old name.now source.now) → IfErr result IsRefusedForRoom }
-        ensures stays { OnErr result (Changes (changes.refused name.now (read_under R.answer self.old name.now source.now)) self.old self.new) }
+        ensures stays { OnErr result
+            (Changes (changes.refused name.now (read_under R.answer self.old name.now source.now)) self.old self.new) }
         ensures unchanged { OnErr result (IsUnchanged self.old self.new) }
     {
         let compiled = self.compile(name, source)?;

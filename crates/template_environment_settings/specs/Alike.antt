@@ -22,7 +22,8 @@ pub record AreOneTemplate (c d : Compiled) : Type 0 where
 
 -- They render to the same in the two environments, under every bound and over every context.
 abbrev pub RenderTheSame : Registry → Registry → Type 0
-RenderTheSame e other = (c d : Compiled) → AreOneTemplate c d → (n : ℕ) (context : Val) → rendering e c n context ≡ rendering other d n context
+RenderTheSame e other = (c d : Compiled) → AreOneTemplate c d
+    → (n : ℕ) (context : Val) → rendering e c n context ≡ rendering other d n context
 
 -- Such environments give their renders one setting.
 abbrev pub AlikeHaveOneSetting : Type 0
