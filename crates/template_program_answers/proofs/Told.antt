@@ -2,13 +2,12 @@
 use Rattle.std.proofs.Common.{◌≡◌, ◌∙◌, ℕ, Bool, true, false, ◌||◌, List, [], ◌∷◌, ◌++◌, IsTrue, ◌↔◌, map, String, string_bytes, refl, sym, ap}
 use Rattle.std.specs.BTreeSet.{BTreeSet, IsOrdered, contains_text}
 use Rattle.std.specs.BTreeMap.{is_at}
-use Rattle.std.specs.Layout.BTreeSet.{btree_set}
 use Rattle.std.specs.Cmp.Lexicographic.{slice_cmp}
 use Rattle.std.specs.List.{AllByRecursion, list_any}
 use Rattle.std.specs.List.Sorted.{IsStrictlySortedBy}
 use Rattle.std.specs.Ordering.{is_eq, nat_cmp}
 use Rattle.std.specs.String.{string_cmp}
-use Rattle.std.specs.declared.cmp.Ordering.TheVariants.{Equal, Less}
+use Rattle.std.specs.declared.cmp.Ordering.TheVariants.{Less}
 use Rattle.std.proofs.lemmas.Cmp.{nat_list_cmp_total}
 use Rattle.std.proofs.lemmas.Map.Lookups.{CmpEqualImpliesEq, btree_set_from_contains}
 use Rattle.std.proofs.lemmas.Map.Text.{is_eq-slice_cmp}
@@ -40,15 +39,16 @@ found_alike q (name ∷ names) = ap (λ b. is_eq (slice_cmp nat_cmp q (string_by
 -- truth values that hold at once are equal
 both_or_none : (a b : Bool) → IsTrue a ↔ IsTrue b → a ≡ b
 both_or_none true true same = refl
-both_or_none true false same = absurd (same.0 tt)
-both_or_none false true same = absurd (same.1 tt)
+both_or_none true false same = let wrong = same.0 refl in cc
+both_or_none false true same = let wrong = same.1 refl in cc
 both_or_none false false same = refl
 
 same_texts : {A B : Type 0} (names : BTreeSet (String A)) (others : BTreeSet (String B)) → IsOrdered string_cmp names → IsOrdered string_cmp others
     → ((name : List ℕ) → contains_text names name ≡ contains_text others name) → map string_bytes names.keys ≡ map string_bytes others.keys
 same_texts names others ordered ascend same =
-    btree_set_from_contains nat_list_cmp_total (btree_set (map string_bytes names.keys)) (btree_set (map string_bytes others.keys))
-    (texts_ascend names.keys ordered) (texts_ascend others.keys ascend)
+    let one : BTreeSet (List ℕ) = record { keys = map string_bytes names.keys } in
+    let other : BTreeSet (List ℕ) = record { keys = map string_bytes others.keys } in
+    btree_set_from_contains nat_list_cmp_total one other (texts_ascend names.keys ordered) (texts_ascend others.keys ascend)
     (λ q. found_alike q names.keys ∙ same q ∙ sym (found_alike q others.keys)) exact
 
 -- the lines are those of the texts
