@@ -168,8 +168,7 @@ impl<'source, R: AutoEscapeRule> Environment<'source, R> {
         ensures unchanged { OnErr result (IsUnchanged self.old self.new) }
     {
         let compiled = self.compile(name, source)?;
-        let alloc = self.registry.alloc;
-        self.registry.templates.insert(alloc, compiled)
+        self.registry.insert(compiled)
     }
 
     /// The same of texts that need not outlive the environment: it keeps copies of them, which takes time and memory
@@ -195,7 +194,7 @@ impl<'source, R: AutoEscapeRule> Environment<'source, R> {
         let alloc = self.registry.alloc;
         let copied = CompiledTemplate::from_owned(alloc, name, source, &self.registry.config)?;
         let ruled = self.ruled(copied);
-        self.registry.templates.insert(alloc, ruled)
+        self.registry.insert(ruled)
     }
 
     // A source compiled under what the environment is set to, as a template of a name.
@@ -239,7 +238,7 @@ impl<'source, R: AutoEscapeRule> Environment<'source, R> {
         ensures settings { settings_of (registry_of self.new) ≡ settings_of (registry_of self.old) }
         ensures callback { callback_of self.new ≡ callback_of self.old }
     {
-        self.registry.templates.remove(name);
+        self.registry.remove(name);
     }
 
     /// No template stands any more.
@@ -248,7 +247,7 @@ impl<'source, R: AutoEscapeRule> Environment<'source, R> {
         ensures settings { settings_of (registry_of self.new) ≡ settings_of (registry_of self.old) }
         ensures callback { callback_of self.new ≡ callback_of self.old }
     {
-        self.registry.templates.clear();
+        self.registry.clear();
     }
 
     /// Sets the syntax that templates are read under from now on.
