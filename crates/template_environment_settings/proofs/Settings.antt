@@ -3,19 +3,16 @@ use Rattle.std.proofs.Common.{◌≡◌, ℕ, zero, suc, List, Option, None, Som
 use Rattle.std.proofs.Math.Logic.{∥∥₁_elim}
 use Rattle.std.proofs.Math.Nat.{ℕ_set}
 use Rattle.std.specs.Option.{option_map}
-use Rattle.template_values_model.specs.Val.{Val}
 use Rattle.template_values_modes.specs.declared.AutoEscape.{AutoEscape}
 use Rattle.template_values_modes.specs.declared.AutoEscape.TheVariants as escapes
 use Rattle.template_machine_escape.specs.Rule.{IsEscapeOf}
 use Rattle.template_machine_escape.specs.declared.EscapeRule.{EscapeRule}
 use Rattle.template_machine_escape.proofs.OneRule.{one_escape}
-use Rattle.template_machine_meaning.specs.Meaning.{Setting, Standing, rendered}
+use Rattle.template_machine_meaning.specs.Meaning.{rendered}
 use Rattle.template_compiled.specs.Compiled.{Compiled, standing_of}
 use Rattle.template_compiled.specs.Sources.{Source, tree_in}
 use Rattle.template_compiled.specs.Standing.{compiled_at}
-use Rattle.template_environment.specs.Standing.{setting_of}
-use Rattle.template_environment.specs.declared.registry.Registry.{Registry}
-use Rattle.template_environment_settings.specs.Alike.{AlikeHaveOneSetting, AlikeRenderTheSame, AreAlike, AreOneTemplate}
+use Rattle.template_environment_settings.specs.Alike.{AlikeHaveOneSetting, AlikeRenderTheSame}
 
 none_some : {X : Type 0} {x : X} → None ≡ Some x → ⊥
 none_some at = cc

@@ -1,5 +1,5 @@
 -- Two answers to one request.
-use Rattle.std.proofs.Common.{◌≡◌, ◌∙◌, ℕ, ◌+◌, List, [], ◌∷◌, ◌++◌, Option, None, Some, inl, inr, refl, sym, ap, subst, append-nil, string_bytes}
+use Rattle.std.proofs.Common.{◌≡◌, ◌∙◌, ℕ, ◌+◌, List, [], Option, None, Some, inl, inr, refl, sym, ap, subst, append-nil, string_bytes}
 use Rattle.std.specs.BTreeSet.{BTreeSet}
 use Rattle.std.specs.Io.KnownBytes.{Appends}
 use Rattle.std.specs.Prelude.{String}
@@ -26,7 +26,7 @@ use Rattle.template_program_run.specs.declared.outcome.Outcome.TheVariants.{Done
 use Rattle.template_program_run.specs.declared.request.Command.{Command}
 use Rattle.template_program_run.specs.declared.request.Command.TheVariants as asked
 use Rattle.template_program_run.specs.declared.request.Request.{Request}
-use Rattle.template_program_answers.specs.Law.{Answer, AreAlike, IsAnswerTo, IsUnwanting, OneAnswer, TellsWant}
+use Rattle.template_program_answers.specs.Law.{Answer, AreAlike, IsUnwanting, OneAnswer, TellsWant}
 use Rattle.template_program_answers.proofs.Contexts.{agree_everywhere, one_refusal, refused_or_had}
 use Rattle.template_program_answers.proofs.Refusals.{all_or_refused, same_refused}
 use Rattle.template_program_answers.proofs.Renders.{IsWhole, one_end, quiet_render, whole_render}

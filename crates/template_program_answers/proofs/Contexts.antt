@@ -4,7 +4,7 @@ use Rattle.template_values_errors.specs.declared.ErrorKind.{ErrorKind}
 use Rattle.template_values_errors.specs.Memory.{NoMemory}
 use Rattle.template_values_model.specs.Val.{Val}
 use Rattle.template_environment.specs.Isolation.{AgreesAt}
-use Rattle.template_program_context.specs.Context.{IsContextOf, fault_of_json}
+use Rattle.template_program_context.specs.Context.{IsContextOf}
 use Rattle.template_program_run.specs.Answers.{HasContext, IsRefusedContext}
 use Rattle.template_program_run.specs.declared.request.Command.{Command}
 use Rattle.template_program_run.specs.declared.request.Command.TheVariants as asked

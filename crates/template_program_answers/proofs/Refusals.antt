@@ -1,5 +1,5 @@
 -- Sources that are refused are not accepted, where there is room for them.
-use Rattle.std.proofs.Common.{◌≡◌, ◌∙◌, ℕ, List, [], ◌∷◌, inl, inr, sym, ap, subst, codes, get_or, arith}
+use Rattle.std.proofs.Common.{◌≡◌, ◌∙◌, ℕ, List, [], ◌∷◌, inl, inr, sym, ap, subst, get_or, arith}
 use Rattle.template_values_errors.specs.declared.ErrorKind.{ErrorKind}
 use Rattle.template_tree.specs.Tree.{Statements, template}
 use Rattle.template_walk.specs.Runnable.{IsRunnableTemplate}

@@ -1,10 +1,10 @@
 -- Two renders of one run.
-use Rattle.std.proofs.Common.{◌≡◌, ◌∙◌, ◌⊎◌, ℕ, List, [], ◌∷◌, Option, Result, Ok, Err, inl, inr, refl, sym, ap, subst}
+use Rattle.std.proofs.Common.{◌≡◌, ◌∙◌, ◌⊎◌, ℕ, List, Option, Result, Ok, Err, inl, inr, refl, sym, ap, subst}
 use Rattle.std.specs.Io.KnownBytes.{Appends}
 use Rattle.template_values_errors.specs.declared.ErrorKind.{ErrorKind}
-use Rattle.template_process.specs.Drive.{End, ends, faults}
+use Rattle.template_process.specs.Drive.{faults}
 use Rattle.template_process.specs.Fuel.{IsSameRun}
-use Rattle.template_process.specs.Trace.{Item, Run, text_of}
+use Rattle.template_process.specs.Trace.{Run, text_of}
 use Rattle.template_environment.specs.Outcomes.{IsWant, TellsFailures}
 use Rattle.template_environment.specs.Renders.{IsOver, Renders, whole, broken}
 use Rattle.template_program_run.specs.Answers.{IsOutcomeOf}
