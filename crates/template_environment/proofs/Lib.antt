@@ -4,3 +4,4 @@ pub mod Plain
 pub mod Sourced
 pub mod Listed
 pub mod Evaluating
+pub mod Escaped

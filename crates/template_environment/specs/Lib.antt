@@ -1,5 +1,6 @@
 pub mod Standing
 pub mod Reading
+pub mod Changes
 pub mod Renderings
 pub mod States
 pub mod Views

@@ -40,9 +40,11 @@ GivesText text (Err kinds) r = (r.end ≡ faults kinds) ⊎ NoMemory kinds
 abbrev pub last_id : ℕ
 last_id = 2 ^ 64 - 1
 
--- a call that renders a template to a text, and the numbers that come next before it and after it
+-- A call that renders a template to a text, and the numbers that come next before it and after it. One is finished: every run
+-- ends.
 pub record RendersText {X : Type 0} (e : Registry) (c : Compiled) (context : Val) (id next : ℕ) (text : X → List ℕ)
     (result : Result X (List ErrorKind)) : Type 0 where
+  pub finished : (n : ℕ) × IsFinished (rendering e c n context).end
   pub gives : id ≢ last_id → (n : ℕ) → IsFinished (rendering e c n context).end
       → GivesText text result (under e.fuel (rendering e c n context))
   pub no_write_failure : IfErr result (λ kinds. kinds ≢ WriteFailure ∷ [])

@@ -1,5 +1,5 @@
 //! Environments.
-ghost use Rattle.std.specs.Prelude.{◌≡◌, ◌+◌, ◌≢◌, ◌∷◌, [], ℕ, List, None, Some, Option, Err, IfOk, IfErr, OnOk, OnErr, bytes_eq, min, if◌then◌else◌, map, option_map, All, string_bytes};
+ghost use Rattle.std.specs.Prelude.{◌≡◌, ◌+◌, ◌≢◌, ◌∷◌, [], ℕ, List, None, Some, Option, Err, IfOk, IfErr, OnOk, OnErr, bytes_eq, min, map, option_map, All, string_bytes};
 ghost use Rattle.std.specs.Cmp.Lexicographic.{slice_cmp};
 ghost use Rattle.std.specs.Cow.{cow_str_bytes};
 ghost use Rattle.std.specs.List.{find};
@@ -11,6 +11,7 @@ ghost use Rattle.template_machine_escape.specs.Rule.{IsEscapeOf};
 ghost use Rattle.template_compiled.specs.Compiled.{IsFaithful};
 ghost use Rattle.template_compiled.specs.Sources.{IsAccepted, IsRefusedWith};
 ghost use Rattle.template_compiled.specs.Plain.{IsPlain, text_kept};
+ghost use Rattle.template_environment_histories.specs.Histories as changes;
 ghost use Rattle.template_environment.specs.Plain.{IsRefusedForRoom, ReadGivesItself};
 ghost use Rattle.template_environment.specs.Standing.{greatest_limit, new_settings};
 
@@ -98,6 +99,7 @@ impl<'source> Environment<'source> {
 
 impl<'source, R: AutoEscapeRule> Environment<'source, R> {
     ghost use Rattle.template_environment.specs.Standing.{settings_of, source_at, unnamed};
+    ghost use Rattle.template_environment.specs.Changes.{Changes};
     ghost use Rattle.template_environment.specs.Reading.{IsUnchanged, callback_of, read_under, registry_of, rule_for};
     ghost use Rattle.template_values_model.specs.Val.{Val};
     ghost use Rattle.template_environment.specs.Isolated.{AgreeForSource, IsSameForSource};
@@ -165,18 +167,18 @@ impl<'source, R: AutoEscapeRule> Environment<'source, R> {
     /// Those of [`CompiledTemplate::new`]. After a refusal all is as before.
     pub fn add_template(&mut self, name: &'source str, source: &'source str) -> Result<(), Error>
         ensures accepted { OnOk result (IsAccepted (read_under R.answer self.old name.now source.now)) }
-        ensures stands { OnOk result ((other : List ℕ) → source_at (registry_of self.new) other
-            ≡ (if bytes_eq name.now other then Some (read_under R.answer self.old name.now source.now)
-            else source_at (registry_of self.old) other)) }
+        ensures stands { OnOk result
+            (Changes (changes.added name.now (read_under R.answer self.old name.now source.now)) self.old self.new) }
         ensures settings { settings_of (registry_of self.new) ≡ settings_of (registry_of self.old) }
         ensures callback { callback_of self.new ≡ callback_of self.old }
         ensures refused { IfErr result (IsRefusedWith (read_under R.answer self.old name.now source.now)) }
         ensures plain { IsPlain (read_under R.answer self.old name.now source.now) → IfErr result IsRefusedForRoom }
+        ensures stays { OnErr result
+            (Changes (changes.refused name.now (read_under R.answer self.old name.now source.now)) self.old self.new) }
         ensures unchanged { OnErr result (IsUnchanged self.old self.new) }
     {
         let compiled = self.compile(name, source)?;
-        let alloc = self.registry.alloc;
-        self.registry.templates.insert(alloc, compiled)
+        self.registry.insert(compiled)
     }
 
     /// The same of texts that need not outlive the environment: it keeps copies of them, which takes time and memory
@@ -187,22 +189,22 @@ impl<'source, R: AutoEscapeRule> Environment<'source, R> {
     /// As [`Environment::add_template`].
     pub fn add_template_owned(&mut self, name: CowStr<'_>, source: CowStr<'_>) -> Result<(), Error>
         ensures accepted { OnOk result (IsAccepted (read_under R.answer self.old (cow_str_bytes name.entry) (cow_str_bytes source.entry))) }
-        ensures stands { OnOk result ((other : List ℕ) → source_at (registry_of self.new) other
-            ≡ (if bytes_eq (cow_str_bytes name.entry) other
-            then Some (read_under R.answer self.old (cow_str_bytes name.entry) (cow_str_bytes source.entry))
-            else source_at (registry_of self.old) other)) }
+        ensures stands { OnOk result (Changes (changes.added (cow_str_bytes name.entry)
+            (read_under R.answer self.old (cow_str_bytes name.entry) (cow_str_bytes source.entry))) self.old self.new) }
         ensures settings { settings_of (registry_of self.new) ≡ settings_of (registry_of self.old) }
         ensures callback { callback_of self.new ≡ callback_of self.old }
         ensures refused { IfErr result
             (IsRefusedWith (read_under R.answer self.old (cow_str_bytes name.entry) (cow_str_bytes source.entry))) }
         ensures plain { IsPlain (read_under R.answer self.old (cow_str_bytes name.entry) (cow_str_bytes source.entry)) →
             IfErr result IsRefusedForRoom }
+        ensures stays { OnErr result (Changes (changes.refused (cow_str_bytes name.entry)
+            (read_under R.answer self.old (cow_str_bytes name.entry) (cow_str_bytes source.entry))) self.old self.new) }
         ensures unchanged { OnErr result (IsUnchanged self.old self.new) }
     {
         let alloc = self.registry.alloc;
         let copied = CompiledTemplate::from_owned(alloc, name, source, &self.registry.config)?;
         let ruled = self.ruled(copied);
-        self.registry.templates.insert(alloc, ruled)
+        self.registry.insert(ruled)
     }
 
     // A source compiled under what the environment is set to, as a template of a name.
@@ -242,21 +244,20 @@ impl<'source, R: AutoEscapeRule> Environment<'source, R> {
 
     /// No template stands under the name any more. Takes a look-up among the names.
     pub fn remove_template(&mut self, name: &str)
-        ensures removed { (other : List ℕ) → source_at (registry_of self.new) other
-            ≡ (if bytes_eq name.now other then None else source_at (registry_of self.old) other) }
+        ensures removed { Changes (changes.removed name.now) self.old self.new }
         ensures settings { settings_of (registry_of self.new) ≡ settings_of (registry_of self.old) }
         ensures callback { callback_of self.new ≡ callback_of self.old }
     {
-        self.registry.templates.remove(name);
+        self.registry.remove(name);
     }
 
     /// No template stands any more.
     pub fn clear_templates(&mut self)
-        ensures empty { (name : List ℕ) → source_at (registry_of self.new) name ≡ None }
+        ensures cleared { Changes changes.cleared self.old self.new }
         ensures settings { settings_of (registry_of self.new) ≡ settings_of (registry_of self.old) }
         ensures callback { callback_of self.new ≡ callback_of self.old }
     {
-        self.registry.templates.clear();
+        self.registry.clear();
     }
 
     /// Sets the syntax that templates are read under from now on.
@@ -498,6 +499,7 @@ impl<'source, R: AutoEscapeRule> Environment<'source, R> {
     {
         isolation();
         let template = self.template_from_named_str(name, source)?;
+        template.ends();
         template.render(ids, context)
     }
 

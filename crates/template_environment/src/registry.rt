@@ -1,7 +1,13 @@
 //! What renders see of an environment.
+ghost use Rattle.std.specs.Prelude.{ℕ, List};
+ghost use Rattle.std.specs.Option.{ForSome};
+ghost use Rattle.template_machine_escape.specs.Rule.{IsEscapeOf};
+ghost use Rattle.template_compiled.specs.Standing.{compiled_at};
+
 use std::alloc::Global;
-use template_compiled::{CompiledTemplates, TemplateConfig};
+use template_compiled::{CompiledTemplate, CompiledTemplates, TemplateConfig};
 use template_machine_renders::{Compiled, Rules, Templates};
+use template_values_errors::Error;
 use template_values_modes::UndefinedBehavior;
 
 /// The templates that stand, by name, and what each render keeps to: all of an environment but its own rule of escapes.
@@ -14,6 +20,8 @@ pub struct Registry<'source> {
     pub(crate) fuel: Option<u64>,
     pub(crate) recursion_limit: usize,
     pub(crate) undefined_behavior: UndefinedBehavior,
+    // What stands has the escape of the name that it stands under.
+    ghost escaped: { (name : List ℕ) → ForSome (compiled_at templates name) (λ t. ∥ IsEscapeOf t.source.escapes name t.escape ∥₁) },
 }
 
 impl<'source> Templates for Registry<'source> {
@@ -33,7 +41,39 @@ impl<'source> Templates for Registry<'source> {
 }
 
 impl<'source> Registry<'source> {
-    ghost use Rattle.std.specs.Prelude.{◌≡◌};
+    ghost use Rattle.std.specs.Prelude.{◌≡◌, None, Some, OnOk, OnErr, IfErr, bytes_eq, if◌then◌else◌};
+    ghost use Rattle.template_values_errors.specs.Memory.{NoMemory};
+    ghost use Rattle.template_compiled.specs.Compiled.{IsFaithful};
+    ghost use Rattle.template_environment.specs.Standing.{settings_of};
+
+    // The template goes in the place of one that stands under its name.
+    pub(crate) fn insert(&mut self, template: CompiledTemplate<'source>) -> Result<(), Error>
+        requires { IsFaithful template }
+        ensures stands { OnOk result ((name : List ℕ) → compiled_at self.new.templates name
+            ≡ (if bytes_eq template.entry.name name then Some template.entry else compiled_at self.old.templates name)) }
+        ensures unchanged { OnErr result ((name : List ℕ) → compiled_at self.new.templates name ≡ compiled_at self.old.templates name) }
+        ensures refused { IfErr result NoMemory }
+        ensures settings { settings_of self.new ≡ settings_of self.old }
+    {
+        self.templates.insert(self.alloc, template)
+    }
+
+    // No template stands under the name any more.
+    pub(crate) fn remove(&mut self, name: &str)
+        ensures removed { (other : List ℕ) → compiled_at self.new.templates other
+            ≡ (if bytes_eq name.now other then None else compiled_at self.old.templates other) }
+        ensures settings { settings_of self.new ≡ settings_of self.old }
+    {
+        self.templates.remove(name);
+    }
+
+    // No template stands any more.
+    pub(crate) fn clear(&mut self)
+        ensures cleared { (name : List ℕ) → compiled_at self.new.templates name ≡ None }
+        ensures settings { settings_of self.new ≡ settings_of self.old }
+    {
+        self.templates.clear();
+    }
 
     // What its renders keep to.
     pub(crate) fn rules(&self) -> Rules

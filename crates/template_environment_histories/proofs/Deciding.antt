@@ -96,7 +96,7 @@ leads_from at (refused other source) old same new is leads = λ name. leads name
 leads_from at (removed other) old same new is leads = λ name. leads name ∙ ap (λ o. cond (bytes_eq other name) None o) (is name)
 leads_from at cleared old same new is leads = leads
 
-leads_through_from : {E S : Type 0} (at : E → List ℕ → Option S) (changes : List (Change S)) (old same new : E)
+pub leads_through_from : {E S : Type 0} (at : E → List ℕ → Option S) (changes : List (Change S)) (old same new : E)
     → ((name : List ℕ) → at old name ≡ at same name) → LeadsThrough at changes old new → LeadsThrough at changes same new
 leads_through_from at [] old same new is leads = λ name. leads name ∙ is name
 leads_through_from at (change ∷ changes) old same new is leads = (leads.0, leads_from at change old same leads.0 is leads.1, leads.2)

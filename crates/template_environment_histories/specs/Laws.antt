@@ -33,3 +33,8 @@ AgreeingComeToTheSame E S = (at : E → List ℕ → Option S) (changes others :
     → LeadsThrough at changes old new → LeadsThrough at others other_old other_new
     → ((name : List ℕ) → AgreeOn name changes others (at old name) (at other_old name))
     → (name : List ℕ) → at new name ≡ at other_new name
+
+-- What leads from an environment leads from every other where the same stands: from one behind a call that sets something else.
+abbrev pub OnlyStandingMatters : Type 0 → Type 0 → Type 0
+OnlyStandingMatters E S = (at : E → List ℕ → Option S) (changes : List (Change S)) (old same new : E)
+    → ((name : List ℕ) → at old name ≡ at same name) → LeadsThrough at changes old new → LeadsThrough at changes same new

@@ -3,7 +3,7 @@
 //! of its call tells. The functions do nothing: each stands for the law in its contract.
 #![tactic(auto)]
 
-ghost use Rattle.template_environment_histories.specs.Laws.{AgreeingComeToTheSame, LastDecides, RefusedMakeNoDifference, TouchesOrNot, UntouchedStays};
+ghost use Rattle.template_environment_histories.specs.Laws.{AgreeingComeToTheSame, LastDecides, OnlyStandingMatters, RefusedMakeNoDifference, TouchesOrNot, UntouchedStays};
 
 /// What stands under a name after any changes is what the last one that touches it says: the source that was added, or
 /// none where it was removed or all were; or what stood there before, where none touches it. There is no third case.
@@ -21,4 +21,10 @@ pub fn refused_make_no_difference<E, S>()
 /// Histories that agree on each name come to environments where the same stands under each name.
 pub fn agreeing_come_to_the_same<E, S>()
     ensures { AgreeingComeToTheSame E S }
+{}
+
+/// What stands is all that matters to a history: one that leads from an environment leads from every other where the same
+/// stands. So calls between its changes that set something else make no difference.
+pub fn only_what_stands_matters<E, S>()
+    ensures { OnlyStandingMatters E S }
 {}

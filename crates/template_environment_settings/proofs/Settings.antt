@@ -1,0 +1,89 @@
+-- The setting that sources decide.
+use Rattle.std.proofs.Common.{◌≡◌, ℕ, zero, suc, List, Option, None, Some, refl, sym, ap, subst, ◌∙◌}
+use Rattle.std.proofs.Math.Logic.{∥∥₁_elim}
+use Rattle.std.proofs.Math.Nat.{ℕ_set}
+use Rattle.std.specs.Option.{option_map}
+use Rattle.template_values_modes.specs.declared.AutoEscape.{AutoEscape}
+use Rattle.template_values_modes.specs.declared.AutoEscape.TheVariants as escapes
+use Rattle.template_machine_escape.specs.Rule.{IsEscapeOf}
+use Rattle.template_machine_escape.specs.declared.EscapeRule.{EscapeRule}
+use Rattle.template_machine_escape.proofs.OneRule.{one_escape}
+use Rattle.template_machine_meaning.specs.Meaning.{rendered}
+use Rattle.template_compiled.specs.Compiled.{Compiled, standing_of}
+use Rattle.template_compiled.specs.Sources.{Source, tree_in}
+use Rattle.template_compiled.specs.Standing.{compiled_at}
+use Rattle.template_environment_settings.specs.Alike.{AlikeHaveOneSetting, AlikeRenderTheSame}
+
+none_some : {X : Type 0} {x : X} → None ≡ Some x → ⊥
+none_some at = cc
+
+some_none : {X : Type 0} {x : X} → Some x ≡ None → ⊥
+some_none at = cc
+
+some_is : {X : Type 0} {x y : X} → Some x ≡ Some y → x ≡ y
+some_is at = cc
+
+-- escapes by numbers, which are the same in one way alone
+abbrev number_of : AutoEscape → ℕ
+number_of escapes.None = 0
+number_of escapes.Html = 1
+number_of escapes.Json = 2
+number_of (escapes.Custom n) = suc (suc (suc n))
+
+abbrev numbered : ℕ → AutoEscape
+numbered zero = escapes.None
+numbered (suc zero) = escapes.Html
+numbered (suc (suc zero)) = escapes.Json
+numbered (suc (suc (suc n))) = escapes.Custom n
+
+back : (escape : AutoEscape) → numbered (number_of escape) ≡ escape
+back escapes.None = refl
+back escapes.Html = refl
+back escapes.Json = refl
+back (escapes.Custom n) = refl
+
+-- a name has one escape under a rule, however that is known
+one_known : (rule : EscapeRule) (name : List ℕ) (escape other : AutoEscape) → ∥ IsEscapeOf rule name escape ∥₁ → ∥ IsEscapeOf rule name other ∥₁
+    → escape ≡ other
+one_known rule name escape other left right =
+    let same : number_of escape ≡ number_of other =
+    ∥∥₁_elim left (ℕ_set (number_of escape) (number_of other)) (λ l. ∥∥₁_elim right (ℕ_set (number_of escape) (number_of other))
+    (λ r. ap number_of (one_escape rule name escape other l r))) in
+    sym (back escape) ∙ ap numbered same ∙ back other
+
+-- the escape of a name, under the rule of one source
+same_escape : (name other : List ℕ) (source read : Source) (escape found : AutoEscape) → name ≡ other → source ≡ read
+    → ∥ IsEscapeOf source.escapes name escape ∥₁ → ∥ IsEscapeOf read.escapes other found ∥₁ → escape ≡ found
+same_escape name other source read escape found named is left right =
+    let moved : ∥ IsEscapeOf read.escapes name escape ∥₁ = subst (λ (s : Source). ∥ IsEscapeOf s.escapes name escape ∥₁) is left in
+    one_known read.escapes other escape found (subst (λ (n : List ℕ). ∥ IsEscapeOf read.escapes n escape ∥₁) named moved) right
+
+-- the name and the source decide what a template stands for
+same_standing : (name other : List ℕ) (c d : Compiled) → name ≡ other → c.source ≡ d.source → ∥ IsEscapeOf c.source.escapes name c.escape ∥₁
+    → ∥ IsEscapeOf d.source.escapes other d.escape ∥₁ → standing_of c ≡ standing_of d
+same_standing name other c d named source left right =
+    let escape = same_escape name other c.source d.source c.escape d.escape named source left right in
+    λ i. record { tree = tree_in (source i); escape = escape i }
+
+one_standing : (name : List ℕ) (o p : Option Compiled) → option_map (λ c. c.source) o ≡ option_map (λ c. c.source) p
+    → ((c : Compiled) → o ≡ Some c → ∥ IsEscapeOf c.source.escapes name c.escape ∥₁)
+    → ((c : Compiled) → p ≡ Some c → ∥ IsEscapeOf c.source.escapes name c.escape ∥₁) → option_map standing_of o ≡ option_map standing_of p
+one_standing name None None same left right = refl
+one_standing name None (Some d) same left right = absurd (none_some same)
+one_standing name (Some c) None same left right = absurd (some_none same)
+one_standing name (Some c) (Some d) same left right =
+    ap Some (same_standing name name c d refl (some_is same) (left c refl) (right d refl))
+
+pub one_setting : AlikeHaveOneSetting
+one_setting e other alike = λ i. record {
+  templates = λ name. one_standing name (compiled_at e.templates name) (compiled_at other.templates name) (alike.sources name)
+      (e.escaped name) (other.escaped name) i;
+  limit = alike.limit i;
+  undefined = alike.undefined i;
+}
+
+pub same_renders : AlikeRenderTheSame
+same_renders e other alike c d one n context =
+    let setting = one_setting e other alike in
+    let standing = same_standing c.name d.name c d one.name one.source ∣ one.escape ∣₁ ∣ one.other_escape ∣₁ in
+    λ i. rendered (setting i) n (standing i) context

@@ -1,0 +1,36 @@
+-- Histories of environments that agree on each name.
+use Rattle.std.specs.Prelude.{◌≡◌, ℕ, List}
+use Rattle.template_compiled.specs.Sources.{Source}
+use Rattle.template_environment_histories.specs.Histories.{Change, LeadsThrough}
+use Rattle.template_environment_histories.specs.Laws.{AgreeOn}
+use Rattle.template_environment.specs.Reading.{registry_of}
+use Rattle.template_environment.specs.Standing.{setting_of, settings_of, source_at}
+use Rattle.template_environment.specs.declared.environment.Environment.{Environment}
+use Rattle.template_environment_settings.specs.Alike.{RenderTheSame}
+
+-- Changes lead from the one environment to the other: each is a call's, as its contract tells.
+abbrev pub ChangesLead : {R : Type 0} → List (Change Source) → Environment R → Environment R → Type 0
+ChangesLead changes old new = LeadsThrough (λ e. source_at (registry_of e)) changes old new
+
+-- Two histories, from one environment to another each, that agree on each name: the last change that touches it says the same in
+-- both; or none touches it in either, and the same stood there before. Behind them both environments keep to the same limit and
+-- let undefined values do the same.
+pub record AgreeingHistories {R : Type 0} (old new other_old other_new : Environment R) : Type 0 where
+  pub changes : List (Change Source)
+  pub others : List (Change Source)
+  pub lead : ChangesLead changes old new
+  pub others_lead : ChangesLead others other_old other_new
+  pub agree : (name : List ℕ)
+      → AgreeOn name changes others (source_at (registry_of old) name) (source_at (registry_of other_old) name)
+  pub limit : (settings_of (registry_of new)).limit ≡ (settings_of (registry_of other_new)).limit
+  pub undefined : (settings_of (registry_of new)).undefined ≡ (settings_of (registry_of other_new)).undefined
+
+-- They come to one setting,
+abbrev pub AgreeingComeToOneSetting : Type 0 → Type 0
+AgreeingComeToOneSetting R = (old new other_old other_new : Environment R) → AgreeingHistories old new other_old other_new
+    → setting_of (registry_of new) ≡ setting_of (registry_of other_new)
+
+-- so each template renders to the same behind them.
+abbrev pub AgreeingRenderTheSame : Type 0 → Type 0
+AgreeingRenderTheSame R = (old new other_old other_new : Environment R) → AgreeingHistories old new other_old other_new
+    → RenderTheSame (registry_of new) (registry_of other_new)

@@ -1,0 +1,21 @@
+//! The laws of what an environment is for its renders: the sources that stand under names, the limit and what undefined
+//! values may do are all that they see of it. So histories of changes that agree on each name come to environments where
+//! each template renders to the same. The functions do nothing: each stands for the law in its contract.
+#![tactic(auto)]
+
+ghost use Rattle.template_environment_settings.specs.Alike.{AlikeHaveOneSetting, AlikeRenderTheSame};
+ghost use Rattle.template_environment_settings.specs.Histories.{AgreeingComeToOneSetting, AgreeingRenderTheSame};
+
+/// Environments where the same sources stand under the names, and that keep to the same limit and let undefined values do
+/// the same, give their renders one setting. So a template of one name and one source renders to the same in both, under
+/// every bound and over every context.
+pub fn one_setting()
+    ensures setting { AlikeHaveOneSetting }
+    ensures renders { AlikeRenderTheSame }
+{}
+
+/// So do environments, with rules of escapes `R` of their own, that histories of changes come to which agree on each name.
+pub fn agreeing_histories<R>()
+    ensures setting { AgreeingComeToOneSetting R }
+    ensures renders { AgreeingRenderTheSame R }
+{}

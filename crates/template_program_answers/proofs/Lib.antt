@@ -1,0 +1,6 @@
+pub mod Contexts
+pub mod Refusals
+pub mod Told
+pub mod Renders
+pub mod Settings
+pub mod Answers

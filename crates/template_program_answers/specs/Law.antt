@@ -1,0 +1,72 @@
+-- That a request has one answer.
+use Rattle.std.specs.Prelude.{◌≡◌, ℕ, ◌+◌, ◌⊎◌, List, [], ◌∷◌, Option}
+use Rattle.std.specs.Io.KnownBytes.{Appends}
+use Rattle.template_values_errors.specs.declared.ErrorKind.{ErrorKind}
+use Rattle.template_values_errors.specs.Memory.{NoMemory}
+use Rattle.template_environment.specs.Outcomes.{IsWant}
+use Rattle.template_environment.specs.Plain.{IsRefusedForRoom}
+use Rattle.template_environment.specs.Sources.{IsAccepted, IsRefusedWith}
+use Rattle.template_program_run.specs.Answers.{AnswersRequest}
+use Rattle.template_program_run.specs.History.{source_for}
+use Rattle.template_program_run.specs.Ids.{IsLastId}
+use Rattle.template_program_run.specs.declared.outcome.Outcome.{Outcome}
+use Rattle.template_program_run.specs.declared.outcome.Outcome.TheVariants.{Done, Render, Context, Template}
+use Rattle.template_program_run.specs.declared.request.Request.{Request}
+
+-- an answer: how the request ended, with the state id that was next, what the sink had taken before and after, and how often
+-- it had failed before and after
+pub record Answer : Type 0 where
+  pub next : ℕ
+  pub outcome : Outcome
+  pub before : Option (List ℕ)
+  pub after : Option (List ℕ)
+  pub failed : ℕ
+  pub fails : ℕ
+
+-- it is one to the request, with these templates and this context
+abbrev pub IsAnswerTo : Request → List (List ℕ × List ℕ) → Option (List ℕ) → Answer → Type 0
+IsAnswerTo request additions json a = AnswersRequest request additions json a.next a.outcome a.before a.after a.failed a.fails
+
+-- the outcome tells a want: of memory, of a sink that works, or of room for a source or its code
+abbrev pub TellsWant : Outcome → Type 0
+TellsWant Done = ⊥
+TellsWant (Render kinds) = IsWant kinds
+TellsWant (Context kinds) = NoMemory kinds
+TellsWant (Template kinds) = IsRefusedForRoom kinds
+
+-- nothing was wanted, and two state ids were left
+pub record IsUnwanting (a : Answer) : Type 0 where
+  pub unwanted : ¬ TellsWant a.outcome
+  pub first_id : ¬ IsLastId a.next
+  pub second_id : ¬ IsLastId (a.next + 1)
+
+-- the first source that is not accepted is refused with the first kinds, and with the others
+abbrev pub RefuseTheSame : List (List ℕ × List ℕ) → List ErrorKind → List ErrorKind → Type 0
+RefuseTheSame [] kinds others = ⊥
+RefuseTheSame (addition ∷ later) kinds others =
+    (IsRefusedWith (source_for addition.1) kinds × IsRefusedWith (source_for addition.1) others)
+    ⊎ (IsAccepted (source_for addition.1) × RefuseTheSame later kinds others)
+
+-- the answers end with the same outcome; or both tell that the same template is refused
+abbrev pub EndAlike : List (List ℕ × List ℕ) → Answer → Answer → Type 0
+EndAlike additions a b = (a.outcome ≡ b.outcome)
+    ⊎ ((kinds : List ErrorKind) × (others : List ErrorKind)
+    × (a.outcome ≡ Template kinds) × (b.outcome ≡ Template others) × RefuseTheSame additions kinds others)
+
+-- both write this text, and count no failure
+pub record WriteBoth (a b : Answer) (text : List ℕ) : Type 0 where
+  pub first : Appends a.before a.after text
+  pub second : Appends b.before b.after text
+  pub quiet : a.fails ≡ a.failed
+  pub quiet_too : b.fails ≡ b.failed
+
+-- they end alike, and there is one text that both write
+pub record AreAlike (additions : List (List ℕ × List ℕ)) (a b : Answer) : Type 0 where
+  pub end : EndAlike additions a b
+  pub write : (text : List ℕ) × WriteBoth a b text
+
+-- Two answers to one request, with the same templates and context, are alike, where nothing is wanted.
+abbrev pub OneAnswer : Type 0
+OneAnswer = (request : Request) (additions : List (List ℕ × List ℕ)) (json : Option (List ℕ)) (a b : Answer)
+    → IsAnswerTo request additions json a → IsAnswerTo request additions json b → IsUnwanting a → IsUnwanting b
+    → AreAlike additions a b

@@ -1,0 +1,17 @@
+//! The law that a request has one answer, where nothing is wanted: what `run` tells and writes is decided by the request,
+//! the templates and the context. The function does nothing: it stands for the law in its contract.
+#![tactic(auto)]
+
+ghost use Rattle.template_program_answers.specs.Law.{OneAnswer};
+
+use template_machine_isolation::isolation;
+
+/// Two answers to one request with the same templates and the same context, as the contract of `run` tells them, end
+/// alike and write the same bytes, where neither wants anything: memory, a sink that works, room for a source or its code,
+/// or a state id. They may differ in one thing: where a template is refused, each tells a fault that stands in the first
+/// template that is not accepted, and it need not be the same one.
+pub fn one_answer()
+    ensures { OneAnswer }
+{
+    isolation();
+}
