@@ -21,8 +21,8 @@ use template_values_numbers::product;
 /// # Errors
 ///
 /// [`ErrorKind::InvalidOperation`] at other operands, where the product is out of range, the
-/// number is negative, or the result would have more than [`REPEATED_TEXT_LIMIT`] bytes or [`REPEATED_LIST_LIMIT`] items, which is
-/// refused before memory is taken; [`ErrorKind::OutOfMemory`].
+/// number is negative, or the result would have more than [`REPEATED_TEXT_LIMIT`] bytes or [`REPEATED_LIST_LIMIT`] items, and then
+/// that kind alone; else [`ErrorKind::OutOfMemory`].
 ///
 /// [`ErrorKind::InvalidOperation`]: template_values_errors::ErrorKind::InvalidOperation
 /// [`ErrorKind::OutOfMemory`]: template_values_errors::ErrorKind::OutOfMemory

@@ -16,8 +16,8 @@ use template_values_model::DEPTH_LIMIT;
 use template_values_numbers::sum;
 
 /// `left + right`: the sum of two numbers, the plain text of two texts, the list of the items of
-/// two lists or tuples. Linear in the size of the result. What is refused is refused before memory
-/// is taken.
+/// two lists or tuples. Linear in the size of the result. What is refused is told by its kind alone,
+/// never as want of memory.
 ///
 /// # Errors
 ///

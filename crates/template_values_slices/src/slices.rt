@@ -20,8 +20,8 @@ use template_values_operators::refusal;
 
 /// The slice `value[start:stop:step]` by Python's index rule: of a list or tuple a list, of bytes
 /// bytes, of a text its characters, and of none and undefined an empty list. The bounds and the
-/// step are numbers or none. Linear in the size of the value. What is refused is refused before memory
-/// is taken.
+/// step are numbers or none. Linear in the size of the value. What is refused is told by its kind alone,
+/// never as want of memory.
 ///
 /// # Errors
 ///
