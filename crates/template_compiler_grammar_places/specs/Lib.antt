@@ -1,0 +1,4 @@
+pub mod Nodes
+pub mod Expressions
+pub mod Parts
+pub mod Statements

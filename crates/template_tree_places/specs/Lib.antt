@@ -1,0 +1,4 @@
+pub mod Places
+pub mod Tokens
+pub mod Expressions
+pub mod Statements
