@@ -2,6 +2,8 @@
 use Rattle.std.proofs.Common.{◌≡◌, ℕ, List, [], ◌∷◌, inl, inr, refl, sym, subst, ◌∙◌}
 use Rattle.template_values_errors.specs.declared.ErrorKind.{ErrorKind}
 use Rattle.template_tree.specs.Tree.{template}
+use Rattle.template_code.specs.Code.{Code}
+use Rattle.template_code.specs.Listing.{TakesNoMore}
 use Rattle.template_walk.specs.Runnable.{IsRunnableTemplate}
 use Rattle.template_compiler_segments.specs.Flat.{plain_tokens}
 use Rattle.template_compiler_segments.proofs.Theorems.{plain_text}
@@ -45,3 +47,8 @@ pub plain_room : {kinds : List ErrorKind} (source : Source) (y : Syntax) → y �
     → RefusesSource y source.text kinds → NoRoom kinds
 plain_room {kinds} source y same usable plain refused =
     (plain_stands source usable plain).refused kinds (inl (subst (λ (z : Syntax). RefusesSource z source.text kinds) same refused))
+
+-- code that takes no further instruction has no room
+pub no_room : (code : List Code) {kinds : List ErrorKind} → TakesNoMore code kinds → NoRoom kinds
+no_room code (inl full) = inl full.1
+no_room code (inr want) = inr want

@@ -1,10 +1,11 @@
-use Rattle.std.proofs.Common.{List, inl, inr, ap, sym, subst}
+use Rattle.std.proofs.Common.{List, ap, sym, subst, rules}
 use Rattle.template_code.specs.Code.{Code}
 use Rattle.template_code_shapes.specs.Streams.{IsGood}
 use Rattle.template_code_shapes.specs.declared.StreamKind.TheVariants.{Expression as ExpressionStream}
 use Rattle.template_compiler_generator.specs.Drafts.{Draft}
 use Rattle.template_compiler_generator.specs.View.{draft_of}
 use Rattle.template_tree.specs.View.{expression_of}
+use Rattle.template_compiler_verified.proofs.Whole.{no_room}
 use Rattle.template_compiler_verified.proofs.verified_expression.Goals as goal
 
 pub accepted-requires : goal.accepted-requires
@@ -15,4 +16,6 @@ accepted-requires c =
     (ExpressionStream, subst P (sym c.finish.ensures.code) good)
 
 pub returns-in_err-compile_expr-clause-refused : goal.returns-in_err-compile_expr-clause-refused
-returns-in_err-compile_expr-clause-refused c = elim c.in_err-compile_expr.ensures.refused [ inl full ↦ inl full.1 | inr want ↦ inr want ]
+returns-in_err-compile_expr-clause-refused c =
+    let room = no_room _ c.in_err-compile_expr.ensures.refused in
+    search rules

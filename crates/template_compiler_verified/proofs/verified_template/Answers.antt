@@ -1,4 +1,4 @@
-use Rattle.std.proofs.Common.{List, inl, inr, ap, sym, subst}
+use Rattle.std.proofs.Common.{List, ap, sym, subst, rules}
 use Rattle.template_code.specs.Code.{Code}
 use Rattle.template_code.specs.Listing.{code_in}
 use Rattle.template_code_shapes.specs.Streams.{IsGood}
@@ -7,7 +7,7 @@ use Rattle.template_compiler_generator.specs.Drafts.{Draft}
 use Rattle.template_compiler_generator.specs.View.{draft_of}
 use Rattle.template_compiler_statement_codegen.specs.Listed.{body_in}
 use Rattle.template_tree.specs.StatementView.{statement_of}
-use Rattle.template_compiler_verified.proofs.Whole.{runnable_body, told_template}
+use Rattle.template_compiler_verified.proofs.Whole.{no_room, runnable_body, told_template}
 use Rattle.template_compiler_verified.proofs.verified_template.Goals as goal
 
 pub accepted-requires : goal.accepted-requires
@@ -27,4 +27,6 @@ returns-clause-kind c =
     told_template c.accepted.result (code_in c.finish.result) (subst P (sym c.finish.ensures.code) good) c.accepted.ensures.first
 
 pub returns-in_err-compile_stmt-clause-refused : goal.returns-in_err-compile_stmt-clause-refused
-returns-in_err-compile_stmt-clause-refused c = elim c.in_err-compile_stmt.ensures.refused [ inl full ↦ inl full.1 | inr want ↦ inr want ]
+returns-in_err-compile_stmt-clause-refused c =
+    let room = no_room _ c.in_err-compile_stmt.ensures.refused in
+    search rules

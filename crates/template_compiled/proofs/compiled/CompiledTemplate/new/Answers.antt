@@ -7,7 +7,7 @@ use Rattle.template_compiler_sources.specs.Source.{IsSource}
 use Rattle.template_compiler_syntax.specs.Syntax.{Syntax}
 use Rattle.template_compiled.specs.Sources.{read_by}
 use Rattle.template_compiled.proofs.Accepting.{kept, unsupported}
-use Rattle.template_compiled.proofs.Plain.{plain_room}
+use Rattle.template_compiled.proofs.Plain.{no_room, plain_room}
 use Rattle.template_compiled.proofs.compiled.CompiledTemplate.new.Goals as goal
 
 pub returns-then-not-is_runnable-clause-refused : goal.returns-then-not-is_runnable-clause-refused
@@ -32,11 +32,13 @@ returns-in_err-tree-clause-plain c = λ plain.
 
 pub returns-in_err-compile_template-clause-refused : goal.returns-in_err-compile_template-clause-refused
 returns-in_err-compile_template-clause-refused c =
-    inr (inr (elim c.in_err-compile_template.ensures.refused [ inl full ↦ inl full.1 | inr want ↦ inr want ]))
+    let room = no_room _ c.in_err-compile_template.ensures.refused in
+    search rules
 
 pub returns-in_err-compile_template-clause-plain : goal.returns-in_err-compile_template-clause-plain
 returns-in_err-compile_template-clause-plain c = λ plain.
-    elim c.in_err-compile_template.ensures.refused [ inl full ↦ inl full.1 | inr want ↦ inr want ]
+    let room = no_room _ c.in_err-compile_template.ensures.refused in
+    search rules
 
 pub invariant_of-result : goal.invariant_of-result
 invariant_of-result c =

@@ -1,8 +1,9 @@
-use Rattle.std.proofs.Common.{◌≡◌, true, List, ◌++◌, length, inl, inr, ap, ◌∙◌, rules}
+use Rattle.std.proofs.Common.{◌≡◌, true, List, ◌++◌, length, ap, ◌∙◌, rules}
 use Rattle.template_tree.specs.View.{expression_of}
 use Rattle.template_code.specs.Code.{Code}
 use Rattle.template_compiler_codegen.specs.Expressions.{expression_code}
 use Rattle.template_compiled.proofs.Alone.{kept_alone}
+use Rattle.template_compiled.proofs.Plain.{no_room}
 use Rattle.template_compiled.proofs.expression.CompiledExpression.new.Goals as goal
 
 pub invariant_of-result : goal.invariant_of-result
@@ -25,4 +26,5 @@ returns-clause-faithful c =
 
 pub returns-in_err-compile_expr-clause-refused : goal.returns-in_err-compile_expr-clause-refused
 returns-in_err-compile_expr-clause-refused c =
-    inr (inr (elim c.in_err-compile_expr.ensures.refused [ inl full ↦ inl full.1 | inr want ↦ inr want ]))
+    let room = no_room _ c.in_err-compile_expr.ensures.refused in
+    search rules
