@@ -22,7 +22,7 @@ pub fn read_break<'source>(
     in_loop: bool,
     span: Span,
 ) -> Result<Stmt<'source>, Refusal>
-    ensures { ParsedAs statement_of (if in_loop then tag_end break_loop tokens.old else Err bad_syntax) tokens.new result }
+    ensures { ParsedAs statement_of (if in_loop then tag_end break_loop tokens.old.left else Err bad_syntax) tokens.new.left result }
 {
     if !in_loop {
         return Err(Refusal::Token(Fault::Syntax));
@@ -42,7 +42,7 @@ pub fn read_continue<'source>(
     in_loop: bool,
     span: Span,
 ) -> Result<Stmt<'source>, Refusal>
-    ensures { ParsedAs statement_of (if in_loop then tag_end continue_loop tokens.old else Err bad_syntax) tokens.new result }
+    ensures { ParsedAs statement_of (if in_loop then tag_end continue_loop tokens.old.left else Err bad_syntax) tokens.new.left result }
 {
     if !in_loop {
         return Err(Refusal::Token(Fault::Syntax));

@@ -25,7 +25,7 @@ pub fn read_import<'source>(
     left: u32,
     span: Span,
 ) -> Result<Stmt<'source>, Refusal>
-    ensures { ParsedAs statement_of (import_statement_by (here left) tokens.old) tokens.new result }
+    ensures { ParsedAs statement_of (import_statement_by (here left) tokens.old.left) tokens.new.left result }
 {
     let expr = read_expression(alloc, tokens, left)?;
     expect_word(tokens, "as")?;
@@ -47,7 +47,7 @@ pub fn read_from<'source>(
     left: u32,
     span: Span,
 ) -> Result<Stmt<'source>, Refusal>
-    ensures { ParsedAs statement_of (from_by (here left) tokens.old) tokens.new result }
+    ensures { ParsedAs statement_of (from_by (here left) tokens.old.left) tokens.new.left result }
 {
     let expr = read_expression(alloc, tokens, left)?;
     expect_word(tokens, "import")?;
@@ -69,7 +69,7 @@ pub fn read_extends<'source>(
     left: u32,
     span: Span,
 ) -> Result<Stmt<'source>, Refusal>
-    ensures { ParsedAs statement_of (extends_by (here left) tokens.old) tokens.new result }
+    ensures { ParsedAs statement_of (extends_by (here left) tokens.old.left) tokens.new.left result }
 {
     let name = read_expression(alloc, tokens, left)?;
     expect_tag_end(tokens)?;
@@ -88,7 +88,7 @@ pub fn read_include<'source>(
     left: u32,
     span: Span,
 ) -> Result<Stmt<'source>, Refusal>
-    ensures { ParsedAs statement_of (include_by (here left) tokens.old) tokens.new result }
+    ensures { ParsedAs statement_of (include_by (here left) tokens.old.left) tokens.new.left result }
 {
     let name = read_expression(alloc, tokens, left)?;
     let ignore_missing = read_missing(tokens)?;

@@ -31,7 +31,8 @@ pub fn read_print<'source>(
     left: u32,
     span: Span,
 ) -> Result<Stmt<'source>, Refusal>
-    ensures { ParsedAs statement_of (and_then (expression_at left tokens.old) (λ e us. print_end (print e) us)) tokens.new result }
+    ensures { ParsedAs statement_of (and_then (expression_at left tokens.old.left) (λ e us. print_end (print e) us))
+        tokens.new.left result }
 {
     let expr = read_expression(alloc, tokens, left)?;
     expect_print_end(tokens)?;
@@ -51,7 +52,7 @@ pub fn read_set<'source>(
     first: Expr<'source>,
     span: Span,
 ) -> Result<Stmt<'source>, Refusal>
-    ensures { ParsedAs statement_of (set_targets (here left) (expression_of first.entry) tokens.old) tokens.new result }
+    ensures { ParsedAs statement_of (set_targets (here left) (expression_of first.entry) tokens.old.left) tokens.new.left result }
 {
     let target = read_more_targets(alloc, tokens, left, true, first)?;
     expect_assign(tokens)?;
@@ -66,7 +67,7 @@ fn read_set_value<'source>(
     target: Expr<'source>,
     span: Span,
 ) -> Result<Stmt<'source>, Refusal>
-    ensures { ParsedAs statement_of (set_values (here left) (expression_of target.entry) tokens.old) tokens.new result }
+    ensures { ParsedAs statement_of (set_values (here left) (expression_of target.entry) tokens.old.left) tokens.new.left result }
 {
     let value = read_values(alloc, tokens, left)?;
     expect_tag_end(tokens)?;
@@ -85,7 +86,7 @@ pub fn read_do<'source>(
     left: u32,
     span: Span,
 ) -> Result<Stmt<'source>, Refusal>
-    ensures { ParsedAs statement_of (do_by (here left) tokens.old) tokens.new result }
+    ensures { ParsedAs statement_of (do_by (here left) tokens.old.left) tokens.new.left result }
 {
     let expr = read_expression(alloc, tokens, left)?;
     match expr.into_call() {

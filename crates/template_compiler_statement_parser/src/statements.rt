@@ -43,7 +43,7 @@ fn body<'source>(
     left: u32,
     around: Around,
 ) -> Result<Vec<Stmt<'source>>, Refusal>
-    ensures { ParsedBody (deeper_body left (around_of around) tokens.old) tokens.new result }
+    ensures { ParsedBody (deeper_body left (around_of around) tokens.old.left) tokens.new.left result }
 {
     if left == 0 {
         Err(Refusal::Token(Fault::Syntax))
@@ -65,7 +65,7 @@ pub fn read_statements<'source>(
     left: u32,
     around: Around,
 ) -> Result<Vec<Stmt<'source>>, Refusal>
-    ensures { ParsedBody (statements_at left (around_of around) tokens.old) tokens.new result }
+    ensures { ParsedBody (statements_at left (around_of around) tokens.old.left) tokens.new.left result }
 {
     let mut statements = Vec::new(alloc);
     loop {
@@ -87,8 +87,8 @@ fn next_statement<'source>(
     around: Around,
     statements: &mut Vec<Stmt<'source>>,
 ) -> Result<bool, Refusal>
-    ensures { SteppedTo (statement_step (here left) (around_of around) (statements_in statements.old.items) tokens.old)
-        (statements_in statements.old.items) tokens.old (statements_in statements.new.items) tokens.new result }
+    ensures { SteppedTo (statement_step (here left) (around_of around) (statements_in statements.old.items) tokens.old.left)
+        (statements_in statements.old.items) tokens.old.left (statements_in statements.new.items) tokens.new.left result }
 {
     let span = tokens.span();
     if let Some(text) = tokens.text() {
@@ -119,8 +119,8 @@ fn next_tag<'source>(
     word: &str,
 ) -> Result<bool, Refusal>
     ensures { SteppedTo (opened_step (here left) (around_of around) (statements_in statements.old.items) (opening word.now)
-        (passed (passed tokens.old)))
-        (statements_in statements.old.items) tokens.old (statements_in statements.new.items) tokens.new result }
+        (passed (passed tokens.old.left)))
+        (statements_in statements.old.items) tokens.old.left (statements_in statements.new.items) tokens.new.left result }
 {
     match opening_named(word) {
         Some(opening) => {
@@ -145,7 +145,7 @@ fn opened<'source>(
     opening: Opening,
     span: Span,
 ) -> Result<Stmt<'source>, Refusal>
-    ensures { ParsedStatement (opened_by (here left) (around_of around) (opening_of opening) tokens.old) tokens.new result }
+    ensures { ParsedStatement (opened_by (here left) (around_of around) (opening_of opening) tokens.old.left) tokens.new.left result }
 {
     match opening {
         Opening::For => for_loop(alloc, tokens, left, around, span),
@@ -177,7 +177,7 @@ fn ended_body<'source>(
     around: Around,
     end: &str,
 ) -> Result<Vec<Stmt<'source>>, Refusal>
-    ensures { ParsedBody (and_then (deeper_body left (around_of around) tokens.old) (expect_tag end.now)) tokens.new result }
+    ensures { ParsedBody (and_then (deeper_body left (around_of around) tokens.old.left) (expect_tag end.now)) tokens.new.left result }
 {
     let body = body(alloc, tokens, left, around)?;
     parts::expect_tag(tokens, end)?;
@@ -194,7 +194,7 @@ fn otherwise<'source>(
     around: Around,
     end: &str,
 ) -> Result<Vec<Stmt<'source>>, Refusal>
-    ensures { ParsedBody (else_by (here left) (around_of around) end.now tokens.old) tokens.new result }
+    ensures { ParsedBody (else_by (here left) (around_of around) end.now tokens.old.left) tokens.new.left result }
 {
     if parts::begins_tag(tokens, "else") {
         parts::expect_tag(tokens, "else")?;
@@ -214,7 +214,7 @@ fn for_loop<'source>(
     around: Around,
     span: Span,
 ) -> Result<Stmt<'source>, Refusal>
-    ensures { ParsedStatement (for_by (here left) (around_of around) tokens.old) tokens.new result }
+    ensures { ParsedStatement (for_by (here left) (around_of around) tokens.old.left) tokens.new.left result }
 {
     let target = parts::read_targets(alloc, tokens, left, false)?;
     parts::expect_word(tokens, "in")?;
@@ -232,7 +232,7 @@ fn for_in<'source>(
     target: Expr<'source>,
     span: Span,
 ) -> Result<Stmt<'source>, Refusal>
-    ensures { ParsedStatement (for_in (here left) (around_of around) (expression_of target.entry) tokens.old) tokens.new result }
+    ensures { ParsedStatement (for_in (here left) (around_of around) (expression_of target.entry) tokens.old.left) tokens.new.left result }
 {
     let iter = read_condition(alloc, tokens, left)?;
     let filter = read_loop_filter(alloc, tokens, left)?;
@@ -257,8 +257,8 @@ fn for_body<'source>(
     span: Span,
 ) -> Result<Stmt<'source>, Refusal>
     ensures { ParsedStatement (for_body (here left) (around_of around) (expression_of target.entry) (expression_of iter.entry)
-        (optional_in filter_expr.entry) recursive tokens.old)
-        tokens.new result }
+        (optional_in filter_expr.entry) recursive tokens.old.left)
+        tokens.new.left result }
 {
     parts::expect_tag_end(tokens)?;
     let body = body(alloc, tokens, left, around.within_loop())?;
@@ -283,7 +283,7 @@ fn if_condition<'source>(
     around: Around,
     span: Span,
 ) -> Result<Stmt<'source>, Refusal>
-    ensures { ParsedStatement (if_by (here left) (around_of around) tokens.old) tokens.new result }
+    ensures { ParsedStatement (if_by (here left) (around_of around) tokens.old.left) tokens.new.left result }
 {
     let first = read_branch(alloc, tokens, left, around, span)?;
     let others = branches(alloc, tokens, left, around)?;
@@ -308,7 +308,7 @@ fn read_branch<'source>(
     span: Span,
 ) -> Result<Branch<'source>, Refusal>
     ensures { ParsedAs (λ b. (expression_of b.expr, statements_in b.body.items))
-        (branch_by (here left) (around_of around) tokens.old) tokens.new result }
+        (branch_by (here left) (around_of around) tokens.old.left) tokens.new.left result }
 {
     let expr = read_expression(alloc, tokens, left)?;
     parts::expect_tag_end(tokens)?;
@@ -324,8 +324,8 @@ fn branches<'source>(
     left: u32,
     around: Around,
 ) -> Result<Vec<Branch<'source>>, Refusal>
-    ensures { ParsedAs (λ v. branches_in v.items) (all (branch_step (here left) (around_of around)) no_branches tokens.old)
-        tokens.new result }
+    ensures { ParsedAs (λ v. branches_in v.items) (all (branch_step (here left) (around_of around)) no_branches tokens.old.left)
+        tokens.new.left result }
 {
     let mut branches = Vec::new(alloc);
     loop {
@@ -346,8 +346,8 @@ fn next_branch<'source>(
     around: Around,
     branches: &mut Vec<Branch<'source>>,
 ) -> Result<bool, Refusal>
-    ensures { SteppedTo (branch_step (here left) (around_of around) (branches_in branches.old.items) tokens.old)
-        (branches_in branches.old.items) tokens.old (branches_in branches.new.items) tokens.new result }
+    ensures { SteppedTo (branch_step (here left) (around_of around) (branches_in branches.old.items) tokens.old.left)
+        (branches_in branches.old.items) tokens.old.left (branches_in branches.new.items) tokens.new.left result }
 {
     if parts::begins_tag(tokens, "elif") {
         let span = tokens.span();
@@ -369,7 +369,7 @@ fn with_block<'source>(
     around: Around,
     span: Span,
 ) -> Result<Stmt<'source>, Refusal>
-    ensures { ParsedStatement (with_by (here left) (around_of around) tokens.old) tokens.new result }
+    ensures { ParsedStatement (with_by (here left) (around_of around) tokens.old.left) tokens.new.left result }
 {
     let assignments = read_assignments(alloc, tokens, left)?;
     parts::expect_tag_end(tokens)?;
@@ -387,7 +387,7 @@ fn set<'source>(
     around: Around,
     span: Span,
 ) -> Result<Stmt<'source>, Refusal>
-    ensures { ParsedStatement (set_by (here left) (around_of around) tokens.old) tokens.new result }
+    ensures { ParsedStatement (set_by (here left) (around_of around) tokens.old.left) tokens.new.left result }
 {
     let target = parts::read_target(alloc, tokens, left, true)?;
     if parts::begins_values(tokens) {
@@ -408,7 +408,8 @@ fn set_block<'source>(
     target: Expr<'source>,
     span: Span,
 ) -> Result<Stmt<'source>, Refusal>
-    ensures { ParsedStatement (set_body (here left) (around_of around) (expression_of target.entry) tokens.old) tokens.new result }
+    ensures { ParsedStatement (set_body (here left) (around_of around) (expression_of target.entry) tokens.old.left)
+        tokens.new.left result }
 {
     let filter = read_filter_chain(alloc, tokens, left, None)?;
     parts::expect_tag_end(tokens)?;
@@ -426,7 +427,7 @@ fn auto_escape<'source>(
     around: Around,
     span: Span,
 ) -> Result<Stmt<'source>, Refusal>
-    ensures { ParsedStatement (autoescape_by (here left) (around_of around) tokens.old) tokens.new result }
+    ensures { ParsedStatement (autoescape_by (here left) (around_of around) tokens.old.left) tokens.new.left result }
 {
     let enabled = read_expression(alloc, tokens, left)?;
     parts::expect_tag_end(tokens)?;
@@ -444,7 +445,7 @@ fn filter_block<'source>(
     around: Around,
     span: Span,
 ) -> Result<Stmt<'source>, Refusal>
-    ensures { ParsedStatement (filter_block_by (here left) (around_of around) tokens.old) tokens.new result }
+    ensures { ParsedStatement (filter_block_by (here left) (around_of around) tokens.old.left) tokens.new.left result }
 {
     let first = read_filter(alloc, tokens, left, None)?;
     let filter = read_filter_chain(alloc, tokens, left, Some(first))?;
@@ -463,7 +464,7 @@ fn block<'source>(
     around: Around,
     span: Span,
 ) -> Result<Stmt<'source>, Refusal>
-    ensures { ParsedStatement (block_by (here left) (around_of around) tokens.old) tokens.new result }
+    ensures { ParsedStatement (block_by (here left) (around_of around) tokens.old.left) tokens.new.left result }
 {
     match tokens.word() {
         Some(name) => {
@@ -490,7 +491,7 @@ fn block_behind<'source>(
     required: bool,
     span: Span,
 ) -> Result<Stmt<'source>, Refusal>
-    ensures { ParsedStatement (block_body (here left) (around_of around) name.now required tokens.old) tokens.new result }
+    ensures { ParsedStatement (block_body (here left) (around_of around) name.now required tokens.old.left) tokens.new.left result }
 {
     parts::expect_tag_end(tokens)?;
     let body = body(alloc, tokens, left, around.within_block())?;
@@ -509,7 +510,7 @@ fn macro_block<'source>(
     left: u32,
     span: Span,
 ) -> Result<Stmt<'source>, Refusal>
-    ensures { ParsedStatement (macro_by (here left) tokens.old) tokens.new result }
+    ensures { ParsedStatement (macro_by (here left) tokens.old.left) tokens.new.left result }
 {
     match tokens.word() {
         Some(name) => {
@@ -536,7 +537,7 @@ fn macro_behind<'source>(
     name: &'source str,
     span: Span,
 ) -> Result<Stmt<'source>, Refusal>
-    ensures { ParsedStatement (macro_behind (here left) name.now tokens.old) tokens.new result }
+    ensures { ParsedStatement (macro_behind (here left) name.now tokens.old.left) tokens.new.left result }
 {
     let parameters = read_deeper_parameters(alloc, tokens, left)?;
     parts::expect_tag_end(tokens)?;
@@ -559,7 +560,7 @@ fn call_block<'source>(
     left: u32,
     span: Span,
 ) -> Result<Stmt<'source>, Refusal>
-    ensures { ParsedStatement (call_by (here left) tokens.old) tokens.new result }
+    ensures { ParsedStatement (call_by (here left) tokens.old.left) tokens.new.left result }
 {
     let parameters = read_optional_parameters(alloc, tokens, left)?;
     let expr = read_expression(alloc, tokens, left)?;
@@ -581,7 +582,7 @@ fn call_behind<'source>(
     span: Span,
 ) -> Result<Stmt<'source>, Refusal>
     ensures { ParsedStatement (call_body (here left) (parameters_of parameters.entry) (expression_of call.entry.node.value.expr)
-        (arguments_in call.entry.node.value.args.items) tokens.old) tokens.new result }
+        (arguments_in call.entry.node.value.args.items) tokens.old.left) tokens.new.left result }
 {
     parts::expect_tag_end(tokens)?;
     let body = body(alloc, tokens, left, Around::within_macro())?;

@@ -13,8 +13,8 @@ use Rattle.template_compiler_statement_parser.proofs.statements.+statements.Goal
 
 pub body-returns-else-left-eq0 : goal.body-returns-else-left-eq0
 body-returns-else-left-eq0 t c =
-    subst (λ m. ParsedBody m c.read_statements.new.tokens c.read_statements.result)
-    (sym (body_less c.args.left (c.args.left - 1) (around_of c.args.around) c.args.tokens.now (omega arith))) c.read_statements.ensures
+    subst (λ m. ParsedBody m c.read_statements.new.tokens.left c.read_statements.result)
+    (sym (body_less c.args.left (c.args.left - 1) (around_of c.args.around) c.args.tokens.now.left (omega arith))) c.read_statements.ensures
 
 pub branches-returns-in-Ok-false : goal.branches-returns-in-Ok-false
 branches-returns-in-Ok-false t c =
@@ -57,23 +57,23 @@ read_statements-loop-statements-smaller t c =
 pub next_statement-returns-in-Some-tag_word : goal.next_statement-returns-in-Some-tag_word
 next_statement-returns-in-Some-tag_word t c =
     let ss = statements_in c.args.statements.now.items in
-    subst (λ m. SteppedTo m ss c.args.tokens.now (statements_in c.next_tag.new.statements.items) c.next_tag.new.tokens c.next_tag.result)
-    (sym (tag_here (here c.args.left) (around_of c.args.around) ss c.in-Some-tag_word.word.now c.args.tokens.now c.in-Some-tag_word.ensures))
+    subst (λ m. SteppedTo m ss c.args.tokens.now.left (statements_in c.next_tag.new.statements.items) c.next_tag.new.tokens.left c.next_tag.result)
+    (sym (tag_here (here c.args.left) (around_of c.args.around) ss c.in-Some-tag_word.word.now c.args.tokens.now.left c.in-Some-tag_word.ensures))
     c.next_tag.ensures
 
 pub block-returns-then-around : goal.block-returns-then-around
 block-returns-then-around t c =
-    block_in_macro (here c.args.left) (around_of c.args.around) c.in-Some.name.now c.args.tokens.now c.in-Some.ensures c.if-around.true
+    block_in_macro (here c.args.left) (around_of c.args.around) c.in-Some.name.now c.args.tokens.now.left c.in-Some.ensures c.if-around.true
 
 pub block-returns-else-around : goal.block-returns-else-around
 block-returns-else-around t c =
-    subst (λ m. ParsedStatement m c.block_behind.new.tokens c.block_behind.result)
-    (sym (block_outside (here c.args.left) (around_of c.args.around) c.in-Some.name.now c.read_flag-required.result c.args.tokens.now
-    c.advance.new.self c.read_flag-required.new.tokens c.in-Some.ensures c.if-around.false c.advance.ensures c.read_flag-required.ensures))
+    subst (λ m. ParsedStatement m c.block_behind.new.tokens.left c.block_behind.result)
+    (sym (block_outside (here c.args.left) (around_of c.args.around) c.in-Some.name.now c.read_flag-required.result c.args.tokens.now.left
+    c.advance.new.self.left c.read_flag-required.new.tokens.left c.in-Some.ensures c.if-around.false c.advance.ensures.passed c.read_flag-required.ensures))
     c.block_behind.ensures
 
 pub macro_block-returns-then-is_reserved : goal.macro_block-returns-then-is_reserved
 macro_block-returns-then-is_reserved t c =
-    let stood = skipped paren_open c.advance.new.self c.skip.new.self c.skip.result c.if-not-skip.false c.skip.ensures in
-    macro_reserved (here c.args.left) c.in-Some.name.now c.args.tokens.now c.skip.new.self c.advance.new.self c.in-Some.ensures c.advance.ensures stood
+    let stood = skipped paren_open c.advance.new.self.left c.skip.new.self.left c.skip.result c.if-not-skip.false c.skip.ensures.passed in
+    macro_reserved (here c.args.left) c.in-Some.name.now c.args.tokens.now.left c.skip.new.self.left c.advance.new.self.left c.in-Some.ensures c.advance.ensures.passed stood
     (sym c.is_reserved.ensures ∙ c.if-is_reserved.true)
