@@ -79,7 +79,7 @@ impl Stretch {
         Place {
             line: self.first.line,
             column: self.first.column + (at - self.begin) as u16,
-            offset: at.min(u32::MAX as usize) as u32,
+            offset: self.first.offset.saturating_add((at - self.begin) as u32),
         }
     }
 }

@@ -20,12 +20,12 @@ pub fn is_name_start(byte: u8) -> bool
     byte.is_ascii_alphabetic() || byte == b'_'
 }
 
-/// The byte may stand in a name. Most are small letters, which are asked for first.
+/// The byte may stand in a name. Most are small letters, which are asked for first, and most that may not are below digits.
 #[tactic(auto, unfolding(template_compiler_tokens::specs::Lexical::is_name_part))]
 pub fn is_name_part(byte: u8) -> bool
     ensures { result ≡ name_part byte }
 {
-    byte.is_ascii_lowercase() || byte.is_ascii_alphanumeric() || byte == b'_'
+    byte.is_ascii_lowercase() || (b'0' <= byte && (byte.is_ascii_alphanumeric() || byte == b'_'))
 }
 
 /// How many of the first bytes may stand in a name.

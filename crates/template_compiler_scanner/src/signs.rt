@@ -9,23 +9,28 @@ use crate::bytes::byte_at;
 use template_compiler_tokens::Token;
 use template_values_errors::ErrorKind;
 
-// The sign of two bytes.
+// The sign of two bytes. Most second bytes end none, so they are asked for first.
+#[inline(always)]
 #[tactic(auto, unfolding(template_compiler_tokens::specs::Lexical::long_sign))]
 fn long_sign(first: u8, second: u8) -> Option<Token<'static>>
     ensures { option_map token_of result ≡ option_map symbol (the_long_sign first second) }
 {
-    match (first, second) {
-        (b'=', b'=') => Some(Token::Eq),
-        (b'!', b'=') => Some(Token::Ne),
-        (b'>', b'=') => Some(Token::Gte),
-        (b'<', b'=') => Some(Token::Lte),
-        (b'/', b'/') => Some(Token::FloorDiv),
-        (b'*', b'*') => Some(Token::Pow),
+    match second {
+        b'=' => match first {
+            b'=' => Some(Token::Eq),
+            b'!' => Some(Token::Ne),
+            b'>' => Some(Token::Gte),
+            b'<' => Some(Token::Lte),
+            _ => None,
+        },
+        b'/' if first == b'/' => Some(Token::FloorDiv),
+        b'*' if first == b'*' => Some(Token::Pow),
         _ => None,
     }
 }
 
 // The sign of one byte.
+#[inline(always)]
 #[tactic(auto, unfolding(template_compiler_tokens::specs::Lexical::short_sign))]
 fn short_sign(byte: u8) -> Option<Token<'static>>
     ensures { option_map token_of result ≡ option_map symbol (the_short_sign byte) }

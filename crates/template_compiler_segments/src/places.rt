@@ -1,10 +1,13 @@
 //! What stands at the places of a source.
-ghost use Rattle.std.specs.Prelude.{◌≡◌, ◌≤◌, ◌<◌, ◌↔◌, ℕ, [], ◌∷◌, IsTrue, MatchOption, take, drop, length};
-ghost use Rattle.memchr.specs.Find.{FindsNeedle};
+ghost use Rattle.std.specs.Prelude.{◌≡◌, ◌≤◌, ◌<◌, ◌↔◌, ℕ, [], ◌∷◌, IsTrue, IfSome, Some, MatchOption, take, drop, length};
+ghost use Rattle.memchr.specs.Find.{FindsNeedle, IsFirstByte, is_byte};
 ghost use Rattle.template_compiler_segments.specs.Places.{StandsAt, IsFirst, IsNowhere, IsLineEnd};
 ghost use Rattle.template_compiler_segments.specs.Places.{blanks_from as blanks_before, is_first_on_line as first_on_line, newline_len as newline_width, is_blank as blank};
 
 use memchr::{memchr, memmem};
+
+// How many bytes are looked at one by one before a search for what is farther.
+const NEAR: usize = 8;
 
 /// The bytes from a place on.
 pub(crate) fn rest_from(bytes: &[u8], from: usize) -> &[u8]
@@ -73,12 +76,36 @@ fn find_pair(bytes: &[u8], from: usize, text: &[u8]) -> Option<usize>
 {
     let first = text[0];
     let mut at = from;
-    while let Some(skipped) = memchr(first, rest_from(bytes, at)) {
+    while let Some(skipped) = find_byte(first, rest_from(bytes, at)) {
         let place = at + skipped;
         if stands_at(bytes, place, text) {
             return Some(place);
         }
         at = place + 1;
+    }
+    None
+}
+
+/// The first place of a byte. What ends data or a comment mostly stands near, and a search for what is farther begins dear.
+#[inline(always)]
+pub(crate) fn find_byte(byte: u8, rest: &[u8]) -> Option<usize>
+    ensures { IsFirstByte (is_byte byte) rest.now result }
+{
+    match find_near(byte, rest) {
+        Some(near) => Some(near),
+        None => memchr(byte, rest),
+    }
+}
+
+// The same among the first few bytes.
+#[inline(always)]
+fn find_near(byte: u8, rest: &[u8]) -> Option<usize>
+    ensures { IfSome result (λ near. IsFirstByte (is_byte byte) rest.now (Some near)) }
+{
+    for index in 0..rest.len().min(NEAR) {
+        if rest[index] == byte {
+            return Some(index);
+        }
     }
     None
 }

@@ -1,14 +1,12 @@
 //! The search for the next start marker.
 ghost use Rattle.std.specs.Prelude.{◌≡◌, ◌≤◌, ◌+◌, ◌<◌, ◌↔◌, ℕ, List, [], ◌∷◌, IsTrue, MatchOption, Option, None, slice_index, length};
-ghost use Rattle.memchr.specs.Find.{IsFirstByte, is_byte};
 ghost use Rattle.template_compiler_syntax.specs.Syntax.{Syntax, HasDefaultStarts, start_text as start_of};
 ghost use Rattle.template_compiler_syntax.specs.declared.StartMarker.{StartMarker};
 ghost use Rattle.template_compiler_segments.specs.Places.{IsFirst, IsNowhere};
 ghost use Rattle.template_compiler_segments.specs.Segments.{IsEligible};
 ghost use Rattle.template_compiler_segments.specs.Known.{IsKnown, IsSought, IsNearer, StaysNearest, IsNextOrNone, IsBraces, IsBracesOf};
 
-use crate::places::{find_text, is_first_on_line, rest_from};
-use memchr::memchr;
+use crate::places::{find_byte, find_text, is_first_on_line, rest_from};
 use template_compiler_syntax::{StartMarker, SyntaxConfig};
 
 /// What is known of the start markers of one kind from a place on.
@@ -236,7 +234,7 @@ fn find_braces_place(bytes: &[u8], from: usize) -> Option<usize>
     ensures { MatchOption result (IsNowhere (λ i. IsBraces bytes.now i) from) (λ i. IsFirst (λ j. IsBraces bytes.now j) from i) }
 {
     let mut at = from;
-    while let Some(skipped) = find_brace(rest_from(bytes, at)) {
+    while let Some(skipped) = find_byte(b'{', rest_from(bytes, at)) {
         let brace = at + skipped;
         if follows_brace(bytes, brace) {
             return Some(brace);
@@ -244,16 +242,6 @@ fn find_braces_place(bytes: &[u8], from: usize) -> Option<usize>
         at = brace + 1;
     }
     None
-}
-
-// Where the first `{` stands. Most segments follow one another, or a few bytes of data.
-fn find_brace(rest: &[u8]) -> Option<usize>
-    ensures { IsFirstByte (is_byte 123) rest.now result }
-{
-    match rest {
-        [b'{', ..] => Some(0),
-        _ => memchr(b'{', rest),
-    }
 }
 
 // A start marker stands where its `{` does.

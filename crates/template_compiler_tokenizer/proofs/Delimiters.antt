@@ -1,15 +1,15 @@
 -- Where segments end, and where they don't.
-use Rattle.std.proofs.Common.{◌≡◌, ℕ, suc, ◌+◌, ◌<◌, ◌≤◌, inl, inr, true, false, List, [], length, slice_index, Option, None, Some, refl, sym, ◌∙◌, subst, arith}
-use Rattle.std.proofs.lemmas.Bool.{false≢true}
-use Rattle.std.proofs.lemmas.List.{get_or_past}
+use Rattle.std.proofs.Common.{◌≡◌, ℕ, suc, ◌+◌, ◌<◌, ◌≤◌, ◌⊎◌, ◌==◌, if◌then◌else◌, inl, inr, true, false, List, [], length, slice_index, drop, Option, None, Some, refl, sym, ◌∙◌, ap, subst, arith, get_or-drop}
+use Rattle.std.proofs.lemmas.Bool.{false≢true, cases_eq}
+use Rattle.std.proofs.lemmas.List.{get_or_past, get_or-take}
 use Rattle.std.specs.Char.{is_ascii_whitespace}
 use Rattle.template_compiler_syntax.specs.declared.StartMarker.{StartMarker}
 use Rattle.template_compiler_syntax.specs.declared.StartMarker.TheVariants.{Variable, Block, Comment, LineStatement, LineComment}
 use Rattle.template_compiler_syntax.specs.Syntax.{Syntax}
 use Rattle.template_compiler_segments.specs.declared.edges.Sign.{Sign}
-use Rattle.template_compiler_segments.specs.declared.edges.Sign.TheVariants.{Plain}
-use Rattle.template_compiler_segments.specs.Places.{sign_at, newline_len}
-use Rattle.template_compiler_segments.specs.Segments.{IsEnd, EndsAt, print_end, block_end, IsOver, Ending, HasInside, ended, blank}
+use Rattle.template_compiler_segments.specs.declared.edges.Sign.TheVariants.{Plain, Minus, Plus}
+use Rattle.template_compiler_segments.specs.Places.{StandsAt, sign_at, newline_len}
+use Rattle.template_compiler_segments.specs.Segments.{IsEnd, bare_end, signed_end, EndsAt, print_end, block_end, IsOver, Ending, HasInside, ended, blank}
 use Rattle.template_compiler_tokens.specs.Token.{Token}
 use Rattle.std.specs.Str.{IsUtf8, IsCharBoundary}
 use Rattle.std.proofs.lemmas.Str.{IsCharBoundary-after_ascii}
@@ -19,6 +19,22 @@ use Rattle.template_compiler_tokenizer.specs.Finds.{FindsDelimitedEnd, FindsEnd}
 
 pub sign_past : (s : List ℕ) (i : ℕ) → length s ≤ i → sign_at s i ≡ Plain
 sign_past s i past = rw (get_or_past s i 0 past) refl
+
+-- a text that stands at a place begins with the byte there
+stands_first : (s end : List ℕ) (i : ℕ) → 0 < length end → StandsAt s i end → slice_index s i ≡ slice_index end 0
+stands_first s end i some stands =
+    let place : i ≡ i + 0 = omega arith in
+    ap (λ n. slice_index s n) place ∙
+    (sym (get_or-drop i s 0 0) ∙ (sym (get_or-take (length end) (drop i s) 0 0 some) ∙ ap (λ t. slice_index t 0) stands))
+
+sign_byte : (b : ℕ) → ((if b == 45 then Minus else if b == 43 then Plus else Plain) ≡ Plain → ⊥) → (b ≡ 45) ⊎ (b ≡ 43)
+sign_byte b other = grind arith
+
+-- an end begins with its delimiter's first byte, or with a sign
+pub end_begins : (s end : List ℕ) (i next : ℕ) (last : Sign) → 0 < length end → IsEnd s end i last next →
+    (slice_index s i ≡ slice_index end 0) ⊎ (slice_index s i ≡ 45) ⊎ (slice_index s i ≡ 43)
+end_begins s end i next last some (bare_end stands to) = inl (stands_first s end i some stands)
+end_begins s end i next last some (signed_end none stands sign other to) = inr (sign_byte (slice_index s i) (λ e. other (sign ∙ e)))
 
 print_ends : {x : Syntax} {s : List ℕ} {i next : ℕ} {last : Sign} → EndsAt x s Variable i last next →
     (is_ascii_whitespace (slice_index s i) ≡ false) × IsEnd s (x.variable_end) i last next

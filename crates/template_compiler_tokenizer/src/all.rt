@@ -12,7 +12,7 @@ use crate::tokenizer::span_in;
 use std::alloc::Global;
 use template_compiler_places::Stretch;
 use template_compiler_segments::StartFinder;
-use template_compiler_syntax::SyntaxConfig;
+use template_compiler_syntax::{StartMarker, SyntaxConfig};
 use template_compiler_tokens::Token;
 use template_tree::Span;
 use template_values_errors::ErrorKind;
@@ -38,19 +38,67 @@ pub(crate) fn read_all<'source>(
     requires knows { Knows syntax.now source.now first.from finder.old }
     ensures { ReadsAll source.now tokens.old.items (left_of syntax.now source.now first) tokens.new.items result }
 {
-    let mut at = first;
+    let mut at = read_rest(alloc, source, syntax, first, tokens)?;
     loop {
-        at = read_segment(alloc, source, syntax, at, tokens)?;
         match next_piece(alloc, source, syntax, finder, at.stage, at.from) {
-            Ok(Some(piece)) => at = hold(source, at, piece, tokens)?,
+            Ok(Some(piece)) => match piece.stage {
+                Stage::Inside(_, _) => {
+                    let inside = hold(source, at, piece, tokens)?;
+                    at = read_segment(alloc, source, syntax, inside, tokens)?;
+                }
+                _ => at = hold(source, at, piece, tokens)?,
+            },
             Ok(None) => return Ok(()),
             Err(refused) => return Err(refused),
         }
     }
 }
 
-// Reads the tokens of the segment that the reader stands in, if it does, with its end.
+// Reads the tokens of the segment that the reader stands in, if it does, with its end. The loop of prints and that of
+// blocks are told apart once for all their tokens.
+#[inline(always)]
 fn read_segment<'source>(
+    alloc: Global,
+    source: &'source str,
+    syntax: &SyntaxConfig,
+    first: Standing,
+    tokens: &mut Vec<(Token<'source>, Span)>,
+) -> Result<Standing, ErrorKind>
+    requires { StandsIn syntax.now source.now first }
+    ensures { ReadsSome syntax.now source.now tokens.old.items first tokens.new.items result }
+{
+    match first.stage {
+        Stage::Inside(StartMarker::Variable, depth) => {
+            let stage = Stage::Inside(StartMarker::Variable, depth);
+            read_inside(alloc, source, syntax, Standing { stage, ..first }, tokens)
+        }
+        Stage::Inside(StartMarker::Block, depth) => {
+            let stage = Stage::Inside(StartMarker::Block, depth);
+            read_inside(alloc, source, syntax, Standing { stage, ..first }, tokens)
+        }
+        Stage::Inside(_, _) => read_rest(alloc, source, syntax, first, tokens),
+        _ => Ok(first),
+    }
+}
+
+// The same for a reader that begins inside a segment, and for line statements.
+#[inline(never)]
+fn read_rest<'source>(
+    alloc: Global,
+    source: &'source str,
+    syntax: &SyntaxConfig,
+    first: Standing,
+    tokens: &mut Vec<(Token<'source>, Span)>,
+) -> Result<Standing, ErrorKind>
+    requires { StandsIn syntax.now source.now first }
+    ensures { ReadsSome syntax.now source.now tokens.old.items first tokens.new.items result }
+{
+    read_inside(alloc, source, syntax, first, tokens)
+}
+
+// Reads the tokens of the segment that the reader stands in, with its end.
+#[inline(always)]
+fn read_inside<'source>(
     alloc: Global,
     source: &'source str,
     syntax: &SyntaxConfig,
@@ -63,7 +111,10 @@ fn read_segment<'source>(
     let mut at = first;
     while let Stage::Inside(kind, depth) = at.stage {
         match next_inside(alloc, source, syntax, kind, depth, at.from) {
-            Ok(piece) => at = hold(source, at, piece, tokens)?,
+            Ok(piece) => match piece.stage {
+                Stage::Inside(_, _) => at = hold(source, at, piece, tokens)?,
+                _ => return hold(source, at, piece, tokens),
+            },
             Err(refused) => return Err(refused),
         }
     }

@@ -71,10 +71,28 @@ fn delimited_end_at(bytes: &[u8], end: &[u8], place: usize) -> Option<(Sign, usi
     requires { place ≤ length bytes.now }
     ensures { FindsDelimitedEnd bytes.now end.now place result }
 {
+    if !may_end_at(bytes, end, place) {
+        return None;
+    }
     if is_white_at(bytes, place) {
         None
     } else {
         delimiter_at(bytes, end, place)
+    }
+}
+
+// Whether the end delimiter, or its sign, may stand at the place, by the byte there. At most tokens it may not.
+#[inline(always)]
+fn may_end_at(bytes: &[u8], end: &[u8], place: usize) -> bool
+    requires { place ≤ length bytes.now }
+    ensures { (last : Sign) (next : ℕ) → IsEnd bytes.now end.now place last next → IsTrue result }
+{
+    match bytes.get(place) {
+        Some(byte) => match end.first() {
+            Some(first) => *byte == *first || *byte == b'-' || *byte == b'+',
+            None => true,
+        },
+        None => true,
     }
 }
 

@@ -107,6 +107,24 @@ pub(crate) fn next_inside<'source>(
     }
 }
 
+/// The same for a token that is read alone, out of line: what reads all tokens has its own loop.
+#[inline(never)]
+pub(crate) fn next_alone<'source>(
+    alloc: Global,
+    source: &'source str,
+    syntax: &SyntaxConfig,
+    kind: StartMarker,
+    depth: usize,
+    from: usize,
+) -> Result<Piece<'source>, ErrorKind>
+    requires start { IsCharBoundary source.now from }
+    requires depth { depth ≤ from }
+    ensures read { ReadsInside syntax.now source.now kind depth from result }
+    ensures ahead { IfOk result (λ piece. from ≤ piece.next) }
+{
+    next_inside(alloc, source, syntax, kind, depth, from)
+}
+
 fn end_token(kind: StartMarker) -> Token<'static>
     ensures { token_of result ≡ token_of_end kind }
 {

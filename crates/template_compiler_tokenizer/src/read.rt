@@ -9,7 +9,7 @@ ghost use Rattle.template_compiler_tokenizer.specs.Reads.{IsStage};
 ghost use Rattle.template_compiler_tokenizer.specs.Read.{ReadsOrEnds};
 
 use crate::data::{Step, data_step, enter};
-use crate::inside::{Piece, next_inside};
+use crate::inside::{Piece, next_alone};
 use crate::stage::Stage;
 use std::alloc::Global;
 use template_compiler_segments::{Edge, StartFinder};
@@ -86,7 +86,7 @@ pub(crate) fn next_piece<'source>(
     match stage {
         Stage::Data(left) => next_in_data(alloc, source, syntax, finder, left, from),
         Stage::Start(kind) => next_at_start(alloc, source, syntax, finder, kind, from),
-        Stage::Inside(kind, depth) => match next_inside(alloc, source, syntax, kind, depth, from) {
+        Stage::Inside(kind, depth) => match next_alone(alloc, source, syntax, kind, depth, from) {
             Ok(piece) => Ok(Some(piece)),
             Err(refused) => Err(refused),
         },

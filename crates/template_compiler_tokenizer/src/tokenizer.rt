@@ -189,9 +189,25 @@ impl<'source> Tokenizer<'source> {
     }
 }
 
-// The span between two places of a text, and the stretch that the second one stands in.
+// The span between two places of a text, and the stretch that the second one stands in: mostly the same one.
 #[inline(always)]
 pub(crate) fn span_in(text: &str, stretch: Stretch, begin: usize, end: usize) -> (Span, Stretch)
+    requires begins { BeginsBy text.now begin stretch }
+    requires ordered { begin ≤ end }
+    requires within { end ≤ length text.now }
+    ensures span { result.0 ≡ span_between (take begin text.now) (take end text.now) }
+    ensures begins { BeginsBy text.now end result.1 }
+{
+    if end <= stretch.end {
+        (stretch.place(begin).to(stretch.place(end)), stretch)
+    } else {
+        span_beyond(text, stretch, begin, end)
+    }
+}
+
+// The same where the stretch may end before the second place.
+#[inline(never)]
+fn span_beyond(text: &str, stretch: Stretch, begin: usize, end: usize) -> (Span, Stretch)
     requires begins { BeginsBy text.now begin stretch }
     requires ordered { begin ≤ end }
     requires within { end ≤ length text.now }

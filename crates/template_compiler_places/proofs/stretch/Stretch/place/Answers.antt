@@ -31,5 +31,5 @@ returns c = λ s stretch.
     record {
       line = omega (arith, line_same, lines, none, h.line);
       column = omega (arith, column_same, rest, left, column, narrow, within, h.column);
-      offset = omega (arith, len, within);
+      offset = omega (arith, len, length-take begin s, h.offset, within);
     }

@@ -1,6 +1,6 @@
 use Rattle.std.proofs.Common.{length}
 use Rattle.template_compiler_tokenizer.specs.Held.{StandsIn, left_of, HoldsRead, IsFurther}
-use Rattle.template_compiler_tokenizer.proofs.all.read_segment.Given as goal
+use Rattle.template_compiler_tokenizer.proofs.all.read_inside.Given as goal
 
 -- the tokens that were passed are held
 abbrev pub invariant-loop-at : goal.invariant-loop-at
