@@ -157,7 +157,19 @@ fn is_float(base: u32, behind: &[u8]) -> bool
 
 /// The number that the text begins with, and how many bytes it takes. A fraction or an exponent directly
 /// behind decimal digits is refused by `NoFloats`, a number of 2^127 or more by `SyntaxError`.
+#[inline(always)]
 pub fn scan_number<'source>(text: &[u8]) -> Result<(Token<'source>, usize), ErrorKind>
+    ensures { ScansNumber text.now result }
+{
+    // Taken apart, so that tokens of other kinds need no memory.
+    match read_number(text) {
+        Ok(found) => Ok(found),
+        Err(kind) => Err(kind),
+    }
+}
+
+#[inline(never)]
+fn read_number<'source>(text: &[u8]) -> Result<(Token<'source>, usize), ErrorKind>
     ensures { ScansNumber text.now result }
 {
     let base = base_of(text);

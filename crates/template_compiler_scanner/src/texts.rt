@@ -51,7 +51,23 @@ fn read_inside<'source>(alloc: Global, inside: &'source str) -> Result<Token<'so
 
 /// The text literal that the text begins with, and how many bytes it takes. One that doesn't end is refused by
 /// `SyntaxError`, one with an escape that is none by `BadEscape`. A literal without escapes takes no memory.
+#[inline(always)]
 pub fn scan_text<'source>(
+    alloc: Global,
+    text: &'source str,
+) -> Result<(Token<'source>, usize), ErrorKind>
+    requires { (slice_index text.now 0 ≡ 34) ⊎ (slice_index text.now 0 ≡ 39) }
+    ensures { ScansText text.now result }
+{
+    // Taken apart, so that tokens of other kinds need no memory.
+    match read_text(alloc, text) {
+        Ok(found) => Ok(found),
+        Err(kind) => Err(kind),
+    }
+}
+
+#[inline(never)]
+fn read_text<'source>(
     alloc: Global,
     text: &'source str,
 ) -> Result<(Token<'source>, usize), ErrorKind>

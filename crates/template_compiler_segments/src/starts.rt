@@ -66,7 +66,11 @@ impl StartFinder {
         if self.has_default_starts {
             find_braces(bytes, from)
         } else {
-            self.find_nearest(bytes, syntax, from)
+            // Taken apart, so that the answer of the other branch needs no memory.
+            match self.find_nearest(bytes, syntax, from) {
+                Some((place, kind)) => Some((place, kind)),
+                None => None,
+            }
         }
     }
 

@@ -76,7 +76,11 @@ fn read_segment<'source>(
             let stage = Stage::Inside(StartMarker::Block, depth);
             read_inside(alloc, source, syntax, Standing { stage, ..first }, tokens)
         }
-        Stage::Inside(_, _) => read_rest(alloc, source, syntax, first, tokens),
+        // Taken apart, so that the answers of the other loops need no memory.
+        Stage::Inside(_, _) => match read_rest(alloc, source, syntax, first, tokens) {
+            Ok(at) => Ok(at),
+            Err(kind) => Err(kind),
+        },
         _ => Ok(first),
     }
 }

@@ -189,7 +189,11 @@ fn enter_block<'source>(
 {
     let inside = inside_from(source, syntax, StartMarker::Block, start);
     match only_word(alloc, source, syntax, inside, "raw") {
-        Some((inner, from)) => enter_raw(alloc, source, syntax, start, inner, from),
+        // Taken apart, so that the start of a block needs no memory.
+        Some((inner, from)) => match enter_raw(alloc, source, syntax, start, inner, from) {
+            Ok(step) => Ok(step),
+            Err(kind) => Err(kind),
+        },
         None => Ok(Step::Reads(Piece {
             token: Token::BlockStart,
             stage: Stage::Inside(StartMarker::Block, 0),

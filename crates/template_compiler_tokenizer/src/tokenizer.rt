@@ -201,7 +201,9 @@ pub(crate) fn span_in(text: &str, stretch: Stretch, begin: usize, end: usize) ->
     if end <= stretch.end {
         (stretch.place(begin).to(stretch.place(end)), stretch)
     } else {
-        span_beyond(text, stretch, begin, end)
+        // Taken apart, so that the answer of the other branch needs no memory.
+        let (span, ends) = span_beyond(text, stretch, begin, end);
+        (span, ends)
     }
 }
 

@@ -65,7 +65,21 @@ fn may_begin_with(text: &[u8], word: &[u8]) -> bool
 }
 
 // The end of a block behind white space.
+#[inline(always)]
 fn end_behind(source: &str, syntax: &SyntaxConfig, from: usize) -> Option<(Sign, usize)>
+    requires { IsCharBoundary source.now from }
+    ensures found { FindsEndBehind syntax.now source.now from result }
+    ensures cut { IfSome result (λ p. IsCharBoundary source.now p.1) }
+{
+    // Taken apart, so that a block without the word needs no memory.
+    match find_end(source, syntax, from) {
+        Some((last, next)) => Some((last, next)),
+        None => None,
+    }
+}
+
+#[inline(never)]
+fn find_end(source: &str, syntax: &SyntaxConfig, from: usize) -> Option<(Sign, usize)>
     requires { IsCharBoundary source.now from }
     ensures found { FindsEndBehind syntax.now source.now from result }
     ensures cut { IfSome result (λ p. IsCharBoundary source.now p.1) }

@@ -1,5 +1,5 @@
 use Rattle.template_compiler_tokenizer.proofs.OneWord.{goes_on}
-use Rattle.template_compiler_tokenizer.proofs.words.end_behind.Goals as goal
+use Rattle.template_compiler_tokenizer.proofs.words.find_end.Goals as goal
 
 pub returns-in-Token-clause-found : goal.returns-in-Token-clause-found
 returns-in-Token-clause-found c =

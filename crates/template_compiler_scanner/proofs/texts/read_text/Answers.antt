@@ -7,8 +7,8 @@ use Rattle.template_compiler_tokens.proofs.Texts.{close_within}
 use Rattle.template_compiler_scanner.proofs.Cuts.{cut_behind_ascii}
 use Rattle.template_compiler_tokens.proofs.Ends.{ends_at}
 use Rattle.template_compiler_scanner.proofs.Closing.{close_stands, read_token, read_refused}
-use Rattle.template_compiler_scanner.proofs.texts.scan_text.Goals as goal
-use Rattle.template_compiler_scanner.proofs.texts.scan_text.Goals.{In-Some}
+use Rattle.template_compiler_scanner.proofs.texts.read_text.Goals as goal
+use Rattle.template_compiler_scanner.proofs.texts.read_text.Goals.{In-Some}
 
 pub split_at-requires : goal.split_at-requires
 split_at-requires c =
