@@ -18,6 +18,7 @@ pub(crate) fn rest_from(bytes: &[u8], from: usize) -> &[u8]
 }
 
 /// Whether the text stands at the place.
+#[inline(always)]
 pub fn stands_at(bytes: &[u8], at: usize, text: &[u8]) -> bool
     requires { at ≤ length bytes.now }
     ensures { IsTrue result ↔ StandsAt bytes.now at text.now }
@@ -26,6 +27,7 @@ pub fn stands_at(bytes: &[u8], at: usize, text: &[u8]) -> bool
 }
 
 // Most delimiters are of two bytes, which are read at once.
+#[inline(always)]
 fn begins_with(rest: &[u8], text: &[u8]) -> bool
     ensures { IsTrue result ↔ (take (length text.now) rest.now ≡ text.now) }
 {
@@ -35,6 +37,7 @@ fn begins_with(rest: &[u8], text: &[u8]) -> bool
     }
 }
 
+#[inline(always)]
 fn begins_with_pair(rest: &[u8], first: u8, second: u8) -> bool
     ensures { IsTrue result ↔ (take 2 rest.now ≡ first ∷ second ∷ []) }
 {

@@ -5,7 +5,6 @@ use Rattle.template_values_errors.specs.declared.ErrorKind.{ErrorKind}
 use Rattle.template_tree.specs.declared.span.Span.{Span}
 use Rattle.template_compiler_syntax.specs.Syntax.{Syntax}
 use Rattle.template_compiler_places.specs.Places.{IsBetween}
-use Rattle.template_compiler_places.specs.Stretches.{BeginsBy}
 use Rattle.template_compiler_tokens.specs.Left.{IsRefused}
 use Rattle.template_compiler_tokens.specs.View.{token_of}
 use Rattle.template_compiler_tokens.specs.declared.token.Token.{Token}
@@ -48,11 +47,9 @@ module _ (x : Syntax) (s : List ℕ) (at next : Standing) (piece : Piece) (stage
   pub fewer_left : ReadsPiece x s at.from (left_of x s at) piece → length (left_of x s next) < length (left_of x s at)
   fewer_left read = let e = ap length (left_there read) in omega arith
 
-  pub stands_next : ReadsPiece x s at.from (left_of x s at) piece → BeginsBy s piece.next next.stretch → StandsIn x s next
-  stands_next read begins = (
-    subst (λ n. IsStage x s next.stage n) (sym from) (subst (λ (g : Stage). IsStage x s g piece.next) (sym stage) read.stage),
-    subst (λ n. BeginsBy s n next.stretch) (sym from) begins,
-  )
+  pub stands_next : ReadsPiece x s at.from (left_of x s at) piece → StandsIn x s next
+  stands_next read =
+      subst (λ n. IsStage x s next.stage n) (sym from) (subst (λ (g : Stage). IsStage x s g piece.next) (sym stage) read.stage)
 
   pub holds_next : (old held more : List (Token × Span)) (left : List Placed) → ReadsPiece x s at.from (left_of x s at) piece →
       HoldsRead s old left held (left_of x s at) →

@@ -5,6 +5,7 @@ use Rattle.template_values_errors.specs.declared.ErrorKind.TheVariants.{OutOfMem
 use Rattle.template_tree.specs.declared.span.Span.{Span}
 use Rattle.template_compiler_syntax.specs.Syntax.{Syntax}
 use Rattle.template_compiler_places.specs.Stretches.{BeginsBy}
+use Rattle.template_compiler_places.specs.declared.stretch.Stretch.{Stretch}
 use Rattle.template_compiler_tokens.specs.Left.{IsRefused}
 use Rattle.template_compiler_tokens.specs.View.{token_of}
 use Rattle.template_compiler_tokens.specs.declared.token.Token.{Token}
@@ -20,7 +21,7 @@ spanned_of ts = map (λ t. spanned (token_of t.0) t.1) ts
 
 -- a reader can go on from where it stands
 abbrev pub StandsIn : Syntax → List ℕ → Standing → Type 0
-StandsIn x s at = IsStage x s at.stage at.from × BeginsBy s at.from at.stretch
+StandsIn x s at = IsStage x s at.stage at.from
 
 -- the tokens that are left there
 abbrev pub left_of : Syntax → List ℕ → Standing → List Placed
@@ -30,6 +31,11 @@ left_of x s at = left_at x s at.stage at.from
 abbrev pub IsFurther : Syntax → List ℕ → Standing → Standing → Type 0
 IsFurther x s first at = (first.from ≤ at.from) × (length (left_of x s at) ≤ length (left_of x s first))
 
+-- the stretch begins at the reader's place, or before it
+abbrev pub BeginsThere : List ℕ → Stretch → Result Standing ErrorKind → Type 0
+BeginsThere s stretch (Ok at) = BeginsBy s at.from stretch
+BeginsThere s stretch (Err kind) = Unit {0}
+
 -- of the tokens that are left, those before the rest were put behind the ones that were held
 abbrev pub HoldsRead : List ℕ → List (Token × Span) → List Placed → List (Token × Span) → List Placed → Type 0
 HoldsRead s old left held rest = spanned_of old ++ spans_in s left ≡ spanned_of held ++ spans_in s rest
@@ -38,7 +44,7 @@ HoldsRead s old left held rest = spanned_of old ++ spans_in s left ≡ spanned_o
 abbrev pub Holds : List ℕ → Piece → List (Token × Span) → List (Token × Span) → Result Standing ErrorKind → Type 0
 Holds s piece old held (Ok at) =
     (spanned_of held ≡ spanned_of old ++ spanned (token_of piece.token) (span_between (take (piece.begin) s) (take (piece.end) s)) ∷ []) ×
-    (at.stage ≡ piece.stage) × (at.from ≡ piece.next) × BeginsBy s (piece.next) at.stretch
+    (at.stage ≡ piece.stage) × (at.from ≡ piece.next)
 Holds s piece old held (Err kind) = (held ≡ old) × (kind ≡ OutOfMemory)
 
 -- the tokens before one that is refused, and why it is

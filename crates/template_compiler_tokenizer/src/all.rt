@@ -2,7 +2,7 @@
 ghost use Rattle.std.specs.Prelude.{◌≡◌, ◌∷◌, [], ◌++◌, MatchResult};
 ghost use Rattle.template_compiler_places.specs.Stretches.{BeginsBy};
 ghost use Rattle.template_compiler_segments.specs.Known.{Knows};
-ghost use Rattle.template_compiler_tokenizer.specs.Held.{Holds, ReadsAll, ReadsSome, StandsIn, left_of};
+ghost use Rattle.template_compiler_tokenizer.specs.Held.{BeginsThere, Holds, ReadsAll, ReadsSome, StandsIn, left_of};
 ghost use Rattle.template_compiler_tokenizer.specs.Reads.{IsCut};
 
 use crate::inside::{Piece, next_inside};
@@ -22,7 +22,6 @@ use template_values_errors::ErrorKind;
 pub struct Standing {
     pub stage: Stage,
     pub from: usize,
-    pub stretch: Stretch,
 }
 
 /// Reads the tokens that are left, and puts them behind those that are held.
@@ -32,21 +31,23 @@ pub(crate) fn read_all<'source>(
     syntax: &SyntaxConfig,
     finder: &mut StartFinder,
     first: Standing,
+    stretch: &mut Stretch,
     tokens: &mut Vec<(Token<'source>, Span)>,
 ) -> Result<(), ErrorKind>
     requires stands { StandsIn syntax.now source.now first }
+    requires begins { BeginsBy source.now first.from stretch.old }
     requires knows { Knows syntax.now source.now first.from finder.old }
     ensures { ReadsAll source.now tokens.old.items (left_of syntax.now source.now first) tokens.new.items result }
 {
-    let mut at = read_rest(alloc, source, syntax, first, tokens)?;
+    let mut at = read_rest(alloc, source, syntax, first, stretch, tokens)?;
     loop {
         match next_piece(alloc, source, syntax, finder, at.stage, at.from) {
             Ok(Some(piece)) => match piece.stage {
                 Stage::Inside(_, _) => {
-                    let inside = hold(source, at, piece, tokens)?;
-                    at = read_segment(alloc, source, syntax, inside, tokens)?;
+                    let inside = hold(source, at, piece, stretch, tokens)?;
+                    at = read_segment(alloc, source, syntax, inside, stretch, tokens)?;
                 }
-                _ => at = hold(source, at, piece, tokens)?,
+                _ => at = hold(source, at, piece, stretch, tokens)?,
             },
             Ok(None) => return Ok(()),
             Err(refused) => return Err(refused),
@@ -62,22 +63,39 @@ fn read_segment<'source>(
     source: &'source str,
     syntax: &SyntaxConfig,
     first: Standing,
+    stretch: &mut Stretch,
     tokens: &mut Vec<(Token<'source>, Span)>,
 ) -> Result<Standing, ErrorKind>
-    requires { StandsIn syntax.now source.now first }
-    ensures { ReadsSome syntax.now source.now tokens.old.items first tokens.new.items result }
+    requires stands { StandsIn syntax.now source.now first }
+    requires begins { BeginsBy source.now first.from stretch.old }
+    ensures read { ReadsSome syntax.now source.now tokens.old.items first tokens.new.items result }
+    ensures begins { BeginsThere source.now stretch.new result }
 {
     match first.stage {
         Stage::Inside(StartMarker::Variable, depth) => {
             let stage = Stage::Inside(StartMarker::Variable, depth);
-            read_inside(alloc, source, syntax, Standing { stage, ..first }, tokens)
+            read_inside(
+                alloc,
+                source,
+                syntax,
+                Standing { stage, ..first },
+                stretch,
+                tokens,
+            )
         }
         Stage::Inside(StartMarker::Block, depth) => {
             let stage = Stage::Inside(StartMarker::Block, depth);
-            read_inside(alloc, source, syntax, Standing { stage, ..first }, tokens)
+            read_inside(
+                alloc,
+                source,
+                syntax,
+                Standing { stage, ..first },
+                stretch,
+                tokens,
+            )
         }
         // Taken apart, so that the answers of the other loops need no memory.
-        Stage::Inside(_, _) => match read_rest(alloc, source, syntax, first, tokens) {
+        Stage::Inside(_, _) => match read_rest(alloc, source, syntax, first, stretch, tokens) {
             Ok(at) => Ok(at),
             Err(kind) => Err(kind),
         },
@@ -92,12 +110,15 @@ fn read_rest<'source>(
     source: &'source str,
     syntax: &SyntaxConfig,
     first: Standing,
+    stretch: &mut Stretch,
     tokens: &mut Vec<(Token<'source>, Span)>,
 ) -> Result<Standing, ErrorKind>
-    requires { StandsIn syntax.now source.now first }
-    ensures { ReadsSome syntax.now source.now tokens.old.items first tokens.new.items result }
+    requires stands { StandsIn syntax.now source.now first }
+    requires begins { BeginsBy source.now first.from stretch.old }
+    ensures read { ReadsSome syntax.now source.now tokens.old.items first tokens.new.items result }
+    ensures begins { BeginsThere source.now stretch.new result }
 {
-    read_inside(alloc, source, syntax, first, tokens)
+    read_inside(alloc, source, syntax, first, stretch, tokens)
 }
 
 // Reads the tokens of the segment that the reader stands in, with its end.
@@ -107,17 +128,20 @@ fn read_inside<'source>(
     source: &'source str,
     syntax: &SyntaxConfig,
     first: Standing,
+    stretch: &mut Stretch,
     tokens: &mut Vec<(Token<'source>, Span)>,
 ) -> Result<Standing, ErrorKind>
-    requires { StandsIn syntax.now source.now first }
-    ensures { ReadsSome syntax.now source.now tokens.old.items first tokens.new.items result }
+    requires stands { StandsIn syntax.now source.now first }
+    requires begins { BeginsBy source.now first.from stretch.old }
+    ensures read { ReadsSome syntax.now source.now tokens.old.items first tokens.new.items result }
+    ensures begins { BeginsThere source.now stretch.new result }
 {
     let mut at = first;
     while let Stage::Inside(kind, depth) = at.stage {
         match next_inside(alloc, source, syntax, kind, depth, at.from) {
             Ok(piece) => match piece.stage {
-                Stage::Inside(_, _) => at = hold(source, at, piece, tokens)?,
-                _ => return hold(source, at, piece, tokens),
+                Stage::Inside(_, _) => at = hold(source, at, piece, stretch, tokens)?,
+                _ => return hold(source, at, piece, stretch, tokens),
             },
             Err(refused) => return Err(refused),
         }
@@ -131,11 +155,13 @@ fn hold<'source>(
     source: &str,
     at: Standing,
     piece: Piece<'source>,
+    stretch: &mut Stretch,
     tokens: &mut Vec<(Token<'source>, Span)>,
 ) -> Result<Standing, ErrorKind>
     requires cut { IsCut source.now at.from piece }
-    requires begins { BeginsBy source.now at.from at.stretch }
-    ensures { Holds source.now piece.entry tokens.old.items tokens.new.items result }
+    requires begins { BeginsBy source.now at.from stretch.old }
+    ensures held { Holds source.now piece.entry tokens.old.items tokens.new.items result }
+    ensures begins { BeginsThere source.now stretch.new result }
 {
     let Piece {
         token,
@@ -144,13 +170,9 @@ fn hold<'source>(
         end,
         next,
     } = piece;
-    let (span, stretch) = span_in(source, at.stretch, begin, end);
+    let span = span_in(source, stretch, begin, end);
     push(tokens, token, span)?;
-    Ok(Standing {
-        stage,
-        from: next,
-        stretch,
-    })
+    Ok(Standing { stage, from: next })
 }
 
 #[inline(always)]

@@ -1,5 +1,6 @@
 // Where segments end.
-ghost use Rattle.std.specs.Prelude.{◌≡◌, ◌≤◌, true, length, slice_index, IfSome};
+ghost use Rattle.std.specs.Prelude.{◌≡◌, ◌≤◌, ℕ, IsTrue, true, length, slice_index, IfSome};
+ghost use Rattle.template_compiler_segments.specs.Segments.{IsEnd};
 ghost use Rattle.std.specs.Str.{IsUtf8, IsCharBoundary};
 ghost use Rattle.std.specs.Char.{is_ascii_whitespace as white};
 ghost use Rattle.template_compiler_syntax.specs.Syntax.{Syntax};

@@ -126,13 +126,18 @@ impl<'source> Tokenizer<'source> {
             State::Ended => return Ok(()),
             State::Refused(kind, _) => return Err(Error::new(kind)),
         };
-        let first = Standing {
-            stage,
-            from,
-            stretch,
-        };
+        let first = Standing { stage, from };
         let mut finder = finder;
-        match read_all(alloc, text, &syntax, &mut finder, first, tokens) {
+        let mut stretch = stretch;
+        match read_all(
+            alloc,
+            text,
+            &syntax,
+            &mut finder,
+            first,
+            &mut stretch,
+            tokens,
+        ) {
             Ok(()) => Ok(()),
             Err(kind) => Err(Error::new(kind)),
         }
@@ -171,8 +176,7 @@ impl<'source> Tokenizer<'source> {
                     end,
                     next,
                 } = piece;
-                let (span, stretch) = span_in(self.text, self.stretch, begin, end);
-                self.stretch = stretch;
+                let span = span_in(self.text, &mut self.stretch, begin, end);
                 self.state = State::Reading(stage);
                 self.from = next;
                 Ok(Some((token, span)))
@@ -189,34 +193,34 @@ impl<'source> Tokenizer<'source> {
     }
 }
 
-// The span between two places of a text, and the stretch that the second one stands in: mostly the same one.
+// The span between two places of a text. The stretch begins by the first one, and then by the second one: mostly it
+// reaches both, and stays.
 #[inline(always)]
-pub(crate) fn span_in(text: &str, stretch: Stretch, begin: usize, end: usize) -> (Span, Stretch)
-    requires begins { BeginsBy text.now begin stretch }
+pub(crate) fn span_in(text: &str, stretch: &mut Stretch, begin: usize, end: usize) -> Span
+    requires begins { BeginsBy text.now begin stretch.old }
     requires ordered { begin ≤ end }
     requires within { end ≤ length text.now }
-    ensures span { result.0 ≡ span_between (take begin text.now) (take end text.now) }
-    ensures begins { BeginsBy text.now end result.1 }
+    ensures span { result ≡ span_between (take begin text.now) (take end text.now) }
+    ensures begins { BeginsBy text.now end stretch.new }
 {
     if end <= stretch.end {
-        (stretch.place(begin).to(stretch.place(end)), stretch)
+        stretch.place(begin).to(stretch.place(end))
     } else {
-        // Taken apart, so that the answer of the other branch needs no memory.
-        let (span, ends) = span_beyond(text, stretch, begin, end);
-        (span, ends)
+        span_beyond(text, stretch, begin, end)
     }
 }
 
 // The same where the stretch may end before the second place.
 #[inline(never)]
-fn span_beyond(text: &str, stretch: Stretch, begin: usize, end: usize) -> (Span, Stretch)
-    requires begins { BeginsBy text.now begin stretch }
+fn span_beyond(text: &str, stretch: &mut Stretch, begin: usize, end: usize) -> Span
+    requires begins { BeginsBy text.now begin stretch.old }
     requires ordered { begin ≤ end }
     requires within { end ≤ length text.now }
-    ensures span { result.0 ≡ span_between (take begin text.now) (take end text.now) }
-    ensures begins { BeginsBy text.now end result.1 }
+    ensures span { result ≡ span_between (take begin text.now) (take end text.now) }
+    ensures begins { BeginsBy text.now end stretch.new }
 {
     let starts = stretch.reaching(text, begin);
     let ends = starts.reaching(text, end);
-    (starts.place(begin).to(ends.place(end)), ends)
+    *stretch = ends;
+    starts.place(begin).to(ends.place(end))
 }

@@ -1,4 +1,5 @@
 use Rattle.std.proofs.Common.{length}
+use Rattle.template_compiler_places.specs.Stretches.{BeginsBy}
 use Rattle.template_compiler_tokenizer.specs.Held.{StandsIn, left_of, HoldsRead, IsFurther}
 use Rattle.template_compiler_tokenizer.proofs.all.read_inside.Given as goal
 
@@ -6,6 +7,7 @@ use Rattle.template_compiler_tokenizer.proofs.all.read_inside.Given as goal
 abbrev pub invariant-loop-at : goal.invariant-loop-at
 invariant-loop-at l = record {
   stands : StandsIn l.syntax l.source l.at;
+  begins : BeginsBy l.source l.at.from l.stretch;
   held : HoldsRead l.source l.fn.tokens.items (left_of l.syntax l.source l.fn.first) l.tokens.items (left_of l.syntax l.source l.at);
   further : IsFurther l.syntax l.source l.fn.first l.at;
 }
