@@ -8,4 +8,4 @@ returns-then-end-stretch-clause-span c =
     let begin = take c.args.begin s in
     let end = take c.args.end s in
     span_is begin end c.to.result
-    (c.to.ensures begin end (c.place.ensures s c.requires.begins.0) (c.place-2.ensures s c.requires.begins.0))
+    (c.to.ensures begin end (c.place.ensures s c.requires.begins.0) (c.place-then-end-stretch.ensures s c.requires.begins.0))
