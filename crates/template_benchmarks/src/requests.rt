@@ -1,5 +1,5 @@
 //! Requests with long sources, and with many statements, templates, names, definitions, rounds and includes.
-use crate::Came;
+use crate::sizes::Came;
 use anyhow::bail;
 use std::alloc::Global;
 use template_machine_ids::StateIds;

@@ -1,5 +1,5 @@
 //! Sources at size: braces alone, a list of many parts, a long name, a long loop within a loop.
-use crate::Came;
+use crate::sizes::Came;
 use crate::requests::{Case, ITEMS, answered, rendering, zeros};
 use anyhow::bail;
 use std::alloc::Global;

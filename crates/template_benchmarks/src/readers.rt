@@ -1,5 +1,5 @@
 //! Texts through every reader.
-use crate::Came;
+use crate::sizes::Came;
 use anyhow::bail;
 use std::alloc::Global;
 use std::fs;

@@ -1,5 +1,5 @@
 //! Texts through every sink.
-use crate::Came;
+use crate::sizes::Came;
 use std::alloc::Global;
 use std::io::{BufWriter, Write};
 use template_machine_output::{NullWriter, WriteWrapper, write_text};
