@@ -38,20 +38,10 @@ const UNNAMED: &str = "<string>";
 const UNKNOWN: &str = "<unknown>";
 
 /// The templates that stand, by name, and what each render keeps to.
+#[derive(Drop)]
 pub struct Environment<'source, R: AutoEscapeRule = NoRule> {
     pub(crate) registry: Registry<'source>,
     callback: Option<R>,
-}
-
-// By hand, as with all that this crate hands out: a crate that drops one would else prove anew how each of its parts is
-// dropped.
-impl<'source, R: AutoEscapeRule> Drop for Environment<'source, R> {
-    fn drop(self) {
-        let Environment {
-            registry: _,
-            callback: _,
-        } = self;
-    }
 }
 
 impl<'source> Environment<'source> {

@@ -27,18 +27,10 @@ use template_values_errors::{Error, ErrorKind};
 use template_values_modes::AutoEscape;
 
 /// An expression that an environment compiled.
+#[derive(Drop)]
 pub struct Expression<'env, 'source, R: AutoEscapeRule = NoRule> {
     environment: &'env Environment<'source, R>,
     compiled: CompiledExpression<'source>,
-}
-
-impl<'env, 'source, R: AutoEscapeRule> Drop for Expression<'env, 'source, R> {
-    fn drop(self) {
-        let Expression {
-            environment: _,
-            compiled: _,
-        } = self;
-    }
 }
 
 impl<'source, R: AutoEscapeRule> Environment<'source, R> {

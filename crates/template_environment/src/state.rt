@@ -16,24 +16,13 @@ use template_values_errors::{Error, ErrorKind};
 use template_values_modes::{AutoEscape, UndefinedBehavior};
 
 /// What surrounds a template: as a render of it left it, or without any frame.
+#[derive(Drop)]
 pub struct State<'env, 'source, R: AutoEscapeRule = NoRule> {
     pub(crate) id: u64,
     pub(crate) environment: &'env Environment<'source, R>,
     pub(crate) name: &'env str,
     pub(crate) machine: MachineState<'env>,
     pub(crate) fuel: Option<(u64, u64)>,
-}
-
-impl<'env, 'source, R: AutoEscapeRule> Drop for State<'env, 'source, R> {
-    fn drop(self) {
-        let State {
-            id: _,
-            environment: _,
-            name: _,
-            machine: _,
-            fuel: _,
-        } = self;
-    }
 }
 
 impl<'env, 'source, R: AutoEscapeRule> State<'env, 'source, R> {

@@ -28,18 +28,10 @@ use template_values_modes::AutoEscape;
 
 /// A template of an environment: one that stands there, or one of its own, that was read under the environment's
 /// syntax and does not stand there.
+#[derive(Drop)]
 pub struct Template<'env, 'source, R: AutoEscapeRule = NoRule> {
     pub(crate) environment: &'env Environment<'source, R>,
     pub(crate) compiled: TemplateCode<'env, 'source>,
-}
-
-impl<'env, 'source, R: AutoEscapeRule> Drop for Template<'env, 'source, R> {
-    fn drop(self) {
-        let Template {
-            environment: _,
-            compiled: _,
-        } = self;
-    }
 }
 
 // A compiled template of an environment, or of its own.
@@ -63,15 +55,10 @@ impl<'env, 'source> TemplateCode<'env, 'source> {
 }
 
 /// What a render leaves behind.
+#[derive(Drop)]
 pub struct Captured<'env, 'source, R: AutoEscapeRule = NoRule> {
     output: String,
     state: State<'env, 'source, R>,
-}
-
-impl<'env, 'source, R: AutoEscapeRule> Drop for Captured<'env, 'source, R> {
-    fn drop(self) {
-        let Captured { output: _, state: _ } = self;
-    }
 }
 
 impl<'env, 'source, R: AutoEscapeRule> Template<'env, 'source, R> {
@@ -332,7 +319,7 @@ impl<'env, 'source, R: AutoEscapeRule> Captured<'env, 'source, R> {
     pub fn into_output(self) -> String
         ensures { string_bytes result ≡ output_of self.entry }
     {
-        let Captured { output, state: _ } = self;
+        let Captured { output, .. } = self;
         output
     }
 
