@@ -53,9 +53,9 @@ abbrev mutual
       (chain_places spans (one (filter_places spans ts no_parts first)) filters) (statements_places spans no_parts body))
   statement_places spans (block_statement {n = n} {ts = ts} {ws = ws} outside required body blank end) =
       at (stretch spans (opens (codes "block") (identifier n ∷ ts)) ws) (statements_places spans no_parts body)
-  statement_places spans (import_statement {ts = ts} {ws = ws} e name context) =
+  statement_places spans (import_statement {ts = ts} {ws = ws} e name _) =
       at (stretch spans (opens (codes "import") ts) ws) (parts_more (expression_places spans e) (one (stored_places spans name)))
-  statement_places spans (from_statement {ts = ts} {xs = xs} e first more context) =
+  statement_places spans (from_statement {ts = ts} {xs = xs} e first more _) =
       at (stretch spans (opens (codes "from") ts) xs) (parts_more (expression_places spans e)
       (more_places (λ a b ts us ps x. import_places spans ps x) (import_places spans no_parts first) more))
   statement_places spans (extends_statement {ts = ts} {us = us} e) =
