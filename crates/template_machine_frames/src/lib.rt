@@ -4,10 +4,9 @@
 mod context;
 mod frame;
 mod locals;
-mod loops;
 mod names;
 
 pub use context::Context;
 pub use frame::Frame;
 pub use locals::Locals;
-pub use loops::LoopState;
+pub use template_machine_loops::LoopState;

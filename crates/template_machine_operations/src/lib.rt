@@ -8,7 +8,6 @@ mod operators;
 mod parts;
 mod printing;
 mod sequence;
-mod undefined;
 
 pub use containers::{build_list, build_map, build_tuple};
 pub use escapes::escape_named;

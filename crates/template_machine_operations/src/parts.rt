@@ -6,8 +6,8 @@ ghost use Rattle.template_machine_meaning.specs.Replies.{guarded, kinded};
 ghost use Rattle.template_machine_operations.specs.Answers.{Answers, answered};
 ghost use Rattle.std.specs.Prelude.{◌≡◌};
 
-use crate::undefined::{forbids_slicing, is_chainable, is_undefined, refusal};
 use std::alloc::Global;
+use template_machine_undefined::{forbids_slicing, is_chainable, is_undefined, refusal};
 use template_values_core::Value;
 use template_values_errors::Error;
 use template_values_items::{get_attr, get_item as item_of};

@@ -9,9 +9,9 @@ ghost use Rattle.template_machine_meaning.specs.Replies.{guarded, kinded};
 ghost use Rattle.template_machine_operations.specs.Outcomes.{TellsFailures, Writes, Prints};
 ghost use Rattle.template_machine_operations.specs.Texts.{safe_text_in};
 
-use crate::undefined::{forbids_printing, refusal};
 use std::str;
 use template_machine_output::{Sink, write_text};
+use template_machine_undefined::{forbids_printing, refusal};
 use template_values_core::{Content, Value};
 use template_values_errors::Error;
 use template_values_modes::{AutoEscape, UndefinedBehavior};

@@ -8,9 +8,9 @@ ghost use Rattle.template_machine_meaning.specs.Includes.{choices_in};
 ghost use Rattle.template_machine_meaning.specs.Replies.{guarded, kinded};
 ghost use Rattle.template_machine_operations.specs.Answers.{Answers, answered};
 
-use crate::undefined::{forbids_iterating, refusal};
 use std::alloc::Global;
 use template_machine_items::Items;
+use template_machine_undefined::{forbids_iterating, refusal};
 use template_values_core::{Content, Value};
 use template_values_errors::{Error, ErrorKind};
 use template_values_items::items_of;

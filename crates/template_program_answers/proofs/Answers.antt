@@ -21,8 +21,8 @@ use Rattle.template_program_run.specs.Environments.{IsMade}
 use Rattle.template_program_run.specs.History.{standing}
 use Rattle.template_program_run.specs.Ids.{IsLastId}
 use Rattle.template_program_run.specs.Lines.{lines_of}
-use Rattle.template_program_run.specs.declared.outcome.Outcome.{Outcome}
-use Rattle.template_program_run.specs.declared.outcome.Outcome.TheVariants.{Done, Render, Context, Template}
+use Rattle.template_program_outcomes.specs.declared.outcome.Outcome.{Outcome}
+use Rattle.template_program_outcomes.specs.declared.outcome.Outcome.TheVariants.{Done, Render, Context, Template}
 use Rattle.template_program_run.specs.declared.request.Command.{Command}
 use Rattle.template_program_run.specs.declared.request.Command.TheVariants as asked
 use Rattle.template_program_run.specs.declared.request.Request.{Request}

@@ -6,8 +6,8 @@ use Rattle.template_machine_meaning.specs.Meaning.{Standing}
 use Rattle.template_environment.specs.declared.registry.Registry.{Registry}
 use Rattle.template_program_run.specs.Answers.{Rendered, TellsNames}
 use Rattle.template_program_run.specs.Ids.{IsLastId, behind_one, behind_request, last_id}
-use Rattle.template_program_run.specs.declared.outcome.Outcome.{Outcome}
-use Rattle.template_program_run.specs.declared.outcome.Outcome.TheVariants.{Done, Render, Context, Template}
+use Rattle.template_program_outcomes.specs.declared.outcome.Outcome.{Outcome}
+use Rattle.template_program_outcomes.specs.declared.outcome.Outcome.TheVariants.{Done, Render, Context, Template}
 use Rattle.template_program_run.specs.declared.request.Command.{Command}
 use Rattle.template_program_run.specs.declared.request.Command.TheVariants as asked
 

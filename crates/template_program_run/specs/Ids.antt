@@ -1,7 +1,7 @@
 -- The state ids that a request takes.
 use Rattle.std.specs.Prelude.{◌≡◌, ℕ, ◌+◌, ◌-◌, ◌^◌, ◌==◌, if◌then◌else◌}
-use Rattle.template_program_run.specs.declared.outcome.Outcome.{Outcome}
-use Rattle.template_program_run.specs.declared.outcome.Outcome.TheVariants.{Context, Template}
+use Rattle.template_program_outcomes.specs.declared.outcome.Outcome.{Outcome}
+use Rattle.template_program_outcomes.specs.declared.outcome.Outcome.TheVariants.{Context, Template}
 use Rattle.template_program_run.specs.declared.request.Command.{Command}
 use Rattle.template_program_run.specs.declared.request.Command.TheVariants as asked
 

@@ -1,8 +1,8 @@
 -- Renders of a main template in which no marker starts.
 use Rattle.std.specs.Prelude.{ℕ, List, Option}
 use Rattle.std.specs.Io.KnownBytes.{Appends}
-use Rattle.template_program_run.specs.declared.outcome.Outcome.{Outcome}
-use Rattle.template_program_run.specs.declared.outcome.Outcome.TheVariants.{Done}
+use Rattle.template_program_outcomes.specs.declared.outcome.Outcome.{Outcome}
+use Rattle.template_program_outcomes.specs.declared.outcome.Outcome.TheVariants.{Done}
 use Rattle.template_program_run.specs.declared.request.Command.{Command}
 use Rattle.template_program_run.specs.declared.request.Command.TheVariants as asked
 

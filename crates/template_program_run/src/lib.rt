@@ -4,10 +4,9 @@
 
 mod additions;
 mod names;
-mod outcome;
 mod request;
 mod running;
 
-pub use outcome::Outcome;
 pub use request::{Command, Request};
 pub use running::run;
+pub use template_program_outcomes::Outcome;

@@ -13,13 +13,13 @@ ghost use Rattle.template_program_run.specs.Plain.{WritesOnDone, WritesOnRender}
 
 use crate::additions::environment_of;
 use crate::names::write_lines;
-use crate::outcome::Outcome;
 use crate::request::{Command, Request};
 use std::alloc::Global;
 use template_environment::{Environment, Template};
 use template_machine_ids::StateIds;
 use template_machine_output::Sink;
 use template_program_context::read_context;
+use template_program_outcomes::Outcome;
 use template_values_core::Value;
 use template_values_errors::Error;
 

@@ -13,11 +13,12 @@ use Rattle.template_program_words.specs.declared.faults.WordsFault.TheVariants.{
 use Rattle.template_program_words.specs.declared.words.Words.{Words}
 use Rattle.template_program_words.specs.declared.words.Words.TheVariants as asks
 use Rattle.template_program_run.specs.Answers.{AnswersRequest, definitions_of}
-use Rattle.template_program_run.specs.declared.outcome.Outcome.{Outcome}
+use Rattle.template_program_outcomes.specs.declared.outcome.Outcome.{Outcome}
 use Rattle.template_program_run.specs.declared.request.Command.TheVariants as asked
 use Rattle.template_program_run.specs.declared.request.Request.{Request}
-use Rattle.template_program_start.specs.Flushes.{flushed}
-use Rattle.template_program_start.specs.Status.{IsStatusOf, file_status}
+use Rattle.template_program_outcomes.specs.Flushes.{flushed}
+use Rattle.template_program_outcomes.specs.Status.{IsStatusOf}
+use Rattle.template_program_start.specs.Status.{file_status}
 
 -- the status of words that are refused, or that ask for help
 abbrev pub words_status : WordsFault → ℕ

@@ -5,8 +5,7 @@ mod faults;
 mod inputs;
 mod performing;
 mod starting;
-mod status;
 
 pub use starting::{refuse_arguments, start};
-pub use status::status_of;
-pub use template_program_run::{Command, Outcome, Request, run};
+pub use template_program_outcomes::{Outcome, status_of};
+pub use template_program_run::{Command, Request, run};

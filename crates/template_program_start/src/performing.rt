@@ -1,19 +1,17 @@
 //! The run of a request over a buffered output.
 ghost use Rattle.std.specs.Prelude.{◌≡◌, option_copied, option_map};
-ghost use Rattle.std.specs.IoError.{error_kind};
 ghost use Rattle.template_machine_output.specs.Wrapper.{failure_count};
 ghost use Rattle.template_program_context.specs.Context.{text_pairs};
-ghost use Rattle.template_program_start.specs.Flushes.{flush_kind, flushed};
 ghost use Rattle.template_program_start.specs.Starts.{PerformsRequest, RunsFlushed};
 
 use crate::faults::write_error;
 use crate::inputs::Inputs;
-use crate::status::{MEMORY, status_of};
 use std::alloc::Global;
-use std::io::{self, BufWriter, Write};
+use std::io::{BufWriter, Write};
 use template_machine_ids::StateIds;
 use template_machine_output::WriteWrapper;
-use template_program_run::{Outcome, run};
+use template_program_outcomes::{MEMORY, Outcome, after_flush, status_of};
+use template_program_run::run;
 use template_values_errors::{Error, ErrorKind};
 
 /// Runs the request over a buffer, which is flushed after a fault too, and tells a fault on one line.
@@ -64,29 +62,5 @@ fn context_bytes(context: &Option<Vec<u8>>) -> Option<&[u8]>
     match context {
         Some(bytes) => Some(bytes.as_slice()),
         None => None,
-    }
-}
-
-// What a run ends with, by how the flush of its output went.
-fn after_flush(outcome: Outcome, flush: io::Result<()>) -> Outcome
-    ensures { result ≡ flushed flush outcome }
-{
-    let Err(error) = flush else {
-        return outcome;
-    };
-    match outcome {
-        Outcome::Done | Outcome::Render(_) => Outcome::Render(Error::new(failure_kind(&error))),
-        Outcome::Context(error) => Outcome::Context(error),
-        Outcome::Template(error) => Outcome::Template(error),
-    }
-}
-
-// Want of memory is told apart from every other failure.
-fn failure_kind(error: &io::Error) -> ErrorKind
-    ensures { result ≡ flush_kind (error_kind error.now) }
-{
-    match error.kind() {
-        io::ErrorKind::OutOfMemory => ErrorKind::OutOfMemory,
-        _ => ErrorKind::WriteFailure,
     }
 }

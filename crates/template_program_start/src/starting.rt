@@ -9,9 +9,9 @@ ghost use Rattle.template_program_start.specs.Status.{arguments_status, file_sta
 use crate::faults::{write_error, write_fault};
 use crate::inputs::{Inputs, read_inputs};
 use crate::performing::perform;
-use crate::status::{DONE, FILE, MEMORY, WORDS};
 use std::io::{self, Write};
 use template_program_files::{FileFault, FileSystem, Reader};
+use template_program_outcomes::{DONE, FILE, MEMORY, WORDS};
 use template_program_words::{WordsFault, read_words};
 use template_values_errors::ErrorKind;
 

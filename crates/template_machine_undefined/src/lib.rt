@@ -1,4 +1,6 @@
-//! What may be done with an undefined value.
+//! What may be done with an undefined value, under each mode.
+#![tactic(auto)]
+
 ghost use Rattle.std.specs.Prelude.{◌≡◌, [], ◌∷◌, Err};
 ghost use Rattle.template_values_operators.specs.Kinds.{is_undefined};
 ghost use Rattle.template_machine_meaning.specs.Undefined.{is_loud, is_strict, is_half_strict, is_chainable, forbids_printing, forbids_iterating, forbids_truth, forbids_slicing, forbids_comparing, forbids_membership, forbids_operator, forbids_link};
@@ -9,7 +11,7 @@ use template_values_errors::{Error, ErrorKind};
 use template_values_modes::UndefinedBehavior;
 
 /// The refusal of an undefined value.
-pub(crate) fn refusal<T>() -> Result<T, Error>
+pub fn refusal<T>() -> Result<T, Error>
     ensures { result ≡ Err (ErrorKind.UndefinedError ∷ []) }
 {
     Err(Error::new(ErrorKind::UndefinedError))
@@ -26,7 +28,7 @@ fn is_loud(value: &Value) -> bool
 }
 
 /// Whether the value is undefined, in either form.
-pub(crate) fn is_undefined(value: &Value) -> bool
+pub fn is_undefined(value: &Value) -> bool
     ensures { result ≡ is_undefined value.now }
 {
     match value.content() {
@@ -55,7 +57,7 @@ fn is_half_strict(mode: UndefinedBehavior) -> bool
 }
 
 /// Whether what undefined has under a name is undefined.
-pub(crate) fn is_chainable(mode: UndefinedBehavior) -> bool
+pub fn is_chainable(mode: UndefinedBehavior) -> bool
     ensures { result ≡ is_chainable mode }
 {
     match mode {
@@ -64,25 +66,29 @@ pub(crate) fn is_chainable(mode: UndefinedBehavior) -> bool
     }
 }
 
-pub(crate) fn forbids_printing(mode: UndefinedBehavior, value: &Value) -> bool
+/// Whether the value may not be printed.
+pub fn forbids_printing(mode: UndefinedBehavior, value: &Value) -> bool
     ensures { result ≡ forbids_printing mode value.now }
 {
     is_half_strict(mode) && is_loud(value)
 }
 
-pub(crate) fn forbids_iterating(mode: UndefinedBehavior, value: &Value) -> bool
+/// Whether the value may not be gone over.
+pub fn forbids_iterating(mode: UndefinedBehavior, value: &Value) -> bool
     ensures { result ≡ forbids_iterating mode value.now }
 {
     is_half_strict(mode) && is_loud(value)
 }
 
-pub(crate) fn forbids_truth(mode: UndefinedBehavior, value: &Value) -> bool
+/// Whether the value may not be tested for truth.
+pub fn forbids_truth(mode: UndefinedBehavior, value: &Value) -> bool
     ensures { result ≡ forbids_truth mode value.now }
 {
     is_strict(mode) && is_loud(value)
 }
 
-pub(crate) fn forbids_slicing(mode: UndefinedBehavior, value: &Value) -> bool
+/// Whether no slice of the value may be asked for.
+pub fn forbids_slicing(mode: UndefinedBehavior, value: &Value) -> bool
     ensures { result ≡ forbids_slicing mode value.now }
 {
     is_strict(mode) && is_undefined(value)
@@ -102,12 +108,7 @@ fn forbids_membership(mode: UndefinedBehavior, left: &Value, right: &Value) -> b
 
 /// Whether the operator may not be asked for these operands. What is not asked refuses undefined by
 /// itself.
-pub(crate) fn forbids_operator(
-    mode: UndefinedBehavior,
-    op: BinOpKind,
-    left: &Value,
-    right: &Value,
-) -> bool
+pub fn forbids_operator(mode: UndefinedBehavior, op: BinOpKind, left: &Value, right: &Value) -> bool
     ensures { result ≡ forbids_operator mode op left.now right.now }
 {
     match op {
@@ -124,12 +125,7 @@ pub(crate) fn forbids_operator(
 }
 
 /// Whether a comparison of a chain may not be asked for these operands.
-pub(crate) fn forbids_link(
-    mode: UndefinedBehavior,
-    op: CompareOpKind,
-    left: &Value,
-    right: &Value,
-) -> bool
+pub fn forbids_link(mode: UndefinedBehavior, op: CompareOpKind, left: &Value, right: &Value) -> bool
     ensures { result ≡ forbids_link mode op left.now right.now }
 {
     match op {

@@ -1,5 +1,5 @@
 use Rattle.std.proofs.Common.{◌∙◌, ap, sym, [], ◌∷◌, ◌++◌, append_assoc}
-use Rattle.template_program_start.proofs.status.innermost.Goals as goal
+use Rattle.template_program_outcomes.proofs.status.innermost.Goals as goal
 
 pub loop-cause-preserved : goal.loop-cause-preserved
 loop-cause-preserved c =

@@ -1,7 +1,7 @@
 //! The status that a request ends the program with.
-ghost use Rattle.template_program_start.specs.Status.{EndsIn, IsStatusOf, IsUnlessMemory};
+ghost use Rattle.template_program_outcomes.specs.Status.{EndsIn, IsStatusOf, IsUnlessMemory};
 
-use template_program_run::Outcome;
+use crate::outcome::Outcome;
 use template_values_errors::{Error, ErrorKind};
 
 /// All is written, or help was asked for.

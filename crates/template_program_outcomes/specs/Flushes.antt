@@ -6,8 +6,8 @@ use Rattle.std.specs.declared.io.ErrorKind.{ErrorKind as IoKind}
 use Rattle.std.specs.declared.io.ErrorKind.TheVariants as io
 use Rattle.template_values_errors.specs.declared.ErrorKind.{ErrorKind}
 use Rattle.template_values_errors.specs.declared.ErrorKind.TheVariants.{OutOfMemory, WriteFailure}
-use Rattle.template_program_run.specs.declared.outcome.Outcome.{Outcome}
-use Rattle.template_program_run.specs.declared.outcome.Outcome.TheVariants.{Done, Render, Context, Template}
+use Rattle.template_program_outcomes.specs.declared.outcome.Outcome.{Outcome}
+use Rattle.template_program_outcomes.specs.declared.outcome.Outcome.TheVariants.{Done, Render, Context, Template}
 
 -- want of memory is told apart from every other error of a flush
 abbrev pub flush_kind : IoKind → ErrorKind
