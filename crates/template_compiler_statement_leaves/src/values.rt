@@ -38,7 +38,7 @@ pub fn read_print<'source>(
     Ok(makers::print(expr, tokens.expand_span(span)))
 }
 
-/// Reads a `set` behind its first target: further targets, and the value behind `=`.
+/// Reads a `set` behind its first target, which begins at `start`: further targets, and the value behind `=`.
 ///
 /// # Errors
 ///
@@ -49,11 +49,12 @@ pub fn read_set<'source>(
     tokens: &mut TokenStream<'source>,
     left: u32,
     first: Expr<'source>,
+    start: Span,
     span: Span,
 ) -> Result<Stmt<'source>, Refusal>
     ensures { ParsedAs statement_of (set_targets (here left) (expression_of first.entry) tokens.old) tokens.new result }
 {
-    let target = read_more_targets(alloc, tokens, left, true, first)?;
+    let target = read_more_targets(alloc, tokens, left, true, first, start)?;
     expect_assign(tokens)?;
     read_set_value(alloc, tokens, left, target, span)
 }

@@ -389,9 +389,10 @@ fn set<'source>(
 ) -> Result<Stmt<'source>, Refusal>
     ensures { ParsedStatement (set_by (here left) (around_of around) tokens.old) tokens.new result }
 {
+    let start = tokens.span();
     let target = parts::read_target(alloc, tokens, left, true)?;
     if parts::begins_values(tokens) {
-        leaves::read_set(alloc, tokens, left, target, span)
+        leaves::read_set(alloc, tokens, left, target, start, span)
     } else {
         set_block(alloc, tokens, left, around, target, span)
     }

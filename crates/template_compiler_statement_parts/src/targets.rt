@@ -69,11 +69,12 @@ pub fn read_targets<'source>(
 ) -> Result<Expr<'source>, Refusal>
     ensures { Parsed (targets_by dots (inner_targets dots left) tokens.old) tokens.new result }
 {
+    let start = tokens.span();
     let first = read_target(alloc, tokens, left, dots)?;
-    read_more_targets(alloc, tokens, left, dots, first)
+    read_more_targets(alloc, tokens, left, dots, first, start)
 }
 
-/// Reads the targets behind the first one, each after a comma.
+/// Reads the targets behind the first one, each after a comma; `start` is where the first one begins, with its parenthesis.
 ///
 /// # Errors
 ///
@@ -86,14 +87,14 @@ pub fn read_more_targets<'source>(
     left: u32,
     dots: bool,
     first: Expr<'source>,
+    start: Span,
 ) -> Result<Expr<'source>, Refusal>
     ensures { Parsed (more_targets_by dots (inner_targets dots left) (expression_of first.entry) tokens.old) tokens.new result }
 {
-    let span = first.span();
     let mut targets = Vec::new(alloc);
     targets.push(first)?;
     all_targets(alloc, tokens, left, dots, &mut targets)?;
-    Ok(unpacked(alloc, targets, tokens.expand_span(span))?)
+    Ok(unpacked(alloc, targets, tokens.expand_span(start))?)
 }
 
 #[cycle(targets)]
