@@ -2,5 +2,4 @@ pub mod Sources
 pub mod Compiled
 pub mod Names
 pub mod Plain
-pub mod Standing
 pub mod Expressions

@@ -4,9 +4,7 @@
 mod compiled;
 mod config;
 mod expression;
-mod templates;
 
 pub use compiled::{CompiledTemplate, one_tree, plain_text};
 pub use config::TemplateConfig;
 pub use expression::{CompiledExpression, one_standalone_tree};
-pub use templates::CompiledTemplates;

@@ -4,7 +4,6 @@ ghost use Rattle.template_values_errors.specs.Memory.{NoMemory};
 ghost use Rattle.template_values_model.specs.Val.{Val};
 ghost use Rattle.template_process.specs.Approximants.{IsFinished};
 ghost use Rattle.template_process.specs.Fuel.{under};
-ghost use Rattle.template_machine_going.specs.Paying.{Paid};
 ghost use Rattle.template_machine_escape.specs.Rule.{IsEscapeOf};
 ghost use Rattle.template_machine_operations.specs.Outcomes.{TellsFailures};
 ghost use Rattle.template_machine_renders.specs.Renders.{Renders, leaves};
@@ -18,6 +17,7 @@ use crate::registry::Registry;
 use crate::state::State;
 use template_compiled::{CompiledTemplate, plain_text};
 use template_machine_escape::{AutoEscapeRule, NoRule};
+use template_machine_fuel::levels;
 use template_machine_ids::StateIds;
 use template_machine_output::Sink;
 use template_machine_renders::run_code;
@@ -359,17 +359,5 @@ impl<'env, 'source, R: AutoEscapeRule> Captured<'env, 'source, R> {
         ensures sum { option_map (λ levels. levels.0 + levels.1) result ≡ fuel_set self.now }
     {
         self.state.fuel_levels()
-    }
-}
-
-// What was consumed of a fuel, and what is left of it.
-fn levels(fuel: Option<u64>, left: Option<u64>) -> Option<(u64, u64)>
-    requires { (price : ℕ) × Paid price fuel left }
-    ensures remaining { option_map (λ levels. levels.1) result ≡ left }
-    ensures sum { option_map (λ levels. levels.0 + levels.1) result ≡ fuel }
-{
-    match (fuel, left) {
-        (Some(fuel), Some(left)) => Some((fuel - left, left)),
-        _ => None,
     }
 }

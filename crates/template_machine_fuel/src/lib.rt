@@ -1,7 +1,7 @@
-//! What instructions cost of a fuel.
+//! What instructions cost of a fuel, and what was consumed of it.
 #![tactic(auto)]
 
-ghost use Rattle.std.specs.Prelude.{◌≡◌, ◌≤◌, ◌∷◌, [], IfErr, OnOk, OnErr};
+ghost use Rattle.std.specs.Prelude.{◌≡◌, ◌≤◌, ◌+◌, ◌∷◌, [], ℕ, IfErr, OnOk, OnErr, option_map};
 ghost use Rattle.template_machine_going.specs.Paying.{Paid, IsSpent};
 
 use template_values_errors::{Error, ErrorKind};
@@ -28,4 +28,16 @@ pub fn charge(left: &mut Option<u64>, price: u64) -> Result<(), Error>
     }
     *left = Some(fuel - price);
     Ok(())
+}
+
+/// What was consumed of a fuel, and what is left of it, where one was set.
+pub fn levels(fuel: Option<u64>, left: Option<u64>) -> Option<(u64, u64)>
+    requires { (price : ℕ) × Paid price fuel left }
+    ensures remaining { option_map (λ levels. levels.1) result ≡ left }
+    ensures sum { option_map (λ levels. levels.0 + levels.1) result ≡ fuel }
+{
+    match (fuel, left) {
+        (Some(fuel), Some(left)) => Some((fuel - left, left)),
+        _ => None,
+    }
 }

@@ -5,9 +5,9 @@ use Rattle.std.specs.BTreeSet.{contains_text}
 use Rattle.std.specs.String.{string_cmp}
 use Rattle.std.proofs.lemmas.Map.Iter.{iter_end, rest_more, rest_so_far}
 use Rattle.template_compiled.specs.Names.{uses}
-use Rattle.template_compiled.specs.Standing.{IsUsedByOne}
-use Rattle.template_compiled.proofs.Using.{all_used, more_used, on_err, some_used}
-use Rattle.template_compiled.proofs.templates.CompiledTemplates.add_undeclared.Goals as goal
+use Rattle.template_compiled_templates.specs.Standing.{IsUsedByOne}
+use Rattle.template_compiled_templates.proofs.Using.{all_used, more_used, on_err, some_used}
+use Rattle.template_compiled_templates.proofs.templates.CompiledTemplates.add_undeclared.Goals as goal
 
 -- one more template
 pub loop-name-preserved : goal.loop-name-preserved

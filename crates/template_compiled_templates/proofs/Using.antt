@@ -10,8 +10,8 @@ use Rattle.std.specs.BTreeMap as tree
 use Rattle.std.proofs.lemmas.Map.Entries.{place_from_lookup, btree_map_get_place}
 use Rattle.template_compiled.specs.Compiled.{Compiled}
 use Rattle.template_compiled.specs.Names.{uses}
-use Rattle.template_compiled.specs.Standing.{IsUsedByOne}
-use Rattle.template_compiled.specs.declared.templates.CompiledTemplates.{CompiledTemplates}
+use Rattle.template_compiled_templates.specs.Standing.{IsUsedByOne}
+use Rattle.template_compiled_templates.specs.declared.templates.CompiledTemplates.{CompiledTemplates}
 
 or_false : (b : Bool) → (b || false) ≡ b
 or_false true = refl

@@ -12,10 +12,10 @@ ghost use Rattle.template_values_errors.specs.Memory.{NoMemory};
 ghost use Rattle.template_compiler_runnable.specs.Running.{statements_run};
 ghost use Rattle.template_compiled.specs.Sources.{tree_in};
 
-use crate::compiled::CompiledTemplate;
 use std::alloc::Global;
 use std::collections::btree_map::Values;
 use std::collections::{BTreeMap, BTreeSet};
+use template_compiled::CompiledTemplate;
 use template_values_errors::{Error, ErrorKind};
 
 /// Compiled templates, each under its own name.
@@ -29,7 +29,7 @@ pub struct CompiledTemplates<'source> {
 
 impl<'source> CompiledTemplates<'source> {
     ghost use Rattle.template_compiled.specs.Compiled.{IsFaithful, Compiled};
-    ghost use Rattle.template_compiled.specs.Standing.{IsUsedByOne, compiled_at, all_in};
+    ghost use Rattle.template_compiled_templates.specs.Standing.{IsUsedByOne, compiled_at, all_in};
 
     /// No templates.
     pub fn new(alloc: Global) -> CompiledTemplates<'source>

@@ -1,0 +1,6 @@
+//! Templates that were accepted, by their names.
+#![tactic(auto)]
+
+mod templates;
+
+pub use templates::CompiledTemplates;
