@@ -45,9 +45,6 @@
 //! or its fault, unless it wants memory; [`every_evaluation_gives`] says that it is one of the two.
 #![tactic(auto)]
 
-#[cfg(test)]
-mod tests;
-
 pub use template_code_shapes::{
     Checked, StreamKind, certified_is_good, good_ends_well, good_goes_on, verify,
 };

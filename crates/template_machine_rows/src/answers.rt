@@ -1,39 +1,67 @@
 //! What comes of a case.
-use crate::case::Case;
+use crate::calls::ask;
+use crate::case::{Case, Escapes};
+use crate::escapes::{NumberedRule, ShortNames};
 use crate::steps::Step;
-use serde_json::Value as Json;
 use std::alloc::Global;
-use std::collections::BTreeSet;
+use std::borrow::CowStr;
 use template_compiler_syntax::SyntaxConfig;
-use template_environment::{Captured, Environment, Template};
+use template_environment::Environment;
+use template_machine_escape::AutoEscapeRule;
 use template_machine_ids::StateIds;
-use template_values_core::Value;
 use template_values_errors::Error;
 
 /// What comes of the case, in one line.
-pub(crate) fn answer(alloc: Global, case: Case<'_>) -> Result<String, Error> {
+pub(crate) fn answer(alloc: Global, case: &Case<'_>) -> Result<String, Error> {
+    match case.escapes {
+        Escapes::ByName => answer_by_name(alloc, case),
+        Escapes::Never => answer_without_escapes(alloc, case),
+        Escapes::Shorter(length) => answer_by_length(alloc, case, length),
+    }
+}
+
+fn answer_by_name(alloc: Global, case: &Case<'_>) -> Result<String, Error> {
     let mut ids = StateIds::new(0);
-    let mut environment = Environment::new(alloc, &mut ids)?;
-    set(&mut environment, &case);
+    let environment = Environment::new(alloc, &mut ids)?;
+    answer_in(alloc, environment, &mut ids, case)
+}
+
+fn answer_without_escapes(alloc: Global, case: &Case<'_>) -> Result<String, Error> {
+    let mut ids = StateIds::new(0);
+    let environment = Environment::empty(alloc, &mut ids)?;
+    answer_in(alloc, environment, &mut ids, case)
+}
+
+fn answer_by_length(alloc: Global, case: &Case<'_>, length: usize) -> Result<String, Error> {
+    let mut ids = StateIds::new(0);
+    let rule = ShortNames::shorter_than(length);
+    let environment = Environment::with_auto_escape_callback(alloc, rule, &mut ids)?;
+    answer_in(alloc, environment, &mut ids, case)
+}
+
+fn answer_in<'line, R: NumberedRule>(
+    alloc: Global,
+    environment: Environment<'line, R>,
+    ids: &mut StateIds,
+    case: &Case<'line>,
+) -> Result<String, Error> {
+    let mut environment = environment;
+    set(&mut environment, case);
     let mut out = String::new(alloc);
-    for step in case.steps {
-        if let Err(error) = take(alloc, &mut environment, step) {
-            write_refusal(step, &error, &mut out)?;
+    for step in &case.steps {
+        if let Err(error) = take(alloc, &mut environment, case.is_owned, *step) {
+            write_refusal(*step, &error, &mut out)?;
             if !case.skips_refusals {
                 return Ok(out);
             }
             out.push_str(", ")?;
         }
     }
-    match environment.get_template(case.main) {
-        Ok(template) if case.asks_names => write_names(&environment, &template, &mut out)?,
-        Ok(template) => write_render(alloc, &template, &mut ids, case.context, &mut out)?,
-        Err(error) => write!(out, "! {error}")?,
-    }
+    ask(alloc, &environment, ids, case, &mut out)?;
     Ok(out)
 }
 
-fn set(environment: &mut Environment<'_>, case: &Case<'_>) {
+fn set<R: AutoEscapeRule>(environment: &mut Environment<'_, R>, case: &Case<'_>) {
     environment.set_fuel(case.fuel);
     environment.set_undefined_behavior(case.undefined);
     if let Some(limit) = case.limit {
@@ -41,20 +69,38 @@ fn set(environment: &mut Environment<'_>, case: &Case<'_>) {
     }
 }
 
-fn take<'line>(
+fn take<'line, R: NumberedRule>(
     alloc: Global,
-    environment: &mut Environment<'line>,
+    environment: &mut Environment<'line, R>,
+    is_owned: bool,
     step: Step<'line>,
 ) -> Result<(), Error> {
     match step {
+        Step::Add { name, source } if is_owned => add_owned(alloc, environment, name, source)?,
         Step::Add { name, source } => environment.add_template(name, source)?,
         Step::Remove { name } => environment.remove_template(name),
         Step::Clear => environment.clear_templates(),
         Step::Prefixes { statement, comment } => {
             environment.set_syntax(prefixed(alloc, statement, comment)?)
         }
+        Step::Rule { length } => environment.set_auto_escape_callback(R::shorter_than(length)),
     }
     Ok(())
+}
+
+// Adds a template of texts that do not outlive the call.
+fn add_owned<R: AutoEscapeRule>(
+    alloc: Global,
+    environment: &mut Environment<'_, R>,
+    name: &str,
+    source: &str,
+) -> Result<(), Error> {
+    let name = String::from_str(alloc, name)?;
+    let source = String::from_str(alloc, source)?;
+    environment.add_template_owned(
+        CowStr::Borrowed(name.as_str()),
+        CowStr::Borrowed(source.as_str()),
+    )
 }
 
 fn prefixed(alloc: Global, statement: &str, comment: &str) -> Result<SyntaxConfig, Error> {
@@ -70,57 +116,4 @@ fn write_refusal(step: Step<'_>, error: &Error, out: &mut String) -> Result<(), 
         write!(out, "- {name} ! {error}")?;
     }
     Ok(())
-}
-
-fn write_render(
-    alloc: Global,
-    template: &Template<'_, '_>,
-    ids: &mut StateIds,
-    context: Value,
-    out: &mut String,
-) -> Result<(), Error> {
-    let mut text = String::new(alloc);
-    let ended = template.render_captured_to(ids, context, &mut text);
-    write_quoted(alloc, text, out)?;
-    match ended {
-        Ok(captured) => write_price(&captured, out),
-        Err(error) => Ok(write!(out, " ! {error}")?),
-    }
-}
-
-// A text as JSON.
-fn write_quoted(alloc: Global, text: String, out: &mut String) -> Result<(), Error> {
-    Ok(out.push_str(Json::String(text).to_string(alloc)?.as_str())?)
-}
-
-// What a render took of its fuel, where one is set.
-fn write_price(captured: &Captured<'_, '_>, out: &mut String) -> Result<(), Error> {
-    if let Some((consumed, _)) = captured.fuel_levels() {
-        write!(out, " price {consumed}")?;
-    }
-    Ok(())
-}
-
-fn write_names<'source>(
-    environment: &Environment<'source>,
-    template: &Template<'_, 'source>,
-    out: &mut String,
-) -> Result<(), Error> {
-    match environment.context_names(template) {
-        Ok(names) => write_list(&names, out),
-        Err(error) => Ok(write!(out, "! {error}")?),
-    }
-}
-
-fn write_list(names: &BTreeSet<String>, out: &mut String) -> Result<(), Error> {
-    out.push('[')?;
-    let mut first = true;
-    for name in names {
-        if !first {
-            out.push_str(", ")?;
-        }
-        first = false;
-        out.push_str(name.as_str())?;
-    }
-    Ok(out.push(']')?)
 }

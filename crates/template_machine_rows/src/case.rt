@@ -11,13 +11,65 @@ use template_values_modes::UndefinedBehavior;
 #[derive(Drop)]
 pub(crate) struct Case<'line> {
     pub(crate) steps: Vec<Step<'line>>,
-    pub(crate) main: &'line str,
+    pub(crate) subject: Subject<'line>,
+    pub(crate) call: Call,
+    pub(crate) place: Place,
     pub(crate) context: Value,
     pub(crate) fuel: Option<u64>,
     pub(crate) limit: Option<usize>,
     pub(crate) undefined: UndefinedBehavior,
-    pub(crate) asks_names: bool,
+    pub(crate) escapes: Escapes,
+    pub(crate) is_owned: bool,
+    pub(crate) tells_state: bool,
     pub(crate) skips_refusals: bool,
+}
+
+/// What is rendered, or evaluated.
+#[derive(Clone, Copy)]
+pub(crate) enum Subject<'line> {
+    /// The template that stands under a name.
+    Main(&'line str),
+    /// A source that does not stand.
+    Source(&'line str),
+    /// The same under a name.
+    Named {
+        name: &'line str,
+        source: &'line str,
+    },
+    Expression(&'line str),
+}
+
+/// What is asked of it.
+#[derive(Clone, Copy)]
+pub(crate) enum Call {
+    /// What every case asks for that names no call: of a template that stands a render into the case's place, of
+    /// another source its text, of an expression its value.
+    Usual,
+    Render,
+    RenderCaptured,
+    States,
+    UsedNames,
+    ContextNames,
+    Escape,
+    Templates,
+}
+
+/// Where the text of a render goes.
+#[derive(Clone, Copy)]
+pub(crate) enum Place {
+    Text,
+    /// A writer of so many bytes.
+    Room(usize),
+    Nowhere,
+}
+
+/// Which escape a name has.
+#[derive(Clone, Copy)]
+pub(crate) enum Escapes {
+    ByName,
+    Never,
+    /// Names of fewer bytes have that of HTML, others none.
+    Shorter(usize),
 }
 
 impl<'line> Case<'line> {
@@ -31,13 +83,17 @@ impl<'line> Case<'line> {
         }
         let steps = steps_of(alloc, entries.get("templates"))?;
         Ok(Case {
-            main: main_of(entries.get("main"), steps.as_slice())?,
-            context: context_of(alloc, entries.get("context"))?,
+            subject: subject_of(entries, steps.as_slice())?,
+            call: call_of(entries)?,
+            place: place_of(entries.get("room"))?,
             fuel: number_of(entries.get("fuel"))?,
-            limit: limit_of(entries.get("limit"))?,
+            limit: count_of(entries.get("limit"))?,
             undefined: behavior_of(entries.get("undefined"))?,
-            asks_names: truth_of(entries.get("names"))?,
+            escapes: escapes_of(entries.get("escapes"))?,
+            is_owned: truth_of(entries.get("owned"))?,
+            tells_state: truth_of(entries.get("state"))?,
             skips_refusals: truth_of(entries.get("skip"))?,
+            context: context_of(alloc, entries.get("context"))?,
             steps,
         })
     }
@@ -52,18 +108,95 @@ fn are_known(entries: &Map<String, Json>) -> bool {
         match name.as_str() {
             "templates" | "main" | "context" | "fuel" | "limit" | "undefined" | "names" | "skip" =>
                 {}
+            "source" | "expression" | "call" | "room" | "escapes" | "owned" | "state" => {}
             _ => return false,
         }
     }
     true
 }
 
+fn subject_of<'line>(
+    entries: &'line Map<String, Json>,
+    steps: &[Step<'line>],
+) -> Result<Subject<'line>, Error> {
+    match (entries.get("expression"), entries.get("source")) {
+        (Some(Json::String(expression)), None) => Ok(Subject::Expression(expression.as_str())),
+        (None, Some(source)) => source_of(source),
+        (None, None) => main_of(entries.get("main"), steps),
+        _ => unreadable(),
+    }
+}
+
+fn source_of(source: &Json) -> Result<Subject<'_>, Error> {
+    match source {
+        Json::String(source) => Ok(Subject::Source(source.as_str())),
+        Json::Array(pair) => named_source(pair.as_slice()),
+        _ => unreadable(),
+    }
+}
+
+fn named_source(pair: &[Json]) -> Result<Subject<'_>, Error> {
+    match pair {
+        [Json::String(name), Json::String(source)] => Ok(Subject::Named {
+            name: name.as_str(),
+            source: source.as_str(),
+        }),
+        _ => unreadable(),
+    }
+}
+
 // The name that is told, else the first one of the steps; of steps that add nothing it is empty.
-fn main_of<'line>(name: Option<&'line Json>, steps: &[Step<'line>]) -> Result<&'line str, Error> {
+fn main_of<'line>(
+    name: Option<&'line Json>,
+    steps: &[Step<'line>],
+) -> Result<Subject<'line>, Error> {
     match name {
-        None => Ok(first_name(steps).unwrap_or("")),
-        Some(Json::String(name)) => Ok(name.as_str()),
+        None => Ok(Subject::Main(first_name(steps).unwrap_or(""))),
+        Some(Json::String(name)) => Ok(Subject::Main(name.as_str())),
         Some(_) => unreadable(),
+    }
+}
+
+fn call_of(entries: &Map<String, Json>) -> Result<Call, Error> {
+    if truth_of(entries.get("names"))? {
+        return Ok(Call::ContextNames);
+    }
+    match entries.get("call") {
+        None => Ok(Call::Usual),
+        Some(Json::String(word)) => call_of_word(word.as_str()),
+        Some(_) => unreadable(),
+    }
+}
+
+fn call_of_word(word: &str) -> Result<Call, Error> {
+    match word {
+        "render" => Ok(Call::Render),
+        "render_captured" => Ok(Call::RenderCaptured),
+        "states" => Ok(Call::States),
+        "undeclared_variables" => Ok(Call::UsedNames),
+        "initial_auto_escape" => Ok(Call::Escape),
+        "templates" => Ok(Call::Templates),
+        _ => unreadable(),
+    }
+}
+
+fn place_of(room: Option<&Json>) -> Result<Place, Error> {
+    if let Some(Json::Null) = room {
+        return Ok(Place::Nowhere);
+    }
+    match count_of(room)? {
+        None => Ok(Place::Text),
+        Some(room) => Ok(Place::Room(room)),
+    }
+}
+
+fn escapes_of(escapes: Option<&Json>) -> Result<Escapes, Error> {
+    if let Some(Json::Bool(false)) = escapes {
+        return Ok(Escapes::Never);
+    }
+    match count_of(escapes)? {
+        None => Ok(Escapes::ByName),
+        Some(length) => Ok(Escapes::Shorter(length)),
     }
 }
 
@@ -84,11 +217,11 @@ fn number_of(number: Option<&Json>) -> Result<Option<u64>, Error> {
     }
 }
 
-fn limit_of(limit: Option<&Json>) -> Result<Option<usize>, Error> {
-    match number_of(limit)? {
+pub(crate) fn count_of(number: Option<&Json>) -> Result<Option<usize>, Error> {
+    match number_of(number)? {
         None => Ok(None),
-        Some(limit) => match usize::try_from(limit) {
-            Ok(limit) => Ok(Some(limit)),
+        Some(number) => match usize::try_from(number) {
+            Ok(count) => Ok(Some(count)),
             Err(_) => unreadable(),
         },
     }

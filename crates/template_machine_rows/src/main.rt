@@ -1,25 +1,44 @@
-//! Renders, as rows. Each line of standard input is a case, a JSON object with these entries, of which all but the
-//! first may be left out:
+//! Renders, as rows. Each line of standard input is a case, a JSON object with these entries, each of which may be
+//! left out:
 //!
 //! - `templates`: what is done before the render, in order: `[name, source]` adds a template, `[name, null]` removes
 //!   the one of that name, `null` removes all, an object with `line_statement` and `line_comment` sets the prefixes of
-//!   the templates that are added from then on;
+//!   the templates that are added from then on, and a number sets their rule of escapes, where `escapes` is one;
 //! - `main`: the name of the template that is rendered; the first one of `templates`, if left out;
+//! - `source`: a source that is rendered in its place, and does not stand; or `[name, source]`;
+//! - `expression`: an expression that is evaluated in its place;
+//! - `call`: what is asked of the template in place of a render into `room`: `render`, `render_captured`, `states` (a new
+//!   state of it, then one without a template), `undeclared_variables`, `initial_auto_escape` or `templates`; of an
+//!   expression `undeclared_variables` alone;
+//! - `room`: how many bytes the writer takes that the text goes to, or `null` where it goes nowhere; left out, it goes
+//!   to a text;
 //! - `context`: the context, an object; empty, if left out;
 //! - `fuel`: a number; none, if left out;
 //! - `limit`: the recursion limit; 500, if left out;
 //! - `undefined`: `lenient` (as also if left out), `chainable`, `semi_strict` or `strict`;
+//! - `escapes`: `false`, where nothing is escaped, or a number: names of fewer bytes are escaped as HTML, and others
+//!   not; left out, the ending of a name decides;
+//! - `owned`: `true`, where the texts of templates and of the expression are copied, and let go before they are used;
+//! - `state`: `true`, where the state that a render left is told too;
 //! - `names`: `true`, where the names of a context are asked for in place of a render;
 //! - `skip`: `true`, where a refused addition does not end the case.
 //!
 //! The line is written as it stands, then ` = `, then what came of it:
 //!
-//! - `"text"` where the render is done, and ` price N` behind it under a fuel, N being what it took of the fuel;
+//! - `"text"` where the render is done, and ` price N` behind it under a fuel, N being what it took of the fuel, and the
+//!   state behind that;
 //! - `"text" ! Kind: Kind` where it ended with a fault: the text before that, then the kinds, outermost first;
+//! - `_` in place of a text that went nowhere;
 //! - `- name ! Kind` where the addition of that template is refused, which ends the case (or goes before the rest,
 //!   with `, ` between, where refusals are skipped);
-//! - `! Kind` where the main template does not stand;
-//! - `[name, name]` where names are asked for;
+//! - `! Kind` where the main template does not stand, where a source or an expression is refused, and where a call ended
+//!   with a fault that leaves no text;
+//! - the value of an expression, as JSON, or `undefined`;
+//! - `[name, name]` where names are asked for, and two such lists for those that are used: without what stands behind
+//!   dots, then with it;
+//! - `[name "source", name "source"]` for the templates that stand;
+//! - `state N of name, escape Escape, undefined Mode, limit N, exports [name], knows [name value]` for a state, N being
+//!   its number, with `, fuel N + M` before `exports` under a fuel: what was consumed, and what remains;
 //! - `? Kind` where the line is no case.
 //!
 //! A line that begins with `#` is a heading. The stored run is the table of the language's cases, written from the
@@ -28,8 +47,12 @@
 #![tactic(auto)]
 
 mod answers;
+mod calls;
 mod case;
+mod escapes;
+mod renders;
 mod steps;
+mod tellings;
 
 use crate::answers::answer;
 use crate::case::Case;
@@ -57,7 +80,7 @@ fn main(rt: HostRuntime) -> io::Result<()> {
 // What comes of the case that stands in a line of JSON.
 fn answer_of_line(alloc: Global, line: &str) -> Result<String, Error> {
     match Json::from_str(alloc, line).map_err(refusal)? {
-        Json::Object(entries) => answer(alloc, Case::read(alloc, &entries)?),
+        Json::Object(entries) => answer(alloc, &Case::read(alloc, &entries)?),
         _ => Err(Error::new(ErrorKind::SyntaxError)),
     }
 }

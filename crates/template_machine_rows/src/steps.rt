@@ -1,9 +1,10 @@
-//! What is done with the templates, and with the syntax that they are read under, before a render.
+//! What is done with the templates, and with the syntax and the rule that they are read under, before a render.
+use crate::case::count_of;
 use serde_json::{Map, Value as Json};
 use std::alloc::Global;
 use template_values_errors::{Error, ErrorKind};
 
-/// A change of the templates that stand, or of the syntax of those that are added from then on.
+/// A change of the templates that stand, or of the syntax or the rule of escapes of those that are added from then on.
 #[derive(Clone, Copy)]
 pub(crate) enum Step<'line> {
     Add {
@@ -19,13 +20,22 @@ pub(crate) enum Step<'line> {
         statement: &'line str,
         comment: &'line str,
     },
+    /// The rule of escapes of this number.
+    Rule {
+        length: usize,
+    },
 }
 
 /// The steps that an array lists; SyntaxError where it lists something else.
 pub(crate) fn steps_of(alloc: Global, steps: Option<&Json>) -> Result<Vec<Step<'_>>, Error> {
-    let Some(Json::Array(steps)) = steps else {
-        return Err(Error::new(ErrorKind::SyntaxError));
-    };
+    match steps {
+        None => Ok(Vec::new(alloc)),
+        Some(Json::Array(steps)) => listed_steps(alloc, steps.as_slice()),
+        Some(_) => Err(Error::new(ErrorKind::SyntaxError)),
+    }
+}
+
+fn listed_steps(alloc: Global, steps: &[Json]) -> Result<Vec<Step<'_>>, Error> {
     let mut listed = Vec::with_capacity(alloc, steps.len())?;
     for step in steps {
         listed.push(step_of(step)?)?;
@@ -38,7 +48,14 @@ fn step_of(step: &Json) -> Result<Step<'_>, Error> {
         Json::Null => Ok(Step::Clear),
         Json::Array(pair) => pair_step(pair.as_slice()),
         Json::Object(entries) => prefixes_step(entries),
-        _ => Err(Error::new(ErrorKind::SyntaxError)),
+        _ => rule_step(step),
+    }
+}
+
+fn rule_step(step: &Json) -> Result<Step<'_>, Error> {
+    match count_of(Some(step))? {
+        Some(length) => Ok(Step::Rule { length }),
+        None => Err(Error::new(ErrorKind::SyntaxError)),
     }
 }
 
