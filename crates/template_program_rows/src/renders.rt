@@ -9,12 +9,18 @@ use template_values_errors::Error;
 
 const PRINTS: usize = 100_000;
 
-const ITEMS: u32 = 1_000_000;
+/// How many items the loops go over; a tenth of them where they include.
+pub(crate) const ITEMS: u32 = 1_000_000;
 
-const INCLUDES: u32 = 100_000;
+/// A loop that prints what it goes over.
+pub(crate) const LOOP: &str = "{% for x in items %}{{ x }},{% endfor %}";
 
-const SUMS: &str =
+/// A loop with branches and sums.
+pub(crate) const SUMS: &str =
     "{% for x in items %}{% if x % 2 == 0 %}{{ x * 3 + 1 }},{% else %}odd,{% endif %}{% endfor %}";
+
+/// A loop that includes a small template each time.
+pub(crate) const INCLUDES: &str = "{% for x in items %}{% include 'part' %}{% endfor %}";
 
 /// The time of adding a template of 1.2 MB.
 pub(crate) fn add_template(rt: &HostRuntime) -> Option<Duration> {
@@ -32,32 +38,10 @@ pub(crate) fn render_prints(rt: &HostRuntime) -> Option<Duration> {
     render(rt, source.as_str(), "x", Value::from_int(7))
 }
 
-/// The time of a loop that prints what it goes over.
-pub(crate) fn render_loop(rt: &HostRuntime) -> Option<Duration> {
-    let items = numbers(rt.alloc(), ITEMS)?;
-    render(
-        rt,
-        "{% for x in items %}{{ x }},{% endfor %}",
-        "items",
-        items,
-    )
-}
-
-/// The time of a loop with branches and sums.
-pub(crate) fn render_sums(rt: &HostRuntime) -> Option<Duration> {
-    let items = numbers(rt.alloc(), ITEMS)?;
-    render(rt, SUMS, "items", items)
-}
-
-/// The time of a loop that includes a small template each time.
-pub(crate) fn render_includes(rt: &HostRuntime) -> Option<Duration> {
-    let items = numbers(rt.alloc(), INCLUDES)?;
-    render(
-        rt,
-        "{% for x in items %}{% include 'part' %}{% endfor %}",
-        "items",
-        items,
-    )
+/// The time of a render over a list of so many items.
+pub(crate) fn render_items(rt: &HostRuntime, source: &str, count: u32) -> Option<Duration> {
+    let items = numbers(rt.alloc(), count)?;
+    render(rt, source, "items", items)
 }
 
 // A list of the numbers from 0 on.

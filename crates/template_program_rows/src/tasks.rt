@@ -1,5 +1,6 @@
 //! The tasks, those of values among them.
-use crate::renders::{add_template, render_includes, render_loop, render_prints, render_sums};
+use crate::renders::{INCLUDES, ITEMS, LOOP, SUMS, add_template, render_items, render_prints};
+use anyhow::bail;
 use std::alloc::Global;
 use std::hint::black_box;
 use std::time::{Duration, Instant};
@@ -8,11 +9,13 @@ use template_values_modes::AutoEscape;
 use template_values_operators::add;
 use template_values_text::{NoRecords, escape_to, print_to};
 
+// 10 MB of text, as so many lines.
 const LINE: &str =
     "The <quick> brown fox jumps over the lazy dog, and so it goes on & on for a long line.\n";
 
 const LINES: usize = 115_000;
 
+// 5 MB of markup, as so many pieces.
 const DENSE: &str = "<>&\"'/";
 
 const DENSE_TIMES: usize = 833_334;
@@ -25,42 +28,41 @@ const ADDITIONS: u32 = 10_000_000;
 
 const COPIES: u32 = 1_000_000;
 
-/// The time of the task of that name; none where there is no such task, or something was refused.
-pub(crate) fn measure(rt: &HostRuntime, task: &str) -> Option<Duration> {
+/// The time of the task of that name, in words.
+pub(crate) fn answer_time(rt: &HostRuntime, task: &str) -> anyhow::Result<String> {
+    match measure(rt, task) {
+        Some(time) => Ok(format!(in rt.alloc(); "{} microseconds", time.as_micros())?),
+        None => bail!("no such task, or it was refused"),
+    }
+}
+
+// The time of the task of that name; none where there is no such task, or something was refused.
+fn measure(rt: &HostRuntime, task: &str) -> Option<Duration> {
     match task {
         "print" => print(rt),
-        "escape-html" => escape(rt, long_text(rt.alloc())?, AutoEscape::Html),
-        "escape-dense" => escape(rt, dense_text(rt.alloc())?, AutoEscape::Html),
-        "escape-json" => escape(rt, long_text(rt.alloc())?, AutoEscape::Json),
+        "escape-html" => escape(rt, LINE, LINES, AutoEscape::Html),
+        "escape-dense" => escape(rt, DENSE, DENSE_TIMES, AutoEscape::Html),
+        "escape-json" => escape(rt, LINE, LINES, AutoEscape::Json),
         "sort-map" => sort_map(rt),
         "look-up" => look_up(rt),
         "add" => add_up(rt),
         "copy" => copy(rt),
         "add-template" => add_template(rt),
         "render-prints" => render_prints(rt),
-        "render-loop" => render_loop(rt),
-        "render-sums" => render_sums(rt),
-        "render-includes" => render_includes(rt),
+        "render-loop" => render_items(rt, LOOP, ITEMS),
+        "render-sums" => render_items(rt, SUMS, ITEMS),
+        "render-includes" => render_items(rt, INCLUDES, ITEMS / 10),
         _ => None,
     }
 }
 
-fn text(alloc: Global, text: &str) -> Option<Value> {
-    Value::from_text(String::from_str(alloc, text).ok()?).ok()
-}
-
-// 10 MB of text.
-fn long_text(alloc: Global) -> Option<Value> {
-    Value::from_text(LINE.repeat(alloc, LINES).ok()?).ok()
-}
-
-// 5 MB of markup.
-fn dense_text(alloc: Global) -> Option<Value> {
-    Value::from_text(DENSE.repeat(alloc, DENSE_TIMES).ok()?).ok()
+// A text, so many times.
+fn repeated(alloc: Global, text: &str, times: usize) -> Option<Value> {
+    Value::from_text(text.repeat(alloc, times).ok()?).ok()
 }
 
 fn print(rt: &HostRuntime) -> Option<Duration> {
-    let value = long_text(rt.alloc())?;
+    let value = repeated(rt.alloc(), LINE, LINES)?;
     let mut out = String::new(rt.alloc());
     let start = Instant::now(rt).ok()?;
     print_to(&value, &NoRecords, &mut out).ok()?;
@@ -69,7 +71,8 @@ fn print(rt: &HostRuntime) -> Option<Duration> {
     Some(time)
 }
 
-fn escape(rt: &HostRuntime, value: Value, rule: AutoEscape) -> Option<Duration> {
+fn escape(rt: &HostRuntime, text: &str, times: usize, rule: AutoEscape) -> Option<Duration> {
+    let value = repeated(rt.alloc(), text, times)?;
     let mut out = String::new(rt.alloc());
     let start = Instant::now(rt).ok()?;
     escape_to(&value, rule, &NoRecords, &mut out).ok()?;

@@ -1,5 +1,5 @@
 //! Requests with long sources, and with many statements, templates, names, definitions, rounds and includes.
-use crate::Came;
+use crate::sizes::Came;
 use anyhow::bail;
 use std::alloc::Global;
 use template_machine_ids::StateIds;
@@ -54,7 +54,7 @@ pub(crate) fn answered(alloc: Global, case: &Case) -> anyhow::Result<Came> {
     };
     let mut ids = StateIds::new(0);
     match run(alloc, &case.request, templates, context, &mut ids, &mut out) {
-        Outcome::Done => Ok(Came::compared(out.as_str(), case.wanted.as_str())),
+        Outcome::Done => Ok(Came::compared(out.as_bytes(), case.wanted.as_bytes())),
         Outcome::Render(error) | Outcome::Context(error) | Outcome::Template(error) => {
             bail!("it was refused: {error}")
         }

@@ -1,5 +1,5 @@
 //! Texts through every sink.
-use crate::Came;
+use crate::sizes::Came;
 use std::alloc::Global;
 use std::io::{BufWriter, Write};
 use template_machine_output::{NullWriter, WriteWrapper, write_text};
@@ -8,13 +8,13 @@ use template_values_errors::Error;
 pub(crate) fn into_text(alloc: Global, text: &str) -> anyhow::Result<Came> {
     let mut sink = String::new(alloc);
     write_text(&mut sink, text).map_err(Error::from)?;
-    Ok(Came::compared(sink.as_str(), text))
+    Ok(Came::compared(sink.as_bytes(), text.as_bytes()))
 }
 
 pub(crate) fn into_writer(alloc: Global, text: &str) -> anyhow::Result<Came> {
     let mut sink = WriteWrapper::new(Vec::new(alloc));
     write_text(&mut sink, text).map_err(Error::from)?;
-    Ok(came_as_bytes(sink.w.as_slice(), text))
+    Ok(Came::compared(sink.w.as_slice(), text.as_bytes()))
 }
 
 pub(crate) fn into_buffer(alloc: Global, text: &str) -> anyhow::Result<Came> {
@@ -23,7 +23,7 @@ pub(crate) fn into_buffer(alloc: Global, text: &str) -> anyhow::Result<Came> {
     write_text(&mut sink, text).map_err(Error::from)?;
     sink.w.flush()?;
     drop(sink);
-    Ok(came_as_bytes(bytes.as_slice(), text))
+    Ok(Came::compared(bytes.as_slice(), text.as_bytes()))
 }
 
 pub(crate) fn into_nothing(text: &str) -> anyhow::Result<Came> {
@@ -32,11 +32,4 @@ pub(crate) fn into_nothing(text: &str) -> anyhow::Result<Came> {
         bytes: 0,
         is_right: true,
     })
-}
-
-fn came_as_bytes(given: &[u8], wanted: &str) -> Came {
-    Came {
-        bytes: given.len(),
-        is_right: given == wanted.as_bytes(),
-    }
 }

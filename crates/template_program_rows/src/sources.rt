@@ -1,6 +1,6 @@
 //! Sources at size: braces alone, a list of many parts, a long name, a long loop within a loop.
-use crate::Came;
 use crate::requests::{Case, ITEMS, answered, rendering, zeros};
+use crate::sizes::Came;
 use anyhow::bail;
 use std::alloc::Global;
 use template_machine_ids::StateIds;

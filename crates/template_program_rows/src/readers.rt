@@ -1,5 +1,5 @@
 //! Texts through every reader.
-use crate::Came;
+use crate::sizes::Came;
 use anyhow::bail;
 use std::alloc::Global;
 use std::fs;
@@ -38,7 +38,7 @@ pub(crate) fn read_file_back(rt: &HostRuntime, text: &str) -> anyhow::Result<Cam
 
 fn came_of(read: Result<String, FileFault>, text: &str) -> anyhow::Result<Came> {
     match read {
-        Ok(read) => Ok(Came::compared(read.as_str(), text)),
+        Ok(read) => Ok(Came::compared(read.as_bytes(), text.as_bytes())),
         Err(_fault) => bail!("it was not read"),
     }
 }

@@ -1,0 +1,117 @@
+//! What comes of requests.
+use crate::entries::{count_of, expect_names, number_of, quoted, text_of, unreadable};
+use serde_json::{Map, Value as Json};
+use std::alloc::Global;
+use template_machine_ids::StateIds;
+use template_program_start::{Command, Outcome, Request, run};
+use template_values_errors::Error;
+use template_values_modes::UndefinedBehavior;
+
+/// What a request writes, and how it ends.
+pub(crate) fn answer_request(
+    alloc: Global,
+    templates: &Json,
+    entries: &Map<String, Json>,
+) -> Result<String, Error> {
+    expect_names(
+        entries,
+        &[
+            "templates",
+            "context",
+            "fuel",
+            "limit",
+            "undefined",
+            "names",
+            "first_id",
+        ],
+    )?;
+    let templates = templates_of(alloc, templates)?;
+    answer(alloc, templates.as_slice(), entries)
+}
+
+fn answer(
+    alloc: Global,
+    templates: &[(String, String)],
+    entries: &Map<String, Json>,
+) -> Result<String, Error> {
+    let context = text_of(entries.get("context"))?.unwrap_or("{}");
+    let mut ids = StateIds::new(number_of(entries.get("first_id"))?.unwrap_or(0));
+    let request = request_of(alloc, first_name(templates), entries)?;
+    let mut out = String::new(alloc);
+    let json = Some(context.as_bytes());
+    let outcome = run(alloc, &request, templates, json, &mut ids, &mut out);
+    let mut answer = quoted(alloc, out.as_bytes())?;
+    write_end(&outcome, &mut answer)?;
+    Ok(answer)
+}
+
+fn write_end(outcome: &Outcome, answer: &mut String) -> Result<(), Error> {
+    match outcome {
+        Outcome::Done => {}
+        Outcome::Render(error) => write!(answer, " ! render {error}")?,
+        Outcome::Context(error) => write!(answer, " ! context {error}")?,
+        Outcome::Template(error) => write!(answer, " ! template {error}")?,
+    }
+    Ok(())
+}
+
+fn request_of(alloc: Global, main: &str, entries: &Map<String, Json>) -> Result<Request, Error> {
+    Ok(Request {
+        fuel: number_of(entries.get("fuel"))?,
+        limit: count_of(entries.get("limit"))?.unwrap_or(500),
+        undefined: behavior_of(entries.get("undefined"))?,
+        command: command_of(entries.get("names"))?,
+        main: String::from_str(alloc, main)?,
+        texts: Vec::new(alloc),
+    })
+}
+
+// Where there is no template, none has this name.
+fn first_name(templates: &[(String, String)]) -> &str {
+    match templates.first() {
+        Some((name, _)) => name.as_str(),
+        None => "none",
+    }
+}
+
+fn templates_of(alloc: Global, templates: &Json) -> Result<Vec<(String, String)>, Error> {
+    let Json::Array(templates) = templates else {
+        return unreadable();
+    };
+    let mut listed = Vec::with_capacity(alloc, templates.len())?;
+    for template in templates {
+        listed.push(template_of(alloc, template)?)?;
+    }
+    Ok(listed)
+}
+
+fn template_of(alloc: Global, template: &Json) -> Result<(String, String), Error> {
+    let Json::Array(pair) = template else {
+        return unreadable();
+    };
+    match pair.as_slice() {
+        [Json::String(name), Json::String(source)] => {
+            let name = String::from_str(alloc, name.as_str())?;
+            Ok((name, String::from_str(alloc, source.as_str())?))
+        }
+        _ => unreadable(),
+    }
+}
+
+fn behavior_of(behavior: Option<&Json>) -> Result<UndefinedBehavior, Error> {
+    match text_of(behavior)? {
+        None | Some("lenient") => Ok(UndefinedBehavior::Lenient),
+        Some("chainable") => Ok(UndefinedBehavior::Chainable),
+        Some("semi_strict") => Ok(UndefinedBehavior::SemiStrict),
+        Some("strict") => Ok(UndefinedBehavior::Strict),
+        Some(_) => unreadable(),
+    }
+}
+
+fn command_of(names: Option<&Json>) -> Result<Command, Error> {
+    match names {
+        None => Ok(Command::Render),
+        Some(Json::Bool(true)) => Ok(Command::Names),
+        Some(_) => unreadable(),
+    }
+}
