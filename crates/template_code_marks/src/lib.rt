@@ -2,7 +2,5 @@
 #![tactic(auto)]
 
 mod marks;
-#[cfg(test)]
-mod tests;
 
 pub use marks::{Mark, Marks};

@@ -2,7 +2,5 @@
 #![tactic(auto)]
 
 mod references;
-#[cfg(test)]
-mod tests;
 
 pub use references::get_referenced_names;

@@ -43,8 +43,6 @@
 #![tactic(auto)]
 
 pub mod ast;
-#[cfg(test)]
-mod tests;
 
 pub use template_code::{
     CaptureMode, CompareOp, Instruction, Instructions, LOOP_FLAG_RECURSIVE,

@@ -88,7 +88,8 @@ pub(crate) fn expression(expr: &Expr, out: &mut Form, left: u32) -> Result<(), E
     out.place(expr.span())
 }
 
-fn constant(value: &Value, out: &mut Form) -> Result<(), Error> {
+/// A constant of a kind that literals have.
+pub(crate) fn constant(value: &Value, out: &mut Form) -> Result<(), Error> {
     match value.content() {
         Content::None => out.push_str("none")?,
         Content::Truth(truth) => write!(out.text, "{truth}")?,

@@ -4,12 +4,12 @@ use std::alloc::Global;
 use template_compiler_syntax::{SyntaxConfig, SyntaxConfigBuilder};
 use template_values_errors::{Error, ErrorKind};
 
-/// The default syntax with what the entries change, `source` and `places` aside. An entry of another name or kind is a
-/// SyntaxError.
+/// The default syntax with what the entries change, `source`, `ask` and `places` aside. An entry of another name or kind
+/// is a SyntaxError.
 pub(crate) fn syntax_of(alloc: Global, entries: &Map<String, Json>) -> Result<SyntaxConfig, Error> {
     let mut builder = SyntaxConfig::builder(alloc);
     for (name, value) in entries {
-        if !matches!(name.as_str(), "source" | "places") {
+        if !matches!(name.as_str(), "source" | "ask" | "places") {
             set(&mut builder, name.as_str(), value)?;
         }
     }

@@ -1,11 +1,13 @@
 //! The calls of the generator on their happy paths.
-use crate::ast::{Expr, Span, Stmt};
-use crate::tests::parsed;
-use crate::{CodeGenerator, Error, Instruction, Instructions, is_runnable};
 use std::alloc::Global;
 use std::borrow::CowStr;
 use std::process::Abort;
 use std::test::Fail;
+use template_code::{Instruction, Instructions};
+use template_compiler_generator::CodeGenerator;
+use template_compiler_runnable::is_runnable;
+use template_tree::{EmitRaw, Expr, Span, Spanned, Stmt, Template};
+use template_values_errors::Error;
 
 // Where the jump at a place leads.
 fn target(code: &Instructions<'_>, place: u32) -> Option<u32> {
@@ -180,8 +182,14 @@ fn add_tree<'source>(
 }
 
 // A whole template of one text.
+fn text(alloc: Global) -> Result<Stmt<'static>, Error> {
+    let raw = Stmt::EmitRaw(Spanned::new(EmitRaw { raw: "b" }, Span::default()));
+    let children = vec![in alloc; raw]?;
+    Ok(Stmt::Template(Spanned::new(Template { children }, Span::default())))
+}
+
 fn add_text(alloc: Global, generator: &mut CodeGenerator<'static>) -> Result<(), Error> {
-    match parsed(alloc, "b") {
+    match text(alloc) {
         Ok(text) => add_tree(generator, &text),
         Err(error) => Err(error),
     }

@@ -1,6 +1,6 @@
 //! The table of marks on its happy paths.
-use crate::{Mark, Marks};
 use std::rt::HostRuntime;
+use template_code_marks::{Mark, Marks};
 use template_tree::Span;
 
 #[test]

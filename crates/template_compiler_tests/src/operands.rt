@@ -1,7 +1,7 @@
 //! What no contract shows: that so many values can be taken, and when they cannot.
-use crate::Operands;
 use std::alloc::Global;
 use std::test::Fail;
+use template_machine_operands::Operands;
 use template_values_core::{Content, Value};
 use template_values_errors::{Error, ErrorKind};
 
