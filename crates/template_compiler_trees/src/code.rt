@@ -6,7 +6,8 @@ use std::alloc::Global;
 use std::borrow::CowStr;
 use template_code::{Instruction, Instructions};
 use template_code_references::get_referenced_names;
-use template_compiled::{CompiledTemplate, CompiledTemplates, TemplateConfig};
+use template_compiled::{CompiledTemplate, TemplateConfig};
+use template_compiled_templates::CompiledTemplates;
 use template_compiler_syntax::SyntaxConfig;
 use template_values_errors::Error;
 
