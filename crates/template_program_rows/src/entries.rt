@@ -12,11 +12,20 @@ pub(crate) fn unreadable<T: Drop>() -> Result<T, Error> {
 /// Refuses entries of other names than these.
 pub(crate) fn expect_names(entries: &Map<String, Json>, known: &[&str]) -> Result<(), Error> {
     for (name, _) in entries {
-        if !known.contains(&name.as_str()) {
+        if !is_among(name.as_str(), known) {
             return unreadable();
         }
     }
     Ok(())
+}
+
+fn is_among(name: &str, known: &[&str]) -> bool {
+    for word in known {
+        if *word == name {
+            return true;
+        }
+    }
+    false
 }
 
 /// The text of an entry, if it stands.
