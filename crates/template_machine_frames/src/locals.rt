@@ -63,7 +63,7 @@ fn find<'a, 'env>(locals: &'a [Local<'env>], name: &str) -> Option<&'a Local<'en
 }
 
 // Where the local of a name stands.
-#[inline(always)]
+#[inline]
 fn position(locals: &[Local<'_>], name: &str) -> Option<usize>
     ensures { result ≡ position (is_named name.now) locals.now }
 {
@@ -114,7 +114,7 @@ impl<'env> Locals<'env> {
     }
 
     /// The value of a name. Linear in the number of names.
-    #[inline(always)]
+    #[inline]
     pub fn get(&self, name: &str) -> Option<&Value>
         ensures { option_copied result ≡ local_at name.now self.now }
     {
