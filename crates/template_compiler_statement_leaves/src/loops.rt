@@ -5,11 +5,11 @@ ghost use Rattle.template_compiler_statements.specs.Reader.{tag_end};
 ghost use Rattle.template_compiler_tokens.specs.Token.{bad_syntax};
 ghost use Rattle.template_tree.specs.Tree.{break_loop, continue_loop};
 ghost use Rattle.template_tree.specs.StatementView.{statement_of};
+ghost use Rattle.template_tree.specs.declared.statements.Stmt.TheVariants as statements;
 
-use template_compiler_statement_makers::makers;
 use template_compiler_statement_parts::expect_tag_end;
 use template_compiler_stream::{Fault, Refusal, TokenStream};
-use template_tree::{Span, Stmt};
+use template_tree::{Break, Continue, Span, Spanned};
 
 /// Reads the end of a `break`, which stands inside a loop alone.
 ///
@@ -21,14 +21,14 @@ pub fn read_break<'source>(
     tokens: &mut TokenStream<'source>,
     in_loop: bool,
     span: Span,
-) -> Result<Stmt<'source>, Refusal>
-    ensures { ParsedAs statement_of (if in_loop then tag_end break_loop tokens.old else Err bad_syntax) tokens.new result }
+) -> Result<Spanned<Break>, Refusal>
+    ensures { ParsedAs (λ n. statement_of (statements.Break n)) (if in_loop then tag_end break_loop tokens.old else Err bad_syntax) tokens.new result }
 {
     if !in_loop {
         return Err(Refusal::Token(Fault::Syntax));
     }
     expect_tag_end(tokens)?;
-    Ok(makers::break_loop(tokens.expand_span(span)))
+    Ok(Spanned::new(Break, tokens.expand_span(span)))
 }
 
 /// Reads the end of a `continue`, which stands inside a loop alone.
@@ -41,12 +41,12 @@ pub fn read_continue<'source>(
     tokens: &mut TokenStream<'source>,
     in_loop: bool,
     span: Span,
-) -> Result<Stmt<'source>, Refusal>
-    ensures { ParsedAs statement_of (if in_loop then tag_end continue_loop tokens.old else Err bad_syntax) tokens.new result }
+) -> Result<Spanned<Continue>, Refusal>
+    ensures { ParsedAs (λ n. statement_of (statements.Continue n)) (if in_loop then tag_end continue_loop tokens.old else Err bad_syntax) tokens.new result }
 {
     if !in_loop {
         return Err(Refusal::Token(Fault::Syntax));
     }
     expect_tag_end(tokens)?;
-    Ok(makers::continue_loop(tokens.expand_span(span)))
+    Ok(Spanned::new(Continue, tokens.expand_span(span)))
 }

@@ -3,15 +3,15 @@ ghost use Rattle.std.specs.Prelude.{◌≡◌};
 ghost use Rattle.template_compiler_statement_parts.specs.Parsed.{ParsedAs};
 ghost use Rattle.template_compiler_statements.specs.Reader.{extends_by, from_by, here, import_statement_by, include_by};
 ghost use Rattle.template_tree.specs.StatementView.{statement_of};
+ghost use Rattle.template_tree.specs.declared.statements.Stmt.TheVariants as statements;
 
 use std::alloc::Global;
 use template_compiler_expression_parser::read_expression;
-use template_compiler_statement_makers::makers;
 use template_compiler_statement_parts::{
     expect_tag_end, expect_word, pass_context, read_imports, read_missing, read_stored,
 };
 use template_compiler_stream::{Refusal, TokenStream};
-use template_tree::{Span, Stmt};
+use template_tree::{Extends, FromImport, Import, Include, Span, Spanned};
 
 /// Reads an `import`.
 ///
@@ -24,15 +24,16 @@ pub fn read_import<'source>(
     tokens: &mut TokenStream<'source>,
     left: u32,
     span: Span,
-) -> Result<Stmt<'source>, Refusal>
-    ensures { ParsedAs statement_of (import_statement_by (here left) tokens.old) tokens.new result }
+) -> Result<Spanned<Box<Import<'source>>>, Refusal>
+    ensures { ParsedAs (λ n. statement_of (statements.Import n)) (import_statement_by (here left) tokens.old) tokens.new result }
 {
     let expr = read_expression(alloc, tokens, left)?;
     expect_word(tokens, "as")?;
     let name = read_stored(tokens)?;
     pass_context(tokens)?;
     expect_tag_end(tokens)?;
-    Ok(makers::import(alloc, expr, name, tokens.expand_span(span))?)
+    let node = Import { expr, name };
+    Ok(Spanned::boxed(alloc, node, tokens.expand_span(span))?)
 }
 
 /// Reads a `from`.
@@ -46,15 +47,16 @@ pub fn read_from<'source>(
     tokens: &mut TokenStream<'source>,
     left: u32,
     span: Span,
-) -> Result<Stmt<'source>, Refusal>
-    ensures { ParsedAs statement_of (from_by (here left) tokens.old) tokens.new result }
+) -> Result<Spanned<Box<FromImport<'source>>>, Refusal>
+    ensures { ParsedAs (λ n. statement_of (statements.FromImport n)) (from_by (here left) tokens.old) tokens.new result }
 {
     let expr = read_expression(alloc, tokens, left)?;
     expect_word(tokens, "import")?;
     let names = read_imports(alloc, tokens)?;
     pass_context(tokens)?;
     expect_tag_end(tokens)?;
-    Ok(makers::from_import(alloc, expr, names, tokens.expand_span(span))?)
+    let node = FromImport { expr, names };
+    Ok(Spanned::boxed(alloc, node, tokens.expand_span(span))?)
 }
 
 /// Reads an `extends`.
@@ -68,12 +70,12 @@ pub fn read_extends<'source>(
     tokens: &mut TokenStream<'source>,
     left: u32,
     span: Span,
-) -> Result<Stmt<'source>, Refusal>
-    ensures { ParsedAs statement_of (extends_by (here left) tokens.old) tokens.new result }
+) -> Result<Spanned<Extends<'source>>, Refusal>
+    ensures { ParsedAs (λ n. statement_of (statements.Extends n)) (extends_by (here left) tokens.old) tokens.new result }
 {
     let name = read_expression(alloc, tokens, left)?;
     expect_tag_end(tokens)?;
-    Ok(makers::extends(name, tokens.expand_span(span)))
+    Ok(Spanned::new(Extends { name }, tokens.expand_span(span)))
 }
 
 /// Reads an `include`.
@@ -87,11 +89,15 @@ pub fn read_include<'source>(
     tokens: &mut TokenStream<'source>,
     left: u32,
     span: Span,
-) -> Result<Stmt<'source>, Refusal>
-    ensures { ParsedAs statement_of (include_by (here left) tokens.old) tokens.new result }
+) -> Result<Spanned<Box<Include<'source>>>, Refusal>
+    ensures { ParsedAs (λ n. statement_of (statements.Include n)) (include_by (here left) tokens.old) tokens.new result }
 {
     let name = read_expression(alloc, tokens, left)?;
     let ignore_missing = read_missing(tokens)?;
     expect_tag_end(tokens)?;
-    Ok(makers::include(alloc, name, ignore_missing, tokens.expand_span(span))?)
+    let node = Include {
+        name,
+        ignore_missing,
+    };
+    Ok(Spanned::boxed(alloc, node, tokens.expand_span(span))?)
 }

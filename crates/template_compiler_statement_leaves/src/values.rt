@@ -7,17 +7,17 @@ ghost use Rattle.template_compiler_statement_parts.specs.Parsed.{ParsedAs};
 ghost use Rattle.template_compiler_statements.specs.Reader.{do_by, here, print_end, set_values};
 ghost use Rattle.template_tree.specs.Tree.{print};
 ghost use Rattle.template_tree.specs.StatementView.{statement_of};
+ghost use Rattle.template_tree.specs.declared.statements.Stmt.TheVariants as statements;
 ghost use Rattle.template_tree.specs.View.{expression_of};
 
 use std::alloc::Global;
 use template_compiler_expression_parser::read_expression;
-use template_compiler_statement_makers::makers;
 use template_compiler_statement_parts::{
     expect_assign, expect_print_end, expect_tag_end, read_more_targets,
 };
 use template_compiler_statement_values::read_values;
 use template_compiler_stream::{Fault, Refusal, TokenStream};
-use template_tree::{Expr, Span, Stmt};
+use template_tree::{Do, EmitExpr, Expr, Set, Span, Spanned};
 
 /// Reads a print, behind its start.
 ///
@@ -30,12 +30,12 @@ pub fn read_print<'source>(
     tokens: &mut TokenStream<'source>,
     left: u32,
     span: Span,
-) -> Result<Stmt<'source>, Refusal>
-    ensures { ParsedAs statement_of (and_then (expression_at left tokens.old) (λ e us. print_end (print e) us)) tokens.new result }
+) -> Result<Spanned<EmitExpr<'source>>, Refusal>
+    ensures { ParsedAs (λ n. statement_of (statements.EmitExpr n)) (and_then (expression_at left tokens.old) (λ e us. print_end (print e) us)) tokens.new result }
 {
     let expr = read_expression(alloc, tokens, left)?;
     expect_print_end(tokens)?;
-    Ok(makers::print(expr, tokens.expand_span(span)))
+    Ok(Spanned::new(EmitExpr { expr }, tokens.expand_span(span)))
 }
 
 /// Reads a `set` behind its first target, which begins at `start`: further targets, and the value behind `=`.
@@ -51,8 +51,8 @@ pub fn read_set<'source>(
     first: Expr<'source>,
     start: Span,
     span: Span,
-) -> Result<Stmt<'source>, Refusal>
-    ensures { ParsedAs statement_of (set_targets (here left) (expression_of first.entry) tokens.old) tokens.new result }
+) -> Result<Spanned<Box<Set<'source>>>, Refusal>
+    ensures { ParsedAs (λ n. statement_of (statements.Set n)) (set_targets (here left) (expression_of first.entry) tokens.old) tokens.new result }
 {
     let target = read_more_targets(alloc, tokens, left, true, first, start)?;
     expect_assign(tokens)?;
@@ -66,12 +66,16 @@ fn read_set_value<'source>(
     left: u32,
     target: Expr<'source>,
     span: Span,
-) -> Result<Stmt<'source>, Refusal>
-    ensures { ParsedAs statement_of (set_values (here left) (expression_of target.entry) tokens.old) tokens.new result }
+) -> Result<Spanned<Box<Set<'source>>>, Refusal>
+    ensures { ParsedAs (λ n. statement_of (statements.Set n)) (set_values (here left) (expression_of target.entry) tokens.old) tokens.new result }
 {
     let value = read_values(alloc, tokens, left)?;
     expect_tag_end(tokens)?;
-    Ok(makers::set(alloc, target, value, tokens.expand_span(span))?)
+    let node = Set {
+        target,
+        expr: value,
+    };
+    Ok(Spanned::boxed(alloc, node, tokens.expand_span(span))?)
 }
 
 /// Reads a `do`.
@@ -85,14 +89,14 @@ pub fn read_do<'source>(
     tokens: &mut TokenStream<'source>,
     left: u32,
     span: Span,
-) -> Result<Stmt<'source>, Refusal>
-    ensures { ParsedAs statement_of (do_by (here left) tokens.old) tokens.new result }
+) -> Result<Spanned<Do<'source>>, Refusal>
+    ensures { ParsedAs (λ n. statement_of (statements.Do n)) (do_by (here left) tokens.old) tokens.new result }
 {
     let expr = read_expression(alloc, tokens, left)?;
     match expr.into_call() {
         Some(call) => {
             expect_tag_end(tokens)?;
-            Ok(makers::do_call(call, tokens.expand_span(span)))
+            Ok(Spanned::new(Do { call }, tokens.expand_span(span)))
         }
         None => Err(Refusal::Token(Fault::Syntax)),
     }

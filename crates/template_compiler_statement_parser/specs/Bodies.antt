@@ -1,9 +1,11 @@
 -- Bodies and branches, as contracts see them.
 use Rattle.std.specs.Prelude.{◌≡◌, ℕ, codes, List, [], ◌∷◌, Result}
-use Rattle.std.specs.Global.{Vec}
-use Rattle.template_tree.specs.Tree.{Statement, macro, Statements}
+use Rattle.std.specs.Global.{Box, Vec}
+use Rattle.template_tree.specs.Tree.{Expression, Statement, macro, Statements}
 use Rattle.template_tree.specs.View.{expression_of}
 use Rattle.template_tree.specs.StatementView.{statement_of}
+use Rattle.template_tree.specs.declared.span.Spanned.{Spanned}
+use Rattle.template_tree.specs.declared.statements.IfCond.{IfCond}
 use Rattle.template_tree.specs.declared.statements.Stmt.{Stmt}
 use Rattle.template_compiler_statement_makers.specs.Listed.{statements_in}
 use Rattle.template_compiler_tokens.specs.Token.{Token}
@@ -13,11 +15,14 @@ use Rattle.template_compiler_statement_parts.specs.Parsed.{ParsedAs}
 use Rattle.template_compiler_statements.specs.Grammar.{macro_around}
 use Rattle.template_compiler_statements.specs.Reader.{Here, tag_end, body_by}
 use Rattle.template_compiler_statements.specs.Trees.{Branches, no_branches, branches_more}
-use Rattle.template_compiler_statement_parser.specs.declared.statements.Branch.{Branch}
 
-abbrev pub branches_in : List Branch → Branches
+-- a condition with its body; what stands for the other case comes later
+abbrev pub branch_in : Spanned (Box IfCond) → Expression × Statements
+branch_in b = (expression_of b.node.value.expr, statements_in b.node.value.true_body.items)
+
+abbrev pub branches_in : List (Spanned (Box IfCond)) → Branches
 branches_in [] = no_branches
-branches_in (b ∷ rest) = branches_more (expression_of b.expr) (statements_in b.body.items) (branches_in rest)
+branches_in (b ∷ rest) = branches_more (branch_in b).0 (branch_in b).1 (branches_in rest)
 
 abbrev pub ParsedStatement : Read Statement → List Token → Result Stmt Refusal → Type 0
 ParsedStatement = ParsedAs statement_of

@@ -2,13 +2,14 @@
 ghost use Rattle.std.specs.Prelude.{◌≡◌, IfOk};
 ghost use Rattle.template_compiler_statement_parts.specs.Parsed.{ParsedAs, SteppedTo};
 ghost use Rattle.template_compiler_reading.specs.Steps.{all, and_then};
-ghost use Rattle.template_compiler_statement_parser.specs.Bodies.{ParsedBody, ParsedStatement, branches_in, macro_behind};
+ghost use Rattle.template_compiler_statement_parser.specs.Bodies.{ParsedBody, ParsedStatement, branch_in, branches_in, macro_behind};
 ghost use Rattle.template_compiler_statement_makers.specs.Surroundings.{around_of, opening_of};
 ghost use Rattle.template_compiler_stream.specs.Left.{passed};
 ghost use Rattle.template_compiler_statements.specs.Reader.{autoescape_by, block_body, block_by, branch_by, branch_step, call_body, call_by, deeper_body, else_by, expect_tag, filter_block_by, filtered_body, for_body, for_by, for_in, here, if_by, macro_by, opened_by, opened_step, opening, set_behind, set_body, set_by, statement_step, statements_at, with_by};
 ghost use Rattle.template_compiler_statements.specs.Trees.{branched, is_block_body, no_branches};
 ghost use Rattle.template_compiler_statement_values.specs.Written.{parameters_of};
 ghost use Rattle.template_tree.specs.StatementView.{statement_of};
+ghost use Rattle.template_tree.specs.declared.statements.Stmt.TheVariants as statements;
 ghost use Rattle.template_tree.specs.View.{arguments_in, expression_of, optional_in};
 ghost use Rattle.template_compiler_statement_makers.specs.Listed.{statements_in};
 
@@ -24,15 +25,10 @@ use template_compiler_statement_values::{
     read_optional_parameters,
 };
 use template_compiler_stream::{Fault, Refusal, Sign, TokenStream, until};
-use template_tree::{Call, Expr, ForLoop, IfCond, Macro, Span, Spanned, Stmt};
-
-/// A condition with its body.
-#[derive(Drop)]
-pub struct Branch<'source> {
-    pub expr: Expr<'source>,
-    pub body: Vec<Stmt<'source>>,
-    pub span: Span,
-}
+use template_tree::{
+    AutoEscape, Block, Call, CallBlock, EmitRaw, Expr, ForLoop, IfCond, Macro, SetBlock, Span,
+    Spanned, Stmt, WithBlock,
+};
 
 // A body, one nesting level deeper.
 #[cycle(statements)]
@@ -93,12 +89,13 @@ fn next_statement<'source>(
     let span = tokens.span();
     if let Some(text) = tokens.text() {
         tokens.advance();
-        statements.push(makers::raw(text, span))?;
+        statements.push(Stmt::EmitRaw(Spanned::new(EmitRaw { raw: text }, span)))?;
         return Ok(true);
     }
     if tokens.starts_print() {
         tokens.advance();
-        statements.push(leaves::read_print(alloc, tokens, left, span)?)?;
+        let print = leaves::read_print(alloc, tokens, left, span)?;
+        statements.push(Stmt::EmitExpr(print))?;
         return Ok(true);
     }
     match parts::tag_word(tokens) {
@@ -148,22 +145,22 @@ fn opened<'source>(
     ensures { ParsedStatement (opened_by (here left) (around_of around) (opening_of opening) tokens.old) tokens.new result }
 {
     match opening {
-        Opening::For => for_loop(alloc, tokens, left, around, span),
-        Opening::If => if_condition(alloc, tokens, left, around, span),
-        Opening::With => with_block(alloc, tokens, left, around, span),
+        Opening::For => Ok(Stmt::ForLoop(for_loop(alloc, tokens, left, around, span)?)),
+        Opening::If => Ok(Stmt::IfCond(if_condition(alloc, tokens, left, around, span)?)),
+        Opening::With => Ok(Stmt::WithBlock(with_block(alloc, tokens, left, around, span)?)),
         Opening::Set => set(alloc, tokens, left, around, span),
-        Opening::AutoEscape => auto_escape(alloc, tokens, left, around, span),
+        Opening::AutoEscape => Ok(Stmt::AutoEscape(auto_escape(alloc, tokens, left, around, span)?)),
         Opening::Filter => filter_block(alloc, tokens, left, around, span),
-        Opening::Block => block(alloc, tokens, left, around, span),
-        Opening::Import => leaves::read_import(alloc, tokens, left, span),
-        Opening::From => leaves::read_from(alloc, tokens, left, span),
-        Opening::Extends => leaves::read_extends(alloc, tokens, left, span),
-        Opening::Include => leaves::read_include(alloc, tokens, left, span),
-        Opening::Macro => macro_block(alloc, tokens, left, span),
-        Opening::Call => call_block(alloc, tokens, left, span),
-        Opening::Do => leaves::read_do(alloc, tokens, left, span),
-        Opening::Break => leaves::read_break(tokens, around.in_loop, span),
-        Opening::Continue => leaves::read_continue(tokens, around.in_loop, span),
+        Opening::Block => Ok(Stmt::Block(block(alloc, tokens, left, around, span)?)),
+        Opening::Import => Ok(Stmt::Import(leaves::read_import(alloc, tokens, left, span)?)),
+        Opening::From => Ok(Stmt::FromImport(leaves::read_from(alloc, tokens, left, span)?)),
+        Opening::Extends => Ok(Stmt::Extends(leaves::read_extends(alloc, tokens, left, span)?)),
+        Opening::Include => Ok(Stmt::Include(leaves::read_include(alloc, tokens, left, span)?)),
+        Opening::Macro => Ok(Stmt::Macro(macro_block(alloc, tokens, left, span)?)),
+        Opening::Call => Ok(Stmt::CallBlock(call_block(alloc, tokens, left, span)?)),
+        Opening::Do => Ok(Stmt::Do(leaves::read_do(alloc, tokens, left, span)?)),
+        Opening::Break => Ok(Stmt::Break(leaves::read_break(tokens, around.in_loop, span)?)),
+        Opening::Continue => Ok(Stmt::Continue(leaves::read_continue(tokens, around.in_loop, span)?)),
     }
 }
 
@@ -213,8 +210,8 @@ fn for_loop<'source>(
     left: u32,
     around: Around,
     span: Span,
-) -> Result<Stmt<'source>, Refusal>
-    ensures { ParsedStatement (for_by (here left) (around_of around) tokens.old) tokens.new result }
+) -> Result<Spanned<Box<ForLoop<'source>>>, Refusal>
+    ensures { ParsedAs (λ n. statement_of (statements.ForLoop n)) (for_by (here left) (around_of around) tokens.old) tokens.new result }
 {
     let target = parts::read_targets(alloc, tokens, left, false)?;
     parts::expect_word(tokens, "in")?;
@@ -231,8 +228,8 @@ fn for_in<'source>(
     around: Around,
     target: Expr<'source>,
     span: Span,
-) -> Result<Stmt<'source>, Refusal>
-    ensures { ParsedStatement (for_in (here left) (around_of around) (expression_of target.entry) tokens.old) tokens.new result }
+) -> Result<Spanned<Box<ForLoop<'source>>>, Refusal>
+    ensures { ParsedAs (λ n. statement_of (statements.ForLoop n)) (for_in (here left) (around_of around) (expression_of target.entry) tokens.old) tokens.new result }
 {
     let iter = read_condition(alloc, tokens, left)?;
     let filter = read_loop_filter(alloc, tokens, left)?;
@@ -255,8 +252,8 @@ fn for_body<'source>(
     filter_expr: Option<Expr<'source>>,
     recursive: bool,
     span: Span,
-) -> Result<Stmt<'source>, Refusal>
-    ensures { ParsedStatement (for_body (here left) (around_of around) (expression_of target.entry) (expression_of iter.entry)
+) -> Result<Spanned<Box<ForLoop<'source>>>, Refusal>
+    ensures { ParsedAs (λ n. statement_of (statements.ForLoop n)) (for_body (here left) (around_of around) (expression_of target.entry) (expression_of iter.entry)
         (optional_in filter_expr.entry) recursive tokens.old)
         tokens.new result }
 {
@@ -282,19 +279,15 @@ fn if_condition<'source>(
     left: u32,
     around: Around,
     span: Span,
-) -> Result<Stmt<'source>, Refusal>
-    ensures { ParsedStatement (if_by (here left) (around_of around) tokens.old) tokens.new result }
+) -> Result<Spanned<Box<IfCond<'source>>>, Refusal>
+    ensures { ParsedAs (λ n. statement_of (statements.IfCond n)) (if_by (here left) (around_of around) tokens.old) tokens.new result }
 {
     let first = read_branch(alloc, tokens, left, around, span)?;
     let others = branches(alloc, tokens, left, around)?;
     let last = otherwise(alloc, tokens, left, around, "endif")?;
-    let false_body = branched(alloc, others, last, tokens.expand_span(span))?;
-    let node = IfCond {
-        expr: first.expr,
-        true_body: first.body,
-        false_body,
-    };
-    Ok(makers::if_condition(alloc, node, tokens.expand_span(span))?)
+    let whole = tokens.expand_span(span);
+    let false_body = branched(alloc, others, last, whole)?;
+    Ok(makers::otherwise(first, false_body, whole))
 }
 
 // A condition with its body.
@@ -306,14 +299,18 @@ fn read_branch<'source>(
     left: u32,
     around: Around,
     span: Span,
-) -> Result<Branch<'source>, Refusal>
-    ensures { ParsedAs (λ b. (expression_of b.expr, statements_in b.body.items))
+) -> Result<Spanned<Box<IfCond<'source>>>, Refusal>
+    ensures { ParsedAs branch_in
         (branch_by (here left) (around_of around) tokens.old) tokens.new result }
 {
     let expr = read_expression(alloc, tokens, left)?;
     parts::expect_tag_end(tokens)?;
-    let body = body(alloc, tokens, left, around)?;
-    Ok(Branch { expr, body, span })
+    let node = IfCond {
+        expr,
+        true_body: body(alloc, tokens, left, around)?,
+        false_body: Vec::new(alloc),
+    };
+    Ok(Spanned::boxed(alloc, node, span)?)
 }
 
 // The branches behind the first one.
@@ -323,7 +320,7 @@ fn branches<'source>(
     tokens: &mut TokenStream<'source>,
     left: u32,
     around: Around,
-) -> Result<Vec<Branch<'source>>, Refusal>
+) -> Result<Vec<Spanned<Box<IfCond<'source>>>>, Refusal>
     ensures { ParsedAs (λ v. branches_in v.items) (all (branch_step (here left) (around_of around)) no_branches tokens.old)
         tokens.new result }
 {
@@ -344,7 +341,7 @@ fn next_branch<'source>(
     tokens: &mut TokenStream<'source>,
     left: u32,
     around: Around,
-    branches: &mut Vec<Branch<'source>>,
+    branches: &mut Vec<Spanned<Box<IfCond<'source>>>>,
 ) -> Result<bool, Refusal>
     ensures { SteppedTo (branch_step (here left) (around_of around) (branches_in branches.old.items) tokens.old)
         (branches_in branches.old.items) tokens.old (branches_in branches.new.items) tokens.new result }
@@ -368,8 +365,8 @@ fn with_block<'source>(
     left: u32,
     around: Around,
     span: Span,
-) -> Result<Stmt<'source>, Refusal>
-    ensures { ParsedStatement (with_by (here left) (around_of around) tokens.old) tokens.new result }
+) -> Result<Spanned<Box<WithBlock<'source>>>, Refusal>
+    ensures { ParsedAs (λ n. statement_of (statements.WithBlock n)) (with_by (here left) (around_of around) tokens.old) tokens.new result }
 {
     let assignments = read_assignments(alloc, tokens, left)?;
     parts::expect_tag_end(tokens)?;
@@ -392,9 +389,11 @@ fn set<'source>(
     let start = tokens.span();
     let target = parts::read_target(alloc, tokens, left, true)?;
     if parts::begins_values(tokens) {
-        leaves::read_set(alloc, tokens, left, target, start, span)
+        let node = leaves::read_set(alloc, tokens, left, target, start, span)?;
+        Ok(Stmt::Set(node))
     } else {
-        set_block(alloc, tokens, left, around, target, span)
+        let node = set_block(alloc, tokens, left, around, target, span)?;
+        Ok(Stmt::SetBlock(node))
     }
 }
 
@@ -408,8 +407,8 @@ fn set_block<'source>(
     around: Around,
     target: Expr<'source>,
     span: Span,
-) -> Result<Stmt<'source>, Refusal>
-    ensures { ParsedStatement (set_body (here left) (around_of around) (expression_of target.entry) tokens.old) tokens.new result }
+) -> Result<Spanned<Box<SetBlock<'source>>>, Refusal>
+    ensures { ParsedAs (λ n. statement_of (statements.SetBlock n)) (set_body (here left) (around_of around) (expression_of target.entry) tokens.old) tokens.new result }
 {
     let filter = read_filter_chain(alloc, tokens, left, None)?;
     parts::expect_tag_end(tokens)?;
@@ -426,8 +425,8 @@ fn auto_escape<'source>(
     left: u32,
     around: Around,
     span: Span,
-) -> Result<Stmt<'source>, Refusal>
-    ensures { ParsedStatement (autoescape_by (here left) (around_of around) tokens.old) tokens.new result }
+) -> Result<Spanned<Box<AutoEscape<'source>>>, Refusal>
+    ensures { ParsedAs (λ n. statement_of (statements.AutoEscape n)) (autoescape_by (here left) (around_of around) tokens.old) tokens.new result }
 {
     let enabled = read_expression(alloc, tokens, left)?;
     parts::expect_tag_end(tokens)?;
@@ -463,8 +462,8 @@ fn block<'source>(
     left: u32,
     around: Around,
     span: Span,
-) -> Result<Stmt<'source>, Refusal>
-    ensures { ParsedStatement (block_by (here left) (around_of around) tokens.old) tokens.new result }
+) -> Result<Spanned<Box<Block<'source>>>, Refusal>
+    ensures { ParsedAs (λ n. statement_of (statements.Block n)) (block_by (here left) (around_of around) tokens.old) tokens.new result }
 {
     match tokens.word() {
         Some(name) => {
@@ -490,8 +489,8 @@ fn block_behind<'source>(
     name: &'source str,
     required: bool,
     span: Span,
-) -> Result<Stmt<'source>, Refusal>
-    ensures { ParsedStatement (block_body (here left) (around_of around) name.now required tokens.old) tokens.new result }
+) -> Result<Spanned<Box<Block<'source>>>, Refusal>
+    ensures { ParsedAs (λ n. statement_of (statements.Block n)) (block_body (here left) (around_of around) name.now required tokens.old) tokens.new result }
 {
     parts::expect_tag_end(tokens)?;
     let body = body(alloc, tokens, left, around.within_block())?;
@@ -509,8 +508,8 @@ fn macro_block<'source>(
     tokens: &mut TokenStream<'source>,
     left: u32,
     span: Span,
-) -> Result<Stmt<'source>, Refusal>
-    ensures { ParsedStatement (macro_by (here left) tokens.old) tokens.new result }
+) -> Result<Spanned<Box<Macro<'source>>>, Refusal>
+    ensures { ParsedAs (λ n. statement_of (statements.Macro n)) (macro_by (here left) tokens.old) tokens.new result }
 {
     match tokens.word() {
         Some(name) => {
@@ -536,8 +535,8 @@ fn macro_behind<'source>(
     left: u32,
     name: &'source str,
     span: Span,
-) -> Result<Stmt<'source>, Refusal>
-    ensures { ParsedStatement (macro_behind (here left) name.now tokens.old) tokens.new result }
+) -> Result<Spanned<Box<Macro<'source>>>, Refusal>
+    ensures { ParsedAs (λ n. statement_of (statements.Macro n)) (macro_behind (here left) name.now tokens.old) tokens.new result }
 {
     let parameters = read_deeper_parameters(alloc, tokens, left)?;
     parts::expect_tag_end(tokens)?;
@@ -559,8 +558,8 @@ fn call_block<'source>(
     tokens: &mut TokenStream<'source>,
     left: u32,
     span: Span,
-) -> Result<Stmt<'source>, Refusal>
-    ensures { ParsedStatement (call_by (here left) tokens.old) tokens.new result }
+) -> Result<Spanned<Box<CallBlock<'source>>>, Refusal>
+    ensures { ParsedAs (λ n. statement_of (statements.CallBlock n)) (call_by (here left) tokens.old) tokens.new result }
 {
     let parameters = read_optional_parameters(alloc, tokens, left)?;
     let expr = read_expression(alloc, tokens, left)?;
@@ -580,8 +579,8 @@ fn call_behind<'source>(
     parameters: Parameters<'source>,
     call: Spanned<Box<Call<'source>>>,
     span: Span,
-) -> Result<Stmt<'source>, Refusal>
-    ensures { ParsedStatement (call_body (here left) (parameters_of parameters.entry) (expression_of call.entry.node.value.expr)
+) -> Result<Spanned<Box<CallBlock<'source>>>, Refusal>
+    ensures { ParsedAs (λ n. statement_of (statements.CallBlock n)) (call_body (here left) (parameters_of parameters.entry) (expression_of call.entry.node.value.expr)
         (arguments_in call.entry.node.value.args.items) tokens.old) tokens.new result }
 {
     parts::expect_tag_end(tokens)?;
@@ -613,8 +612,10 @@ fn filtered_body<'source>(
     ensures { IfOk result (λ s. statement_of s ≡ filtered_body (optional_in filter.entry) (statements_in body.entry.items)) }
 {
     match filter {
-        Some(filter) => makers::filter_block(alloc, filter, body, span),
-        None => Ok(makers::raw("", span)),
+        Some(filter) => Ok(Stmt::FilterBlock(makers::filter_block(
+            alloc, filter, body, span,
+        )?)),
+        None => Ok(Stmt::EmitRaw(Spanned::new(EmitRaw { raw: "" }, span))),
     }
 }
 
@@ -622,7 +623,7 @@ fn filtered_body<'source>(
 #[tactic(auto, using(crate::proofs::Lists::branched_last))]
 fn branched<'source>(
     alloc: Global,
-    branches: Vec<Branch<'source>>,
+    branches: Vec<Spanned<Box<IfCond<'source>>>>,
     last: Vec<Stmt<'source>>,
     whole: Span,
 ) -> Result<Vec<Stmt<'source>>, AllocError>
@@ -631,19 +632,10 @@ fn branched<'source>(
     let mut branches = branches;
     let mut body = last;
     while let Some(branch) = branches.pop() {
-        let Branch {
-            expr,
-            body: true_body,
-            span,
-        } = branch;
-        let node = IfCond {
-            expr,
-            true_body,
-            false_body: body,
-        };
-        let statement = makers::if_condition(alloc, node, until(span, whole))?;
+        let span = until(branch.span, whole);
+        let node = makers::otherwise(branch, body, span);
         body = Vec::new(alloc);
-        body.push(statement)?;
+        body.push(Stmt::IfCond(node))?;
     }
     Ok(body)
 }

@@ -3,9 +3,11 @@ use Rattle.template_compiler_statements.specs.Reader.{here, statement_step, stat
 use Rattle.template_compiler_statement_laws.proofs.Sound.{next_statement_takes, next_branch_takes}
 use Rattle.template_compiler_statement_parts.proofs.Rounds.{rounds_end, rounds_go, rounds_refused}
 use Rattle.template_compiler_statement_makers.specs.Surroundings.{around_of}
-use Rattle.template_compiler_statement_parser.specs.Bodies.{ParsedBody, ParsedStatement}
+use Rattle.template_compiler_statement_parser.specs.Bodies.{ParsedBody}
 use Rattle.template_compiler_statement_makers.specs.Listed.{statements_in}
-use Rattle.template_compiler_statement_parts.specs.Parsed.{SteppedTo}
+use Rattle.template_compiler_statement_parts.specs.Parsed.{ParsedAs, SteppedTo}
+use Rattle.template_tree.specs.StatementView.{statement_of}
+use Rattle.template_tree.specs.declared.statements.Stmt.TheVariants.{Block}
 use Rattle.template_compiler_tokens.specs.Token.{paren_open}
 use Rattle.template_compiler_statement_parser.proofs.Next.{block_in_macro, block_outside, macro_reserved, skipped, tag_here}
 use Rattle.template_compiler_statement_parser.proofs.Less.{body_less}
@@ -67,7 +69,7 @@ block-returns-then-around t c =
 
 pub block-returns-else-around : goal.block-returns-else-around
 block-returns-else-around t c =
-    subst (λ m. ParsedStatement m c.block_behind.new.tokens c.block_behind.result)
+    subst (λ m. ParsedAs (λ n. statement_of (Block n)) m c.block_behind.new.tokens c.block_behind.result)
     (sym (block_outside (here c.args.left) (around_of c.args.around) c.in-Some.name.now c.read_flag-required.result c.args.tokens.now
     c.advance.new.self c.read_flag-required.new.tokens c.in-Some.ensures c.if-around.false c.advance.ensures c.read_flag-required.ensures))
     c.block_behind.ensures
