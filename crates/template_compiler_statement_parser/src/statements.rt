@@ -149,7 +149,9 @@ fn opened<'source>(
         Opening::If => Ok(Stmt::IfCond(if_condition(alloc, tokens, left, around, span)?)),
         Opening::With => Ok(Stmt::WithBlock(with_block(alloc, tokens, left, around, span)?)),
         Opening::Set => set(alloc, tokens, left, around, span),
-        Opening::AutoEscape => Ok(Stmt::AutoEscape(auto_escape(alloc, tokens, left, around, span)?)),
+        Opening::AutoEscape => Ok(Stmt::AutoEscape(auto_escape(
+            alloc, tokens, left, around, span,
+        )?)),
         Opening::Filter => filter_block(alloc, tokens, left, around, span),
         Opening::Block => Ok(Stmt::Block(block(alloc, tokens, left, around, span)?)),
         Opening::Import => Ok(Stmt::Import(leaves::read_import(alloc, tokens, left, span)?)),
@@ -160,7 +162,11 @@ fn opened<'source>(
         Opening::Call => Ok(Stmt::CallBlock(call_block(alloc, tokens, left, span)?)),
         Opening::Do => Ok(Stmt::Do(leaves::read_do(alloc, tokens, left, span)?)),
         Opening::Break => Ok(Stmt::Break(leaves::read_break(tokens, around.in_loop, span)?)),
-        Opening::Continue => Ok(Stmt::Continue(leaves::read_continue(tokens, around.in_loop, span)?)),
+        Opening::Continue => Ok(Stmt::Continue(leaves::read_continue(
+            tokens,
+            around.in_loop,
+            span,
+        )?)),
     }
 }
 
@@ -612,9 +618,7 @@ fn filtered_body<'source>(
     ensures { IfOk result (λ s. statement_of s ≡ filtered_body (optional_in filter.entry) (statements_in body.entry.items)) }
 {
     match filter {
-        Some(filter) => Ok(Stmt::FilterBlock(makers::filter_block(
-            alloc, filter, body, span,
-        )?)),
+        Some(filter) => Ok(Stmt::FilterBlock(makers::filter_block(alloc, filter, body, span)?)),
         None => Ok(Stmt::EmitRaw(Spanned::new(EmitRaw { raw: "" }, span))),
     }
 }
