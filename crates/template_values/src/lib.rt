@@ -2,9 +2,6 @@
 //! that they print and how it is escaped, the keyword arguments of calls, and contexts from JSON.
 #![tactic(auto)]
 
-#[cfg(test)]
-mod tests;
-
 pub use template_values_core::{Content, Entry, Value, order_laws};
 pub use template_values_errors::{Error, ErrorKind};
 pub use template_values_items::{contains, get_attr, get_item, items_of};

@@ -1,15 +1,19 @@
 //! Calls of values, by name.
 use crate::constructors::{owned, text_of};
+use crate::errors::error_of;
+use crate::modes::{behavior_named, escape_named};
 use crate::scene::{STATE, Scene};
 use crate::sizes::large;
 use std::alloc::Global;
-use std::cmp::Ordering;
 use template_values::*;
+
+// What stands before all that prints.
+const BEFORE: &str = "before";
 
 // The id of a state that is not there.
 const FOREIGN: u64 = 0;
 
-/// The value of that name; the records among them are foreign.
+/// The value of that name; the records among them are foreign. A law has none to give.
 pub(crate) fn constant(name: &str) -> Result<Value, Error> {
     match name {
         "undefined" => Ok(Value::undefined()),
@@ -18,6 +22,10 @@ pub(crate) fn constant(name: &str) -> Result<Value, Error> {
         "namespace" => Ok(Value::namespace(FOREIGN, 2)),
         "loop" => Ok(Value::loop_record(FOREIGN, 2)),
         "macro" => Ok(Value::macro_record(FOREIGN, 2)),
+        "order_laws" => {
+            order_laws();
+            Ok(Value::none())
+        }
         _ => Err(unknown()),
     }
 }
@@ -38,6 +46,9 @@ pub(crate) fn of_one(
     if let Some(made) = large(alloc, name, value)? {
         return Ok(made);
     }
+    if let Some(told) = told(alloc, name, value)? {
+        return Ok(told);
+    }
     fact(alloc, scene, name, value)
 }
 
@@ -53,23 +64,60 @@ fn record_or_number(name: &str, value: &Value) -> Result<Option<Value>, Error> {
     }))
 }
 
-// The value as it prints, or under an escape.
+// The value as it prints, or under an escape. A refusal that does not leave the text before it as it was
+// is told as `BadStream`.
 fn text_from(
     alloc: Global,
     scene: &Scene,
     name: &str,
     value: &Value,
 ) -> Result<Option<String>, Error> {
-    let mut text = String::new(alloc);
-    match name {
-        "print" => print_to(value, scene, &mut text)?,
-        "none" => escape_to(value, AutoEscape::None, scene, &mut text)?,
-        "html" => escape_to(value, AutoEscape::Html, scene, &mut text)?,
-        "json" => escape_to(value, AutoEscape::Json, scene, &mut text)?,
-        "custom" => escape_to(value, AutoEscape::Custom(1), scene, &mut text)?,
-        _ => return Ok(None),
+    let mut text = String::from_str(alloc, BEFORE)?;
+    match write_behind(scene, name, value, &mut text) {
+        Ok(true) => Ok(Some(behind(alloc, text.as_str())?)),
+        Ok(false) => Ok(None),
+        Err(refused) if text.as_str() == BEFORE => Err(refused),
+        Err(_) => Err(Error::new(ErrorKind::BadStream)),
     }
-    Ok(Some(text))
+}
+
+// Whether there is a call of that name; if so, the text has behind it what the call writes.
+fn write_behind(
+    scene: &Scene,
+    name: &str,
+    value: &Value,
+    text: &mut String,
+) -> Result<bool, Error> {
+    if name == "print" {
+        print_to(value, scene, text)?;
+        return Ok(true);
+    }
+    match escape_named(name) {
+        Some(escape) => escape_to(value, escape, scene, text)?,
+        None => return Ok(false),
+    }
+    Ok(true)
+}
+
+// What was written behind the text that stood before.
+fn behind(alloc: Global, text: &str) -> Result<String, Error> {
+    match text.strip_prefix(BEFORE) {
+        Some(written) => Ok(String::from_str(alloc, written)?),
+        None => Err(Error::new(ErrorKind::BadStream)),
+    }
+}
+
+// The context that JSON is, how many entries it has, or what an error prints.
+fn told(alloc: Global, name: &str, value: &Value) -> Result<Option<Value>, Error> {
+    Ok(Some(match name {
+        "context" => context_from_json(alloc, text_of(value)?.as_bytes())?,
+        "entries" => {
+            let entries = entries_from_json(alloc, text_of(value)?.as_bytes())?;
+            Value::from_int(entries.len() as i128)
+        }
+        "error" => Value::from_text(format!(in alloc; "{}", error_of(alloc, value)?)?)?,
+        _ => return Ok(None),
+    }))
 }
 
 // What a value is.
@@ -81,6 +129,8 @@ fn fact(alloc: Global, scene: &Scene, name: &str, value: &Value) -> Result<Value
         "truth" => Ok(Value::from_bool(is_true(value, scene)?)),
         "levels" => Ok(Value::from_int(i128::from(value.levels()))),
         "as_str" => text_or_none(alloc, value),
+        "has_items" => Ok(Value::from_bool(value.items().is_some())),
+        "has_entries" => Ok(Value::from_bool(value.entries().is_some())),
         "kwargs_names" => names(alloc, value),
         _ => Err(unknown()),
     }
@@ -102,9 +152,19 @@ pub(crate) fn of_two(
         "contains" => Ok(Value::from_bool(contains(left, right, scene)?)),
         "get_attr" => get_attr(alloc, left, text_of(right)?, scene),
         "get_item" => get_item(alloc, left, right, scene),
-        "equal" => Ok(Value::from_bool(left == right)),
-        "less" => Ok(Value::from_bool(left.cmp(right) == Ordering::Less)),
         "kwargs_get" => keywords(left)?.get(text_of(right)?),
+        _ => Ok(Value::from_bool(compare(alloc, name, left, right)?)),
+    }
+}
+
+// Values by themselves, errors by lists of their kinds, escapes and behaviours of undefined by their names.
+fn compare(alloc: Global, name: &str, left: &Value, right: &Value) -> Result<bool, Error> {
+    match name {
+        "equal" => Ok(left == right),
+        "less" => Ok(left < right),
+        "same_error" => Ok(error_of(alloc, left)? == error_of(alloc, right)?),
+        "same_escape" => Ok(escape_named(text_of(left)?) == escape_named(text_of(right)?)),
+        "same_behavior" => Ok(behavior_named(text_of(left)?) == behavior_named(text_of(right)?)),
         _ => Err(unknown()),
     }
 }

@@ -1,11 +1,14 @@
 //! Calls of values, as rows. Each line of standard input is an expression in JSON; it is written as it
-//! stands, then ` = `, then the value that it has, as containers print it, or the kind of the refusal. A
-//! line that begins with `#` is written as it stands. The stored run is the table of the library's cases.
+//! stands, then ` = `, then the value that it has, as containers print it, or the kind of the refusal. All
+//! that prints is written behind a text; a refusal that changes that text is told as `BadStream`. A line
+//! that begins with `#` is written as it stands. The stored run is the table of the library's cases.
 #![tactic(auto)]
 
 mod calls;
 mod constructors;
+mod errors;
 mod expressions;
+mod modes;
 mod scene;
 mod sizes;
 
