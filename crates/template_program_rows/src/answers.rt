@@ -1,11 +1,14 @@
 //! What comes of requests.
-use crate::entries::{count_of, expect_names, number_of, quoted, text_of, unreadable};
+use crate::entries::{count_of, expect_names, number_of, pairs_of, quoted, text_of, unreadable};
 use serde_json::{Map, Value as Json};
 use std::alloc::Global;
 use template_machine_ids::StateIds;
 use template_program_start::{Command, Outcome, Request, run};
 use template_values_errors::Error;
 use template_values_modes::UndefinedBehavior;
+
+/// How deep a render may be where nothing is told.
+pub(crate) const DEFAULT_LIMIT: usize = 500;
 
 /// What a request writes, and how it ends.
 pub(crate) fn answer_request(
@@ -25,7 +28,7 @@ pub(crate) fn answer_request(
             "first_id",
         ],
     )?;
-    let templates = templates_of(alloc, templates)?;
+    let templates = pairs_of(alloc, Some(templates))?;
     answer(alloc, templates.as_slice(), entries)
 }
 
@@ -58,7 +61,7 @@ fn write_end(outcome: &Outcome, answer: &mut String) -> Result<(), Error> {
 fn request_of(alloc: Global, main: &str, entries: &Map<String, Json>) -> Result<Request, Error> {
     Ok(Request {
         fuel: number_of(entries.get("fuel"))?,
-        limit: count_of(entries.get("limit"))?.unwrap_or(500),
+        limit: count_of(entries.get("limit"))?.unwrap_or(DEFAULT_LIMIT),
         undefined: behavior_of(entries.get("undefined"))?,
         command: command_of(entries.get("names"))?,
         main: String::from_str(alloc, main)?,
@@ -71,30 +74,6 @@ fn first_name(templates: &[(String, String)]) -> &str {
     match templates.first() {
         Some((name, _)) => name.as_str(),
         None => "none",
-    }
-}
-
-fn templates_of(alloc: Global, templates: &Json) -> Result<Vec<(String, String)>, Error> {
-    let Json::Array(templates) = templates else {
-        return unreadable();
-    };
-    let mut listed = Vec::with_capacity(alloc, templates.len())?;
-    for template in templates {
-        listed.push(template_of(alloc, template)?)?;
-    }
-    Ok(listed)
-}
-
-fn template_of(alloc: Global, template: &Json) -> Result<(String, String), Error> {
-    let Json::Array(pair) = template else {
-        return unreadable();
-    };
-    match pair.as_slice() {
-        [Json::String(name), Json::String(source)] => {
-            let name = String::from_str(alloc, name.as_str())?;
-            Ok((name, String::from_str(alloc, source.as_str())?))
-        }
-        _ => unreadable(),
     }
 }
 

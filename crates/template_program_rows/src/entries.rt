@@ -52,12 +52,54 @@ pub(crate) fn texts_of(alloc: Global, texts: &Json) -> Result<Vec<&str>, Error> 
     Ok(listed)
 }
 
-/// The bytes of a text, or the byte of a number.
-pub(crate) fn bytes_of(alloc: Global, bytes: Option<&Json>) -> Result<Vec<u8>, Error> {
+/// The pairs of texts that an array lists, if it stands.
+pub(crate) fn pairs_of(
+    alloc: Global,
+    pairs: Option<&Json>,
+) -> Result<Vec<(String, String)>, Error> {
+    let pairs = match pairs {
+        None => return Ok(Vec::new(alloc)),
+        Some(Json::Array(pairs)) => pairs,
+        Some(_) => return unreadable(),
+    };
+    let mut listed = Vec::with_capacity(alloc, pairs.len())?;
+    for pair in pairs {
+        listed.push(pair_of(alloc, pair)?)?;
+    }
+    Ok(listed)
+}
+
+fn pair_of(alloc: Global, pair: &Json) -> Result<(String, String), Error> {
+    let Json::Array(pair) = pair else {
+        return unreadable();
+    };
+    match pair.as_slice() {
+        [Json::String(first), Json::String(second)] => {
+            let first = String::from_str(alloc, first.as_str())?;
+            Ok((first, String::from_str(alloc, second.as_str())?))
+        }
+        _ => unreadable(),
+    }
+}
+
+/// The bytes of a text, the byte of a number, or those of an array of both.
+pub(crate) fn bytes_of(alloc: Global, bytes: &Json) -> Result<Vec<u8>, Error> {
+    let mut all = Vec::new(alloc);
     match bytes {
-        None => Ok(Vec::new(alloc)),
-        Some(Json::String(text)) => Ok(Vec::from_slice(alloc, text.as_bytes())?),
-        Some(number) => Ok(Vec::from_slice(alloc, &[byte_of(number)?])?),
+        Json::Array(parts) => {
+            for part in parts {
+                push_bytes(&mut all, part)?;
+            }
+        }
+        part => push_bytes(&mut all, part)?,
+    }
+    Ok(all)
+}
+
+fn push_bytes(bytes: &mut Vec<u8>, part: &Json) -> Result<(), Error> {
+    match part {
+        Json::String(text) => Ok(bytes.extend_from_slice(text.as_bytes())?),
+        number => Ok(bytes.push(byte_of(number)?)?),
     }
 }
 

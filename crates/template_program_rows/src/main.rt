@@ -2,9 +2,10 @@
 //! but the first may be left out. A run of the program's body:
 //!
 //! - `words`: the words behind the program's name, an array of texts;
-//! - `files`: the files that stand meanwhile, an object of paths with their texts;
-//! - `input`: what the input has, a text, or a number for a byte of that value;
-//! - `input_fails`: how the input fails at its end, `Other`, `Interrupted` or `OutOfMemory`;
+//! - `files`: the files that stand meanwhile, an object of paths with what they have: a text, a number for a byte of
+//!   that value, or an array of both;
+//! - `input`: what the input has, told as that of a file;
+//! - `input_fails`: how the input fails once at its end, `Other`, `Interrupted` or `OutOfMemory`;
 //! - `output_room`: how many bytes the output takes; all, if left out;
 //! - `flush_fails`: how the output fails when it is flushed, as `input_fails`.
 //!
@@ -29,6 +30,32 @@
 //! They give what was read of them, or `help`, `usage` or `definition` by why they were refused, and `another help` or
 //! `another usage` where the text is not so.
 //!
+//! A context that is read alone:
+//!
+//! - `json`: its bytes, told as those of a file, or `null`, where there are none;
+//! - `definitions`: those over it, an array of `[name, text]`.
+//!
+//! It gives `levels N: ` and what the context prints, or `! Kind`.
+//!
+//! An input that is read alone, or a file by its path:
+//!
+//! - `source`: what the input has, as `input`; or `file`: the path, with `files` as above;
+//! - `input_fails`: as above;
+//! - `limit`: so many bytes are too many; none are, if left out.
+//!
+//! It gives what was read, in quotes, or `! File`; and for an input `, then ` and what is read of it without a limit then.
+//!
+//! Pieces that go to an output alone:
+//!
+//! - `pieces`: the pieces, an array of texts;
+//! - `output_room`: as above;
+//! - `write_fails`: how the output fails where it has no more room, as `input_fails`; left out, it takes nothing then.
+//!
+//! It gives what the output took, in quotes, and where it failed, ` ! Fault Kind, seen as Kind Kind Kind`: the fault, the
+//! error that this is, and what a caller is to see in place of `BadInclude`, at first and later.
+//!
+//! Inputs give, and outputs take, three bytes in a call at most.
+//!
 //! Work at size: `size`, the name of the work. It gives how many bytes came out, and whether they are the right ones.
 //!
 //! A time: `time`, the name of a task of values, or of additions and renders of templates. It gives the microseconds that
@@ -41,7 +68,11 @@
 #![tactic(auto)]
 
 mod answers;
+mod contexts;
 mod entries;
+mod files;
+mod inputs;
+mod pieces;
 mod readers;
 mod renders;
 mod requests;
@@ -54,6 +85,11 @@ mod tasks;
 mod words;
 
 use crate::answers::answer_request;
+use crate::contexts::answer_context;
+use crate::entries::unreadable;
+use crate::files::{remove_files, write_files};
+use crate::inputs::{answer_file, answer_input};
+use crate::pieces::answer_pieces;
 use crate::sizes::answer_size;
 use crate::starts::answer_start;
 use crate::tasks::answer_time;
@@ -61,6 +97,7 @@ use crate::words::answer_words;
 use anyhow::bail;
 use serde_json::{Map, Value as Json};
 use std::io;
+use template_values_errors::Error;
 
 fn main(rt: HostRuntime) -> io::Result<()> {
     for line in rt.lines(rt.alloc()) {
@@ -80,25 +117,57 @@ fn main(rt: HostRuntime) -> io::Result<()> {
 // What comes of a line of JSON.
 fn answer_of_line(rt: &HostRuntime, line: &str) -> anyhow::Result<String> {
     match Json::from_str(rt.alloc(), line)? {
-        Json::Object(entries) => answer(rt, &entries),
+        Json::Object(entries) => answer_among_files(rt, &entries),
         _ => bail!("no object"),
+    }
+}
+
+// The same, while its files stand.
+fn answer_among_files(rt: &HostRuntime, entries: &Map<String, Json>) -> anyhow::Result<String> {
+    match entries.get("files") {
+        None => answer(rt, entries),
+        Some(Json::Object(files)) => {
+            write_files(rt, files)?;
+            let answer = answer(rt, entries);
+            remove_files(rt, files)?;
+            answer
+        }
+        Some(_) => Ok(unreadable()?),
     }
 }
 
 // The entry that only lines of one kind have tells the kind.
 fn answer(rt: &HostRuntime, entries: &Map<String, Json>) -> anyhow::Result<String> {
+    match (entries.get("size"), entries.get("time")) {
+        (Some(Json::String(what)), None) => answer_size(rt, what.as_str()),
+        (None, Some(Json::String(task))) => answer_time(rt, task.as_str()),
+        _ => Ok(answer_of_part(rt, entries)?),
+    }
+}
+
+// What comes of the whole program, or of one of its parts.
+fn answer_of_part(rt: &HostRuntime, entries: &Map<String, Json>) -> Result<String, Error> {
+    let alloc = rt.alloc();
     if let Some(words) = entries.get("words") {
         return answer_start(rt, words, entries);
     }
     if let Some(templates) = entries.get("templates") {
-        return Ok(answer_request(rt.alloc(), templates, entries)?);
+        return answer_request(alloc, templates, entries);
     }
     if let Some(words) = entries.get("read") {
-        return Ok(answer_words(rt.alloc(), words, entries)?);
+        return answer_words(alloc, words, entries);
     }
-    match (entries.get("size"), entries.get("time")) {
-        (Some(Json::String(what)), None) => answer_size(rt, what.as_str()),
-        (None, Some(Json::String(task))) => answer_time(rt, task.as_str()),
-        _ => bail!("no kind"),
+    if let Some(json) = entries.get("json") {
+        return answer_context(alloc, json, entries);
+    }
+    if let Some(bytes) = entries.get("source") {
+        return answer_input(alloc, bytes, entries);
+    }
+    if let Some(path) = entries.get("file") {
+        return answer_file(rt, path, entries);
+    }
+    match entries.get("pieces") {
+        Some(pieces) => answer_pieces(alloc, pieces, entries),
+        None => unreadable(),
     }
 }

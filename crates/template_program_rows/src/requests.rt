@@ -1,4 +1,5 @@
 //! Requests with long sources, and with many statements, templates, names, definitions, rounds and includes.
+use crate::answers::DEFAULT_LIMIT;
 use crate::sizes::Came;
 use anyhow::bail;
 use std::alloc::Global;
@@ -28,7 +29,7 @@ fn new_case(alloc: Global, command: Command, main: &str) -> anyhow::Result<Case>
             main: String::from_str(alloc, main)?,
             texts: Vec::new(alloc),
             fuel: None,
-            limit: 500,
+            limit: DEFAULT_LIMIT,
             undefined: UndefinedBehavior::Lenient,
             command,
         },

@@ -1,18 +1,17 @@
-//! Runs of the program's body, with their files, inputs and outputs.
-use crate::entries::{bytes_of, expect_names, kind_of, quoted, texts_of, unreadable};
+//! Runs of the program's body, with their inputs and outputs.
+use crate::entries::{bytes_of, expect_names, kind_of, quoted, texts_of};
 use crate::streams::{Input, Output, READY};
 use serde_json::{Map, Value as Json};
 use std::alloc::Global;
-use std::{fs, io};
 use template_program_start::start;
 use template_values_errors::Error;
 
-/// What a run writes, its status and what it tells, while its files stand.
+/// What a run writes, its status and what it tells.
 pub(crate) fn answer_start(
     rt: &HostRuntime,
     words: &Json,
     entries: &Map<String, Json>,
-) -> anyhow::Result<String> {
+) -> Result<String, Error> {
     expect_names(
         entries,
         &[
@@ -24,36 +23,6 @@ pub(crate) fn answer_start(
             "flush_fails",
         ],
     )?;
-    match entries.get("files") {
-        None => Ok(run(rt, words, entries)?),
-        Some(Json::Object(files)) => {
-            write_files(rt, files)?;
-            let answer = run(rt, words, entries);
-            remove_files(rt, files)?;
-            Ok(answer?)
-        }
-        Some(_) => Ok(unreadable()?),
-    }
-}
-
-fn write_files(rt: &HostRuntime, files: &Map<String, Json>) -> io::Result<()> {
-    for (path, text) in files {
-        match text {
-            Json::String(text) => fs::write(rt, path.as_str(), text.as_bytes())?,
-            _ => return Err(io::Error::from(io::ErrorKind::InvalidInput)),
-        }
-    }
-    Ok(())
-}
-
-fn remove_files(rt: &HostRuntime, files: &Map<String, Json>) -> io::Result<()> {
-    for (path, _) in files {
-        fs::remove_file(rt, path.as_str())?;
-    }
-    Ok(())
-}
-
-fn run(rt: &HostRuntime, words: &Json, entries: &Map<String, Json>) -> Result<String, Error> {
     let mut output = Output::read(rt.alloc(), entries)?;
     let mut told = Vec::with_capacity(rt.alloc(), READY)?;
     let status = run_with(rt, words, entries, &mut output, &mut told)?;
@@ -70,7 +39,10 @@ fn run_with(
 ) -> Result<u8, Error> {
     let fails = kind_of(entries.get("input_fails"))?;
     let words = texts_of(rt.alloc(), words)?;
-    let bytes = bytes_of(rt.alloc(), entries.get("input"))?;
+    let bytes = match entries.get("input") {
+        None => Vec::new(rt.alloc()),
+        Some(bytes) => bytes_of(rt.alloc(), bytes)?,
+    };
     let mut input = Input {
         bytes: bytes.as_slice(),
         fails,
