@@ -63,8 +63,8 @@
 //! in Rust; they are no part of the stored run.
 //!
 //! The line is written as it stands, then ` = `, then what came of it, or `? ` and a word where the line is of no kind, or
-//! where memory is refused. A line that begins with `#` is a heading. To add a row, write its line into `stdout`, and what
-//! stands before the last ` = ` into `stdin`.
+//! where memory is refused. A line that begins with `#` is a heading. To add a row, write its line into `stdout`, and the
+//! object that it begins with into `stdin`.
 #![tactic(auto)]
 
 mod answers;
