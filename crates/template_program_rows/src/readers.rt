@@ -43,9 +43,11 @@ fn came_of(
     refused: Result<String, FileFault>,
     text: &str,
 ) -> anyhow::Result<Came> {
-    match (read, refused) {
-        (Ok(read), Err(FileFault::File)) => { Ok(Came::compared(read.as_bytes(), text.as_bytes())) }
-        (Ok(_), _) => bail!("a text of the limit was read"),
-        (Err(_fault), _) => bail!("it was not read"),
+    if refused.err() != Some(FileFault::File) {
+        bail!("a text of the limit was read");
+    }
+    match read {
+        Ok(read) => Ok(Came::compared(read.as_bytes(), text.as_bytes())),
+        Err(_fault) => bail!("it was not read"),
     }
 }
