@@ -6,8 +6,6 @@ ghost use Rattle.std.specs.Io.KnownBytes.{Appends};
 ghost use Rattle.template_machine_output.specs.Failures.{failures_in, kind_of_fault};
 ghost use Rattle.template_machine_output.specs.Writes.{AppendsBeginning};
 
-#[cfg(test)]
-mod tests;
 mod wrapper;
 
 use template_values_errors::{Error, ErrorKind};
