@@ -6,9 +6,8 @@ use Rattle.template_code.specs.Code.{Operand, Code}
 use Rattle.template_code.specs.Prices.{price_of, steps}
 use Rattle.template_code.specs.Steps.{act, exec}
 use Rattle.template_code_shapes.specs.declared.StreamKind.{StreamKind}
-use Rattle.template_code_shapes.specs.Shapes.{Form, form_of, Opened, with_frame, loop_frame, recursive_frame, Shape}
+use Rattle.template_code_shapes.specs.Shapes.{EachLoop, Form, form_of, Opened, with_frame, loop_frame, recursive_frame, Shape}
 use Rattle.template_code_shapes.specs.Effects.{is_iterate, effect_of}
-use Rattle.template_code_shapes.specs.Passes.{EachLoop}
 use Rattle.template_code_shapes.specs.Streams.{Reached, falls_to, jumps_to, IsGood}
 use Rattle.template_code_shapes.specs.Laws.{LastsFor}
 use Rattle.template_code_shapes.proofs.Leading.{LeadsWell, leads}

@@ -3,7 +3,4 @@ pub mod Leading
 pub mod Within
 pub mod Ending
 pub mod Going
-pub mod Passes
 pub mod OutlineLemmas
-pub mod Standing
-pub mod Visiting

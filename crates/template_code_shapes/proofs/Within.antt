@@ -3,10 +3,9 @@ use Rattle.std.proofs.Common.{◌≡◌, ℕ, ◌≤◌, ◌<◌, inl, inr, List
 use Rattle.std.specs.Prelude.{IfSome}
 use Rattle.std.proofs.lemmas.Option.{slice_get_within}
 use Rattle.template_code.specs.Code.{Code}
-use Rattle.template_code_shapes.specs.Shapes.{Opened, with_frame, loop_frame, recursive_frame, Shape}
+use Rattle.template_code_shapes.specs.Shapes.{EachLoop, Opened, with_frame, loop_frame, recursive_frame, Shape}
 use Rattle.template_code_shapes.specs.Effects.{effect_of}
 use Rattle.template_code_shapes.specs.Streams.{Reached, begins, falls_to, jumps_to}
-use Rattle.template_code_shapes.specs.Passes.{EachLoop}
 use Rattle.template_code_shapes.proofs.Leading.{LeadsWell, leads}
 
 -- nothing is asked of the open loops

@@ -3,7 +3,3 @@ pub mod Effects
 pub mod Streams
 pub mod Laws
 pub mod Outlines
-pub mod Ways
-pub mod Passes
-pub mod Noted
-pub mod Checked

@@ -85,3 +85,10 @@ innermost_loop [] = None
 innermost_loop (with_frame ∷ frames) = innermost_loop frames
 innermost_loop (loop_frame place ∷ frames) = Some place
 innermost_loop (recursive_frame place floor ∷ frames) = Some place
+
+-- P of the place of each open loop's `PushLoop`
+abbrev pub EachLoop : (ℕ → Type 0) → List Opened → Type 0
+EachLoop P [] = Unit {0}
+EachLoop P (with_frame ∷ frames) = EachLoop P frames
+EachLoop P (loop_frame place ∷ frames) = P place × EachLoop P frames
+EachLoop P (recursive_frame place floor ∷ frames) = P place × EachLoop P frames

@@ -1,17 +1,14 @@
-//! The shapes that a run of a stream of instructions takes, and which streams are good. The functions
-//! do nothing: each stands for the law in its contract.
+//! The shapes that a run of a stream of instructions takes, and which streams are good. Functions without
+//! parameters do nothing: each stands for the law in its contract.
 #![tactic(auto)]
 
 ghost use Rattle.template_code_shapes.specs.Laws.{CertifiedIsGood, GoodEndsWell, GoodGoesOn};
 
-mod checked;
-mod notes;
+mod jumps;
 mod outline;
-mod verified;
-mod ways;
 
-pub use checked::Checked;
-pub use verified::verify;
+pub use jumps::may_jump_to;
+pub use outline::{Floor, Opened, Outline};
 
 /// Which of the two kinds a stream is.
 #[derive(Clone, Copy, Debug, PartialEq, Eq)]

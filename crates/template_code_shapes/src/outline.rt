@@ -1,4 +1,4 @@
-//! The shapes that the check of a stream works on.
+//! Shapes, as the check of a stream holds them.
 
 ghost use Rattle.std.specs.Prelude.{◌≡◌, ◌↔◌, IsTrue, if◌then◌else◌, Some, None, IfOk, IfSome, IsNone, vec_len};
 ghost use Rattle.template_code_shapes.specs.Shapes.{taken, given, opened, with_frame, escape_closed, frame_closed, innermost_loop, loop_closed, loop_opened, with_escape, floor_of, start};
@@ -32,7 +32,8 @@ pub enum Opened {
     Recursive(u32, Floor),
 }
 
-/// A shape: so many values, and what stands open, the innermost frame last.
+/// A shape: so many values, and what stands open. What copies it, compares it or looks for an open loop takes as long as
+/// frames stand open.
 #[derive(Drop)]
 pub struct Outline {
     operands: usize,
@@ -62,6 +63,10 @@ impl Outline {
     }
 
     /// The same shape once more.
+    ///
+    /// # Errors
+    ///
+    /// [`AllocError`] where memory is refused.
     pub fn copy(&self) -> Result<Outline, AllocError>
         ensures { IfOk result (λ other. shape_of other ≡ shape_of self.now) }
     {
@@ -125,7 +130,8 @@ impl Outline {
         self.operands
     }
 
-    /// Takes so many values, where they lie there above the floor.
+    /// Takes so many values, where they lie there above the floor of the innermost recursive loop; else false, and nothing
+    /// changes.
     pub fn take(&mut self, count: usize) -> bool
         ensures { taken count (shape_of self.old) ≡ (if result then Some (shape_of self.new) else None) }
     {
@@ -151,6 +157,10 @@ impl Outline {
     }
 
     /// Opens a frame.
+    ///
+    /// # Errors
+    ///
+    /// [`AllocError`] where memory is refused.
     pub fn open(&mut self, frame: Opened) -> Result<(), AllocError>
         ensures { IfOk result (λ _. shape_of self.new ≡ opened frame (shape_of self.old)) }
     {
@@ -158,7 +168,7 @@ impl Outline {
         Ok(())
     }
 
-    /// Closes the innermost frame, where it is no loop's.
+    /// Closes the innermost frame, where it is no loop's; else false.
     pub fn close_frame(&mut self) -> bool
         ensures { frame_closed (shape_of self.old) (shape_of self.old).frames ≡ (if result then Some (shape_of self.new) else None) }
     {
@@ -168,7 +178,7 @@ impl Outline {
         }
     }
 
-    /// Closes the innermost escape, where it was not open before the innermost recursive loop.
+    /// Closes the innermost escape, where it was not open before the innermost recursive loop; else false, and nothing changes.
     pub fn close_escape(&mut self) -> bool
         ensures { escape_closed (shape_of self.old) ≡ (if result then Some (shape_of self.new) else None) }
     {
@@ -196,8 +206,8 @@ impl Outline {
         None
     }
 
-    /// Closes the innermost frame, where it is a loop's; a recursive one leaves no escape and no capture
-    /// open.
+    /// Closes the innermost frame, where it is a loop's, and a recursive one leaves no escape and no capture open; else
+    /// false.
     pub fn close_loop(&mut self) -> bool
         ensures { loop_closed (shape_of self.old) (shape_of self.old).frames ≡ (if result then Some (shape_of self.new) else None) }
     {

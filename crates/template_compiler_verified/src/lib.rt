@@ -3,9 +3,9 @@
 
 ghost use Rattle.std.specs.Prelude.{◌≡◌, IfOk, IfErr};
 ghost use Rattle.template_code.specs.Listing.{code_in};
-ghost use Rattle.template_code_shapes.specs.Checked.{kind_in, stream_in};
 ghost use Rattle.template_code_shapes.specs.Streams.{IsGood};
 ghost use Rattle.template_code_shapes.specs.declared.StreamKind.{StreamKind};
+ghost use Rattle.template_code_verify.specs.Checked.{kind_in, stream_in};
 ghost use Rattle.template_compiler_codegen.specs.Statements.{standalone_code, template_code};
 ghost use Rattle.template_compiler_emission.specs.Puts.{NoRoom};
 ghost use Rattle.template_compiler_statement_codegen.specs.Listed.{IsRunnableTree, body_in};
@@ -17,7 +17,8 @@ ghost use Rattle.template_walk.specs.Runnable.{IsRunnable};
 
 use std::alloc::Global;
 use template_code::Instructions;
-use template_code_shapes::{Checked, StreamKind, certified_is_good, verify};
+use template_code_shapes::{StreamKind, certified_is_good};
+use template_code_verify::{Checked, verify};
 use template_compiler_certificates::{expressions_are_certified, templates_are_certified};
 use template_compiler_generator::CodeGenerator;
 use template_tree::{Expr, Stmt};
