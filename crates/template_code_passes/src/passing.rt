@@ -12,8 +12,8 @@ ghost use Rattle.template_code_passes.specs.Noted.{noted_in, places_in};
 use crate::notes::{Notes, Stop};
 use crate::ways::{Jump, Ways, ways_at};
 use std::alloc::Global;
-use template_code::{Instruction, Instructions};
-use template_code_shapes::{Outline, StreamKind};
+use template_code::Instructions;
+use template_code_shapes::{Outline, StreamKind, iterate_at};
 
 // Notes the shape at an `Iterate`, to which later jumps lead back.
 fn note_home(
@@ -28,7 +28,7 @@ fn note_home(
     ensures clash { IsErrOf result Stop.Bad → AgreesWith (noted_in notes.old) (home_of (code_in code.now) place (shape_of shape.now)) → ⊥ }
     ensures room { places_in notes.new ≡ places_in notes.old }
 {
-    if let Some(Instruction::Iterate(_)) = code.get(place) {
+    if iterate_at(code, place).is_some() {
         let home = match shape.copy() {
             Ok(home) => home,
             Err(_refused) => return Err(Stop::Memory),

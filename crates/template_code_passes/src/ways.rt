@@ -9,7 +9,7 @@ ghost use Rattle.template_code_shapes.specs.Outlines.{shape_of};
 ghost use Rattle.template_code_passes.specs.Ways.{effect_in, IsScope};
 
 use template_code::{Instruction, Instructions};
-use template_code_shapes::{Opened, Outline, may_jump_to};
+use template_code_shapes::{Opened, Outline, iterate_at, may_jump_to};
 use template_values_errors::{Error, ErrorKind};
 
 /// A jump, with its shape.
@@ -148,10 +148,7 @@ fn is_iterate_behind(code: &Instructions, place: u32) -> bool
     if place as usize + 1 >= code.len() {
         return false;
     }
-    match code.get(place + 1) {
-        Some(Instruction::Iterate(_)) => true,
-        _ => false,
-    }
+    iterate_at(code, place + 1).is_some()
 }
 
 /// The ways of a `PushLoop`.

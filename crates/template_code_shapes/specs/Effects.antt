@@ -15,13 +15,20 @@ falling s = record { falls = Some s; jumps = None }
 abbrev pub traded : ℕ → ℕ → Shape → Option Effect
 traded n m s = option_map (λ below. falling (given m below)) (taken n s)
 
+-- where an `Iterate` leads when no item is left
+abbrev pub iterate_in : Option Code → Option ℕ
+iterate_in (Some (iterate to)) = Some to
+iterate_in _ = None
+
 abbrev pub is_iterate : Option Code → Bool
-is_iterate (Some (iterate to)) = true
-is_iterate _ = false
+is_iterate c = is_some (iterate_in c)
+
+abbrev pub is_past : ℕ → Option ℕ → Bool
+is_past place (Some to) = nat_lt place to
+is_past place None = false
 
 abbrev pub is_iterate_past : ℕ → Option Code → Bool
-is_iterate_past place (Some (iterate to)) = nat_lt place to
-is_iterate_past place _ = false
+is_iterate_past place c = is_past place (iterate_in c)
 
 -- the place is the one behind a loop's `PushLoop`
 abbrev pub is_behind : ℕ → Option ℕ → Bool

@@ -7,7 +7,7 @@ ghost use Rattle.template_code_shapes.specs.Laws.{CertifiedIsGood, GoodEndsWell,
 mod jumps;
 mod outline;
 
-pub use jumps::may_jump_to;
+pub use jumps::{iterate_at, may_jump_to};
 pub use outline::{Floor, Opened, Outline};
 
 /// Which of the two kinds a stream is.
