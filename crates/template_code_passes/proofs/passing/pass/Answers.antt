@@ -1,4 +1,4 @@
-use Rattle.std.proofs.Common.{◌≡◌, length, Some, refl, sym, subst, arith}
+use Rattle.std.proofs.Common.{◌≡◌, length, Some, sym, subst, arith}
 use Rattle.std.specs.Prelude.{option_map}
 use Rattle.template_code.specs.Listing.{code_in}
 use Rattle.template_code_shapes.specs.Shapes.{Shape}
