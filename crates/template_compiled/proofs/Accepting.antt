@@ -5,8 +5,8 @@ use Rattle.template_values_errors.specs.declared.ErrorKind.{ErrorKind}
 use Rattle.template_values_errors.specs.declared.ErrorKind.TheVariants.{OutOfMemory}
 use Rattle.template_values_modes.specs.declared.AutoEscape.{AutoEscape}
 use Rattle.template_tree.specs.Tree.{Statement, template}
-use Rattle.template_tree.specs.StatementView.{statement_of}
-use Rattle.template_tree.specs.declared.statements.Stmt.{Stmt}
+use Rattle.template_tree_statements.specs.View.{statement_of}
+use Rattle.template_tree_statements.specs.declared.statements.Stmt.{Stmt}
 use Rattle.template_values_errors.specs.Memory.{NoMemory}
 use Rattle.template_walk.specs.Runnable.{IsRunnableTemplate}
 use Rattle.template_code.specs.Code.{Code}

@@ -4,7 +4,7 @@ ghost use Rattle.std.specs.BTreeSet.{contains_text};
 ghost use Rattle.std.specs.Cow.{cow_str_bytes};
 ghost use Rattle.template_values_errors.specs.Memory.{NoMemory};
 ghost use Rattle.template_tree.specs.Tree.{Statements, template};
-ghost use Rattle.template_tree.specs.StatementView.{statement_of};
+ghost use Rattle.template_tree_statements.specs.View.{statement_of};
 ghost use Rattle.template_code.specs.Listing.{code_in};
 ghost use Rattle.template_compiler_syntax.specs.Syntax.{IsUsable};
 ghost use Rattle.template_compiler_sources.specs.Source.{IsSource};
@@ -29,7 +29,7 @@ use template_compiler_statement_codegen::compile_template;
 use template_compiler_syntax::SyntaxConfig;
 use template_machine_escape::EscapeRule;
 use template_names_undeclared::{add_undeclared, find_undeclared};
-use template_tree::Stmt;
+use template_tree_statements::Stmt;
 use template_values_errors::{Error, ErrorKind};
 use template_values_modes::AutoEscape;
 

@@ -20,7 +20,8 @@ use template_compiler_runnable::is_runnable_expr;
 use template_compiler_sources::parse_expr;
 use template_compiler_statement_codegen::compile_expr;
 use template_names_undeclared::find_undeclared;
-use template_tree::{EmitExpr, Expr, Span, Spanned, Stmt};
+use template_tree::{Expr, Span, Spanned};
+use template_tree_statements::{EmitExpr, Stmt};
 use template_values_errors::{Error, ErrorKind};
 
 // The name of each expression.

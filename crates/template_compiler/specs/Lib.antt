@@ -16,7 +16,7 @@ pub use Rattle.template_compiler_tokenizer.specs.Held
 pub use Rattle.template_compiler_tokenizer.specs.Spans
 pub use Rattle.template_tree.specs.Tree
 pub use Rattle.template_tree.specs.View as TreeView
-pub use Rattle.template_tree.specs.StatementView
+pub use Rattle.template_tree_statements.specs.View
 pub use Rattle.template_tree.specs.CallView
 pub use Rattle.template_tree.specs.Kinds
 pub use Rattle.template_tree.specs.Places

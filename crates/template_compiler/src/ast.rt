@@ -1,9 +1,11 @@
 //! The nodes of a tree.
 
 pub use template_tree::{
-    AutoEscape, BinOp, BinOpKind, Block, Break, Call, CallArg, CallBlock, CallType, Compare,
-    CompareOp, CompareOpKind, Const, Continue, Do, EmitExpr, EmitRaw, Expr, Extends, Filter,
-    FilterBlock, ForLoop, FromImport, GetAttr, GetItem, IfCond, IfExpr, Import, Include, List,
-    Macro, Map, Set, SetBlock, Slice, Span, Spanned, Stmt, Template, Test, Tuple, UnaryOp,
-    UnaryOpKind, Var, WithBlock,
+    BinOp, BinOpKind, Call, CallArg, CallType, Compare, CompareOp, CompareOpKind, Const, Expr,
+    Filter, GetAttr, GetItem, IfExpr, List, Map, Slice, Span, Spanned, Test, Tuple, UnaryOp,
+    UnaryOpKind, Var,
+};
+pub use template_tree_statements::{
+    AutoEscape, Block, Break, CallBlock, Continue, Do, EmitExpr, EmitRaw, Extends, FilterBlock,
+    ForLoop, FromImport, IfCond, Import, Include, Macro, Set, SetBlock, Stmt, Template, WithBlock,
 };

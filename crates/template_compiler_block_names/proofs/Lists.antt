@@ -2,7 +2,7 @@
 use Rattle.std.proofs.Common.{◌≡◌, ℕ, ◌+◌, List, [], ◌∷◌, ◌++◌, refl, sym, ap, ◌∙◌, arith}
 use Rattle.std.proofs.lemmas.List.{append-nil, append_assoc}
 use Rattle.std.specs.Borrow.{Bor}
-use Rattle.template_tree.specs.declared.statements.Stmt.{Stmt}
+use Rattle.template_tree_statements.specs.declared.statements.Stmt.{Stmt}
 use Rattle.template_compiler_statements.specs.Trees.{blocks_among}
 use Rattle.template_compiler_statement_makers.specs.Listed.{statements_in}
 use Rattle.template_compiler_block_names.specs.Waiting.{texts_in, blocks_waiting, weights, weight_waiting}

@@ -1,10 +1,10 @@
 -- A statement's blocks and weight, by its parts.
 use Rattle.std.proofs.Common.{◌≡◌, ℕ, ◌+◌, ◌<◌, ◌≤◌, List, [], ◌∷◌, ◌++◌, refl, sym, subst, ap, ◌∙◌, arith, rules, Box, Global}
 use Rattle.std.proofs.lemmas.List.{append-nil, append_assoc}
-use Rattle.template_tree.specs.StatementView.{statement_of}
+use Rattle.template_tree_statements.specs.View.{statement_of}
 use Rattle.template_tree.specs.declared.span.Spanned.{Spanned}
-use Rattle.template_tree.specs.declared.statements.Stmt.{CallBlock as calls, the_lemmas}
-use Rattle.template_tree.specs.declared.statements.CallBlock.{CallBlock, CallBlock' as called, out-CallBlock}
+use Rattle.template_tree_statements.specs.declared.statements.Stmt.{CallBlock as calls, the_lemmas}
+use Rattle.template_tree_statements.specs.declared.statements.CallBlock.{CallBlock, CallBlock' as called, out-CallBlock}
 use Rattle.template_compiler_statement_makers.specs.Listed.{statements_in}
 use Rattle.template_compiler_statement_makers.proofs.Rows.{statements_row}
 use Rattle.template_tree.specs.Tree.{Statement, template, for_loop, if_condition, with_block, set_block, auto_escape, filter_block, block, macro, call_block, Statements, no_statements}

@@ -2,7 +2,7 @@
 use Rattle.std.specs.Prelude.{ℕ, suc, ◌+◌, List, [], ◌∷◌, ◌++◌, map, Option, None, Some}
 use Rattle.std.specs.Borrow.{Bor}
 use Rattle.template_tree.specs.Tree.{Statement, template, for_loop, if_condition, with_block, set_block, auto_escape, filter_block, block, macro, call_block, Statements, no_statements, statements_more}
-use Rattle.template_tree.specs.declared.statements.Stmt.{Stmt}
+use Rattle.template_tree_statements.specs.declared.statements.Stmt.{Stmt}
 use Rattle.template_compiler_statements.specs.Trees.{blocks_among}
 use Rattle.template_compiler_statement_makers.specs.Listed.{statements_in}
 

@@ -3,11 +3,11 @@ ghost use Rattle.std.specs.Prelude.{◌≡◌, ◌++◌, ◌+◌, ◌≤◌, ◌
 ghost use Rattle.template_compiler_block_names.specs.Waiting.{blocks_waiting, named, texts_in, weight_waiting, weights, within};
 ghost use Rattle.template_compiler_statement_makers.specs.Listed.{statements_in};
 ghost use Rattle.template_compiler_statements.specs.Trees.{blocks_among, blocks_in};
-ghost use Rattle.template_tree.specs.StatementView.{statement_of};
+ghost use Rattle.template_tree_statements.specs.View.{statement_of};
 
 use crate::parts::{body_of, name_of, other_of};
 use std::alloc::{AllocError, Global};
-use template_tree::Stmt;
+use template_tree_statements::Stmt;
 
 /// The names of the blocks in statements, in order, those inside others too. Linear.
 ///

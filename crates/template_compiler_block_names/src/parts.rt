@@ -1,9 +1,9 @@
 //! The parts of a statement.
 ghost use Rattle.std.specs.Prelude.{◌≡◌};
 ghost use Rattle.template_compiler_block_names.specs.Waiting.{body_in, name_in, named, other_in, within};
-ghost use Rattle.template_tree.specs.StatementView.{statement_of};
+ghost use Rattle.template_tree_statements.specs.View.{statement_of};
 
-use template_tree::Stmt;
+use template_tree_statements::Stmt;
 
 // The name that a block has.
 pub(crate) fn name_of<'source>(statement: &Stmt<'source>) -> Option<&'source str>

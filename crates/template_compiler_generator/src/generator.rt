@@ -4,7 +4,7 @@ ghost use Rattle.std.specs.Option.{option_map_or};
 ghost use Rattle.template_values_errors.specs.Memory.{NoMemory};
 ghost use Rattle.template_code.specs.Listing.{name_in, source_in, code_in, places_in, TakesNoMore};
 ghost use Rattle.template_code.specs.View.{code_of};
-ghost use Rattle.template_tree.specs.StatementView.{statement_of};
+ghost use Rattle.template_tree_statements.specs.View.{statement_of};
 ghost use Rattle.template_tree.specs.View.{expression_of};
 ghost use Rattle.template_walk.specs.Runnable.{IsRunnable, IsTarget};
 ghost use Rattle.template_compiler_codegen.specs.Expressions.{expression_code};
@@ -19,7 +19,8 @@ use template_code::{Instruction, Instructions, LOOP_FLAG_RECURSIVE, LOOP_FLAG_WI
 use template_compiler_emission::Leap;
 use template_compiler_expression_codegen::compile_expr;
 use template_compiler_statement_codegen::{compile_assignment, compile_template};
-use template_tree::{Expr, Span, Stmt};
+use template_tree::{Expr, Span};
+use template_tree_statements::Stmt;
 use template_values_errors::Error;
 
 /// Instructions that are generated one behind the other, with the blocks that are open, the current line, and the spans

@@ -1,13 +1,13 @@
 //! Statements. A chain of `elif` is gone along in a loop; other bodies nest at most 150 deep.
 ghost use Rattle.std.specs.Prelude.{◌≡◌, ◌↔◌, IsTrue};
-ghost use Rattle.template_tree.specs.StatementView.{statement_of};
+ghost use Rattle.template_tree_statements.specs.View.{statement_of};
 ghost use Rattle.template_tree_parts.specs.Listed.{statements_in};
 ghost use Rattle.template_compiler_runnable.specs.Running.{statement_runs, statements_run};
 ghost use Rattle.template_compiler_runnable.specs.Runs.{RunsWhole};
 
 use crate::expressions::expression_runs;
 use crate::targets::{assignments_run, is_target};
-use template_tree::Stmt;
+use template_tree_statements::Stmt;
 
 /// Whether a template's tree is one whose constructs all have a walk. Takes linear time.
 pub fn is_runnable(tree: &Stmt<'_>) -> bool

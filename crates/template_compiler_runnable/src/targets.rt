@@ -1,7 +1,7 @@
 //! Targets, and what is stored in them.
 ghost use Rattle.std.specs.Prelude.{◌≡◌};
 ghost use Rattle.template_tree.specs.View.{expression_of, expressions_in};
-ghost use Rattle.template_tree.specs.StatementView.{assignments_in};
+ghost use Rattle.template_tree_statements.specs.View.{assignments_in};
 ghost use Rattle.template_compiler_runnable.specs.Running.{is_target, are_targets, assignments_run};
 
 use crate::expressions::expression_runs;

@@ -2,8 +2,8 @@
 use Rattle.std.proofs.Common.{◌≡◌, Bool, true, false, if◌then◌else◌, List, [], ◌∷◌, ℕ, inl, inr, Result, Ok, Err, refl, sym, ap, subst, ◌∙◌}
 use Rattle.template_values_errors.specs.declared.ErrorKind.{ErrorKind}
 use Rattle.template_tree.specs.Tree.{Expression, Statement, template, Statements}
-use Rattle.template_tree.specs.StatementView.{statement_of}
-use Rattle.template_tree.specs.declared.statements.Stmt.{Stmt}
+use Rattle.template_tree_statements.specs.View.{statement_of}
+use Rattle.template_tree_statements.specs.declared.statements.Stmt.{Stmt}
 use Rattle.template_compiler_stream.specs.Refusals.{fault_of}
 use Rattle.template_compiler_stream.specs.declared.refusal.Refusal.{Refusal}
 use Rattle.template_compiler_stream.specs.declared.refusal.Refusal.TheVariants as refusals

@@ -3,9 +3,9 @@ use Rattle.std.specs.Prelude.{◌≡◌, List, [], ◌∷◌, Result, Ok, Err}
 use Rattle.std.specs.Global.{Vec}
 use Rattle.template_tree.specs.Tree.{Expression, Statement, template, Statements}
 use Rattle.template_tree.specs.View.{expression_of}
-use Rattle.template_tree.specs.StatementView.{statement_of}
+use Rattle.template_tree_statements.specs.View.{statement_of}
 use Rattle.template_tree.specs.declared.expressions.Expr.{Expr}
-use Rattle.template_tree.specs.declared.statements.Stmt.{Stmt}
+use Rattle.template_tree_statements.specs.declared.statements.Stmt.{Stmt}
 use Rattle.template_compiler_tokens.specs.Token.{Token, TokenFault}
 use Rattle.template_compiler_reading.specs.Steps.{Read, fault}
 use Rattle.template_compiler_expressions.specs.Reader.{expression_at}

@@ -4,7 +4,7 @@ ghost use Rattle.template_compiler_sources.specs.Source.{IsAlone, IsSource, Refu
 ghost use Rattle.template_values_errors.specs.declared.ErrorKind.TheVariants.{TooLarge};
 ghost use Rattle.template_compiler_sources.specs.Wholes.{ParsedTemplate};
 ghost use Rattle.template_compiler_statements.specs.Reader.{template_of};
-ghost use Rattle.template_tree.specs.StatementView.{statement_of};
+ghost use Rattle.template_tree_statements.specs.View.{statement_of};
 
 use crate::template::read_template;
 use std::alloc::Global;
@@ -12,7 +12,8 @@ use template_compiler_source_tokens::{error_of, read_tokens};
 use template_compiler_stream::{Refusal, TokenStream};
 use template_compiler_syntax::SyntaxConfig;
 use template_compiler_tokenizer::Tokenizer;
-use template_tree::{Spanned, Stmt, Template};
+use template_tree::Spanned;
+use template_tree_statements::{Stmt, Template};
 use template_values_errors::{Error, ErrorKind};
 
 /// The tree of a template's source under a syntax, in linear time. Texts and names are slices of the source. The file

@@ -8,7 +8,7 @@ use template_compiler_block_names::{are_distinct, block_names};
 use template_compiler_statement_makers::Around;
 use template_compiler_statement_parser::read_statements;
 use template_compiler_stream::{Fault, Refusal, TokenStream};
-use template_tree::Stmt;
+use template_tree_statements::Stmt;
 
 // How deep statements and expressions may nest.
 pub(crate) const MAX_DEPTH: u32 = 150;

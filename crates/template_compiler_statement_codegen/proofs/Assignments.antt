@@ -1,7 +1,7 @@
 -- Assignments, one behind the other.
 use Rattle.std.proofs.Common.{◌≡◌, ℕ, ◌+◌, ◌<◌, ◌≤◌, zero, suc, List, [], ◌∷◌, ◌++◌, length, take, get_or, sym, ap, subst, ◌∙◌, append-nil, arith}
 use Rattle.std.proofs.lemmas.List.{take_more, take_all}
-use Rattle.template_tree.specs.StatementView.{assignments_in}
+use Rattle.template_tree_statements.specs.View.{assignments_in}
 use Rattle.template_tree.specs.View.{expression_of}
 use Rattle.template_tree.specs.declared.expressions.Expr.{Expr}
 use Rattle.template_walk.specs.Runnable.{IsRunnable, IsTarget, AreAssignments}

@@ -3,8 +3,8 @@ use Rattle.std.proofs.Common.{◌≡◌, ℕ, ◌+◌, ◌<◌, ◌≤◌, zero,
 use Rattle.std.proofs.lemmas.Bool.Decides.{nat_tests}
 use Rattle.std.proofs.lemmas.List.{drop_more, drop_all}
 use Rattle.template_tree.specs.Tree.{Statements, statements_more}
-use Rattle.template_tree.specs.StatementView.{statement_of}
-use Rattle.template_tree.specs.declared.statements.Stmt.{Stmt, size-Stmt}
+use Rattle.template_tree_statements.specs.View.{statement_of}
+use Rattle.template_tree_statements.specs.declared.statements.Stmt.{Stmt, size-Stmt}
 use Rattle.template_walk.specs.Runnable.{IsRunnableStatement, AreRunnableStatements}
 use Rattle.template_code.specs.declared.listing.Instructions.{Instructions}
 use Rattle.template_compiler_codegen.specs.Statements.{Ways, statement_code, statements_code}

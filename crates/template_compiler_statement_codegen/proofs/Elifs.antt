@@ -3,8 +3,8 @@ use Rattle.std.proofs.Common.{◌≡◌, ◌+◌, ◌<◌, ◌≤◌, Bor, Optio
 use Rattle.std.proofs.Math.ListN.{set}
 use Rattle.std.specs.Option.{is_some}
 use Rattle.template_tree.specs.Tree.{Statements, no_statements, statements_more}
-use Rattle.template_tree.specs.declared.statements.IfCond.{IfCond}
-use Rattle.template_tree.specs.declared.statements.Stmt.{Stmt}
+use Rattle.template_tree_statements.specs.declared.statements.IfCond.{IfCond}
+use Rattle.template_tree_statements.specs.declared.statements.Stmt.{Stmt}
 use Rattle.template_walk.specs.Runnable.{AreRunnableStatements, IsRunnableStatement}
 use Rattle.template_code.specs.Listing.{code_in}
 use Rattle.template_code.specs.declared.listing.Instructions.{Instructions}

@@ -1,16 +1,16 @@
 -- The trees of nodes, from the parts that a node holds, and how deep those are.
 use Rattle.std.proofs.Common.{◌≡◌, ℕ, ◌<◌, Bool, true, false, List, length, get_or, Box, Global, rules, refl, sym, ap, subst, ◌∙◌, arith, [], ◌∷◌}
 use Rattle.template_tree.specs.Tree.{Expression, Optional, Statement, Statements, absent, given, for_loop, with_block, auto_escape, no_statements, statements_more}
-use Rattle.template_tree.specs.StatementView.{assignments_in, statement_of}
+use Rattle.template_tree_statements.specs.View.{assignments_in, statement_of}
 use Rattle.template_tree.specs.View.{expression_of, optional_in}
 use Rattle.template_tree.specs.declared.expressions.Expr.{Expr}
 use Rattle.template_tree.specs.declared.span.Spanned.{Spanned}
-use Rattle.template_tree.specs.declared.statements.AutoEscape.{AutoEscape as AutoEscapeNode}
-use Rattle.template_tree.specs.declared.statements.CallBlock.{CallBlock as CallBlockNode, CallBlock' as called}
-use Rattle.template_tree.specs.declared.statements.ForLoop.{ForLoop as ForLoopNode}
-use Rattle.template_tree.specs.declared.statements.IfCond.{IfCond as IfCondNode}
-use Rattle.template_tree.specs.declared.statements.WithBlock.{WithBlock as WithBlockNode}
-use Rattle.template_tree.specs.declared.statements.Stmt.{Stmt, AutoEscape, CallBlock, ForLoop, IfCond, WithBlock, size-Stmt, the_lemmas}
+use Rattle.template_tree_statements.specs.declared.statements.AutoEscape.{AutoEscape as AutoEscapeNode}
+use Rattle.template_tree_statements.specs.declared.statements.CallBlock.{CallBlock as CallBlockNode, CallBlock' as called}
+use Rattle.template_tree_statements.specs.declared.statements.ForLoop.{ForLoop as ForLoopNode}
+use Rattle.template_tree_statements.specs.declared.statements.IfCond.{IfCond as IfCondNode}
+use Rattle.template_tree_statements.specs.declared.statements.WithBlock.{WithBlock as WithBlockNode}
+use Rattle.template_tree_statements.specs.declared.statements.Stmt.{Stmt, AutoEscape, CallBlock, ForLoop, IfCond, WithBlock, size-Stmt, the_lemmas}
 use Rattle.template_tree_parts.proofs.Trees.{escape_tree, for_tree, if_tree, with_tree}
 use Rattle.template_walk.specs.Runnable.{IsRunnableStatement}
 use Rattle.template_tree_parts.specs.Listed.{statements_in}

@@ -2,8 +2,8 @@
 use Rattle.std.specs.Prelude.{ℕ, max, List, [], ◌∷◌}
 use Rattle.template_tree.specs.Tree.{Statement, Statements, no_statements, template, if_condition}
 use Rattle.template_tree.specs.View.{expression_of}
-use Rattle.template_tree.specs.declared.statements.IfCond.{IfCond}
-use Rattle.template_tree.specs.declared.statements.Stmt.{Stmt, size-Stmt}
+use Rattle.template_tree_statements.specs.declared.statements.IfCond.{IfCond}
+use Rattle.template_tree_statements.specs.declared.statements.Stmt.{Stmt, size-Stmt}
 use Rattle.template_tree_parts.specs.Listed.{statements_in}
 use Rattle.template_walk.specs.Runnable.{IsRunnableTemplate}
 

@@ -1,7 +1,7 @@
 -- The loop around statements, and what is put for them.
 use Rattle.std.specs.Prelude.{◌≡◌, ℕ, List, [], ◌∷◌, ◌++◌, length, Option, Some, None}
 use Rattle.template_tree.specs.Tree.{Statement, Statements}
-use Rattle.template_tree.specs.declared.statements.IfCond.{IfCond}
+use Rattle.template_tree_statements.specs.declared.statements.IfCond.{IfCond}
 use Rattle.template_code.specs.Code.{Code, pop_frame, pop_auto_escape}
 use Rattle.template_code.specs.Listing.{code_in}
 use Rattle.template_code.specs.declared.listing.Instructions.{Instructions}

@@ -2,7 +2,7 @@
 //! along in a loop.
 ghost use Rattle.std.specs.Prelude.{◌≡◌, ◌<◌, ◌++◌, true, false, OnOk, IfOk, IfErr, IfSome};
 ghost use Rattle.template_tree.specs.Tree.{absent, auto_escape, for_loop, no_statements, statements_more, with_block};
-ghost use Rattle.template_tree.specs.StatementView.{statement_of, assignments_in};
+ghost use Rattle.template_tree_statements.specs.View.{statement_of, assignments_in};
 ghost use Rattle.template_tree.specs.View.{expression_of};
 ghost use Rattle.template_walk.specs.Runnable.{IsRunnable, IsTarget, AreAssignments, IsRunnableStatement, AreRunnableStatements};
 ghost use Rattle.template_code.specs.Code.{emit, include};
@@ -23,7 +23,8 @@ use template_code::{Instruction, Instructions, LOOP_FLAG_WITH_LOOP_VAR};
 use template_compiler_emission::{Leap, land, put, reserve};
 use template_compiler_expression_codegen::compile_expr;
 use template_compiler_lowering::tell_breaks;
-use template_tree::{Expr, IfCond, Span, Stmt};
+use template_tree::{Expr, Span};
+use template_tree_statements::{IfCond, Stmt};
 use template_values_errors::Error;
 
 /// Puts the code of a whole template behind the instructions. Linear in the template, besides what the

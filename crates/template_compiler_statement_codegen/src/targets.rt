@@ -1,7 +1,7 @@
 //! Targets: names that a value is stored under, and lists of targets that it is unpacked into.
 ghost use Rattle.std.specs.Prelude.{OnOk, IfErr};
 ghost use Rattle.template_tree.specs.Tree.{list_literal};
-ghost use Rattle.template_tree.specs.StatementView.{assignments_in};
+ghost use Rattle.template_tree_statements.specs.View.{assignments_in};
 ghost use Rattle.template_tree.specs.View.{expression_of, expressions_in};
 ghost use Rattle.template_walk.specs.Runnable.{IsTarget, AreTargets, AreAssignments};
 ghost use Rattle.template_code.specs.Listing.{code_in, TakesNoMore};

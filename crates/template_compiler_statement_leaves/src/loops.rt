@@ -4,12 +4,13 @@ ghost use Rattle.template_compiler_statement_parts.specs.Parsed.{ParsedAs};
 ghost use Rattle.template_compiler_statements.specs.Reader.{tag_end};
 ghost use Rattle.template_compiler_tokens.specs.Token.{bad_syntax};
 ghost use Rattle.template_tree.specs.Tree.{break_loop, continue_loop};
-ghost use Rattle.template_tree.specs.StatementView.{statement_of};
-ghost use Rattle.template_tree.specs.declared.statements.Stmt.TheVariants as statements;
+ghost use Rattle.template_tree_statements.specs.View.{statement_of};
+ghost use Rattle.template_tree_statements.specs.declared.statements.Stmt.TheVariants as statements;
 
 use template_compiler_statement_parts::expect_tag_end;
 use template_compiler_stream::{Fault, Refusal, TokenStream};
-use template_tree::{Break, Continue, Span, Spanned};
+use template_tree::{Span, Spanned};
+use template_tree_statements::{Break, Continue};
 
 /// Reads the end of a `break`, which stands inside a loop alone.
 ///

@@ -2,8 +2,8 @@
 ghost use Rattle.std.specs.Prelude.{◌≡◌};
 ghost use Rattle.template_compiler_statement_parts.specs.Parsed.{ParsedAs};
 ghost use Rattle.template_compiler_statements.specs.Reader.{extends_by, from_by, here, import_statement_by, include_by};
-ghost use Rattle.template_tree.specs.StatementView.{statement_of};
-ghost use Rattle.template_tree.specs.declared.statements.Stmt.TheVariants as statements;
+ghost use Rattle.template_tree_statements.specs.View.{statement_of};
+ghost use Rattle.template_tree_statements.specs.declared.statements.Stmt.TheVariants as statements;
 
 use std::alloc::Global;
 use template_compiler_expression_parser::read_expression;
@@ -11,7 +11,8 @@ use template_compiler_statement_parts::{
     expect_tag_end, expect_word, pass_context, read_imports, read_missing, read_stored,
 };
 use template_compiler_stream::{Refusal, TokenStream};
-use template_tree::{Extends, FromImport, Import, Include, Span, Spanned};
+use template_tree::{Span, Spanned};
+use template_tree_statements::{Extends, FromImport, Import, Include};
 
 /// Reads an `import`.
 ///

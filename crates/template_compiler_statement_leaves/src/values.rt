@@ -6,8 +6,8 @@ ghost use Rattle.template_compiler_statement_leaves.specs.Behind.{set_targets};
 ghost use Rattle.template_compiler_statement_parts.specs.Parsed.{ParsedAs};
 ghost use Rattle.template_compiler_statements.specs.Reader.{do_by, here, print_end, set_values};
 ghost use Rattle.template_tree.specs.Tree.{print};
-ghost use Rattle.template_tree.specs.StatementView.{statement_of};
-ghost use Rattle.template_tree.specs.declared.statements.Stmt.TheVariants as statements;
+ghost use Rattle.template_tree_statements.specs.View.{statement_of};
+ghost use Rattle.template_tree_statements.specs.declared.statements.Stmt.TheVariants as statements;
 ghost use Rattle.template_tree.specs.View.{expression_of};
 
 use std::alloc::Global;
@@ -17,7 +17,8 @@ use template_compiler_statement_parts::{
 };
 use template_compiler_statement_values::read_values;
 use template_compiler_stream::{Fault, Refusal, TokenStream};
-use template_tree::{Do, EmitExpr, Expr, Set, Span, Spanned};
+use template_tree::{Expr, Span, Spanned};
+use template_tree_statements::{Do, EmitExpr, Set};
 
 /// Reads a print, behind its start.
 ///

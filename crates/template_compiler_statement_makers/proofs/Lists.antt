@@ -1,11 +1,11 @@
 -- Bodies with one statement more.
 use Rattle.std.proofs.Common.{◌≡◌, false, ◌&&◌, List, [], ◌∷◌, ◌++◌, refl, ap}
 use Rattle.template_tree.specs.Tree.{Statement, raw, Statements, statements_more}
-use Rattle.template_tree.specs.StatementView.{statement_of}
+use Rattle.template_tree_statements.specs.View.{statement_of}
 use Rattle.template_tree.specs.declared.span.Spanned.{Spanned}
-use Rattle.template_tree.specs.declared.statements.EmitRaw.{EmitRaw as Text}
-use Rattle.template_tree.specs.declared.statements.CallBlock.{CallBlock' as called}
-use Rattle.template_tree.specs.declared.statements.Stmt.{Stmt, EmitRaw, CallBlock'}
+use Rattle.template_tree_statements.specs.declared.statements.EmitRaw.{EmitRaw as Text}
+use Rattle.template_tree_statements.specs.declared.statements.CallBlock.{CallBlock' as called}
+use Rattle.template_tree_statements.specs.declared.statements.Stmt.{Stmt, EmitRaw, CallBlock'}
 use Rattle.template_compiler_statements.specs.Trees.{and_statement, is_blank}
 use Rattle.template_compiler_statement_makers.specs.Listed.{statements_in}
 use Rattle.template_compiler_statement_makers.specs.Blank.{is_blank_statement}

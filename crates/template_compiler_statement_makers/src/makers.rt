@@ -2,15 +2,15 @@
 //! refused.
 ghost use Rattle.std.specs.Prelude.{◌≡◌, IfOk};
 ghost use Rattle.template_tree.specs.View.{expression_of, optional_in, expressions_in, arguments_in};
-ghost use Rattle.template_tree.specs.StatementView.{statement_of, assignments_in};
-ghost use Rattle.template_tree.specs.declared.statements.Stmt.TheVariants as statements;
+ghost use Rattle.template_tree_statements.specs.View.{statement_of, assignments_in};
+ghost use Rattle.template_tree_statements.specs.declared.statements.Stmt.TheVariants as statements;
 ghost use Rattle.template_compiler_statement_makers.specs.Listed.{statements_in};
 ghost use Rattle.template_tree.specs.Tree as tree;
 
 use std::alloc::{AllocError, Global};
-use template_tree::{
-    AutoEscape, Block, Call, CallBlock, Expr, FilterBlock, ForLoop, IfCond, Macro, SetBlock, Span,
-    Spanned, Stmt, WithBlock,
+use template_tree::{Call, Expr, Span, Spanned};
+use template_tree_statements::{
+    AutoEscape, Block, CallBlock, FilterBlock, ForLoop, IfCond, Macro, SetBlock, Stmt, WithBlock,
 };
 
 /// `{% for target in iter if filter_expr recursive %}body{% else %}else_body{% endfor %}`.

@@ -6,7 +6,7 @@ use Rattle.template_compiler_statement_makers.specs.Listed.{statements_in}
 use Rattle.template_compiler_statements.specs.Trees.{Branches, branches_more, and_branch, branched}
 use Rattle.std.specs.Global.{Box}
 use Rattle.template_tree.specs.declared.span.Spanned.{Spanned}
-use Rattle.template_tree.specs.declared.statements.IfCond.{IfCond}
+use Rattle.template_tree_statements.specs.declared.statements.IfCond.{IfCond}
 use Rattle.template_compiler_statement_parser.specs.Bodies.{branches_in}
 
 pub branches_push : (xs : List (Spanned (Box IfCond))) (b : Spanned (Box IfCond)) →

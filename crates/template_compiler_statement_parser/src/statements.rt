@@ -8,8 +8,8 @@ ghost use Rattle.template_compiler_stream.specs.Left.{passed};
 ghost use Rattle.template_compiler_statements.specs.Reader.{autoescape_by, block_body, block_by, branch_by, branch_step, call_body, call_by, deeper_body, else_by, expect_tag, filter_block_by, filtered_body, for_body, for_by, for_in, here, if_by, macro_by, opened_by, opened_step, opening, set_behind, set_body, set_by, statement_step, statements_at, with_by};
 ghost use Rattle.template_compiler_statements.specs.Trees.{branched, is_block_body, no_branches};
 ghost use Rattle.template_compiler_statement_values.specs.Written.{parameters_of};
-ghost use Rattle.template_tree.specs.StatementView.{statement_of};
-ghost use Rattle.template_tree.specs.declared.statements.Stmt.TheVariants as statements;
+ghost use Rattle.template_tree_statements.specs.View.{statement_of};
+ghost use Rattle.template_tree_statements.specs.declared.statements.Stmt.TheVariants as statements;
 ghost use Rattle.template_tree.specs.View.{arguments_in, expression_of, optional_in};
 ghost use Rattle.template_compiler_statement_makers.specs.Listed.{statements_in};
 
@@ -25,9 +25,9 @@ use template_compiler_statement_values::{
     read_optional_parameters,
 };
 use template_compiler_stream::{Fault, Refusal, Sign, TokenStream, until};
-use template_tree::{
-    AutoEscape, Block, Call, CallBlock, EmitRaw, Expr, ForLoop, IfCond, Macro, SetBlock, Span,
-    Spanned, Stmt, WithBlock,
+use template_tree::{Call, Expr, Span, Spanned};
+use template_tree_statements::{
+    AutoEscape, Block, CallBlock, EmitRaw, ForLoop, IfCond, Macro, SetBlock, Stmt, WithBlock,
 };
 
 // A body, one nesting level deeper.

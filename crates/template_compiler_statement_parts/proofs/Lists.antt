@@ -2,7 +2,7 @@
 use Rattle.std.proofs.Common.{◌≡◌, List, [], ◌∷◌, ◌++◌, Option, refl, ap, length, ◌<◌, arith}
 use Rattle.template_tree.specs.Tree.{expressions_more, assignments_more, imports_more, list_literal, tuple_literal}
 use Rattle.template_tree.specs.View.{expression_of, optional_in, expressions_in}
-use Rattle.template_tree.specs.StatementView.{assignments_in, imports_in}
+use Rattle.template_tree_statements.specs.View.{assignments_in, imports_in}
 use Rattle.template_tree.specs.declared.expressions.Expr.{Expr}
 use Rattle.template_compiler_expressions.specs.Trees.{and_expression}
 use Rattle.template_compiler_statements.specs.Trees.{and_assignment, and_import, unpacked, together}

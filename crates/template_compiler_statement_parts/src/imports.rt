@@ -3,7 +3,7 @@ ghost use Rattle.template_compiler_reading.specs.Steps.{and_then, all};
 ghost use Rattle.template_tree.specs.Tree.{no_imports};
 ghost use Rattle.template_compiler_statement_parts.specs.Parsed.{ParsedAs, SteppedTo, ParsedInto};
 ghost use Rattle.template_compiler_statements.specs.Reader.{import_by, more_step};
-ghost use Rattle.template_tree.specs.StatementView.{imports_in};
+ghost use Rattle.template_tree_statements.specs.View.{imports_in};
 
 use crate::names::read_stored;
 use std::alloc::Global;

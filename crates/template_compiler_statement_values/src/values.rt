@@ -6,7 +6,7 @@ ghost use Rattle.template_compiler_statements.specs.Reader.{assignment_by, assig
 ghost use Rattle.template_compiler_statements.specs.Trees.{together};
 ghost use Rattle.template_compiler_reading.specs.Steps.{all};
 ghost use Rattle.template_tree.specs.View.{expression_of, expressions_in, optional_in};
-ghost use Rattle.template_tree.specs.StatementView.{assignments_in};
+ghost use Rattle.template_tree_statements.specs.View.{assignments_in};
 
 use std::alloc::{AllocError, Global};
 use template_compiler_expression_parser::read_expression;

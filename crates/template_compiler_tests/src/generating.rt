@@ -6,7 +6,8 @@ use std::test::Fail;
 use template_code::{Instruction, Instructions};
 use template_compiler_generator::CodeGenerator;
 use template_compiler_runnable::is_runnable;
-use template_tree::{EmitRaw, Expr, Span, Spanned, Stmt, Template};
+use template_tree::{Expr, Span, Spanned};
+use template_tree_statements::{EmitRaw, Stmt, Template};
 use template_values_errors::Error;
 
 // Where the jump at a place leads.

@@ -74,7 +74,8 @@ use std::io;
 use template_compiler_runnable::is_runnable;
 use template_compiler_sources::Parser;
 use template_compiler_syntax::SyntaxConfig;
-use template_tree::{Expr, Stmt};
+use template_tree::Expr;
+use template_tree_statements::Stmt;
 use template_values_errors::{Error, ErrorKind};
 
 // How many levels of a tree are printed; a deeper one is told as `TooLarge`.

@@ -7,7 +7,8 @@ use template_compiler_sources::parse;
 use template_compiler_syntax::SyntaxConfig;
 use template_constants::as_const;
 use template_names_undeclared::{add_undeclared, find_undeclared};
-use template_tree::{CallType, Expr, Stmt};
+use template_tree::{CallType, Expr};
+use template_tree_statements::Stmt;
 use template_values_errors::Error;
 use template_values_text::{NoRecords, print_to};
 

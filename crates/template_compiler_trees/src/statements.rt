@@ -1,7 +1,8 @@
 //! The forms of statements.
 use crate::expressions::{arguments, expression, optional, part};
 use crate::forms::{ABSENT, Form, deeper, open, quoted, word};
-use template_tree::{Call, Expr, Macro, Spanned, Stmt};
+use template_tree::{Call, Expr, Spanned};
+use template_tree_statements::{Macro, Stmt};
 use template_values_errors::Error;
 
 /// The statement in its form, with so many levels left; a template is the list of its statements.

@@ -10,7 +10,7 @@ ghost use Rattle.template_compiler_codegen.specs.Statements.{standalone_code, te
 ghost use Rattle.template_compiler_emission.specs.Puts.{NoRoom};
 ghost use Rattle.template_compiler_statement_codegen.specs.Listed.{IsRunnableTree, body_in};
 ghost use Rattle.template_compiler_verified.specs.Laws.{ExpressionsAreAccepted, TemplatesAreAccepted};
-ghost use Rattle.template_tree.specs.StatementView.{statement_of};
+ghost use Rattle.template_tree_statements.specs.View.{statement_of};
 ghost use Rattle.template_tree.specs.View.{expression_of};
 ghost use Rattle.template_values_errors.specs.Memory.{NoMemory};
 ghost use Rattle.template_walk.specs.Runnable.{IsRunnable};
@@ -20,7 +20,8 @@ use template_code::Instructions;
 use template_code_shapes::{Checked, StreamKind, certified_is_good, verify};
 use template_compiler_certificates::{expressions_are_certified, templates_are_certified};
 use template_compiler_generator::CodeGenerator;
-use template_tree::{Expr, Stmt};
+use template_tree::Expr;
+use template_tree_statements::Stmt;
 use template_values_errors::Error;
 
 /// Whatever draft is generated for a template, onto one without code, is a good stream of a template. The function does

@@ -3,7 +3,7 @@ use Rattle.std.proofs.Common.{◌≡◌, ℕ, zero, suc, ◌+◌, ◌-◌, ◌<�
 use Rattle.std.proofs.lemmas.List.{take_more}
 use Rattle.template_tree.specs.Tree.{Expression, Expressions, no_expressions, expressions_more, Assignments, no_assignments, assignments_more}
 use Rattle.template_tree.specs.View.{expression_of, expressions_in, optional_in}
-use Rattle.template_tree.specs.StatementView.{imports_in}
+use Rattle.template_tree_statements.specs.View.{imports_in}
 use Rattle.template_tree.specs.declared.span.Spanned.{Spanned}
 use Rattle.template_tree.specs.declared.expressions.Compare.{Compare}
 use Rattle.template_tree.specs.declared.expressions.List.{List as ListNode}

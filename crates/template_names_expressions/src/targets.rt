@@ -1,7 +1,7 @@
 //! The names that targets, assignments and imports store.
 ghost use Rattle.std.specs.Prelude.{◌≡◌, ◌≤◌, ◌||◌, false, length, take, OnOk};
 ghost use Rattle.template_tree.specs.View.{expression_of, expressions_in, optional_in};
-ghost use Rattle.template_tree.specs.StatementView.{assignments_in, imports_in};
+ghost use Rattle.template_tree_statements.specs.View.{assignments_in, imports_in};
 ghost use Rattle.template_names.specs.Names.{is_imported, is_stored_in, is_stored_in_one, place_in_target, place_of_arguments, place_in_targets, place_in, place_from};
 ghost use Rattle.template_names_state.specs.Among.{nothing};
 ghost use Rattle.template_names_state.specs.Goes.{Goes, no_place};

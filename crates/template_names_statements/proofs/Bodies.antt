@@ -2,15 +2,15 @@
 use Rattle.std.proofs.Common.{◌≡◌, ℕ, Bool, false, Result, OnOk, List as Items, Box, Global, rules, sym, ap, ◌∙◌}
 use Rattle.template_tree.specs.Tree.{Statement, set_block, filter_block, block, macro, call_block}
 use Rattle.template_tree.specs.View.{expression_of, expressions_in, arguments_in, optional_in}
-use Rattle.template_tree.specs.StatementView.{statement_of}
+use Rattle.template_tree_statements.specs.View.{statement_of}
 use Rattle.template_tree.specs.declared.expressions.Expr.{Expr}
 use Rattle.template_tree.specs.declared.span.Spanned.{Spanned}
-use Rattle.template_tree.specs.declared.statements.Block.{Block as BlockNode}
-use Rattle.template_tree.specs.declared.statements.CallBlock.{CallBlock, CallBlock' as called, out-CallBlock}
-use Rattle.template_tree.specs.declared.statements.FilterBlock.{FilterBlock as FilterBlockNode}
-use Rattle.template_tree.specs.declared.statements.Macro.{Macro as MacroNode}
-use Rattle.template_tree.specs.declared.statements.SetBlock.{SetBlock as SetBlockNode}
-use Rattle.template_tree.specs.declared.statements.Stmt.{Stmt, Block, CallBlock as calls, FilterBlock, Macro, SetBlock, the_lemmas}
+use Rattle.template_tree_statements.specs.declared.statements.Block.{Block as BlockNode}
+use Rattle.template_tree_statements.specs.declared.statements.CallBlock.{CallBlock, CallBlock' as called, out-CallBlock}
+use Rattle.template_tree_statements.specs.declared.statements.FilterBlock.{FilterBlock as FilterBlockNode}
+use Rattle.template_tree_statements.specs.declared.statements.Macro.{Macro as MacroNode}
+use Rattle.template_tree_statements.specs.declared.statements.SetBlock.{SetBlock as SetBlockNode}
+use Rattle.template_tree_statements.specs.declared.statements.Stmt.{Stmt, Block, CallBlock as calls, FilterBlock, Macro, SetBlock, the_lemmas}
 use Rattle.template_tree_parts.specs.Listed.{statements_in}
 use Rattle.template_tree_parts.proofs.Rows.{statements_row}
 use Rattle.template_names.specs.Names.{Places, is_stored_by, place_by, place_of_macro, place_within}

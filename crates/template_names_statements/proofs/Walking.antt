@@ -4,8 +4,8 @@ use Rattle.std.specs.Prelude.{is_none, IfSome}
 use Rattle.template_tree.specs.Tree.{Statement}
 use Rattle.template_tree.specs.View.{expression_of, expressions_in}
 use Rattle.template_tree.specs.declared.span.Spanned.{Spanned}
-use Rattle.template_tree.specs.declared.statements.IfCond.{IfCond as IfCondNode}
-use Rattle.template_tree.specs.declared.statements.Stmt.{Stmt, size-Stmt, IfCond, the_lemmas}
+use Rattle.template_tree_statements.specs.declared.statements.IfCond.{IfCond as IfCondNode}
+use Rattle.template_tree_statements.specs.declared.statements.Stmt.{Stmt, size-Stmt, IfCond, the_lemmas}
 use Rattle.template_tree_parts.specs.Listed.{statements_in}
 use Rattle.template_tree_parts.proofs.Trees.{if_tree}
 use Rattle.template_names.specs.Names.{Places, is_stored_by, is_stored_in_one, place_by, place_of_arguments, place_of_macro, place_within, place_in}

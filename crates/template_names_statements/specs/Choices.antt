@@ -3,12 +3,12 @@ use Rattle.std.specs.Prelude.{◌≡◌, ℕ, ◌+◌, Bool, false, ◌||◌, Li
 use Rattle.std.specs.Borrow.{Bor}
 use Rattle.std.specs.Global.{Box}
 use Rattle.template_tree.specs.Tree.{Statement, if_condition}
-use Rattle.template_tree.specs.StatementView.{statement_of}
+use Rattle.template_tree_statements.specs.View.{statement_of}
 use Rattle.template_tree.specs.declared.span.Spanned.{Spanned}
-use Rattle.template_tree.specs.declared.statements.ForLoop.{ForLoop as ForLoopNode}
-use Rattle.template_tree.specs.declared.statements.IfCond.{IfCond as IfCondNode}
-use Rattle.template_tree.specs.declared.statements.WithBlock.{WithBlock as WithBlockNode}
-use Rattle.template_tree.specs.declared.statements.Stmt.{Stmt, size-Stmt, ForLoop, IfCond, WithBlock}
+use Rattle.template_tree_statements.specs.declared.statements.ForLoop.{ForLoop as ForLoopNode}
+use Rattle.template_tree_statements.specs.declared.statements.IfCond.{IfCond as IfCondNode}
+use Rattle.template_tree_statements.specs.declared.statements.WithBlock.{WithBlock as WithBlockNode}
+use Rattle.template_tree_statements.specs.declared.statements.Stmt.{Stmt, size-Stmt, ForLoop, IfCond, WithBlock}
 use Rattle.template_names.specs.Names.{Places, place_by, place_in, place_within}
 
 abbrev pub loop_of : Spanned (Box ForLoopNode) → Statement

@@ -9,7 +9,8 @@ ghost use Rattle.template_names_statements.specs.Choices.{IsAlone};
 use std::alloc::AllocError;
 use template_names_expressions::{assign_target, use_arguments, use_expression, use_optional};
 use template_names_state::Names;
-use template_tree::{Call, ForLoop, IfCond, SetBlock, Spanned, Stmt};
+use template_tree::{Call, Spanned};
+use template_tree_statements::{ForLoop, IfCond, SetBlock, Stmt};
 
 // A loop's target, its filter, and the name that is stored in its body.
 pub(crate) fn begin_loop<'source>(

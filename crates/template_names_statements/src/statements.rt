@@ -1,7 +1,7 @@
 //! The names in statements. A chain of `elif` is gone along in a loop; other bodies nest at most 150 deep.
 ghost use Rattle.std.specs.Prelude.{◌≡◌, OnOk};
 ghost use Rattle.template_tree.specs.View.{expressions_in};
-ghost use Rattle.template_tree.specs.StatementView.{statement_of};
+ghost use Rattle.template_tree_statements.specs.View.{statement_of};
 ghost use Rattle.template_tree_parts.specs.Listed.{statements_in};
 ghost use Rattle.template_names.specs.Names.{is_stored_by, place_by, place_of_macro, place_within};
 ghost use Rattle.template_names_state.specs.Among.{nothing};
@@ -15,7 +15,8 @@ use template_names_expressions::{
     assign, bind_arguments, bind_imports, use_assignments, use_expression,
 };
 use template_names_state::Names;
-use template_tree::{Expr, ForLoop, IfCond, Spanned, Stmt, WithBlock};
+use template_tree::{Expr, Spanned};
+use template_tree_statements::{ForLoop, IfCond, Stmt, WithBlock};
 
 // The statements of a region, one behind the other.
 #[cycle(statement)]

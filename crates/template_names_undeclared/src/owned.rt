@@ -1,7 +1,7 @@
 //! Owned sets of names, to which templates add theirs.
 ghost use Rattle.std.specs.Prelude.{OnErr, OnOk};
 ghost use Rattle.std.specs.BTreeSet.{contains_text};
-ghost use Rattle.template_tree.specs.StatementView.{statement_of};
+ghost use Rattle.template_tree_statements.specs.View.{statement_of};
 ghost use Rattle.template_names_state.specs.Among.{Adds};
 ghost use Rattle.template_names_undeclared.specs.Found.{AddsJust, AddsSome, uses};
 
@@ -9,7 +9,7 @@ use crate::undeclared::find_undeclared;
 use std::alloc::{AllocError, Global};
 use std::collections::BTreeSet;
 use template_names_state::add_text;
-use template_tree::Stmt;
+use template_tree_statements::Stmt;
 
 /// Adds the names that a template uses to a set of names. Takes what [`find_undeclared`] takes, and a
 /// look-up in the set and memory for each of the names.

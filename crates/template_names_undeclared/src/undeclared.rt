@@ -1,7 +1,7 @@
 //! The names that a whole template uses.
 ghost use Rattle.std.specs.Prelude.{◌≡◌, ◌↔◌, ℕ, List, IfOk, IsTrue};
 ghost use Rattle.template_tree.specs.Tree.{Statements};
-ghost use Rattle.template_tree.specs.StatementView.{statement_of};
+ghost use Rattle.template_tree_statements.specs.View.{statement_of};
 ghost use Rattle.template_names.specs.Names.{along, is_used, uses_place};
 ghost use Rattle.template_names_undeclared.specs.Found.{HasJust};
 
@@ -9,7 +9,7 @@ use std::alloc::{AllocError, Global};
 use std::collections::BTreeSet;
 use template_names_state::Names;
 use template_names_statements::use_statement;
-use template_tree::Stmt;
+use template_tree_statements::Stmt;
 
 /// The names that a template uses, each once, in order; where `track_nested`, each with the dotted names that
 /// stand directly behind it at a place of use, as `bar.baz`. Takes a look-up for each place of use in each of

@@ -1,4 +1,4 @@
-//! The nodes that a template's text is parsed to, and the trees that contracts see in them.
+//! The nodes of expressions, and the trees that contracts see in a template's nodes.
 #![tactic(auto)]
 
 mod calls;
@@ -6,7 +6,6 @@ mod expressions;
 mod makers;
 mod operators;
 mod span;
-mod statements;
 
 pub use calls::{Call, CallArg, CallType};
 pub use expressions::{
@@ -15,7 +14,3 @@ pub use expressions::{
 };
 pub use operators::{BinOpKind, CompareOpKind, UnaryOpKind};
 pub use span::{Span, Spanned};
-pub use statements::{
-    AutoEscape, Block, Break, CallBlock, Continue, Do, EmitExpr, EmitRaw, Extends, FilterBlock,
-    ForLoop, FromImport, IfCond, Import, Include, Macro, Set, SetBlock, Stmt, Template, WithBlock,
-};

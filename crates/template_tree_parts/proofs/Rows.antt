@@ -1,8 +1,8 @@
 -- The statements of a body are seen alike in its row and in its list.
 use Rattle.std.proofs.Common.{◌≡◌, refl, ap}
 use Rattle.template_tree.specs.Tree.{statements_more}
-use Rattle.template_tree.specs.StatementView.{statement_of, statements_of}
-use Rattle.template_tree.specs.declared.statements.Stmt.{Row_of-Stmt, end_of-Stmt, more_of-Stmt, items-the_row-Stmt}
+use Rattle.template_tree_statements.specs.View.{statement_of, statements_of}
+use Rattle.template_tree_statements.specs.declared.statements.Stmt.{Row_of-Stmt, end_of-Stmt, more_of-Stmt, items-the_row-Stmt}
 use Rattle.template_tree_parts.specs.Listed.{statements_in}
 
 pub statements_row : {n : _} (k : Row_of-Stmt n) → statements_of k ≡ statements_in (items-the_row-Stmt n k)

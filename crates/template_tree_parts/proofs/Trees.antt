@@ -2,7 +2,7 @@
 use Rattle.std.proofs.Common.{◌≡◌, Box, Global, rules}
 use Rattle.template_tree.specs.Tree.{chain, conditional, list_literal, map_literal, slice, tuple_literal, template, for_loop, if_condition, with_block, auto_escape}
 use Rattle.template_tree.specs.View.{chain_of, expression_of, expressions_in, links_in, optional_in}
-use Rattle.template_tree.specs.StatementView.{assignments_in, statement_of}
+use Rattle.template_tree_statements.specs.View.{assignments_in, statement_of}
 use Rattle.template_tree.specs.declared.span.Spanned.{Spanned}
 use Rattle.template_tree.specs.declared.expressions.Compare.{Compare, Compare' as compared, out-Compare}
 use Rattle.template_tree.specs.declared.expressions.Expr.{IfExpr, List, Map, Slice, Tuple, the_lemmas}
@@ -11,12 +11,12 @@ use Rattle.template_tree.specs.declared.expressions.List.{List as ListNode}
 use Rattle.template_tree.specs.declared.expressions.Map.{Map as MapNode}
 use Rattle.template_tree.specs.declared.expressions.Slice.{Slice as SliceNode}
 use Rattle.template_tree.specs.declared.expressions.Tuple.{Tuple as TupleNode}
-use Rattle.template_tree.specs.declared.statements.AutoEscape.{AutoEscape as AutoEscapeNode}
-use Rattle.template_tree.specs.declared.statements.ForLoop.{ForLoop as ForLoopNode}
-use Rattle.template_tree.specs.declared.statements.IfCond.{IfCond as IfCondNode}
-use Rattle.template_tree.specs.declared.statements.WithBlock.{WithBlock as WithBlockNode}
-use Rattle.template_tree.specs.declared.statements.Template.{Template as TemplateNode}
-use Rattle.template_tree.specs.declared.statements.Stmt.{Template, ForLoop, IfCond, WithBlock, AutoEscape, the_lemmas as statement_lemmas}
+use Rattle.template_tree_statements.specs.declared.statements.AutoEscape.{AutoEscape as AutoEscapeNode}
+use Rattle.template_tree_statements.specs.declared.statements.ForLoop.{ForLoop as ForLoopNode}
+use Rattle.template_tree_statements.specs.declared.statements.IfCond.{IfCond as IfCondNode}
+use Rattle.template_tree_statements.specs.declared.statements.WithBlock.{WithBlock as WithBlockNode}
+use Rattle.template_tree_statements.specs.declared.statements.Template.{Template as TemplateNode}
+use Rattle.template_tree_statements.specs.declared.statements.Stmt.{Template, ForLoop, IfCond, WithBlock, AutoEscape, the_lemmas as statement_lemmas}
 use Rattle.template_tree.proofs.Rows.{expressions_row, links_row}
 use Rattle.template_tree_parts.specs.Listed.{statements_in}
 use Rattle.template_tree_parts.proofs.Rows.{statements_row}

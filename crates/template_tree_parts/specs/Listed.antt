@@ -1,8 +1,8 @@
 -- The trees in a list of statements.
 use Rattle.std.specs.Prelude.{List, [], ◌∷◌}
 use Rattle.template_tree.specs.Tree.{Statements, no_statements, statements_more}
-use Rattle.template_tree.specs.StatementView.{statement_of}
-use Rattle.template_tree.specs.declared.statements.Stmt.{Stmt}
+use Rattle.template_tree_statements.specs.View.{statement_of}
+use Rattle.template_tree_statements.specs.declared.statements.Stmt.{Stmt}
 
 abbrev pub statements_in : List Stmt → Statements
 statements_in [] = no_statements

@@ -1,8 +1,9 @@
 -- The first of a node's places is its own span.
 use Rattle.std.proofs.Common.{◌≡◌, refl}
-use Rattle.template_tree.specs.Places.{expression_span, statement_span}
+use Rattle.template_tree.specs.Places.{expression_span}
+use Rattle.template_tree_statements.specs.Places.{statement_span}
 use Rattle.template_tree.specs.declared.expressions.Expr.{Expr, Var, Const, Slice', UnaryOp', BinOp', Compare', IfExpr', Filter', Test', GetAttr', GetItem', Call', List', Tuple', Map'}
-use Rattle.template_tree.specs.declared.statements.Stmt.{Stmt, Template', EmitExpr, EmitRaw, ForLoop', IfCond', WithBlock', Set, SetBlock', AutoEscape', FilterBlock', Block', Import, FromImport, Extends, Include, Macro', CallBlock', Continue, Break, Do}
+use Rattle.template_tree_statements.specs.declared.statements.Stmt.{Stmt, Template', EmitExpr, EmitRaw, ForLoop', IfCond', WithBlock', Set, SetBlock', AutoEscape', FilterBlock', Block', Import, FromImport, Extends, Include, Macro', CallBlock', Continue, Break, Do}
 use Rattle.template_tree_places.specs.Expressions.{places_of}
 use Rattle.template_tree_places.specs.Places.{span_at}
 use Rattle.template_tree_places.specs.Statements.{statement_places}

@@ -4,9 +4,10 @@
 #![tactic(auto)]
 
 ghost use Rattle.std.specs.Prelude.{◌≡◌};
-ghost use Rattle.template_tree.specs.Places.{expression_span, statement_span};
+ghost use Rattle.template_tree.specs.Places.{expression_span};
+ghost use Rattle.template_tree_statements.specs.Places.{statement_span};
 ghost use Rattle.template_tree.specs.declared.expressions.Expr.{Expr};
-ghost use Rattle.template_tree.specs.declared.statements.Stmt.{Stmt};
+ghost use Rattle.template_tree_statements.specs.declared.statements.Stmt.{Stmt};
 ghost use Rattle.template_tree_places.specs.Expressions.{places_of};
 ghost use Rattle.template_tree_places.specs.Places.{span_at};
 ghost use Rattle.template_tree_places.specs.Statements.{statement_places};

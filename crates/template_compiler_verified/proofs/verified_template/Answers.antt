@@ -6,7 +6,7 @@ use Rattle.template_code_shapes.specs.declared.StreamKind.TheVariants.{Template}
 use Rattle.template_compiler_generator.specs.Drafts.{Draft}
 use Rattle.template_compiler_generator.specs.View.{draft_of}
 use Rattle.template_compiler_statement_codegen.specs.Listed.{body_in}
-use Rattle.template_tree.specs.StatementView.{statement_of}
+use Rattle.template_tree_statements.specs.View.{statement_of}
 use Rattle.template_compiler_verified.proofs.Whole.{no_room, runnable_body, told_template}
 use Rattle.template_compiler_verified.proofs.verified_template.Goals as goal
 

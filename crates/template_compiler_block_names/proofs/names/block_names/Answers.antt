@@ -1,6 +1,6 @@
 use Rattle.std.proofs.Common.{◌≡◌, ◌∷◌, [], ◌<◌, ◌+◌, ◌++◌, sym, ap, subst, ◌∙◌, List}
 use Rattle.std.specs.Borrow.{Bor}
-use Rattle.template_tree.specs.declared.statements.Stmt.{Stmt}
+use Rattle.template_tree_statements.specs.declared.statements.Stmt.{Stmt}
 use Rattle.template_compiler_block_names.specs.Waiting.{texts_in, blocks_waiting, weight_waiting}
 use Rattle.template_compiler_block_names.proofs.Lists.{waiting_push, weight_push}
 use Rattle.template_compiler_block_names.proofs.names.block_names.Goals as goal

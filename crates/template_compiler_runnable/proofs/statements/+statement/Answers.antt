@@ -1,11 +1,11 @@
 use Rattle.std.proofs.Common.{◌≡◌, ◌≤◌, length, get_or, vec_len, true, List, sym, ap, ◌∙◌, arith}
 use Rattle.template_tree.specs.View.{expression_of}
-use Rattle.template_tree.specs.StatementView.{assignments_in}
-use Rattle.template_tree.specs.declared.statements.AutoEscape.{AutoEscape as AutoEscapeNode}
-use Rattle.template_tree.specs.declared.statements.ForLoop.{ForLoop as ForLoopNode}
-use Rattle.template_tree.specs.declared.statements.IfCond.{IfCond as IfCondNode}
-use Rattle.template_tree.specs.declared.statements.WithBlock.{WithBlock as WithBlockNode}
-use Rattle.template_tree.specs.declared.statements.Stmt.{Stmt, size-Stmt}
+use Rattle.template_tree_statements.specs.View.{assignments_in}
+use Rattle.template_tree_statements.specs.declared.statements.AutoEscape.{AutoEscape as AutoEscapeNode}
+use Rattle.template_tree_statements.specs.declared.statements.ForLoop.{ForLoop as ForLoopNode}
+use Rattle.template_tree_statements.specs.declared.statements.IfCond.{IfCond as IfCondNode}
+use Rattle.template_tree_statements.specs.declared.statements.WithBlock.{WithBlock as WithBlockNode}
+use Rattle.template_tree_statements.specs.declared.statements.Stmt.{Stmt, size-Stmt}
 use Rattle.template_tree_parts.specs.Listed.{statements_in}
 use Rattle.std.specs.Prelude.{is_some}
 use Rattle.template_compiler_runnable.specs.Running.{runs, is_target, assignments_run, statements_run}

@@ -1,7 +1,7 @@
 -- What is left decides.
 use Rattle.std.proofs.Common.{◌≡◌, ◌≤◌, drop}
-use Rattle.template_tree.specs.StatementView.{statement_of}
-use Rattle.template_tree.specs.declared.statements.Stmt.{size-Stmt}
+use Rattle.template_tree_statements.specs.View.{statement_of}
+use Rattle.template_tree_statements.specs.declared.statements.Stmt.{size-Stmt}
 use Rattle.template_tree_parts.specs.Listed.{statements_in}
 use Rattle.template_compiler_runnable.specs.Running.{statement_runs, statements_run}
 use Rattle.template_compiler_runnable.proofs.statements.+statement.Given as goal

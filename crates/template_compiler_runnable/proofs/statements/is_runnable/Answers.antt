@@ -1,5 +1,5 @@
 use Rattle.std.proofs.Common.{false, List, ap, ◌∙◌}
-use Rattle.template_tree.specs.declared.statements.Stmt.{Stmt}
+use Rattle.template_tree_statements.specs.declared.statements.Stmt.{Stmt}
 use Rattle.template_tree_parts.specs.Listed.{statements_in}
 use Rattle.template_compiler_runnable.specs.Running.{statements_run}
 use Rattle.template_compiler_runnable.proofs.Bodies.{whole_runs, no_whole_call}

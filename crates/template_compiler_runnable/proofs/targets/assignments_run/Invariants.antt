@@ -1,6 +1,6 @@
 -- The assignments that are left decide.
 use Rattle.std.proofs.Common.{◌≡◌, drop}
-use Rattle.template_tree.specs.StatementView.{assignments_in}
+use Rattle.template_tree_statements.specs.View.{assignments_in}
 use Rattle.template_compiler_runnable.specs.Running.{assignments_run}
 use Rattle.template_compiler_runnable.proofs.targets.assignments_run.Given as goal
 

@@ -1,12 +1,12 @@
 use Rattle.std.proofs.Common.{◌≡◌, ◌+◌, ◌<◌, length, true, false, Option, Bor, ap, subst, ◌∙◌, arith, refl}
 use Rattle.std.proofs.lemmas.Result.{on_ok_weaker}
-use Rattle.template_tree.specs.StatementView.{assignments_in, statement_of}
+use Rattle.template_tree_statements.specs.View.{assignments_in, statement_of}
 use Rattle.template_tree.specs.Tree.{Statement, absent, auto_escape, for_loop, with_block}
-use Rattle.template_tree.specs.declared.statements.AutoEscape.{AutoEscape as AutoEscapeNode}
-use Rattle.template_tree.specs.declared.statements.ForLoop.{ForLoop as ForLoopNode}
-use Rattle.template_tree.specs.declared.statements.IfCond.{IfCond as IfCondNode}
-use Rattle.template_tree.specs.declared.statements.Stmt.{Stmt}
-use Rattle.template_tree.specs.declared.statements.WithBlock.{WithBlock as WithBlockNode}
+use Rattle.template_tree_statements.specs.declared.statements.AutoEscape.{AutoEscape as AutoEscapeNode}
+use Rattle.template_tree_statements.specs.declared.statements.ForLoop.{ForLoop as ForLoopNode}
+use Rattle.template_tree_statements.specs.declared.statements.IfCond.{IfCond as IfCondNode}
+use Rattle.template_tree_statements.specs.declared.statements.Stmt.{Stmt}
+use Rattle.template_tree_statements.specs.declared.statements.WithBlock.{WithBlock as WithBlockNode}
 use Rattle.template_tree.specs.View.{expression_of}
 use Rattle.template_walk.specs.Runnable.{IsRunnableStatement}
 use Rattle.template_code.specs.Listing.{code_in}

@@ -1,6 +1,6 @@
 -- What is left of a body; a chain of `elif` goes on to smaller conditions. Bodies are smaller than their statement.
 use Rattle.std.proofs.Common.{◌+◌, ◌*◌, ◌≤◌, max}
-use Rattle.template_tree.specs.declared.statements.Stmt.{size-Stmt}
+use Rattle.template_tree_statements.specs.declared.statements.Stmt.{size-Stmt}
 use Rattle.template_compiler_statement_codegen.specs.Listed.{body_deep, condition_deep}
 use Rattle.template_compiler_statement_codegen.proofs.Bodies.{RemainsFrom}
 use Rattle.template_compiler_statement_codegen.proofs.Elifs.{LeftRuns, RemainsOf, left_deep}

@@ -1,4 +1,4 @@
-use Rattle.template_tree.specs.StatementView.{statement_of}
+use Rattle.template_tree_statements.specs.View.{statement_of}
 use Rattle.template_tree_parts.specs.Listed.{statements_in}
 use Rattle.template_compiler_statement_codegen.specs.Listed.{body_in}
 use Rattle.template_compiler_statement_codegen.proofs.Wholes.{puts_template, tree_runs}

@@ -6,8 +6,8 @@ use Rattle.template_compiler_statement_makers.specs.Surroundings.{around_of}
 use Rattle.template_compiler_statement_parser.specs.Bodies.{ParsedBody}
 use Rattle.template_compiler_statement_makers.specs.Listed.{statements_in}
 use Rattle.template_compiler_statement_parts.specs.Parsed.{ParsedAs, SteppedTo}
-use Rattle.template_tree.specs.StatementView.{statement_of}
-use Rattle.template_tree.specs.declared.statements.Stmt.TheVariants.{Block}
+use Rattle.template_tree_statements.specs.View.{statement_of}
+use Rattle.template_tree_statements.specs.declared.statements.Stmt.TheVariants.{Block}
 use Rattle.template_compiler_tokens.specs.Token.{paren_open}
 use Rattle.template_compiler_statement_parser.proofs.Next.{block_in_macro, block_outside, macro_reserved, skipped, tag_here}
 use Rattle.template_compiler_statement_parser.proofs.Less.{body_less}

@@ -1,6 +1,6 @@
 use Rattle.std.proofs.Common.{List as Items, Option, arith, refl}
 use Rattle.template_tree.specs.View.{expression_of, optional_in}
-use Rattle.template_tree.specs.StatementView.{imports_in}
+use Rattle.template_tree_statements.specs.View.{imports_in}
 use Rattle.template_tree.specs.declared.expressions.Expr.{Expr}
 use Rattle.template_names.specs.Names.{is_imported}
 use Rattle.template_names_state.specs.Goes.{no_place}

@@ -1,6 +1,6 @@
 -- What is left ends as all does.
 use Rattle.std.proofs.Common.{drop}
-use Rattle.template_tree.specs.StatementView.{imports_in}
+use Rattle.template_tree_statements.specs.View.{imports_in}
 use Rattle.template_names.specs.Names.{is_imported}
 use Rattle.template_names_state.specs.declared.state.Names.{Names}
 use Rattle.template_names_state.specs.Goes.{Goes, no_place}

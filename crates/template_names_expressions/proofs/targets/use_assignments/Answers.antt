@@ -1,6 +1,6 @@
 use Rattle.std.proofs.Common.{◌||◌, false, List as Items, arith, refl}
 use Rattle.template_tree.specs.View.{expression_of}
-use Rattle.template_tree.specs.StatementView.{assignments_in}
+use Rattle.template_tree_statements.specs.View.{assignments_in}
 use Rattle.template_tree.specs.declared.expressions.Expr.{Expr}
 use Rattle.template_names.specs.Names.{is_stored_in, place_in_target, place_from, place_in}
 use Rattle.template_names_expressions.specs.Stores.{is_assigned}

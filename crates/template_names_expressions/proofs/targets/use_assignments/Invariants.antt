@@ -1,6 +1,6 @@
 -- What is left ends as all does.
 use Rattle.std.proofs.Common.{drop, false}
-use Rattle.template_tree.specs.StatementView.{assignments_in}
+use Rattle.template_tree_statements.specs.View.{assignments_in}
 use Rattle.template_names.specs.Names.{place_from}
 use Rattle.template_names_state.specs.declared.state.Names.{Names}
 use Rattle.template_names_state.specs.Goes.{Goes}

@@ -1,23 +1,23 @@
 use Rattle.std.proofs.Common.{◌≡◌, ◌≤◌, ◌+◌, ◌||◌, not, ◌&&◌, codes, List as Items, Option, Bor, Box, Global, arith, refl, sym, ap, ◌∙◌}
 use Rattle.std.specs.Prelude.{false, is_none}
 use Rattle.template_tree.specs.View.{arguments_in, expression_of, expressions_in, optional_in}
-use Rattle.template_tree.specs.StatementView.{assignments_in, statement_of}
+use Rattle.template_tree_statements.specs.View.{assignments_in, statement_of}
 use Rattle.template_tree.specs.declared.span.Spanned.{Spanned}
-use Rattle.template_tree.specs.declared.statements.IfCond.{IfCond as IfCondNode}
-use Rattle.template_tree.specs.declared.statements.Stmt.{Stmt, size-Stmt, IfCond}
+use Rattle.template_tree_statements.specs.declared.statements.IfCond.{IfCond as IfCondNode}
+use Rattle.template_tree_statements.specs.declared.statements.Stmt.{Stmt, size-Stmt, IfCond}
 use Rattle.template_tree.specs.declared.expressions.Expr.{Expr}
 use Rattle.template_tree.specs.Tree.{Statement, template, set_block, auto_escape, filter_block, block, macro, call_block}
 use Rattle.template_tree_parts.specs.Listed.{statements_in}
 use Rattle.template_tree_parts.proofs.Trees.{whole_tree, for_tree, if_tree, with_tree, escape_tree}
 use Rattle.template_tree.specs.declared.calls.Call.{Call as CallNode}
-use Rattle.template_tree.specs.declared.statements.AutoEscape.{AutoEscape as AutoEscapeNode}
-use Rattle.template_tree.specs.declared.statements.Block.{Block as BlockNode}
-use Rattle.template_tree.specs.declared.statements.CallBlock.{CallBlock as CallBlockNode, out-CallBlock}
-use Rattle.template_tree.specs.declared.statements.FilterBlock.{FilterBlock as FilterBlockNode}
-use Rattle.template_tree.specs.declared.statements.ForLoop.{ForLoop as ForLoopNode}
-use Rattle.template_tree.specs.declared.statements.Macro.{Macro as MacroNode}
-use Rattle.template_tree.specs.declared.statements.SetBlock.{SetBlock as SetBlockNode}
-use Rattle.template_tree.specs.declared.statements.WithBlock.{WithBlock as WithBlockNode}
+use Rattle.template_tree_statements.specs.declared.statements.AutoEscape.{AutoEscape as AutoEscapeNode}
+use Rattle.template_tree_statements.specs.declared.statements.Block.{Block as BlockNode}
+use Rattle.template_tree_statements.specs.declared.statements.CallBlock.{CallBlock as CallBlockNode, out-CallBlock}
+use Rattle.template_tree_statements.specs.declared.statements.FilterBlock.{FilterBlock as FilterBlockNode}
+use Rattle.template_tree_statements.specs.declared.statements.ForLoop.{ForLoop as ForLoopNode}
+use Rattle.template_tree_statements.specs.declared.statements.Macro.{Macro as MacroNode}
+use Rattle.template_tree_statements.specs.declared.statements.SetBlock.{SetBlock as SetBlockNode}
+use Rattle.template_tree_statements.specs.declared.statements.WithBlock.{WithBlock as WithBlockNode}
 use Rattle.template_names_statements.proofs.Bodies.{at_node, at_tree, macro_reads, set_block_tree, filter_block_tree, block_tree, macro_tree, call_tree}
 use Rattle.template_names.specs.Names.{is_stored_by, is_stored_in, place_by, place_of_macro, place_in_target, place_from, place_within, place_if_given, place_in, place_in_arguments}
 use Rattle.template_names_statements.specs.Choices.{chain_deep, chain_places, choice_of}

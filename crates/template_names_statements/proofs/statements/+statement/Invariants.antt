@@ -1,6 +1,6 @@
 -- What is left ends as all does.
 use Rattle.std.proofs.Common.{◌+◌, ◌*◌, ◌≤◌, drop}
-use Rattle.template_tree.specs.declared.statements.Stmt.{size-Stmt, ForLoop, IfCond, WithBlock}
+use Rattle.template_tree_statements.specs.declared.statements.Stmt.{size-Stmt, ForLoop, IfCond, WithBlock}
 use Rattle.template_tree_parts.specs.Listed.{statements_in}
 use Rattle.template_names.specs.Names.{place_by, place_within}
 use Rattle.template_names_state.specs.declared.state.Names.{Names}

@@ -1,6 +1,6 @@
 use Rattle.std.proofs.Common.{String, Global, sym, subst}
 use Rattle.std.specs.BTreeSet.{BTreeSet}
-use Rattle.template_tree.specs.StatementView.{statement_of}
+use Rattle.template_tree_statements.specs.View.{statement_of}
 use Rattle.template_names_undeclared.specs.Found.{HasJust}
 use Rattle.template_names_undeclared.proofs.Whole.{whole_names}
 use Rattle.template_names_undeclared.proofs.undeclared.find_undeclared.Goals as goal

@@ -1,9 +1,7 @@
 //! Statements.
 ghost use Rattle.std.specs.Prelude.{◌≡◌};
 
-use crate::calls::Call;
-use crate::expressions::Expr;
-use crate::span::{Span, Spanned};
+use template_tree::{Call, Expr, Span, Spanned};
 
 /// A statement. A chain of `elif` may be as long as the source, other bodies nest at most 150 deep: what
 /// goes over a tree goes along such a chain in a loop, and calls itself for bodies alone.
@@ -205,7 +203,7 @@ pub struct Do<'source> {
 }
 
 impl<'source> Stmt<'source> {
-    ghost use Rattle.template_tree.specs.Places.{statement_span};
+    ghost use Rattle.template_tree_statements.specs.Places.{statement_span};
 
     /// The stretch of the source that the statement was read from.
     pub fn span(&self) -> Span
@@ -248,7 +246,7 @@ impl<'source> Drop for Stmt<'source> {
 
 impl<'source> Stmt<'source> {
     ghost use Rattle.std.specs.Prelude.{◌<◌, IfSome};
-    ghost use Rattle.template_tree.specs.declared.statements.Stmt.{size-Stmt};
+    ghost use Rattle.template_tree_statements.specs.declared.statements.Stmt.{size-Stmt};
 
     // The last statement of a condition's `false_body`, such as an `elif`; all else that stands here is dropped. Most
     // statements are texts.

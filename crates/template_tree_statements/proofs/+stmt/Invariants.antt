@@ -1,8 +1,8 @@
 -- What is left to drop is smaller than what was passed.
 use Rattle.std.proofs.Common.{ℕ, ◌+◌, ◌<◌}
 use Rattle.std.specs.Prelude.{IfSome, Option, None, Some}
-use Rattle.template_tree.specs.declared.statements.Stmt.{Stmt, size-Stmt}
-use Rattle.template_tree.proofs.+stmt.Given as goal
+use Rattle.template_tree_statements.specs.declared.statements.Stmt.{Stmt, size-Stmt}
+use Rattle.template_tree_statements.proofs.+stmt.Given as goal
 
 -- the size of what is left, and one where something is left
 abbrev pub left_size : Option Stmt → ℕ

@@ -3,8 +3,8 @@ use Rattle.std.specs.Prelude.{List, [], ◌∷◌, Option}
 use Rattle.template_tree.specs.Tree.{Statement, template, raw, print, for_loop, if_condition, with_block, set, set_block, auto_escape, filter_block, block, import, from_import, extends, include, macro, call_block, continue_loop, break_loop, do_call, Statements, no_statements, statements_more, Assignments, no_assignments, assignments_more, Imports, no_imports, imports_more}
 use Rattle.template_tree.specs.View.{expression_of, optional_in, expressions_in, arguments_in}
 use Rattle.template_tree.specs.declared.expressions.Expr.{Expr}
-use Rattle.template_tree.specs.declared.statements.CallBlock.{CallBlock, CallBlock' as called}
-use Rattle.template_tree.specs.declared.statements.Stmt.{Stmt, Template', EmitExpr, EmitRaw, ForLoop', IfCond', WithBlock', Set, SetBlock', AutoEscape', FilterBlock', Block', Import, FromImport, Extends, Include, Macro', CallBlock', Continue, Break, Do, Row_of-Stmt, end_of-Stmt, more_of-Stmt}
+use Rattle.template_tree_statements.specs.declared.statements.CallBlock.{CallBlock, CallBlock' as called}
+use Rattle.template_tree_statements.specs.declared.statements.Stmt.{Stmt, Template', EmitExpr, EmitRaw, ForLoop', IfCond', WithBlock', Set, SetBlock', AutoEscape', FilterBlock', Block', Import, FromImport, Extends, Include, Macro', CallBlock', Continue, Break, Do, Row_of-Stmt, end_of-Stmt, more_of-Stmt}
 
 abbrev pub assignments_in : List (Expr × Expr) → Assignments
 assignments_in [] = no_assignments
