@@ -1,10 +1,11 @@
 //! Statements and their bodies: what calls itself. A body is one nesting level deeper than its statement.
-ghost use Rattle.std.specs.Prelude.{◌≡◌, IfOk};
+ghost use Rattle.std.specs.Prelude.{◌≡◌, IfErr, IfOk};
 ghost use Rattle.template_compiler_statement_parts.specs.Parsed.{ParsedAs, SteppedTo};
 ghost use Rattle.template_compiler_reading.specs.Steps.{all, and_then};
 ghost use Rattle.template_compiler_statement_parser.specs.Bodies.{ParsedBody, ParsedStatement, branch_in, branches_in, macro_behind};
 ghost use Rattle.template_compiler_statement_makers.specs.Surroundings.{around_of, opening_of};
 ghost use Rattle.template_compiler_stream.specs.Left.{passed};
+ghost use Rattle.template_compiler_stream.specs.declared.refusal.Refusal.TheVariants as refusals;
 ghost use Rattle.template_compiler_statements.specs.Reader.{autoescape_by, block_body, block_by, branch_by, branch_step, call_body, call_by, deeper_body, else_by, expect_tag, filter_block_by, filtered_body, for_body, for_by, for_in, here, if_by, macro_by, opened_by, opened_step, opening, set_behind, set_body, set_by, statement_step, statements_at, with_by};
 ghost use Rattle.template_compiler_statements.specs.Trees.{branched, is_block_body, no_branches};
 ghost use Rattle.template_compiler_statement_values.specs.Written.{parameters_of};
@@ -145,28 +146,30 @@ fn opened<'source>(
     ensures { ParsedStatement (opened_by (here left) (around_of around) (opening_of opening) tokens.old) tokens.new result }
 {
     match opening {
-        Opening::For => Ok(Stmt::ForLoop(for_loop(alloc, tokens, left, around, span)?)),
-        Opening::If => Ok(Stmt::IfCond(if_condition(alloc, tokens, left, around, span)?)),
-        Opening::With => Ok(Stmt::WithBlock(with_block(alloc, tokens, left, around, span)?)),
-        Opening::Set => set(alloc, tokens, left, around, span),
-        Opening::AutoEscape => Ok(Stmt::AutoEscape(auto_escape(
-            alloc, tokens, left, around, span,
-        )?)),
-        Opening::Filter => filter_block(alloc, tokens, left, around, span),
-        Opening::Block => Ok(Stmt::Block(block(alloc, tokens, left, around, span)?)),
-        Opening::Import => Ok(Stmt::Import(leaves::read_import(alloc, tokens, left, span)?)),
-        Opening::From => Ok(Stmt::FromImport(leaves::read_from(alloc, tokens, left, span)?)),
-        Opening::Extends => Ok(Stmt::Extends(leaves::read_extends(alloc, tokens, left, span)?)),
-        Opening::Include => Ok(Stmt::Include(leaves::read_include(alloc, tokens, left, span)?)),
-        Opening::Macro => Ok(Stmt::Macro(macro_block(alloc, tokens, left, span)?)),
-        Opening::Call => Ok(Stmt::CallBlock(call_block(alloc, tokens, left, span)?)),
-        Opening::Do => Ok(Stmt::Do(leaves::read_do(alloc, tokens, left, span)?)),
-        Opening::Break => Ok(Stmt::Break(leaves::read_break(tokens, around.in_loop, span)?)),
-        Opening::Continue => Ok(Stmt::Continue(leaves::read_continue(
-            tokens,
-            around.in_loop,
-            span,
-        )?)),
+        Opening::For => return for_loop(alloc, tokens, left, around, span).map(Stmt::ForLoop),
+        Opening::If => return if_condition(alloc, tokens, left, around, span).map(Stmt::IfCond),
+        Opening::With => return with_block(alloc, tokens, left, around, span).map(Stmt::WithBlock),
+        Opening::Set => return set(alloc, tokens, left, around, span),
+        Opening::AutoEscape => {
+            return auto_escape(alloc, tokens, left, around, span).map(Stmt::AutoEscape);
+        }
+        Opening::Filter => return filter_block(alloc, tokens, left, around, span),
+        Opening::Block => return block(alloc, tokens, left, around, span).map(Stmt::Block),
+        Opening::Import => return leaves::read_import(alloc, tokens, left, span).map(Stmt::Import),
+        Opening::From => return leaves::read_from(alloc, tokens, left, span).map(Stmt::FromImport),
+        Opening::Extends => return leaves::read_extends(alloc, tokens, left, span).map(
+            Stmt::Extends,
+        ),
+        Opening::Include => return leaves::read_include(alloc, tokens, left, span).map(
+            Stmt::Include,
+        ),
+        Opening::Macro => return macro_block(alloc, tokens, left, span).map(Stmt::Macro),
+        Opening::Call => return call_block(alloc, tokens, left, span).map(Stmt::CallBlock),
+        Opening::Do => return leaves::read_do(alloc, tokens, left, span).map(Stmt::Do),
+        Opening::Break => return Ok(Stmt::Break(leaves::read_break(tokens, around.in_loop, span)?)),
+        Opening::Continue => {
+            return Ok(Stmt::Continue(leaves::read_continue(tokens, around.in_loop, span)?));
+        }
     }
 }
 
@@ -395,12 +398,9 @@ fn set<'source>(
     let start = tokens.span();
     let target = parts::read_target(alloc, tokens, left, true)?;
     if parts::begins_values(tokens) {
-        let node = leaves::read_set(alloc, tokens, left, target, start, span)?;
-        Ok(Stmt::Set(node))
-    } else {
-        let node = set_block(alloc, tokens, left, around, target, span)?;
-        Ok(Stmt::SetBlock(node))
+        return leaves::read_set(alloc, tokens, left, target, start, span).map(Stmt::Set);
     }
+    set_block(alloc, tokens, left, around, target, span).map(Stmt::SetBlock)
 }
 
 // A set block, behind its target.
@@ -457,7 +457,7 @@ fn filter_block<'source>(
     parts::expect_tag_end(tokens)?;
     let body = body(alloc, tokens, left, around)?;
     parts::expect_tag(tokens, "endfilter")?;
-    Ok(filtered_body(alloc, filter, body, tokens.expand_span(span))?)
+    filtered_body(alloc, filter, body, tokens.expand_span(span))
 }
 
 #[cycle(statements)]
@@ -608,18 +608,22 @@ fn is_block_body<'source>(required: bool, body: &[Stmt<'source>]) -> bool
     if required { is_blank(body) } else { true }
 }
 
-// A filter block; the chain of its filters is never empty.
+// A filter block; the chain of its filters is never empty. It is refused for want of memory alone.
 fn filtered_body<'source>(
     alloc: Global,
     filter: Option<Expr<'source>>,
     body: Vec<Stmt<'source>>,
     span: Span,
-) -> Result<Stmt<'source>, AllocError>
-    ensures { IfOk result (λ s. statement_of s ≡ filtered_body (optional_in filter.entry) (statements_in body.entry.items)) }
+) -> Result<Stmt<'source>, Refusal>
+    ensures statement { IfOk result (λ s. statement_of s ≡ filtered_body (optional_in filter.entry) (statements_in body.entry.items)) }
+    ensures refusal { IfErr result (λ e. e ≡ refusals.OutOfMemory) }
 {
     match filter {
-        Some(filter) => Ok(Stmt::FilterBlock(makers::filter_block(alloc, filter, body, span)?)),
-        None => Ok(Stmt::EmitRaw(Spanned::new(EmitRaw { raw: "" }, span))),
+        Some(filter) => {
+            let node = makers::filter_block(alloc, filter, body, span)?;
+            return Ok(Stmt::FilterBlock(node));
+        }
+        None => return Ok(Stmt::EmitRaw(Spanned::new(EmitRaw { raw: "" }, span))),
     }
 }
 
