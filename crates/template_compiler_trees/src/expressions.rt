@@ -2,102 +2,55 @@
 use crate::forms::{
     ABSENT, Form, binary_word, comparison_word, deeper, open, quoted, unary_word, word,
 };
-use template_tree::{CallArg, CompareOp, Expr};
+use template_tree::{
+    Call, CallArg, Compare, CompareOp, Expr, Filter, GetAttr, IfExpr, Map, Slice, Test,
+};
 use template_values_core::{Content, Value};
 use template_values_errors::Error;
 
 /// The expression in its form, with so many levels left.
 #[cycle(expressions)]
 pub(crate) fn expression(expr: &Expr, out: &mut Form, left: u32) -> Result<(), Error> {
-    let left = deeper(left)?;
-    match expr {
-        Expr::Var(n) => out.push_str(n.node.id)?,
-        Expr::Const(n) => constant(&n.node.value, out)?,
-        Expr::Slice(n) => {
-            open("slice", out)?;
-            part(&n.node.expr, out, left)?;
-            optional(n.node.start.as_ref(), out, left)?;
-            optional(n.node.stop.as_ref(), out, left)?;
-            optional(n.node.step.as_ref(), out, left)?;
-            out.push(')')?;
-        }
-        Expr::UnaryOp(n) => {
-            open(unary_word(n.node.op), out)?;
-            part(&n.node.expr, out, left)?;
-            out.push(')')?;
-        }
-        Expr::BinOp(n) => {
-            open(binary_word(n.node.op), out)?;
-            part(&n.node.left, out, left)?;
-            part(&n.node.right, out, left)?;
-            out.push(')')?;
-        }
-        Expr::Compare(n) => {
-            open("chain", out)?;
-            part(&n.node.expr, out, left)?;
-            links(n.node.ops.as_slice(), out, left)?;
-            out.push(')')?;
-        }
-        Expr::IfExpr(n) => {
-            open("cond", out)?;
-            part(&n.node.test_expr, out, left)?;
-            part(&n.node.true_expr, out, left)?;
-            optional(n.node.false_expr.as_ref(), out, left)?;
-            out.push(')')?;
-        }
-        Expr::Filter(n) => {
-            open("filter", out)?;
-            word(n.node.name.as_str(), out)?;
-            optional(n.node.expr.as_ref(), out, left)?;
-            arguments(n.node.args.as_slice(), out, left)?;
-            out.push(')')?;
-        }
-        Expr::Test(n) => {
-            open("test", out)?;
-            word(n.node.name.as_str(), out)?;
-            part(&n.node.expr, out, left)?;
-            arguments(n.node.args.as_slice(), out, left)?;
-            out.push(')')?;
-        }
-        Expr::GetAttr(n) => {
-            open("attr", out)?;
-            part(&n.node.expr, out, left)?;
-            word(n.node.name, out)?;
-            out.push(')')?;
-        }
-        Expr::GetItem(n) => {
-            open("item", out)?;
-            part(&n.node.expr, out, left)?;
-            part(&n.node.subscript_expr, out, left)?;
-            out.push(')')?;
-        }
-        Expr::Call(n) => {
-            open("call", out)?;
-            part(&n.node.expr, out, left)?;
-            arguments(n.node.args.as_slice(), out, left)?;
-            out.push(')')?;
-        }
-        Expr::List(n) => group("list", n.node.items.as_slice(), out, left)?,
-        Expr::Tuple(n) => group("tuple", n.node.items.as_slice(), out, left)?,
-        Expr::Map(n) => {
-            open("map", out)?;
-            entries(n.node.keys.as_slice(), n.node.values.as_slice(), out, left)?;
-            out.push(')')?;
-        }
-    }
+    node(expr, out, deeper(left)?)?;
     out.place(expr.span())
 }
 
-/// A constant of a kind that literals have.
-pub(crate) fn constant(value: &Value, out: &mut Form) -> Result<(), Error> {
-    match value.content() {
-        Content::None => out.push_str("none")?,
-        Content::Truth(truth) => write!(out.text, "{truth}")?,
-        Content::Int(number) => write!(out.text, "{number}")?,
-        Content::Text(text) => quoted(text, out)?,
-        _ => out.push('?')?,
+#[cycle(expressions)]
+fn node(expr: &Expr, out: &mut Form, left: u32) -> Result<(), Error> {
+    match expr {
+        Expr::Var(n) => out.push_str(n.node.id),
+        Expr::Const(n) => constant(&n.node.value, out),
+        Expr::Slice(n) => slice(&n.node, out, left),
+        Expr::UnaryOp(n) => single(unary_word(n.node.op), &n.node.expr, out, left),
+        Expr::BinOp(n) => pair(
+            binary_word(n.node.op),
+            &n.node.left,
+            &n.node.right,
+            out,
+            left,
+        ),
+        Expr::Compare(n) => chain(&n.node, out, left),
+        Expr::IfExpr(n) => choice(&n.node, out, left),
+        Expr::Filter(n) => filter(&n.node, out, left),
+        Expr::Test(n) => test(&n.node, out, left),
+        Expr::GetAttr(n) => attribute(&n.node, out, left),
+        Expr::GetItem(n) => pair("item", &n.node.expr, &n.node.subscript_expr, out, left),
+        Expr::Call(n) => call(&n.node, out, left),
+        Expr::List(n) => group("list", n.node.items.as_slice(), out, left),
+        Expr::Tuple(n) => group("tuple", n.node.items.as_slice(), out, left),
+        Expr::Map(n) => map(&n.node, out, left),
     }
-    Ok(())
+}
+
+// A constant of a kind that literals have.
+fn constant(value: &Value, out: &mut Form) -> Result<(), Error> {
+    match value.content() {
+        Content::None => out.push_str("none"),
+        Content::Truth(truth) => Ok(write!(out.text, "{truth}")?),
+        Content::Int(number) => Ok(write!(out.text, "{number}")?),
+        Content::Text(text) => quoted(text, out),
+        _ => out.push('?'),
+    }
 }
 
 /// The expression behind what stands there.
@@ -112,49 +65,135 @@ pub(crate) fn part(expr: &Expr, out: &mut Form, left: u32) -> Result<(), Error> 
 pub(crate) fn optional(expr: Option<&Expr>, out: &mut Form, left: u32) -> Result<(), Error> {
     match expr {
         Some(expr) => part(expr, out, left),
-        None => Ok(word(ABSENT, out)?),
+        None => word(ABSENT, out),
     }
+}
+
+/// A head with one part.
+#[cycle(expressions)]
+pub(crate) fn single(head: &str, expr: &Expr, out: &mut Form, left: u32) -> Result<(), Error> {
+    open(head, out)?;
+    part(expr, out, left)?;
+    out.push(')')
+}
+
+/// A head with two parts.
+#[cycle(expressions)]
+pub(crate) fn pair(
+    head: &str,
+    first: &Expr,
+    second: &Expr,
+    out: &mut Form,
+    left: u32,
+) -> Result<(), Error> {
+    open(head, out)?;
+    part(first, out, left)?;
+    part(second, out, left)?;
+    out.push(')')
+}
+
+#[cycle(expressions)]
+fn slice(slice: &Slice, out: &mut Form, left: u32) -> Result<(), Error> {
+    open("slice", out)?;
+    part(&slice.expr, out, left)?;
+    optional(slice.start.as_ref(), out, left)?;
+    optional(slice.stop.as_ref(), out, left)?;
+    optional(slice.step.as_ref(), out, left)?;
+    out.push(')')
+}
+
+#[cycle(expressions)]
+fn chain(compare: &Compare, out: &mut Form, left: u32) -> Result<(), Error> {
+    open("chain", out)?;
+    part(&compare.expr, out, left)?;
+    links(compare.ops.as_slice(), out, left)?;
+    out.push(')')
 }
 
 #[cycle(expressions)]
 fn links(links: &[CompareOp], out: &mut Form, left: u32) -> Result<(), Error> {
     for link in links {
         out.push(' ')?;
-        open(comparison_word(link.op), out)?;
-        part(&link.expr, out, left)?;
-        out.push(')')?;
+        single(comparison_word(link.op), &link.expr, out, left)?;
     }
     Ok(())
 }
 
-/// The arguments of a call, each behind what stands there.
 #[cycle(expressions)]
-pub(crate) fn arguments(args: &[CallArg], out: &mut Form, left: u32) -> Result<(), Error> {
+fn choice(choice: &IfExpr, out: &mut Form, left: u32) -> Result<(), Error> {
+    open("cond", out)?;
+    part(&choice.test_expr, out, left)?;
+    part(&choice.true_expr, out, left)?;
+    optional(choice.false_expr.as_ref(), out, left)?;
+    out.push(')')
+}
+
+#[cycle(expressions)]
+fn filter(filter: &Filter, out: &mut Form, left: u32) -> Result<(), Error> {
+    open("filter", out)?;
+    word(filter.name.as_str(), out)?;
+    optional(filter.expr.as_ref(), out, left)?;
+    arguments(filter.args.as_slice(), out, left)?;
+    out.push(')')
+}
+
+#[cycle(expressions)]
+fn test(test: &Test, out: &mut Form, left: u32) -> Result<(), Error> {
+    open("test", out)?;
+    word(test.name.as_str(), out)?;
+    part(&test.expr, out, left)?;
+    arguments(test.args.as_slice(), out, left)?;
+    out.push(')')
+}
+
+#[cycle(expressions)]
+fn attribute(attribute: &GetAttr, out: &mut Form, left: u32) -> Result<(), Error> {
+    open("attr", out)?;
+    part(&attribute.expr, out, left)?;
+    word(attribute.name, out)?;
+    out.push(')')
+}
+
+/// A call without its place.
+#[cycle(expressions)]
+pub(crate) fn call(call: &Call, out: &mut Form, left: u32) -> Result<(), Error> {
+    open("call", out)?;
+    part(&call.expr, out, left)?;
+    arguments(call.args.as_slice(), out, left)?;
+    out.push(')')
+}
+
+// The arguments of a call, each behind what stands there.
+#[cycle(expressions)]
+fn arguments(args: &[CallArg], out: &mut Form, left: u32) -> Result<(), Error> {
     for arg in args {
-        match arg {
-            CallArg::Pos(expr) => part(expr, out, left)?,
-            CallArg::Kwarg(name, expr) => {
-                out.push(' ')?;
-                open("=", out)?;
-                word(name, out)?;
-                part(expr, out, left)?;
-                out.push(')')?;
-            }
-            CallArg::PosSplat(expr) => {
-                out.push(' ')?;
-                open("splat", out)?;
-                part(expr, out, left)?;
-                out.push(')')?;
-            }
-            CallArg::KwargSplat(expr) => {
-                out.push(' ')?;
-                open("kwsplat", out)?;
-                part(expr, out, left)?;
-                out.push(')')?;
-            }
-        }
+        argument(arg, out, left)?;
     }
     Ok(())
+}
+
+#[cycle(expressions)]
+fn argument(arg: &CallArg, out: &mut Form, left: u32) -> Result<(), Error> {
+    match arg {
+        CallArg::Pos(expr) => part(expr, out, left),
+        CallArg::Kwarg(name, expr) => named(name, expr, out, left),
+        CallArg::PosSplat(expr) => spread("splat", expr, out, left),
+        CallArg::KwargSplat(expr) => spread("kwsplat", expr, out, left),
+    }
+}
+
+#[cycle(expressions)]
+fn named(name: &str, expr: &Expr, out: &mut Form, left: u32) -> Result<(), Error> {
+    word("(=", out)?;
+    word(name, out)?;
+    part(expr, out, left)?;
+    out.push(')')
+}
+
+#[cycle(expressions)]
+fn spread(head: &str, expr: &Expr, out: &mut Form, left: u32) -> Result<(), Error> {
+    out.push(' ')?;
+    single(head, expr, out, left)
 }
 
 #[cycle(expressions)]
@@ -163,16 +202,29 @@ fn group(head: &str, items: &[Expr], out: &mut Form, left: u32) -> Result<(), Er
     for item in items {
         part(item, out, left)?;
     }
-    Ok(out.push(')')?)
+    out.push(')')
+}
+
+#[cycle(expressions)]
+fn map(map: &Map, out: &mut Form, left: u32) -> Result<(), Error> {
+    open("map", out)?;
+    entries(map.keys.as_slice(), map.values.as_slice(), out, left)?;
+    out.push(')')
 }
 
 #[cycle(expressions)]
 fn entries(keys: &[Expr], values: &[Expr], out: &mut Form, left: u32) -> Result<(), Error> {
     for (key, value) in keys.iter().zip(values.iter()) {
-        out.push_str(" (")?;
-        expression(key, out, left)?;
-        part(value, out, left)?;
-        out.push(')')?;
+        entry(key, value, out, left)?;
     }
     Ok(())
+}
+
+// Two parts without a head, behind what stands there.
+#[cycle(expressions)]
+pub(crate) fn entry(first: &Expr, second: &Expr, out: &mut Form, left: u32) -> Result<(), Error> {
+    out.push_str(" (")?;
+    expression(first, out, left)?;
+    part(second, out, left)?;
+    out.push(')')
 }

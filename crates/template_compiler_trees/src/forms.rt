@@ -1,7 +1,7 @@
 //! What all forms are made of: a head with its parts in parentheses, a list in brackets, words and texts.
 ghost use Rattle.std.specs.Prelude.{◌≡◌, suc, IfOk};
 
-use std::alloc::{AllocError, Global};
+use std::alloc::Global;
 use template_tree::{BinOpKind, CompareOpKind, Span, UnaryOpKind};
 use template_values_errors::{Error, ErrorKind};
 
@@ -9,40 +9,47 @@ use template_values_errors::{Error, ErrorKind};
 #[derive(Drop)]
 pub(crate) struct Form {
     pub(crate) text: String,
-    with_places: bool,
+    /// Whether the place of each node stands behind it.
+    pub(crate) with_places: bool,
 }
 
 impl Form {
-    /// Nothing yet; where `with_places`, the place of each node is to stand behind it.
-    pub(crate) fn new(alloc: Global, with_places: bool) -> Form {
+    /// Nothing yet, without places.
+    pub(crate) fn new(alloc: Global) -> Form {
         Form {
             text: String::new(alloc),
-            with_places,
+            with_places: false,
         }
     }
 
-    pub(crate) fn push(&mut self, c: char) -> Result<(), AllocError> {
-        self.text.push(c)
+    pub(crate) fn push(&mut self, c: char) -> Result<(), Error> {
+        Ok(self.text.push(c)?)
     }
 
-    pub(crate) fn push_str(&mut self, text: &str) -> Result<(), AllocError> {
-        self.text.push_str(text)
+    pub(crate) fn push_str(&mut self, text: &str) -> Result<(), Error> {
+        Ok(self.text.push_str(text)?)
     }
 
     /// The place of the node whose form ends here: `@line:column:offset-line:column:offset`.
     pub(crate) fn place(&mut self, span: Span) -> Result<(), Error> {
         if self.with_places {
-            write!(
-                self.text,
-                "@{}:{}:{}-{}:{}:{}",
-                span.start_line,
-                span.start_col,
-                span.start_offset,
-                span.end_line,
-                span.end_col,
-                span.end_offset
-            )?;
+            self.write_place(span)
+        } else {
+            Ok(())
         }
+    }
+
+    fn write_place(&mut self, span: Span) -> Result<(), Error> {
+        write!(
+            self.text,
+            "@{}:{}:{}",
+            span.start_line, span.start_col, span.start_offset
+        )?;
+        write!(
+            self.text,
+            "-{}:{}:{}",
+            span.end_line, span.end_col, span.end_offset
+        )?;
         Ok(())
     }
 }
@@ -93,31 +100,44 @@ pub(crate) fn comparison_word(op: CompareOpKind) -> &'static str {
 }
 
 /// `(head`, before its parts.
-pub(crate) fn open(head: &str, out: &mut Form) -> Result<(), AllocError> {
+pub(crate) fn open(head: &str, out: &mut Form) -> Result<(), Error> {
     out.push('(')?;
     out.push_str(head)
 }
 
 /// A word behind what stands there.
-pub(crate) fn word(word: &str, out: &mut Form) -> Result<(), AllocError> {
+pub(crate) fn word(word: &str, out: &mut Form) -> Result<(), Error> {
     out.push(' ')?;
     out.push_str(word)
 }
 
+/// The word behind what stands there, or the sign for what is left out.
+pub(crate) fn word_if(is_there: bool, there: &str, out: &mut Form) -> Result<(), Error> {
+    if is_there {
+        word(there, out)
+    } else {
+        word(ABSENT, out)
+    }
+}
+
 /// A text in double quotes; quotes, backslashes and newlines are escaped.
-pub(crate) fn quoted(text: &str, out: &mut Form) -> Result<(), AllocError> {
+pub(crate) fn quoted(text: &str, out: &mut Form) -> Result<(), Error> {
     out.push('"')?;
     for c in text.chars() {
-        match c {
-            '"' => out.push_str("\\\"")?,
-            '\\' => out.push_str("\\\\")?,
-            '\n' => out.push_str("\\n")?,
-            '\r' => out.push_str("\\r")?,
-            '\t' => out.push_str("\\t")?,
-            c => out.push(c)?,
-        }
+        push_escaped(c, out)?;
     }
     out.push('"')
+}
+
+fn push_escaped(c: char, out: &mut Form) -> Result<(), Error> {
+    match c {
+        '"' => out.push_str("\\\""),
+        '\\' => out.push_str("\\\\"),
+        '\n' => out.push_str("\\n"),
+        '\r' => out.push_str("\\r"),
+        '\t' => out.push_str("\\t"),
+        c => out.push(c),
+    }
 }
 
 // One level less; `TooLarge` where none is left.

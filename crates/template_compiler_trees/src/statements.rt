@@ -1,134 +1,60 @@
 //! The forms of statements.
-use crate::expressions::{arguments, expression, optional, part};
-use crate::forms::{ABSENT, Form, deeper, open, quoted, word};
-use template_tree::{Call, Expr, Spanned};
-use template_tree_statements::{Macro, Stmt};
+use crate::expressions::{optional, pair, part, single};
+use crate::forms::{Form, deeper, open, quoted, word, word_if};
+use crate::leaves::{assignments, do_call, from_import, include, open_call, parts};
+use template_tree::Expr;
+use template_tree_statements::{
+    Block, CallBlock, ForLoop, IfCond, Macro, SetBlock, Stmt, WithBlock,
+};
 use template_values_errors::Error;
 
 /// The statement in its form, with so many levels left; a template is the list of its statements.
 #[cycle(statements)]
 pub(crate) fn statement(stmt: &Stmt, out: &mut Form, left: u32) -> Result<(), Error> {
-    let left = deeper(left)?;
+    node(stmt, out, deeper(left)?)?;
+    out.place(stmt.span())
+}
+
+#[cycle(statements)]
+fn node(stmt: &Stmt, out: &mut Form, left: u32) -> Result<(), Error> {
     match stmt {
-        Stmt::Template(n) => list(n.node.children.as_slice(), out, left)?,
-        Stmt::EmitExpr(n) => {
-            open("print", out)?;
-            part(&n.node.expr, out, left)?;
-            out.push(')')?;
-        }
-        Stmt::EmitRaw(n) => quoted(n.node.raw, out)?,
-        Stmt::ForLoop(n) => {
-            open("for", out)?;
-            part(&n.node.target, out, left)?;
-            part(&n.node.iter, out, left)?;
-            optional(n.node.filter_expr.as_ref(), out, left)?;
-            word(
-                if n.node.recursive {
-                    "recursive"
-                } else {
-                    ABSENT
-                },
-                out,
-            )?;
-            body(n.node.body.as_slice(), out, left)?;
-            body(n.node.else_body.as_slice(), out, left)?;
-            out.push(')')?;
-        }
-        Stmt::IfCond(n) => {
-            open("if", out)?;
-            part(&n.node.expr, out, left)?;
-            body(n.node.true_body.as_slice(), out, left)?;
-            body(n.node.false_body.as_slice(), out, left)?;
-            out.push(')')?;
-        }
-        Stmt::WithBlock(n) => {
-            open("with", out)?;
-            assignments(n.node.assignments.as_slice(), out, left)?;
-            body(n.node.body.as_slice(), out, left)?;
-            out.push(')')?;
-        }
-        Stmt::Set(n) => {
-            open("set", out)?;
-            part(&n.node.target, out, left)?;
-            part(&n.node.expr, out, left)?;
-            out.push(')')?;
-        }
-        Stmt::SetBlock(n) => {
-            open("set-block", out)?;
-            part(&n.node.target, out, left)?;
-            optional(n.node.filter.as_ref(), out, left)?;
-            body(n.node.body.as_slice(), out, left)?;
-            out.push(')')?;
-        }
+        Stmt::Template(n) => list(n.node.children.as_slice(), out, left),
+        Stmt::EmitExpr(n) => single("print", &n.node.expr, out, left),
+        Stmt::EmitRaw(n) => quoted(n.node.raw, out),
+        Stmt::ForLoop(n) => for_loop(&n.node, out, left),
+        Stmt::IfCond(n) => condition(&n.node, out, left),
+        Stmt::WithBlock(n) => with_block(&n.node, out, left),
+        Stmt::Set(n) => pair("set", &n.node.target, &n.node.expr, out, left),
+        Stmt::SetBlock(n) => set_block(&n.node, out, left),
         Stmt::AutoEscape(n) => {
-            open("autoescape", out)?;
-            part(&n.node.enabled, out, left)?;
-            body(n.node.body.as_slice(), out, left)?;
-            out.push(')')?;
+            around(
+                "autoescape",
+                &n.node.enabled,
+                n.node.body.as_slice(),
+                out,
+                left,
+            )
         }
         Stmt::FilterBlock(n) => {
-            open("filter-block", out)?;
-            part(&n.node.filter, out, left)?;
-            body(n.node.body.as_slice(), out, left)?;
-            out.push(')')?;
-        }
-        Stmt::Block(n) => {
-            open("block", out)?;
-            word(n.node.name, out)?;
-            word(if n.node.required { "required" } else { ABSENT }, out)?;
-            body(n.node.body.as_slice(), out, left)?;
-            out.push(')')?;
-        }
-        Stmt::Import(n) => {
-            open("import", out)?;
-            part(&n.node.expr, out, left)?;
-            part(&n.node.name, out, left)?;
-            out.push(')')?;
-        }
-        Stmt::FromImport(n) => {
-            open("from", out)?;
-            part(&n.node.expr, out, left)?;
-            imports(n.node.names.as_slice(), out, left)?;
-            out.push(')')?;
-        }
-        Stmt::Extends(n) => {
-            open("extends", out)?;
-            part(&n.node.name, out, left)?;
-            out.push(')')?;
-        }
-        Stmt::Include(n) => {
-            open("include", out)?;
-            part(&n.node.name, out, left)?;
-            word(
-                if n.node.ignore_missing {
-                    "ignore"
-                } else {
-                    ABSENT
-                },
+            around(
+                "filter-block",
+                &n.node.filter,
+                n.node.body.as_slice(),
                 out,
-            )?;
-            out.push(')')?;
+                left,
+            )
         }
-        Stmt::Macro(n) => macro_form(&n.node, out, left)?,
-        Stmt::CallBlock(n) => {
-            open("call-block", out)?;
-            out.push(' ')?;
-            call(&n.node.call, out, left)?;
-            out.push(' ')?;
-            macro_form(&n.node.macro_decl.node, out, left)?;
-            out.place(n.node.macro_decl.span)?;
-            out.push(')')?;
-        }
-        Stmt::Continue(_) => out.push_str("continue")?,
-        Stmt::Break(_) => out.push_str("break")?,
-        Stmt::Do(n) => {
-            open("do", out)?;
-            out.push(' ')?;
-            call(&n.node.call, out, left)?;
-            out.push(')')?;
-        }
+        Stmt::Block(n) => block(&n.node, out, left),
+        Stmt::Import(n) => pair("import", &n.node.expr, &n.node.name, out, left),
+        Stmt::FromImport(n) => from_import(&n.node, out, left),
+        Stmt::Extends(n) => single("extends", &n.node.name, out, left),
+        Stmt::Include(n) => include(&n.node, out, left),
+        Stmt::Macro(n) => macro_form(&n.node, out, left),
+        Stmt::CallBlock(n) => call_block(&n.node, out, left),
+        Stmt::Continue(_) => out.push_str("continue"),
+        Stmt::Break(_) => out.push_str("break"),
+        Stmt::Do(n) => do_call(&n.node, out, left),
     }
-    out.place(stmt.span())
 }
 
 #[cycle(statements)]
@@ -142,7 +68,7 @@ fn list(body: &[Stmt], out: &mut Form, left: u32) -> Result<(), Error> {
         first = false;
         statement(stmt, out, left)?;
     }
-    Ok(out.push(']')?)
+    out.push(']')
 }
 
 #[cycle(statements)]
@@ -151,54 +77,77 @@ fn body(body: &[Stmt], out: &mut Form, left: u32) -> Result<(), Error> {
     list(body, out, left)
 }
 
+// The last body of a statement, and the end of its form.
+#[cycle(statements)]
+fn last_body(last: &[Stmt], out: &mut Form, left: u32) -> Result<(), Error> {
+    body(last, out, left)?;
+    out.push(')')
+}
+
+// A head with an expression and a body.
+#[cycle(statements)]
+fn around(head: &str, expr: &Expr, body: &[Stmt], out: &mut Form, left: u32) -> Result<(), Error> {
+    open(head, out)?;
+    part(expr, out, left)?;
+    last_body(body, out, left)
+}
+
+#[cycle(statements)]
+fn for_loop(for_loop: &ForLoop, out: &mut Form, left: u32) -> Result<(), Error> {
+    open("for", out)?;
+    part(&for_loop.target, out, left)?;
+    part(&for_loop.iter, out, left)?;
+    optional(for_loop.filter_expr.as_ref(), out, left)?;
+    word_if(for_loop.recursive, "recursive", out)?;
+    body(for_loop.body.as_slice(), out, left)?;
+    last_body(for_loop.else_body.as_slice(), out, left)
+}
+
+#[cycle(statements)]
+fn condition(condition: &IfCond, out: &mut Form, left: u32) -> Result<(), Error> {
+    open("if", out)?;
+    part(&condition.expr, out, left)?;
+    body(condition.true_body.as_slice(), out, left)?;
+    last_body(condition.false_body.as_slice(), out, left)
+}
+
+#[cycle(statements)]
+fn with_block(with_block: &WithBlock, out: &mut Form, left: u32) -> Result<(), Error> {
+    open("with", out)?;
+    assignments(with_block.assignments.as_slice(), out, left)?;
+    last_body(with_block.body.as_slice(), out, left)
+}
+
+#[cycle(statements)]
+fn set_block(set_block: &SetBlock, out: &mut Form, left: u32) -> Result<(), Error> {
+    open("set-block", out)?;
+    part(&set_block.target, out, left)?;
+    optional(set_block.filter.as_ref(), out, left)?;
+    last_body(set_block.body.as_slice(), out, left)
+}
+
+#[cycle(statements)]
+fn block(block: &Block, out: &mut Form, left: u32) -> Result<(), Error> {
+    open("block", out)?;
+    word(block.name, out)?;
+    word_if(block.required, "required", out)?;
+    last_body(block.body.as_slice(), out, left)
+}
+
 #[cycle(statements)]
 fn macro_form(macro_decl: &Macro, out: &mut Form, left: u32) -> Result<(), Error> {
     open("macro", out)?;
     word(macro_decl.name, out)?;
     parts(macro_decl.args.as_slice(), out, left)?;
     parts(macro_decl.defaults.as_slice(), out, left)?;
-    body(macro_decl.body.as_slice(), out, left)?;
-    Ok(out.push(')')?)
+    last_body(macro_decl.body.as_slice(), out, left)
 }
 
-fn call(call: &Spanned<Box<Call>>, out: &mut Form, left: u32) -> Result<(), Error> {
-    open("call", out)?;
-    part(&call.node.expr, out, left)?;
-    arguments(call.node.args.as_slice(), out, left)?;
-    out.push(')')?;
-    out.place(call.span)
-}
-
-// Expressions in brackets.
-fn parts(exprs: &[Expr], out: &mut Form, left: u32) -> Result<(), Error> {
-    out.push_str(" [")?;
-    let mut first = true;
-    for expr in exprs {
-        if !first {
-            out.push(' ')?;
-        }
-        first = false;
-        expression(expr, out, left)?;
-    }
-    Ok(out.push(']')?)
-}
-
-fn assignments(pairs: &[(Expr, Expr)], out: &mut Form, left: u32) -> Result<(), Error> {
-    for pair in pairs {
-        out.push_str(" (")?;
-        expression(&pair.0, out, left)?;
-        part(&pair.1, out, left)?;
-        out.push(')')?;
-    }
-    Ok(())
-}
-
-fn imports(names: &[(Expr, Option<Expr>)], out: &mut Form, left: u32) -> Result<(), Error> {
-    for pair in names {
-        out.push_str(" (")?;
-        expression(&pair.0, out, left)?;
-        optional(pair.1.as_ref(), out, left)?;
-        out.push(')')?;
-    }
-    Ok(())
+#[cycle(statements)]
+fn call_block(call_block: &CallBlock, out: &mut Form, left: u32) -> Result<(), Error> {
+    open_call("call-block", &call_block.call, out, left)?;
+    out.push(' ')?;
+    macro_form(&call_block.macro_decl.node, out, left)?;
+    out.place(call_block.macro_decl.span)?;
+    out.push(')')
 }

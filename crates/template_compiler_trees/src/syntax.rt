@@ -1,32 +1,43 @@
 //! A syntax from the entries of an object.
+use crate::unreadable;
 use serde_json::{Map, Value as Json};
 use std::alloc::Global;
 use template_compiler_syntax::{SyntaxConfig, SyntaxConfigBuilder};
-use template_values_errors::{Error, ErrorKind};
+use template_values_errors::Error;
 
-/// The default syntax with what the entries change, `source`, `ask` and `places` aside. An entry of another name or kind
+/// The default syntax with what the entries change, `source` and `places` aside. An entry of another name or kind
 /// is a SyntaxError.
 pub(crate) fn syntax_of(alloc: Global, entries: &Map<String, Json>) -> Result<SyntaxConfig, Error> {
     let mut builder = SyntaxConfig::builder(alloc);
+    set_all(&mut builder, entries)?;
+    builder.build()
+}
+
+fn set_all(builder: &mut SyntaxConfigBuilder, entries: &Map<String, Json>) -> Result<(), Error> {
     for (name, value) in entries {
-        if !matches!(name.as_str(), "source" | "ask" | "places") {
-            set(&mut builder, name.as_str(), value)?;
+        match name.as_str() {
+            "source" | "places" => {}
+            name => set(builder, name, value)?,
         }
     }
-    builder.build()
+    Ok(())
 }
 
 fn set(builder: &mut SyntaxConfigBuilder, name: &str, value: &Json) -> Result<(), Error> {
     match value {
-        Json::Array(texts) => match texts.as_slice() {
-            [Json::String(start), Json::String(end)] => {
-                set_delimiters(builder, name, start.as_str(), end.as_str())
-            }
-            _ => refused(),
-        },
+        Json::Array(texts) => set_texts(builder, name, texts.as_slice()),
         Json::String(prefix) => set_prefix(builder, name, prefix.as_str()),
         Json::Bool(yes) => set_option(builder, name, *yes),
-        _ => refused(),
+        _ => unreadable(),
+    }
+}
+
+fn set_texts(builder: &mut SyntaxConfigBuilder, name: &str, texts: &[Json]) -> Result<(), Error> {
+    match texts {
+        [Json::String(start), Json::String(end)] => {
+            set_delimiters(builder, name, start.as_str(), end.as_str())
+        }
+        _ => unreadable(),
     }
 }
 
@@ -40,7 +51,7 @@ fn set_delimiters(
         "block" => builder.block_delimiters(start, end),
         "variable" => builder.variable_delimiters(start, end),
         "comment" => builder.comment_delimiters(start, end),
-        _ => refused(),
+        _ => unreadable(),
     }
 }
 
@@ -48,7 +59,7 @@ fn set_prefix(builder: &mut SyntaxConfigBuilder, name: &str, prefix: &str) -> Re
     match name {
         "line_statement" => builder.line_statement_prefix(prefix),
         "line_comment" => builder.line_comment_prefix(prefix),
-        _ => refused(),
+        _ => unreadable(),
     }
 }
 
@@ -57,11 +68,7 @@ fn set_option(builder: &mut SyntaxConfigBuilder, name: &str, yes: bool) -> Resul
         "trim_blocks" => builder.trim_blocks(yes),
         "lstrip_blocks" => builder.lstrip_blocks(yes),
         "keep_trailing_newline" => builder.keep_trailing_newline(yes),
-        _ => return refused(),
+        _ => return unreadable(),
     }
     Ok(())
-}
-
-fn refused() -> Result<(), Error> {
-    Err(Error::new(ErrorKind::SyntaxError))
 }

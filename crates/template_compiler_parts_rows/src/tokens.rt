@@ -1,6 +1,6 @@
 //! The tokens of a text, one after another.
 use crate::NAME;
-use crate::forms::{Form, open, quoted, word};
+use crate::forms::Form;
 use std::alloc::Global;
 use template_compiler_places::Place;
 use template_compiler_scanner::scan_token;
@@ -18,10 +18,14 @@ pub(crate) fn tokens_of(
     out: &mut Form,
 ) -> Result<(), Error> {
     let mut tokenizer = Tokenizer::new(alloc, source, NAME, syntax);
-    open("tokens", out)?;
+    write_tokens(&mut tokenizer, source, out)
+}
+
+fn write_tokens(tokenizer: &mut Tokenizer<'_>, source: &str, out: &mut Form) -> Result<(), Error> {
+    out.text.push_str("(tokens")?;
     for _ in 0..source.len() + 2 {
-        if !write_next(&mut tokenizer, out)? {
-            return Ok(out.push(')')?);
+        if !write_next(tokenizer, out)? {
+            return Ok(out.text.push(')')?);
         }
     }
     Err(Error::new(ErrorKind::TooLarge))
@@ -30,21 +34,21 @@ pub(crate) fn tokens_of(
 // The next token, and whether there was one.
 fn write_next(tokenizer: &mut Tokenizer<'_>, out: &mut Form) -> Result<bool, Error> {
     match tokenizer.next_token() {
-        Ok(Some((token, span))) => {
-            write_token(&token, span, out)?;
-            Ok(true)
-        }
+        Ok(Some((token, span))) => write_token(&token, span, out),
         Ok(None) => Ok(false),
-        Err(error) => {
-            write!(out.text, " ! {error}")?;
-            Ok(false)
-        }
+        Err(error) => write_fault(&error, out),
     }
 }
 
-fn write_token(token: &Token, span: Span, out: &mut Form) -> Result<(), Error> {
+fn write_token(token: &Token, span: Span, out: &mut Form) -> Result<bool, Error> {
     write!(out.text, " {token:?}")?;
-    out.place(span)
+    out.place(span)?;
+    Ok(true)
+}
+
+fn write_fault(error: &Error, out: &mut Form) -> Result<bool, Error> {
+    write!(out.text, " ! {error}")?;
+    Ok(false)
 }
 
 /// The same as a stream shows them before it passes them, behind the name and the text of what it reads.
@@ -55,14 +59,20 @@ pub(crate) fn streamed_tokens(
     out: &mut Form,
 ) -> Result<(), Error> {
     let tokenizer = Tokenizer::new(alloc, source, NAME, syntax);
-    open("stream", out)?;
-    word(tokenizer.filename(), out)?;
-    out.push(' ')?;
-    quoted(tokenizer.source(), out)?;
+    write_reader(&tokenizer, out)?;
     let mut stream = TokenStream::new(tokenizer);
+    write_stream(&mut stream, source, out)
+}
+
+fn write_reader(tokenizer: &Tokenizer<'_>, out: &mut Form) -> Result<(), Error> {
+    let (name, source) = (tokenizer.filename(), tokenizer.source());
+    Ok(write!(out.text, "(stream {name} {source:?}")?)
+}
+
+fn write_stream(stream: &mut TokenStream<'_>, source: &str, out: &mut Form) -> Result<(), Error> {
     for _ in 0..source.len() + 2 {
-        if !write_current(&stream, out)? {
-            return Ok(out.push(')')?);
+        if !write_current(stream, out)? {
+            return Ok(out.text.push(')')?);
         }
         let _passed = stream.next()?;
     }
@@ -72,15 +82,9 @@ pub(crate) fn streamed_tokens(
 // The token that a stream shows, and whether there is one.
 fn write_current(stream: &TokenStream<'_>, out: &mut Form) -> Result<bool, Error> {
     match stream.current() {
-        Ok(Some((token, span))) => {
-            write_token(token, span, out)?;
-            Ok(true)
-        }
+        Ok(Some((token, span))) => write_token(token, span, out),
         Ok(None) => Ok(false),
-        Err(error) => {
-            write!(out.text, " ! {error}")?;
-            Ok(false)
-        }
+        Err(error) => write_fault(&error, out),
     }
 }
 
