@@ -1,4 +1,4 @@
-//! The tasks of values of `template_program_rows` with Rust's own library alone: each word is a task, done once, and a
+//! The tasks of values of `template_program_parts_rows` with Rust's own library alone: each word is a task, done once, and a
 //! line tells its name and the microseconds that it took.
 use std::collections::BTreeMap;
 use std::fmt::Write;

@@ -2,10 +2,30 @@
 use crate::steps::{Step, first_name, steps_of};
 use serde_json::{Map, Value as Json};
 use std::alloc::Global;
+use template_rows::{behavior_of, count_of, expect_names, number_of, unreadable};
 use template_values_core::Value;
-use template_values_errors::{Error, ErrorKind};
+use template_values_errors::Error;
 use template_values_json::context_from_json;
 use template_values_modes::UndefinedBehavior;
+
+// The names of a case's entries.
+const KNOWN: [&str; 15] = [
+    "templates",
+    "main",
+    "source",
+    "expression",
+    "call",
+    "room",
+    "context",
+    "fuel",
+    "limit",
+    "undefined",
+    "escapes",
+    "owned",
+    "state",
+    "names",
+    "skip",
+];
 
 /// A case: what is done, and in which setting.
 #[derive(Drop)]
@@ -78,9 +98,7 @@ impl<'line> Case<'line> {
         alloc: Global,
         entries: &'line Map<String, Json>,
     ) -> Result<Case<'line>, Error> {
-        if !are_known(entries) {
-            return unreadable();
-        }
+        expect_names(entries, &KNOWN)?;
         let steps = steps_of(alloc, entries.get("templates"))?;
         Ok(Case {
             subject: subject_of(entries, steps.as_slice())?,
@@ -97,22 +115,6 @@ impl<'line> Case<'line> {
             steps,
         })
     }
-}
-
-fn unreadable<T: Drop>() -> Result<T, Error> {
-    Err(Error::new(ErrorKind::SyntaxError))
-}
-
-fn are_known(entries: &Map<String, Json>) -> bool {
-    for (name, _) in entries {
-        match name.as_str() {
-            "templates" | "main" | "context" | "fuel" | "limit" | "undefined" | "names" | "skip" =>
-                {}
-            "source" | "expression" | "call" | "room" | "escapes" | "owned" | "state" => {}
-            _ => return false,
-        }
-    }
-    true
 }
 
 fn subject_of<'line>(
@@ -204,40 +206,6 @@ fn context_of(alloc: Global, context: Option<&Json>) -> Result<Value, Error> {
     match context {
         None => context_from_json(alloc, b"{}"),
         Some(context) => context_from_json(alloc, context.to_vec(alloc)?.as_slice()),
-    }
-}
-
-fn number_of(number: Option<&Json>) -> Result<Option<u64>, Error> {
-    match number {
-        None => Ok(None),
-        Some(number) => match number.as_u64() {
-            None => unreadable(),
-            given => Ok(given),
-        },
-    }
-}
-
-pub(crate) fn count_of(number: Option<&Json>) -> Result<Option<usize>, Error> {
-    match number_of(number)? {
-        None => Ok(None),
-        Some(number) => match usize::try_from(number) {
-            Ok(count) => Ok(Some(count)),
-            Err(_) => unreadable(),
-        },
-    }
-}
-
-fn behavior_of(behavior: Option<&Json>) -> Result<UndefinedBehavior, Error> {
-    match behavior {
-        None => Ok(UndefinedBehavior::Lenient),
-        Some(Json::String(word)) => match word.as_str() {
-            "lenient" => Ok(UndefinedBehavior::Lenient),
-            "chainable" => Ok(UndefinedBehavior::Chainable),
-            "semi_strict" => Ok(UndefinedBehavior::SemiStrict),
-            "strict" => Ok(UndefinedBehavior::Strict),
-            _ => unreadable(),
-        },
-        Some(_) => unreadable(),
     }
 }
 

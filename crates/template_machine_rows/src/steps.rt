@@ -1,7 +1,7 @@
 //! What is done with the templates, and with the syntax and the rule that they are read under, before a render.
-use crate::case::count_of;
 use serde_json::{Map, Value as Json};
 use std::alloc::Global;
+use template_rows::count_of;
 use template_values_errors::{Error, ErrorKind};
 
 /// A change of the templates that stand, or of the syntax or the rule of escapes of those that are added from then on.

@@ -1,14 +1,15 @@
 //! What comes of requests.
-use crate::entries::{count_of, expect_names, number_of, pairs_of, quoted, text_of, unreadable};
 use serde_json::{Map, Value as Json};
 use std::alloc::Global;
 use template_machine_ids::StateIds;
 use template_program_start::{Command, Outcome, Request, run};
+use template_rows::{
+    behavior_of, count_of, expect_names, number_of, pairs_of, quoted, text_of, unreadable,
+};
 use template_values_errors::Error;
-use template_values_modes::UndefinedBehavior;
 
-/// How deep a render may be where nothing is told.
-pub(crate) const DEFAULT_LIMIT: usize = 500;
+// How deep a render may be where nothing is told.
+const DEFAULT_LIMIT: usize = 500;
 
 /// What a request writes, and how it ends.
 pub(crate) fn answer_request(
@@ -74,16 +75,6 @@ fn first_name(templates: &[(String, String)]) -> &str {
     match templates.first() {
         Some((name, _)) => name.as_str(),
         None => "none",
-    }
-}
-
-fn behavior_of(behavior: Option<&Json>) -> Result<UndefinedBehavior, Error> {
-    match text_of(behavior)? {
-        None | Some("lenient") => Ok(UndefinedBehavior::Lenient),
-        Some("chainable") => Ok(UndefinedBehavior::Chainable),
-        Some("semi_strict") => Ok(UndefinedBehavior::SemiStrict),
-        Some("strict") => Ok(UndefinedBehavior::Strict),
-        Some(_) => unreadable(),
     }
 }
 

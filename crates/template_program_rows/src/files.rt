@@ -1,7 +1,7 @@
 //! Files that stand while a line is answered.
-use crate::entries::bytes_of;
 use serde_json::{Map, Value as Json};
 use std::fs;
+use template_rows::bytes_of;
 
 /// Writes each file to its path.
 pub(crate) fn write_files(rt: &HostRuntime, files: &Map<String, Json>) -> anyhow::Result<()> {

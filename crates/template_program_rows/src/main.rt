@@ -1,5 +1,5 @@
-//! The program's parts, as rows. Each line of standard input is a JSON object of one of these kinds; of its entries all
-//! but the first may be left out. A run of the program's body:
+//! The program, as rows. Each line of standard input is a JSON object of one of these kinds; of its entries all but the
+//! first may be left out. A run of the program's body:
 //!
 //! - `words`: the words behind the program's name, an array of texts;
 //! - `files`: the files that stand meanwhile, an object of paths with what they have: a text, a number for a byte of
@@ -9,7 +9,8 @@
 //! - `output_room`: how many bytes the output takes; all, if left out;
 //! - `flush_fails`: how the output fails when it is flushed, as `input_fails`.
 //!
-//! It gives `"text" status N`, and behind it, in quotes too, what was told, where something was.
+//! It gives `"text" status N`, and behind it, in quotes too, what was told, where something was. The input gives, and the
+//! output takes, three bytes in a call at most.
 //!
 //! A request:
 //!
@@ -22,81 +23,22 @@
 //! It gives `"text"`, and behind it ` ! render Kind: Kind`, ` ! context Kind` or ` ! template Kind` where it did not end
 //! well, by how it ended.
 //!
-//! Words that are read alone:
-//!
-//! - `read`: the words, an array of texts;
-//! - `begins`, `holds`: how the text of help or of a refusal begins, and what stands in it.
-//!
-//! They give what was read of them, or `help`, `usage` or `definition` by why they were refused, and `another help` or
-//! `another usage` where the text is not so.
-//!
-//! A context that is read alone:
-//!
-//! - `json`: its bytes, told as those of a file, or `null`, where there are none;
-//! - `definitions`: those over it, an array of `[name, text]`.
-//!
-//! It gives `levels N: ` and what the context prints, or `! Kind`.
-//!
-//! An input that is read alone, or a file by its path:
-//!
-//! - `source`: what the input has, as `input`; or `file`: the path, with `files` as above;
-//! - `input_fails`: as above;
-//! - `limit`: so many bytes are too many; none are, if left out.
-//!
-//! It gives what was read, in quotes, or `! File`; and for an input `, then ` and what is read of it without a limit then.
-//!
-//! Pieces that go to an output alone:
-//!
-//! - `pieces`: the pieces, an array of texts;
-//! - `output_room`: as above;
-//! - `write_fails`: how the output fails where it has no more room, as `input_fails`; left out, it takes nothing then.
-//!
-//! It gives what the output took, in quotes, and where it failed, ` ! Fault Kind, seen as Kind Kind Kind`: the fault, the
-//! error that this is, and what a caller is to see in place of `BadInclude`, at first and later.
-//!
-//! Inputs give, and outputs take, three bytes in a call at most.
-//!
-//! Work at size: `size`, the name of the work. It gives how many bytes came out, and whether they are the right ones.
-//!
-//! A time: `time`, the name of a task of values, or of additions and renders of templates. It gives the microseconds that
-//! its calls took, without what was made ready for them. `benchmarks/values` runs the tasks of values beside the same work
-//! in Rust; they are no part of the stored run.
-//!
 //! The line is written as it stands, then ` = `, then what came of it, or `? ` and a word where the line is of no kind, or
 //! where memory is refused. A line that begins with `#` is a heading. To add a row, write its line into `stdout`, and the
 //! object that it begins with into `stdin`.
 #![tactic(auto)]
 
 mod answers;
-mod contexts;
-mod entries;
 mod files;
-mod inputs;
-mod pieces;
-mod readers;
-mod renders;
-mod requests;
-mod sinks;
-mod sizes;
-mod sources;
 mod starts;
-mod streams;
-mod tasks;
-mod words;
 
 use crate::answers::answer_request;
-use crate::contexts::answer_context;
-use crate::entries::unreadable;
 use crate::files::{remove_files, write_files};
-use crate::inputs::{answer_file, answer_input};
-use crate::pieces::answer_pieces;
-use crate::sizes::answer_size;
 use crate::starts::answer_start;
-use crate::tasks::answer_time;
-use crate::words::answer_words;
 use anyhow::bail;
 use serde_json::{Map, Value as Json};
 use std::io;
+use template_rows::unreadable;
 use template_values_errors::Error;
 
 fn main(rt: HostRuntime) -> io::Result<()> {
@@ -125,49 +67,24 @@ fn answer_of_line(rt: &HostRuntime, line: &str) -> anyhow::Result<String> {
 // The same, while its files stand.
 fn answer_among_files(rt: &HostRuntime, entries: &Map<String, Json>) -> anyhow::Result<String> {
     match entries.get("files") {
-        None => answer(rt, entries),
+        None => Ok(answer(rt, entries)?),
         Some(Json::Object(files)) => {
             write_files(rt, files)?;
             let answer = answer(rt, entries);
             remove_files(rt, files)?;
-            answer
+            Ok(answer?)
         }
         Some(_) => Ok(unreadable()?),
     }
 }
 
 // The entry that only lines of one kind have tells the kind.
-fn answer(rt: &HostRuntime, entries: &Map<String, Json>) -> anyhow::Result<String> {
-    match (entries.get("size"), entries.get("time")) {
-        (Some(Json::String(what)), None) => answer_size(rt, what.as_str()),
-        (None, Some(Json::String(task))) => answer_time(rt, task.as_str()),
-        _ => Ok(answer_of_part(rt, entries)?),
-    }
-}
-
-// What comes of the whole program, or of one of its parts.
-fn answer_of_part(rt: &HostRuntime, entries: &Map<String, Json>) -> Result<String, Error> {
-    let alloc = rt.alloc();
+fn answer(rt: &HostRuntime, entries: &Map<String, Json>) -> Result<String, Error> {
     if let Some(words) = entries.get("words") {
         return answer_start(rt, words, entries);
     }
-    if let Some(templates) = entries.get("templates") {
-        return answer_request(alloc, templates, entries);
-    }
-    if let Some(words) = entries.get("read") {
-        return answer_words(alloc, words, entries);
-    }
-    if let Some(json) = entries.get("json") {
-        return answer_context(alloc, json, entries);
-    }
-    if let Some(bytes) = entries.get("source") {
-        return answer_input(alloc, bytes, entries);
-    }
-    if let Some(path) = entries.get("file") {
-        return answer_file(rt, path, entries);
-    }
-    match entries.get("pieces") {
-        Some(pieces) => answer_pieces(alloc, pieces, entries),
+    match entries.get("templates") {
+        Some(templates) => answer_request(rt.alloc(), templates, entries),
         None => unreadable(),
     }
 }

@@ -1,9 +1,10 @@
 //! Runs of the program's body, with their inputs and outputs.
-use crate::entries::{bytes_of, expect_names, kind_of, quoted, texts_of};
-use crate::streams::{Input, Output, READY};
 use serde_json::{Map, Value as Json};
 use std::alloc::Global;
 use template_program_start::start;
+use template_rows::{
+    Input, Output, READY, bytes_of, count_of, expect_names, kind_of, quoted, texts_of,
+};
 use template_values_errors::Error;
 
 /// What a run writes, its status and what it tells.
@@ -23,10 +24,18 @@ pub(crate) fn answer_start(
             "flush_fails",
         ],
     )?;
-    let mut output = Output::read(rt.alloc(), entries)?;
+    let mut output = output_of(rt.alloc(), entries)?;
     let mut told = Vec::with_capacity(rt.alloc(), READY)?;
     let status = run_with(rt, words, entries, &mut output, &mut told)?;
     ended(rt.alloc(), output.bytes.as_slice(), status, told.as_slice())
+}
+
+fn output_of(alloc: Global, entries: &Map<String, Json>) -> Result<Output, Error> {
+    let room = count_of(entries.get("output_room"))?.unwrap_or(usize::MAX);
+    let flush_fails = kind_of(entries.get("flush_fails"))?;
+    let mut output = Output::new(alloc, room)?;
+    output.flush_fails = flush_fails;
+    Ok(output)
 }
 
 // The status of a run, which writes to the output, and tells what it refuses.

@@ -1,8 +1,8 @@
 //! Contexts that are read alone.
-use crate::entries::{bytes_of, expect_names, pairs_of};
 use serde_json::{Map, Value as Json};
 use std::alloc::Global;
 use template_program_context::read_context;
+use template_rows::{bytes_of, expect_names, pairs_of};
 use template_values_core::Value;
 use template_values_errors::Error;
 use template_values_text::{NoRecords, print_to};

@@ -1,5 +1,4 @@
-//! The tasks, those of values among them.
-use crate::renders::{INCLUDES, ITEMS, LOOP, SUMS, add_template, render_items, render_prints};
+//! The tasks of values.
 use anyhow::bail;
 use std::alloc::Global;
 use std::hint::black_box;
@@ -47,11 +46,6 @@ fn measure(rt: &HostRuntime, task: &str) -> Option<Duration> {
         "look-up" => look_up(rt),
         "add" => add_up(rt),
         "copy" => copy(rt),
-        "add-template" => add_template(rt),
-        "render-prints" => render_prints(rt),
-        "render-loop" => render_items(rt, LOOP, ITEMS),
-        "render-sums" => render_items(rt, SUMS, ITEMS),
-        "render-includes" => render_items(rt, INCLUDES, ITEMS / 10),
         _ => None,
     }
 }

@@ -1,8 +1,8 @@
 //! Words that are read alone.
-use crate::entries::{expect_names, text_of, texts_of};
 use serde_json::{Map, Value as Json};
 use std::alloc::Global;
 use template_program_words::{WordsFault, read_words};
+use template_rows::{expect_names, text_of, texts_of};
 use template_values_errors::{Error, ErrorKind};
 
 /// What is read of the words, or why they are refused.

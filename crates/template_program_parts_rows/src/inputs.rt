@@ -1,9 +1,8 @@
 //! Inputs and files that are read alone, below a limit.
-use crate::entries::{bytes_of, count_of, expect_names, kind_of, quoted, unreadable};
-use crate::streams::Input;
 use serde_json::{Map, Value as Json};
 use std::alloc::Global;
 use template_program_files::{FileFault, ReadWrapper, read_file, read_whole};
+use template_rows::{Input, bytes_of, count_of, expect_names, kind_of, quoted, unreadable};
 use template_values_errors::{Error, ErrorKind};
 
 /// What is read of an input, and what is read then without a limit.
@@ -14,14 +13,23 @@ pub(crate) fn answer_input(
 ) -> Result<String, Error> {
     expect_names(entries, &["source", "input_fails", "limit"])?;
     let bytes = bytes_of(alloc, bytes)?;
+    let fails = kind_of(entries.get("input_fails"))?;
+    let limit = limit_of(entries)?;
     let mut input = Input {
         bytes: bytes.as_slice(),
-        fails: kind_of(entries.get("input_fails"))?,
+        fails,
     };
-    let limit = limit_of(entries)?;
-    let read = read_whole(alloc, &mut ReadWrapper::new(&mut input), limit);
-    let rest = read_whole(alloc, &mut ReadWrapper::new(&mut input), usize::MAX);
-    Ok(format!(in alloc; "{}, then {}", shown(alloc, read)?, shown(alloc, rest)?)?)
+    let mut answer = read(alloc, &mut input, limit)?;
+    answer.push_str(", then ")?;
+    answer.push_str(read(alloc, &mut input, usize::MAX)?.as_str())?;
+    Ok(answer)
+}
+
+fn read(alloc: Global, input: &mut Input<'_>, limit: usize) -> Result<String, Error> {
+    shown(
+        alloc,
+        read_whole(alloc, &mut ReadWrapper::new(input), limit),
+    )
 }
 
 /// What is read of the file at a path.

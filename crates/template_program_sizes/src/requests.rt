@@ -1,11 +1,13 @@
 //! Requests with long sources, and with many statements, templates, names, definitions, rounds and includes.
-use crate::answers::DEFAULT_LIMIT;
 use crate::sizes::Came;
 use anyhow::bail;
 use std::alloc::Global;
 use template_machine_ids::StateIds;
 use template_program_run::{Command, Outcome, Request, run};
 use template_values_modes::UndefinedBehavior;
+
+// How deep a render may be.
+const DEFAULT_LIMIT: usize = 500;
 
 const MANY: usize = 1000;
 
