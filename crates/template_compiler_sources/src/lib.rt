@@ -3,6 +3,7 @@
 
 mod expression;
 mod parser;
+mod reads;
 mod source;
 mod template;
 

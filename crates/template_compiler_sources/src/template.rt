@@ -3,6 +3,7 @@ ghost use Rattle.std.specs.Prelude.{◌≡◌};
 ghost use Rattle.template_compiler_statements.specs.Reader.{template_of};
 ghost use Rattle.template_compiler_sources.specs.Wholes.{ParsedWhole};
 
+use crate::reads::ExpressionParser;
 use std::alloc::Global;
 use template_compiler_block_names::{are_distinct, block_names};
 use template_compiler_statement_makers::Around;
@@ -21,7 +22,7 @@ pub(crate) fn read_template<'source>(
 ) -> Result<Vec<Stmt<'source>>, Refusal>
     ensures { ParsedWhole (template_of tokens.old) result }
 {
-    let body = read_statements(alloc, tokens, MAX_DEPTH, Around::nothing())?;
+    let body = read_statements::<ExpressionParser>(alloc, tokens, MAX_DEPTH, Around::nothing())?;
     if !tokens.is_done() {
         return Err(Refusal::Token(tokens.fault()));
     }

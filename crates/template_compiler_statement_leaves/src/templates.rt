@@ -6,10 +6,10 @@ ghost use Rattle.template_tree_statements.specs.View.{statement_of};
 ghost use Rattle.template_tree_statements.specs.declared.statements.Stmt.TheVariants as statements;
 
 use std::alloc::Global;
-use template_compiler_expression_parser::read_expression;
 use template_compiler_statement_parts::{
     expect_tag_end, expect_word, pass_context, read_imports, read_missing, read_stored,
 };
+use template_compiler_statement_values::ReadsExpressions;
 use template_compiler_stream::{Refusal, TokenStream};
 use template_tree::{Span, Spanned};
 use template_tree_statements::{Extends, FromImport, Import, Include};
@@ -20,7 +20,7 @@ use template_tree_statements::{Extends, FromImport, Import, Include};
 ///
 /// The fault of the token that does not fit, or want of memory.
 #[tactic(auto, using(template_compiler_statement_parts::proofs::Again::tag_end_again, template_compiler_statement_parts::proofs::Again::word_again, template_compiler_statement_parts::proofs::Again::context_again), unfolding(template_compiler_reading::specs::Steps::and_then, template_compiler_statements::specs::Reader::here, template_compiler_statements::specs::Reader::here_by, template_compiler_statements::specs::Reader::import_statement_by))]
-pub fn read_import<'source>(
+pub fn read_import<'source, R: ReadsExpressions>(
     alloc: Global,
     tokens: &mut TokenStream<'source>,
     left: u32,
@@ -28,7 +28,7 @@ pub fn read_import<'source>(
 ) -> Result<Spanned<Box<Import<'source>>>, Refusal>
     ensures { ParsedAs (λ n. statement_of (statements.Import n)) (import_statement_by (here left) tokens.old) tokens.new result }
 {
-    let expr = read_expression(alloc, tokens, left)?;
+    let expr = R::read_expression(alloc, tokens, left)?;
     expect_word(tokens, "as")?;
     let name = read_stored(tokens)?;
     pass_context(tokens)?;
@@ -43,7 +43,7 @@ pub fn read_import<'source>(
 ///
 /// The fault of the token that does not fit, or want of memory.
 #[tactic(auto, using(template_compiler_statement_parts::proofs::Again::tag_end_again, template_compiler_statement_parts::proofs::Again::word_again, template_compiler_statement_parts::proofs::Again::context_again), unfolding(template_compiler_reading::specs::Steps::and_then, template_compiler_statements::specs::Reader::here, template_compiler_statements::specs::Reader::here_by, template_compiler_statements::specs::Reader::from_by))]
-pub fn read_from<'source>(
+pub fn read_from<'source, R: ReadsExpressions>(
     alloc: Global,
     tokens: &mut TokenStream<'source>,
     left: u32,
@@ -51,7 +51,7 @@ pub fn read_from<'source>(
 ) -> Result<Spanned<Box<FromImport<'source>>>, Refusal>
     ensures { ParsedAs (λ n. statement_of (statements.FromImport n)) (from_by (here left) tokens.old) tokens.new result }
 {
-    let expr = read_expression(alloc, tokens, left)?;
+    let expr = R::read_expression(alloc, tokens, left)?;
     expect_word(tokens, "import")?;
     let names = read_imports(alloc, tokens)?;
     pass_context(tokens)?;
@@ -66,7 +66,7 @@ pub fn read_from<'source>(
 ///
 /// The fault of the token that does not fit, or want of memory.
 #[tactic(auto, using(template_compiler_statement_parts::proofs::Again::tag_end_again), unfolding(template_compiler_reading::specs::Steps::and_then, template_compiler_statements::specs::Reader::here, template_compiler_statements::specs::Reader::here_by, template_compiler_statements::specs::Reader::extends_by))]
-pub fn read_extends<'source>(
+pub fn read_extends<'source, R: ReadsExpressions>(
     alloc: Global,
     tokens: &mut TokenStream<'source>,
     left: u32,
@@ -74,7 +74,7 @@ pub fn read_extends<'source>(
 ) -> Result<Spanned<Extends<'source>>, Refusal>
     ensures { ParsedAs (λ n. statement_of (statements.Extends n)) (extends_by (here left) tokens.old) tokens.new result }
 {
-    let name = read_expression(alloc, tokens, left)?;
+    let name = R::read_expression(alloc, tokens, left)?;
     expect_tag_end(tokens)?;
     Ok(Spanned::new(Extends { name }, tokens.expand_span(span)))
 }
@@ -85,7 +85,7 @@ pub fn read_extends<'source>(
 ///
 /// The fault of the token that does not fit, or want of memory.
 #[tactic(auto, using(template_compiler_statement_parts::proofs::Again::tag_end_again), unfolding(template_compiler_reading::specs::Steps::and_then, template_compiler_statements::specs::Reader::here, template_compiler_statements::specs::Reader::here_by, template_compiler_statements::specs::Reader::include_by))]
-pub fn read_include<'source>(
+pub fn read_include<'source, R: ReadsExpressions>(
     alloc: Global,
     tokens: &mut TokenStream<'source>,
     left: u32,
@@ -93,7 +93,7 @@ pub fn read_include<'source>(
 ) -> Result<Spanned<Box<Include<'source>>>, Refusal>
     ensures { ParsedAs (λ n. statement_of (statements.Include n)) (include_by (here left) tokens.old) tokens.new result }
 {
-    let name = read_expression(alloc, tokens, left)?;
+    let name = R::read_expression(alloc, tokens, left)?;
     let ignore_missing = read_missing(tokens)?;
     expect_tag_end(tokens)?;
     let node = Include {

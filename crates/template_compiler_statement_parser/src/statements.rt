@@ -15,14 +15,11 @@ ghost use Rattle.template_tree.specs.View.{arguments_in, expression_of, optional
 ghost use Rattle.template_compiler_statement_makers.specs.Listed.{statements_in};
 
 use std::alloc::{AllocError, Global};
-use template_compiler_expression_parser::{
-    read_condition, read_expression, read_filter, read_filter_chain,
-};
 use template_compiler_statement_leaves as leaves;
 use template_compiler_statement_makers::{Around, Opening, is_blank, makers, opening_named};
 use template_compiler_statement_parts as parts;
 use template_compiler_statement_values::{
-    Parameters, read_assignments, read_deeper_parameters, read_loop_filter,
+    Parameters, ReadsExpressions, read_assignments, read_deeper_parameters, read_loop_filter,
     read_optional_parameters,
 };
 use template_compiler_stream::{Fault, Refusal, Sign, TokenStream, until};
@@ -34,7 +31,7 @@ use template_tree_statements::{
 // A body, one nesting level deeper.
 #[cycle(statements)]
 #[tactic(auto, unfolding(template_compiler_statements::specs::Reader::deeper_body, template_compiler_statements::specs::Reader::statements_at, template_compiler_statements::specs::Reader::here))]
-fn body<'source>(
+fn body<'source, R: ReadsExpressions>(
     alloc: Global,
     tokens: &mut TokenStream<'source>,
     left: u32,
@@ -45,7 +42,7 @@ fn body<'source>(
     if left == 0 {
         Err(Refusal::Token(Fault::Syntax))
     } else {
-        read_statements(alloc, tokens, left - 1, around)
+        read_statements::<R>(alloc, tokens, left - 1, around)
     }
 }
 
@@ -56,7 +53,7 @@ fn body<'source>(
 /// The fault of the token that does not fit, or want of memory.
 #[cycle(statements)]
 #[tactic(auto, unfolding(template_compiler_statements::specs::Reader::statements_at, template_compiler_statements::specs::Reader::statements_by))]
-pub fn read_statements<'source>(
+pub fn read_statements<'source, R: ReadsExpressions>(
     alloc: Global,
     tokens: &mut TokenStream<'source>,
     left: u32,
@@ -66,7 +63,7 @@ pub fn read_statements<'source>(
 {
     let mut statements = Vec::new(alloc);
     loop {
-        match next_statement(alloc, tokens, left, around, &mut statements) {
+        match next_statement::<R>(alloc, tokens, left, around, &mut statements) {
             Ok(true) => {}
             Ok(false) => return Ok(statements),
             Err(refusal) => return Err(refusal),
@@ -77,7 +74,7 @@ pub fn read_statements<'source>(
 // A text, a print or a tag that begins a statement.
 #[cycle(statements)]
 #[tactic(auto, using(crate::proofs::Next::text_here, crate::proofs::Next::print_here, crate::proofs::Next::tag_here, crate::proofs::Next::nothing_here, template_compiler_statement_makers::proofs::Lists::statements_push), unfolding(template_compiler_reading::specs::Steps::under, template_compiler_statements::specs::Reader::here, template_compiler_statements::specs::Reader::here_by))]
-fn next_statement<'source>(
+fn next_statement<'source, R: ReadsExpressions>(
     alloc: Global,
     tokens: &mut TokenStream<'source>,
     left: u32,
@@ -95,12 +92,12 @@ fn next_statement<'source>(
     }
     if tokens.starts_print() {
         tokens.advance();
-        let print = leaves::read_print(alloc, tokens, left, span)?;
+        let print = leaves::read_print::<R>(alloc, tokens, left, span)?;
         statements.push(Stmt::EmitExpr(print))?;
         return Ok(true);
     }
     match parts::tag_word(tokens) {
-        Some(word) => next_tag(alloc, tokens, left, around, statements, word),
+        Some(word) => next_tag::<R>(alloc, tokens, left, around, statements, word),
         None => Ok(false),
     }
 }
@@ -108,7 +105,7 @@ fn next_statement<'source>(
 // The statement that the word of the next tag begins.
 #[cycle(statements)]
 #[tactic(auto, using(template_compiler_statement_makers::proofs::Lists::statements_push), unfolding(template_compiler_reading::specs::Steps::under, template_compiler_statements::specs::Reader::opened_step))]
-fn next_tag<'source>(
+fn next_tag<'source, R: ReadsExpressions>(
     alloc: Global,
     tokens: &mut TokenStream<'source>,
     left: u32,
@@ -125,7 +122,7 @@ fn next_tag<'source>(
             let span = tokens.span();
             tokens.advance();
             tokens.advance();
-            statements.push(opened(alloc, tokens, left, around, opening, span)?)?;
+            statements.push(opened::<R>(alloc, tokens, left, around, opening, span)?)?;
             Ok(true)
         }
         None => Ok(false),
@@ -135,7 +132,7 @@ fn next_tag<'source>(
 // A statement, behind the word that begins it.
 #[cycle(statements)]
 #[tactic(auto, unfolding(template_compiler_statements::specs::Reader::opened_by, template_compiler_statements::specs::Reader::in_loop))]
-fn opened<'source>(
+fn opened<'source, R: ReadsExpressions>(
     alloc: Global,
     tokens: &mut TokenStream<'source>,
     left: u32,
@@ -146,26 +143,34 @@ fn opened<'source>(
     ensures { ParsedStatement (opened_by (here left) (around_of around) (opening_of opening) tokens.old) tokens.new result }
 {
     match opening {
-        Opening::For => return for_loop(alloc, tokens, left, around, span).map(Stmt::ForLoop),
-        Opening::If => return if_condition(alloc, tokens, left, around, span).map(Stmt::IfCond),
-        Opening::With => return with_block(alloc, tokens, left, around, span).map(Stmt::WithBlock),
-        Opening::Set => return set(alloc, tokens, left, around, span),
+        Opening::For => return for_loop::<R>(alloc, tokens, left, around, span).map(Stmt::ForLoop),
+        Opening::If => return if_condition::<R>(alloc, tokens, left, around, span).map(
+            Stmt::IfCond,
+        ),
+        Opening::With => return with_block::<R>(alloc, tokens, left, around, span).map(
+            Stmt::WithBlock,
+        ),
+        Opening::Set => return set::<R>(alloc, tokens, left, around, span),
         Opening::AutoEscape => {
-            return auto_escape(alloc, tokens, left, around, span).map(Stmt::AutoEscape);
+            return auto_escape::<R>(alloc, tokens, left, around, span).map(Stmt::AutoEscape);
         }
-        Opening::Filter => return filter_block(alloc, tokens, left, around, span),
-        Opening::Block => return block(alloc, tokens, left, around, span).map(Stmt::Block),
-        Opening::Import => return leaves::read_import(alloc, tokens, left, span).map(Stmt::Import),
-        Opening::From => return leaves::read_from(alloc, tokens, left, span).map(Stmt::FromImport),
-        Opening::Extends => return leaves::read_extends(alloc, tokens, left, span).map(
+        Opening::Filter => return filter_block::<R>(alloc, tokens, left, around, span),
+        Opening::Block => return block::<R>(alloc, tokens, left, around, span).map(Stmt::Block),
+        Opening::Import => return leaves::read_import::<R>(alloc, tokens, left, span).map(
+            Stmt::Import,
+        ),
+        Opening::From => return leaves::read_from::<R>(alloc, tokens, left, span).map(
+            Stmt::FromImport,
+        ),
+        Opening::Extends => return leaves::read_extends::<R>(alloc, tokens, left, span).map(
             Stmt::Extends,
         ),
-        Opening::Include => return leaves::read_include(alloc, tokens, left, span).map(
+        Opening::Include => return leaves::read_include::<R>(alloc, tokens, left, span).map(
             Stmt::Include,
         ),
-        Opening::Macro => return macro_block(alloc, tokens, left, span).map(Stmt::Macro),
-        Opening::Call => return call_block(alloc, tokens, left, span).map(Stmt::CallBlock),
-        Opening::Do => return leaves::read_do(alloc, tokens, left, span).map(Stmt::Do),
+        Opening::Macro => return macro_block::<R>(alloc, tokens, left, span).map(Stmt::Macro),
+        Opening::Call => return call_block::<R>(alloc, tokens, left, span).map(Stmt::CallBlock),
+        Opening::Do => return leaves::read_do::<R>(alloc, tokens, left, span).map(Stmt::Do),
         Opening::Break => return Ok(Stmt::Break(leaves::read_break(tokens, around.in_loop, span)?)),
         Opening::Continue => {
             return Ok(Stmt::Continue(leaves::read_continue(tokens, around.in_loop, span)?));
@@ -176,7 +181,7 @@ fn opened<'source>(
 // A body, and the tag that ends it.
 #[cycle(statements)]
 #[tactic(auto, using(template_compiler_statement_parts::proofs::Again::tag_again), unfolding(template_compiler_reading::specs::Steps::and_then))]
-fn ended_body<'source>(
+fn ended_body<'source, R: ReadsExpressions>(
     alloc: Global,
     tokens: &mut TokenStream<'source>,
     left: u32,
@@ -185,7 +190,7 @@ fn ended_body<'source>(
 ) -> Result<Vec<Stmt<'source>>, Refusal>
     ensures { ParsedBody (and_then (deeper_body left (around_of around) tokens.old) (expect_tag end.now)) tokens.new result }
 {
-    let body = body(alloc, tokens, left, around)?;
+    let body = body::<R>(alloc, tokens, left, around)?;
     parts::expect_tag(tokens, end)?;
     Ok(body)
 }
@@ -193,7 +198,7 @@ fn ended_body<'source>(
 // The other body, where there is one, and the tag that ends the statement.
 #[cycle(statements)]
 #[tactic(auto, using(template_compiler_statement_parts::proofs::Again::tag_again), unfolding(template_compiler_reading::specs::Steps::and_then, template_compiler_statements::specs::Reader::here, template_compiler_statements::specs::Reader::here_by, template_compiler_statements::specs::Reader::else_by))]
-fn otherwise<'source>(
+fn otherwise<'source, R: ReadsExpressions>(
     alloc: Global,
     tokens: &mut TokenStream<'source>,
     left: u32,
@@ -204,7 +209,7 @@ fn otherwise<'source>(
 {
     if parts::begins_tag(tokens, "else") {
         parts::expect_tag(tokens, "else")?;
-        ended_body(alloc, tokens, left, around, end)
+        ended_body::<R>(alloc, tokens, left, around, end)
     } else {
         parts::expect_tag(tokens, end)?;
         Ok(Vec::new(alloc))
@@ -213,7 +218,7 @@ fn otherwise<'source>(
 
 #[cycle(statements)]
 #[tactic(auto, using(template_compiler_statement_parts::proofs::Again::word_again), unfolding(template_compiler_reading::specs::Steps::and_then, template_compiler_statements::specs::Reader::here, template_compiler_statements::specs::Reader::here_by, template_compiler_statements::specs::Reader::for_by))]
-fn for_loop<'source>(
+fn for_loop<'source, R: ReadsExpressions>(
     alloc: Global,
     tokens: &mut TokenStream<'source>,
     left: u32,
@@ -224,13 +229,13 @@ fn for_loop<'source>(
 {
     let target = parts::read_targets(alloc, tokens, left, false)?;
     parts::expect_word(tokens, "in")?;
-    for_in(alloc, tokens, left, around, target, span)
+    for_in::<R>(alloc, tokens, left, around, target, span)
 }
 
 // A loop, behind its `in`.
 #[cycle(statements)]
 #[tactic(auto, unfolding(template_compiler_reading::specs::Steps::and_then, template_compiler_statements::specs::Reader::here, template_compiler_statements::specs::Reader::here_by, template_compiler_statements::specs::Reader::for_in))]
-fn for_in<'source>(
+fn for_in<'source, R: ReadsExpressions>(
     alloc: Global,
     tokens: &mut TokenStream<'source>,
     left: u32,
@@ -240,10 +245,10 @@ fn for_in<'source>(
 ) -> Result<Spanned<Box<ForLoop<'source>>>, Refusal>
     ensures { ParsedAs (λ n. statement_of (statements.ForLoop n)) (for_in (here left) (around_of around) (expression_of target.entry) tokens.old) tokens.new result }
 {
-    let iter = read_condition(alloc, tokens, left)?;
-    let filter = read_loop_filter(alloc, tokens, left)?;
+    let iter = R::read_condition(alloc, tokens, left)?;
+    let filter = read_loop_filter::<R>(alloc, tokens, left)?;
     let recursive = parts::read_flag(tokens, "recursive");
-    for_body(
+    for_body::<R>(
         alloc, tokens, left, around, target, iter, filter, recursive, span,
     )
 }
@@ -251,7 +256,7 @@ fn for_in<'source>(
 // A loop, from the end of its tag on.
 #[cycle(statements)]
 #[tactic(auto, using(template_compiler_statement_parts::proofs::Again::tag_end_again), unfolding(template_compiler_reading::specs::Steps::and_then, template_compiler_statements::specs::Reader::here, template_compiler_statements::specs::Reader::here_by, template_compiler_statements::specs::Reader::for_body))]
-fn for_body<'source>(
+fn for_body<'source, R: ReadsExpressions>(
     alloc: Global,
     tokens: &mut TokenStream<'source>,
     left: u32,
@@ -267,8 +272,8 @@ fn for_body<'source>(
         tokens.new result }
 {
     parts::expect_tag_end(tokens)?;
-    let body = body(alloc, tokens, left, around.within_loop())?;
-    let else_body = otherwise(alloc, tokens, left, around, "endfor")?;
+    let body = body::<R>(alloc, tokens, left, around.within_loop())?;
+    let else_body = otherwise::<R>(alloc, tokens, left, around, "endfor")?;
     let node = ForLoop {
         target,
         iter,
@@ -282,7 +287,7 @@ fn for_body<'source>(
 
 #[cycle(statements)]
 #[tactic(auto, unfolding(template_compiler_reading::specs::Steps::and_then, template_compiler_statements::specs::Reader::if_by))]
-fn if_condition<'source>(
+fn if_condition<'source, R: ReadsExpressions>(
     alloc: Global,
     tokens: &mut TokenStream<'source>,
     left: u32,
@@ -291,9 +296,9 @@ fn if_condition<'source>(
 ) -> Result<Spanned<Box<IfCond<'source>>>, Refusal>
     ensures { ParsedAs (λ n. statement_of (statements.IfCond n)) (if_by (here left) (around_of around) tokens.old) tokens.new result }
 {
-    let first = read_branch(alloc, tokens, left, around, span)?;
-    let others = branches(alloc, tokens, left, around)?;
-    let last = otherwise(alloc, tokens, left, around, "endif")?;
+    let first = read_branch::<R>(alloc, tokens, left, around, span)?;
+    let others = branches::<R>(alloc, tokens, left, around)?;
+    let last = otherwise::<R>(alloc, tokens, left, around, "endif")?;
     let whole = tokens.expand_span(span);
     let false_body = branched(alloc, others, last, whole)?;
     Ok(makers::otherwise(first, false_body, whole))
@@ -302,7 +307,7 @@ fn if_condition<'source>(
 // A condition with its body.
 #[cycle(statements)]
 #[tactic(auto, using(template_compiler_statement_parts::proofs::Again::tag_end_again), unfolding(template_compiler_reading::specs::Steps::and_then, template_compiler_statements::specs::Reader::here, template_compiler_statements::specs::Reader::here_by, template_compiler_statements::specs::Reader::branch_by))]
-fn read_branch<'source>(
+fn read_branch<'source, R: ReadsExpressions>(
     alloc: Global,
     tokens: &mut TokenStream<'source>,
     left: u32,
@@ -312,11 +317,11 @@ fn read_branch<'source>(
     ensures { ParsedAs branch_in
         (branch_by (here left) (around_of around) tokens.old) tokens.new result }
 {
-    let expr = read_expression(alloc, tokens, left)?;
+    let expr = R::read_expression(alloc, tokens, left)?;
     parts::expect_tag_end(tokens)?;
     let node = IfCond {
         expr,
-        true_body: body(alloc, tokens, left, around)?,
+        true_body: body::<R>(alloc, tokens, left, around)?,
         false_body: Vec::new(alloc),
     };
     Ok(Spanned::boxed(alloc, node, span)?)
@@ -324,7 +329,7 @@ fn read_branch<'source>(
 
 // The branches behind the first one.
 #[cycle(statements)]
-fn branches<'source>(
+fn branches<'source, R: ReadsExpressions>(
     alloc: Global,
     tokens: &mut TokenStream<'source>,
     left: u32,
@@ -335,7 +340,7 @@ fn branches<'source>(
 {
     let mut branches = Vec::new(alloc);
     loop {
-        match next_branch(alloc, tokens, left, around, &mut branches) {
+        match next_branch::<R>(alloc, tokens, left, around, &mut branches) {
             Ok(true) => {}
             Ok(false) => return Ok(branches),
             Err(refusal) => return Err(refusal),
@@ -345,7 +350,7 @@ fn branches<'source>(
 
 #[cycle(statements)]
 #[tactic(auto, using(crate::proofs::Next::branch_here, crate::proofs::Next::no_branch, crate::proofs::Lists::branches_push), unfolding(template_compiler_reading::specs::Steps::under))]
-fn next_branch<'source>(
+fn next_branch<'source, R: ReadsExpressions>(
     alloc: Global,
     tokens: &mut TokenStream<'source>,
     left: u32,
@@ -359,7 +364,7 @@ fn next_branch<'source>(
         let span = tokens.span();
         tokens.advance();
         tokens.advance();
-        branches.push(read_branch(alloc, tokens, left, around, span)?)?;
+        branches.push(read_branch::<R>(alloc, tokens, left, around, span)?)?;
         Ok(true)
     } else {
         Ok(false)
@@ -368,7 +373,7 @@ fn next_branch<'source>(
 
 #[cycle(statements)]
 #[tactic(auto, using(template_compiler_statement_parts::proofs::Again::tag_end_again, template_compiler_statement_parts::proofs::Again::tag_again), unfolding(template_compiler_reading::specs::Steps::and_then, template_compiler_statements::specs::Reader::here, template_compiler_statements::specs::Reader::here_by, template_compiler_statements::specs::Reader::with_by, template_compiler_statements::specs::Reader::body_by))]
-fn with_block<'source>(
+fn with_block<'source, R: ReadsExpressions>(
     alloc: Global,
     tokens: &mut TokenStream<'source>,
     left: u32,
@@ -377,16 +382,16 @@ fn with_block<'source>(
 ) -> Result<Spanned<Box<WithBlock<'source>>>, Refusal>
     ensures { ParsedAs (λ n. statement_of (statements.WithBlock n)) (with_by (here left) (around_of around) tokens.old) tokens.new result }
 {
-    let assignments = read_assignments(alloc, tokens, left)?;
+    let assignments = read_assignments::<R>(alloc, tokens, left)?;
     parts::expect_tag_end(tokens)?;
-    let body = body(alloc, tokens, left, around)?;
+    let body = body::<R>(alloc, tokens, left, around)?;
     parts::expect_tag(tokens, "endwith")?;
     Ok(makers::with_block(alloc, assignments, body, tokens.expand_span(span))?)
 }
 
 #[cycle(statements)]
 #[tactic(auto, unfolding(template_compiler_reading::specs::Steps::and_then, template_compiler_statements::specs::Reader::here, template_compiler_statements::specs::Reader::here_by, template_compiler_statements::specs::Reader::set_by, template_compiler_statements::specs::Reader::set_behind))]
-fn set<'source>(
+fn set<'source, R: ReadsExpressions>(
     alloc: Global,
     tokens: &mut TokenStream<'source>,
     left: u32,
@@ -398,15 +403,15 @@ fn set<'source>(
     let start = tokens.span();
     let target = parts::read_target(alloc, tokens, left, true)?;
     if parts::begins_values(tokens) {
-        return leaves::read_set(alloc, tokens, left, target, start, span).map(Stmt::Set);
+        return leaves::read_set::<R>(alloc, tokens, left, target, start, span).map(Stmt::Set);
     }
-    set_block(alloc, tokens, left, around, target, span).map(Stmt::SetBlock)
+    set_block::<R>(alloc, tokens, left, around, target, span).map(Stmt::SetBlock)
 }
 
 // A set block, behind its target.
 #[cycle(statements)]
 #[tactic(auto, using(template_compiler_statement_parts::proofs::Again::tag_end_again, template_compiler_statement_parts::proofs::Again::tag_again), unfolding(template_compiler_reading::specs::Steps::and_then, template_compiler_statements::specs::Reader::here, template_compiler_statements::specs::Reader::here_by, template_compiler_statements::specs::Reader::set_body, template_compiler_statements::specs::Reader::body_by))]
-fn set_block<'source>(
+fn set_block<'source, R: ReadsExpressions>(
     alloc: Global,
     tokens: &mut TokenStream<'source>,
     left: u32,
@@ -416,16 +421,16 @@ fn set_block<'source>(
 ) -> Result<Spanned<Box<SetBlock<'source>>>, Refusal>
     ensures { ParsedAs (λ n. statement_of (statements.SetBlock n)) (set_body (here left) (around_of around) (expression_of target.entry) tokens.old) tokens.new result }
 {
-    let filter = read_filter_chain(alloc, tokens, left, None)?;
+    let filter = R::read_filter_chain(alloc, tokens, left, None)?;
     parts::expect_tag_end(tokens)?;
-    let body = body(alloc, tokens, left, around)?;
+    let body = body::<R>(alloc, tokens, left, around)?;
     parts::expect_tag(tokens, "endset")?;
     Ok(makers::set_block(alloc, target, filter, body, tokens.expand_span(span))?)
 }
 
 #[cycle(statements)]
 #[tactic(auto, using(template_compiler_statement_parts::proofs::Again::tag_end_again, template_compiler_statement_parts::proofs::Again::tag_again), unfolding(template_compiler_reading::specs::Steps::and_then, template_compiler_statements::specs::Reader::here, template_compiler_statements::specs::Reader::here_by, template_compiler_statements::specs::Reader::autoescape_by, template_compiler_statements::specs::Reader::body_by))]
-fn auto_escape<'source>(
+fn auto_escape<'source, R: ReadsExpressions>(
     alloc: Global,
     tokens: &mut TokenStream<'source>,
     left: u32,
@@ -434,16 +439,16 @@ fn auto_escape<'source>(
 ) -> Result<Spanned<Box<AutoEscape<'source>>>, Refusal>
     ensures { ParsedAs (λ n. statement_of (statements.AutoEscape n)) (autoescape_by (here left) (around_of around) tokens.old) tokens.new result }
 {
-    let enabled = read_expression(alloc, tokens, left)?;
+    let enabled = R::read_expression(alloc, tokens, left)?;
     parts::expect_tag_end(tokens)?;
-    let body = body(alloc, tokens, left, around)?;
+    let body = body::<R>(alloc, tokens, left, around)?;
     parts::expect_tag(tokens, "endautoescape")?;
     Ok(makers::auto_escape(alloc, enabled, body, tokens.expand_span(span))?)
 }
 
 #[cycle(statements)]
 #[tactic(auto, using(template_compiler_statement_parts::proofs::Again::tag_end_again, template_compiler_statement_parts::proofs::Again::tag_again), unfolding(template_compiler_reading::specs::Steps::and_then, template_compiler_statements::specs::Reader::here, template_compiler_statements::specs::Reader::here_by, template_compiler_statements::specs::Reader::filter_block_by, template_compiler_statements::specs::Reader::body_by))]
-fn filter_block<'source>(
+fn filter_block<'source, R: ReadsExpressions>(
     alloc: Global,
     tokens: &mut TokenStream<'source>,
     left: u32,
@@ -452,17 +457,17 @@ fn filter_block<'source>(
 ) -> Result<Stmt<'source>, Refusal>
     ensures { ParsedStatement (filter_block_by (here left) (around_of around) tokens.old) tokens.new result }
 {
-    let first = read_filter(alloc, tokens, left, None)?;
-    let filter = read_filter_chain(alloc, tokens, left, Some(first))?;
+    let first = R::read_filter(alloc, tokens, left, None)?;
+    let filter = R::read_filter_chain(alloc, tokens, left, Some(first))?;
     parts::expect_tag_end(tokens)?;
-    let body = body(alloc, tokens, left, around)?;
+    let body = body::<R>(alloc, tokens, left, around)?;
     parts::expect_tag(tokens, "endfilter")?;
     filtered_body(alloc, filter, body, tokens.expand_span(span))
 }
 
 #[cycle(statements)]
 #[tactic(auto, using(crate::proofs::Next::block_here, crate::proofs::Next::no_block), unfolding(template_compiler_reading::specs::Steps::and_then))]
-fn block<'source>(
+fn block<'source, R: ReadsExpressions>(
     alloc: Global,
     tokens: &mut TokenStream<'source>,
     left: u32,
@@ -478,7 +483,7 @@ fn block<'source>(
                 return Err(Refusal::Token(Fault::Syntax));
             }
             let required = parts::read_flag(tokens, "required");
-            block_behind(alloc, tokens, left, around, name, required, span)
+            block_behind::<R>(alloc, tokens, left, around, name, required, span)
         }
         None => Err(Refusal::Token(tokens.fault())),
     }
@@ -487,7 +492,7 @@ fn block<'source>(
 // A block, from the end of its tag on.
 #[cycle(statements)]
 #[tactic(auto, using(template_compiler_statement_parts::proofs::Again::tag_end_again, crate::proofs::Ended::block_end_again), unfolding(template_compiler_reading::specs::Steps::and_then, template_compiler_statements::specs::Reader::here, template_compiler_statements::specs::Reader::here_by, template_compiler_statements::specs::Reader::block_body))]
-fn block_behind<'source>(
+fn block_behind<'source, R: ReadsExpressions>(
     alloc: Global,
     tokens: &mut TokenStream<'source>,
     left: u32,
@@ -499,7 +504,7 @@ fn block_behind<'source>(
     ensures { ParsedAs (λ n. statement_of (statements.Block n)) (block_body (here left) (around_of around) name.now required tokens.old) tokens.new result }
 {
     parts::expect_tag_end(tokens)?;
-    let body = body(alloc, tokens, left, around.within_block())?;
+    let body = body::<R>(alloc, tokens, left, around.within_block())?;
     if !is_block_body(required, &body) {
         return Err(Refusal::Token(Fault::Syntax));
     }
@@ -509,7 +514,7 @@ fn block_behind<'source>(
 
 #[cycle(statements)]
 #[tactic(auto, using(crate::proofs::Next::macro_here, crate::proofs::Next::no_paren, crate::proofs::Next::no_macro))]
-fn macro_block<'source>(
+fn macro_block<'source, R: ReadsExpressions>(
     alloc: Global,
     tokens: &mut TokenStream<'source>,
     left: u32,
@@ -526,7 +531,7 @@ fn macro_block<'source>(
             if parts::is_reserved(name) {
                 return Err(Refusal::Token(Fault::Syntax));
             }
-            macro_behind(alloc, tokens, left, name, span)
+            macro_behind::<R>(alloc, tokens, left, name, span)
         }
         None => Err(Refusal::Token(tokens.fault())),
     }
@@ -535,7 +540,7 @@ fn macro_block<'source>(
 // A macro, behind the `(` of its arguments.
 #[cycle(statements)]
 #[tactic(auto, using(template_compiler_statement_parts::proofs::Again::tag_end_again, template_compiler_statement_parts::proofs::Again::tag_again), unfolding(template_compiler_reading::specs::Steps::and_then, template_compiler_statements::specs::Reader::here, template_compiler_statements::specs::Reader::here_by, template_compiler_statements::specs::Reader::body_by))]
-fn macro_behind<'source>(
+fn macro_behind<'source, R: ReadsExpressions>(
     alloc: Global,
     tokens: &mut TokenStream<'source>,
     left: u32,
@@ -544,9 +549,9 @@ fn macro_behind<'source>(
 ) -> Result<Spanned<Box<Macro<'source>>>, Refusal>
     ensures { ParsedAs (λ n. statement_of (statements.Macro n)) (macro_behind (here left) name.now tokens.old) tokens.new result }
 {
-    let parameters = read_deeper_parameters(alloc, tokens, left)?;
+    let parameters = read_deeper_parameters::<R>(alloc, tokens, left)?;
     parts::expect_tag_end(tokens)?;
-    let body = body(alloc, tokens, left, Around::within_macro())?;
+    let body = body::<R>(alloc, tokens, left, Around::within_macro())?;
     parts::expect_tag(tokens, "endmacro")?;
     let node = Macro {
         name,
@@ -559,7 +564,7 @@ fn macro_behind<'source>(
 
 #[cycle(statements)]
 #[tactic(auto, using(template_compiler_statement_leaves::proofs::Calls::call_here, template_compiler_statement_leaves::proofs::Calls::no_call), unfolding(template_compiler_reading::specs::Steps::and_then, template_compiler_statements::specs::Reader::here, template_compiler_statements::specs::Reader::here_by, template_compiler_statements::specs::Reader::call_by))]
-fn call_block<'source>(
+fn call_block<'source, R: ReadsExpressions>(
     alloc: Global,
     tokens: &mut TokenStream<'source>,
     left: u32,
@@ -567,10 +572,10 @@ fn call_block<'source>(
 ) -> Result<Spanned<Box<CallBlock<'source>>>, Refusal>
     ensures { ParsedAs (λ n. statement_of (statements.CallBlock n)) (call_by (here left) tokens.old) tokens.new result }
 {
-    let parameters = read_optional_parameters(alloc, tokens, left)?;
-    let expr = read_expression(alloc, tokens, left)?;
+    let parameters = read_optional_parameters::<R>(alloc, tokens, left)?;
+    let expr = R::read_expression(alloc, tokens, left)?;
     match expr.into_call() {
-        Some(call) => call_behind(alloc, tokens, left, parameters, call, span),
+        Some(call) => call_behind::<R>(alloc, tokens, left, parameters, call, span),
         None => Err(Refusal::Token(Fault::Syntax)),
     }
 }
@@ -578,7 +583,7 @@ fn call_block<'source>(
 // A call block, behind its call.
 #[cycle(statements)]
 #[tactic(auto, using(template_compiler_statement_parts::proofs::Again::tag_end_again, template_compiler_statement_parts::proofs::Again::tag_again), unfolding(template_compiler_reading::specs::Steps::and_then, template_compiler_statements::specs::Reader::here, template_compiler_statements::specs::Reader::here_by, template_compiler_statements::specs::Reader::call_body, template_compiler_statements::specs::Reader::body_by))]
-fn call_behind<'source>(
+fn call_behind<'source, R: ReadsExpressions>(
     alloc: Global,
     tokens: &mut TokenStream<'source>,
     left: u32,
@@ -590,7 +595,7 @@ fn call_behind<'source>(
         (arguments_in call.entry.node.value.args.items) tokens.old) tokens.new result }
 {
     parts::expect_tag_end(tokens)?;
-    let body = body(alloc, tokens, left, Around::within_macro())?;
+    let body = body::<R>(alloc, tokens, left, Around::within_macro())?;
     parts::expect_tag(tokens, "endcall")?;
     let node = Macro {
         name: "caller",

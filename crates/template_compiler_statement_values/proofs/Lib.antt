@@ -2,3 +2,4 @@ pub mod Less
 pub mod Lists
 pub mod Opened
 pub mod Standing
+pub mod Assigned

@@ -7,8 +7,8 @@ ghost use Rattle.template_compiler_statements.specs.Reader.{deeper_parameters, h
 ghost use Rattle.template_compiler_statements.specs.Trees.{no_parameters};
 ghost use Rattle.template_compiler_reading.specs.Steps.{all};
 
+use crate::expressions::ReadsExpressions;
 use std::alloc::Global;
-use template_compiler_expression_parser::read_expression;
 use template_compiler_statement_parts::{expect_paren_end, read_stored};
 use template_compiler_stream::{Fault, Refusal, Sign, TokenStream};
 use template_tree::Expr;
@@ -35,7 +35,7 @@ fn no_parameters<'source>(alloc: Global) -> Parameters<'source>
 ///
 /// The fault of the token that does not fit, or want of memory.
 #[tactic(auto, using(template_compiler_statement_parts::proofs::Standing::no_parens), unfolding(crate::proofs::Opened::optional_read))]
-pub fn read_optional_parameters<'source>(
+pub fn read_optional_parameters<'source, R: ReadsExpressions>(
     alloc: Global,
     tokens: &mut TokenStream<'source>,
     left: u32,
@@ -43,7 +43,7 @@ pub fn read_optional_parameters<'source>(
     ensures { ParsedAs parameters_of (optional_parameters_by (here left) tokens.old) tokens.new result }
 {
     if tokens.skip(Sign::ParenOpen) {
-        read_deeper_parameters(alloc, tokens, left)
+        read_deeper_parameters::<R>(alloc, tokens, left)
     } else {
         Ok(no_parameters(alloc))
     }
@@ -55,7 +55,7 @@ pub fn read_optional_parameters<'source>(
 ///
 /// The fault of the token that does not fit, or want of memory.
 #[tactic(auto, unfolding(template_compiler_statements::specs::Reader::deeper_parameters))]
-pub fn read_deeper_parameters<'source>(
+pub fn read_deeper_parameters<'source, R: ReadsExpressions>(
     alloc: Global,
     tokens: &mut TokenStream<'source>,
     left: u32,
@@ -65,12 +65,12 @@ pub fn read_deeper_parameters<'source>(
     if left == 0 {
         Err(Refusal::Token(Fault::Syntax))
     } else {
-        read_parameters(alloc, tokens, left - 1)
+        read_parameters::<R>(alloc, tokens, left - 1)
     }
 }
 
 #[tactic(auto, using(crate::proofs::Standing::parameters_next), unfolding(crate::proofs::Opened::parameters_read))]
-fn read_parameters<'source>(
+fn read_parameters<'source, R: ReadsExpressions>(
     alloc: Global,
     tokens: &mut TokenStream<'source>,
     left: u32,
@@ -81,14 +81,14 @@ fn read_parameters<'source>(
     if tokens.skip(Sign::ParenClose) {
         return Ok(parameters);
     }
-    read_parameter(alloc, tokens, left, &mut parameters)?;
-    all_parameters(alloc, tokens, left, &mut parameters)?;
+    read_parameter::<R>(alloc, tokens, left, &mut parameters)?;
+    all_parameters::<R>(alloc, tokens, left, &mut parameters)?;
     expect_paren_end(tokens)?;
     Ok(parameters)
 }
 
 #[tactic(auto, using(crate::proofs::Standing::parameter_next), unfolding(crate::proofs::Opened::parameter_read))]
-fn read_parameter<'source>(
+fn read_parameter<'source, R: ReadsExpressions>(
     alloc: Global,
     tokens: &mut TokenStream<'source>,
     left: u32,
@@ -99,7 +99,7 @@ fn read_parameter<'source>(
 {
     let name = read_stored(tokens)?;
     if tokens.skip(Sign::Assign) {
-        let default = read_expression(alloc, tokens, left)?;
+        let default = R::read_expression(alloc, tokens, left)?;
         parameters.args.push(name)?;
         parameters.defaults.push(default)?;
         Ok(())
@@ -118,7 +118,7 @@ fn has_no_default<'source>(parameters: &Parameters<'source>) -> bool
     parameters.defaults.is_empty()
 }
 
-fn all_parameters<'source>(
+fn all_parameters<'source, R: ReadsExpressions>(
     alloc: Global,
     tokens: &mut TokenStream<'source>,
     left: u32,
@@ -128,7 +128,7 @@ fn all_parameters<'source>(
         (parameters_of parameters.new) tokens.new result }
 {
     loop {
-        match next_parameter(alloc, tokens, left, parameters) {
+        match next_parameter::<R>(alloc, tokens, left, parameters) {
             Ok(true) => {}
             Ok(false) => return Ok(()),
             Err(refusal) => return Err(refusal),
@@ -137,7 +137,7 @@ fn all_parameters<'source>(
 }
 
 #[tactic(auto, using(template_compiler_statement_parts::proofs::Standing::no_more), unfolding(crate::proofs::Opened::more_read))]
-fn next_parameter<'source>(
+fn next_parameter<'source, R: ReadsExpressions>(
     alloc: Global,
     tokens: &mut TokenStream<'source>,
     left: u32,
@@ -147,7 +147,7 @@ fn next_parameter<'source>(
         (parameters_of parameters.old) tokens.old (parameters_of parameters.new) tokens.new result }
 {
     if tokens.skip(Sign::Comma) {
-        read_parameter(alloc, tokens, left, parameters)?;
+        read_parameter::<R>(alloc, tokens, left, parameters)?;
         Ok(true)
     } else {
         Ok(false)

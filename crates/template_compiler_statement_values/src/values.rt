@@ -8,8 +8,8 @@ ghost use Rattle.template_compiler_reading.specs.Steps.{all};
 ghost use Rattle.template_tree.specs.View.{expression_of, expressions_in, optional_in};
 ghost use Rattle.template_tree_statements.specs.View.{assignments_in};
 
+use crate::expressions::ReadsExpressions;
 use std::alloc::{AllocError, Global};
-use template_compiler_expression_parser::read_expression;
 use template_compiler_statement_parts::{expect_assign, read_target};
 use template_compiler_stream::{Refusal, Sign, TokenStream};
 use template_tree::{Expr, Span};
@@ -20,7 +20,7 @@ use template_tree::{Expr, Span};
 ///
 /// The fault of the token that does not fit, or want of memory.
 #[tactic(auto, unfolding(template_compiler_reading::specs::Steps::and_then, template_compiler_statements::specs::Reader::values_by))]
-pub fn read_values<'source>(
+pub fn read_values<'source, R: ReadsExpressions>(
     alloc: Global,
     tokens: &mut TokenStream<'source>,
     left: u32,
@@ -29,13 +29,13 @@ pub fn read_values<'source>(
 {
     let span = tokens.span();
     let mut values = Vec::new(alloc);
-    read_value(alloc, tokens, left, &mut values)?;
-    all_values(alloc, tokens, left, &mut values)?;
+    read_value::<R>(alloc, tokens, left, &mut values)?;
+    all_values::<R>(alloc, tokens, left, &mut values)?;
     Ok(together(alloc, values, tokens.expand_span(span))?)
 }
 
 #[tactic(auto, using(template_compiler_statement_parts::proofs::Lists::expressions_push), unfolding(crate::proofs::Opened::value_read))]
-fn read_value<'source>(
+fn read_value<'source, R: ReadsExpressions>(
     alloc: Global,
     tokens: &mut TokenStream<'source>,
     left: u32,
@@ -44,12 +44,12 @@ fn read_value<'source>(
     ensures { ParsedInto (value_by (expression_at left) (expressions_in values.old.items) tokens.old)
         (expressions_in values.new.items) tokens.new result }
 {
-    let value = read_expression(alloc, tokens, left)?;
+    let value = R::read_expression(alloc, tokens, left)?;
     values.push(value)?;
     Ok(())
 }
 
-fn all_values<'source>(
+fn all_values<'source, R: ReadsExpressions>(
     alloc: Global,
     tokens: &mut TokenStream<'source>,
     left: u32,
@@ -59,7 +59,7 @@ fn all_values<'source>(
         (expressions_in values.new.items) tokens.new result }
 {
     loop {
-        match next_value(alloc, tokens, left, values) {
+        match next_value::<R>(alloc, tokens, left, values) {
             Ok(true) => {}
             Ok(false) => return Ok(()),
             Err(refusal) => return Err(refusal),
@@ -68,7 +68,7 @@ fn all_values<'source>(
 }
 
 #[tactic(auto, using(template_compiler_statement_parts::proofs::Standing::no_more), unfolding(crate::proofs::Opened::more_read))]
-fn next_value<'source>(
+fn next_value<'source, R: ReadsExpressions>(
     alloc: Global,
     tokens: &mut TokenStream<'source>,
     left: u32,
@@ -78,7 +78,7 @@ fn next_value<'source>(
         (expressions_in values.old.items) tokens.old (expressions_in values.new.items) tokens.new result }
 {
     if tokens.skip(Sign::Comma) {
-        read_value(alloc, tokens, left, values)?;
+        read_value::<R>(alloc, tokens, left, values)?;
         Ok(true)
     } else {
         Ok(false)
@@ -109,7 +109,7 @@ fn together<'source>(
 ///
 /// The fault of the token that does not fit, or want of memory.
 #[tactic(auto, using(crate::proofs::Standing::assignments_next), unfolding(crate::proofs::Opened::assignments_read))]
-pub fn read_assignments<'source>(
+pub fn read_assignments<'source, R: ReadsExpressions>(
     alloc: Global,
     tokens: &mut TokenStream<'source>,
     left: u32,
@@ -120,13 +120,13 @@ pub fn read_assignments<'source>(
     if tokens.ends_tag() {
         return Ok(pairs);
     }
-    read_assignment(alloc, tokens, left, &mut pairs)?;
-    all_assignments(alloc, tokens, left, &mut pairs)?;
+    read_assignment::<R>(alloc, tokens, left, &mut pairs)?;
+    all_assignments::<R>(alloc, tokens, left, &mut pairs)?;
     Ok(pairs)
 }
 
 #[tactic(auto, using(crate::proofs::Standing::assignment_next), unfolding(crate::proofs::Opened::assignment_read))]
-fn read_assignment<'source>(
+fn read_assignment<'source, R: ReadsExpressions>(
     alloc: Global,
     tokens: &mut TokenStream<'source>,
     left: u32,
@@ -137,12 +137,12 @@ fn read_assignment<'source>(
 {
     let target = read_target(alloc, tokens, left, false)?;
     expect_assign(tokens)?;
-    let value = read_expression(alloc, tokens, left)?;
+    let value = R::read_expression(alloc, tokens, left)?;
     pairs.push((target, value))?;
     Ok(())
 }
 
-fn all_assignments<'source>(
+fn all_assignments<'source, R: ReadsExpressions>(
     alloc: Global,
     tokens: &mut TokenStream<'source>,
     left: u32,
@@ -152,7 +152,7 @@ fn all_assignments<'source>(
         (assignments_in pairs.new.items) tokens.new result }
 {
     loop {
-        match next_assignment(alloc, tokens, left, pairs) {
+        match next_assignment::<R>(alloc, tokens, left, pairs) {
             Ok(true) => {}
             Ok(false) => return Ok(()),
             Err(refusal) => return Err(refusal),
@@ -161,7 +161,7 @@ fn all_assignments<'source>(
 }
 
 #[tactic(auto, using(template_compiler_statement_parts::proofs::Standing::no_more), unfolding(crate::proofs::Opened::more_read))]
-fn next_assignment<'source>(
+fn next_assignment<'source, R: ReadsExpressions>(
     alloc: Global,
     tokens: &mut TokenStream<'source>,
     left: u32,
@@ -171,7 +171,7 @@ fn next_assignment<'source>(
         (assignments_in pairs.old.items) tokens.old (assignments_in pairs.new.items) tokens.new result }
 {
     if tokens.skip(Sign::Comma) {
-        read_assignment(alloc, tokens, left, pairs)?;
+        read_assignment::<R>(alloc, tokens, left, pairs)?;
         Ok(true)
     } else {
         Ok(false)
@@ -184,7 +184,7 @@ fn next_assignment<'source>(
 ///
 /// The fault of the token that does not fit, or want of memory.
 #[tactic(auto, using(template_compiler_statement_parts::proofs::Standing::no_filter), unfolding(crate::proofs::Opened::filter_read))]
-pub fn read_loop_filter<'source>(
+pub fn read_loop_filter<'source, R: ReadsExpressions>(
     alloc: Global,
     tokens: &mut TokenStream<'source>,
     left: u32,
@@ -192,7 +192,7 @@ pub fn read_loop_filter<'source>(
     ensures { ParsedAs optional_in (loop_filter_by (expression_at left) tokens.old) tokens.new result }
 {
     if tokens.skip_word("if") {
-        let filter = read_expression(alloc, tokens, left)?;
+        let filter = R::read_expression(alloc, tokens, left)?;
         Ok(Some(filter))
     } else {
         Ok(None)

@@ -9,92 +9,92 @@ use Rattle.template_compiler_statement_parser.specs.Bodies.{branches_in}
 use Rattle.template_compiler_statement_parser.proofs.statements.+statements.Given as goal
 
 abbrev pub decreases-body : goal.decreases-body
-decreases-body l = 16 * l.left + 1
+decreases-body g l = 16 * l.left + 1
 
 abbrev pub decreases-ended_body : goal.decreases-ended_body
-decreases-ended_body l = 16 * l.left + 2
+decreases-ended_body g l = 16 * l.left + 2
 
 abbrev pub decreases-otherwise : goal.decreases-otherwise
-decreases-otherwise l = 16 * l.left + 6
+decreases-otherwise g l = 16 * l.left + 6
 
 abbrev pub decreases-read_branch : goal.decreases-read_branch
-decreases-read_branch l = 16 * l.left + 3
+decreases-read_branch g l = 16 * l.left + 3
 
 abbrev pub decreases-next_branch : goal.decreases-next_branch
-decreases-next_branch l = 16 * l.left + 4
+decreases-next_branch g l = 16 * l.left + 4
 
 abbrev pub decreases-branches : goal.decreases-branches
-decreases-branches l = 16 * l.left + 5
+decreases-branches g l = 16 * l.left + 5
 
 abbrev pub decreases-if_condition : goal.decreases-if_condition
-decreases-if_condition l = 16 * l.left + 7
+decreases-if_condition g l = 16 * l.left + 7
 
 abbrev pub decreases-for_body : goal.decreases-for_body
-decreases-for_body l = 16 * l.left + 7
+decreases-for_body g l = 16 * l.left + 7
 
 abbrev pub decreases-for_in : goal.decreases-for_in
-decreases-for_in l = 16 * l.left + 8
+decreases-for_in g l = 16 * l.left + 8
 
 abbrev pub decreases-for_loop : goal.decreases-for_loop
-decreases-for_loop l = 16 * l.left + 9
+decreases-for_loop g l = 16 * l.left + 9
 
 abbrev pub decreases-with_block : goal.decreases-with_block
-decreases-with_block l = 16 * l.left + 4
+decreases-with_block g l = 16 * l.left + 4
 
 abbrev pub decreases-set_block : goal.decreases-set_block
-decreases-set_block l = 16 * l.left + 4
+decreases-set_block g l = 16 * l.left + 4
 
 abbrev pub decreases-set : goal.decreases-set
-decreases-set l = 16 * l.left + 5
+decreases-set g l = 16 * l.left + 5
 
 abbrev pub decreases-auto_escape : goal.decreases-auto_escape
-decreases-auto_escape l = 16 * l.left + 4
+decreases-auto_escape g l = 16 * l.left + 4
 
 abbrev pub decreases-filter_block : goal.decreases-filter_block
-decreases-filter_block l = 16 * l.left + 4
+decreases-filter_block g l = 16 * l.left + 4
 
 abbrev pub decreases-block_behind : goal.decreases-block_behind
-decreases-block_behind l = 16 * l.left + 4
+decreases-block_behind g l = 16 * l.left + 4
 
 abbrev pub decreases-block : goal.decreases-block
-decreases-block l = 16 * l.left + 5
+decreases-block g l = 16 * l.left + 5
 
 abbrev pub decreases-macro_behind : goal.decreases-macro_behind
-decreases-macro_behind l = 16 * l.left + 4
+decreases-macro_behind g l = 16 * l.left + 4
 
 abbrev pub decreases-macro_block : goal.decreases-macro_block
-decreases-macro_block l = 16 * l.left + 5
+decreases-macro_block g l = 16 * l.left + 5
 
 abbrev pub decreases-call_block : goal.decreases-call_block
-decreases-call_block l = 16 * l.left + 5
+decreases-call_block g l = 16 * l.left + 5
 
 abbrev pub decreases-call_behind : goal.decreases-call_behind
-decreases-call_behind l = 16 * l.left + 4
+decreases-call_behind g l = 16 * l.left + 4
 
 abbrev pub decreases-opened : goal.decreases-opened
-decreases-opened l = 16 * l.left + 10
+decreases-opened g l = 16 * l.left + 10
 
 abbrev pub decreases-next_tag : goal.decreases-next_tag
-decreases-next_tag l = 16 * l.left + 11
+decreases-next_tag g l = 16 * l.left + 11
 
 abbrev pub decreases-next_statement : goal.decreases-next_statement
-decreases-next_statement l = 16 * l.left + 12
+decreases-next_statement g l = 16 * l.left + 12
 
 abbrev pub decreases-read_statements : goal.decreases-read_statements
-decreases-read_statements l = 16 * l.left + 13
+decreases-read_statements g l = 16 * l.left + 13
 
 abbrev pub invariant-read_statements-loop-statements : goal.invariant-read_statements-loop-statements
-invariant-read_statements-loop-statements l =
+invariant-read_statements-loop-statements g l =
     all (statement_step (here l.left) (around_of l.around)) (statements_in l.statements.items) l.tokens ≡
     all (statement_step (here l.left) (around_of l.around)) no_statements l.initial.tokens
 
 abbrev pub decreases-read_statements-loop-statements : goal.decreases-read_statements-loop-statements
-decreases-read_statements-loop-statements l = length l.tokens
+decreases-read_statements-loop-statements g l = length l.tokens
 
 abbrev pub invariant-branches-loop-branches : goal.invariant-branches-loop-branches
-invariant-branches-loop-branches l =
+invariant-branches-loop-branches g l =
     all (branch_step (here l.left) (around_of l.around)) (branches_in l.branches.items) l.tokens ≡
     all (branch_step (here l.left) (around_of l.around)) no_branches l.initial.tokens
 
 abbrev pub decreases-branches-loop-branches : goal.decreases-branches-loop-branches
-decreases-branches-loop-branches l = length l.tokens
+decreases-branches-loop-branches g l = length l.tokens

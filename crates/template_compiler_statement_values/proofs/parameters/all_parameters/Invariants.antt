@@ -6,8 +6,8 @@ use Rattle.template_compiler_statements.specs.Reader.{more_step, parameter_by}
 use Rattle.template_compiler_statement_values.proofs.parameters.all_parameters.Given as goal
 
 abbrev pub invariant-loop-refusal : goal.invariant-loop-refusal
-invariant-loop-refusal l =
+invariant-loop-refusal g l =
     all (more_step (parameter_by (expression_at l.left))) (parameters_of l.parameters) l.tokens ≡ all (more_step (parameter_by (expression_at l.left))) (parameters_of l.initial.parameters) l.initial.tokens
 
 abbrev pub decreases-loop-refusal : goal.decreases-loop-refusal
-decreases-loop-refusal l = length l.tokens
+decreases-loop-refusal g l = length l.tokens

@@ -6,19 +6,19 @@ use Rattle.template_compiler_statement_parts.proofs.Rounds.{rounds_end, rounds_g
 use Rattle.template_compiler_statement_values.proofs.values.all_assignments.Goals as goal
 
 pub returns-in-Ok-false : goal.returns-in-Ok-false
-returns-in-Ok-false c =
+returns-in-Ok-false g c =
     let ended = rw c.in-Ok-false.field-0-test at c.in-Ok-false.ensures in
     rounds_end (more_step (assignment_by (here c.args.left))) _ _ _ _ _ _ c.loop-refusal.invariant ended
 
 pub returns-in-Err : goal.returns-in-Err
-returns-in-Err c = rounds_refused (more_step (assignment_by (here c.args.left))) _ _ _ _ c.in-Err.refusal c.loop-refusal.invariant c.in-Err.ensures
+returns-in-Err g c = rounds_refused (more_step (assignment_by (here c.args.left))) _ _ _ _ c.in-Err.refusal c.loop-refusal.invariant c.in-Err.ensures
 
 pub loop-refusal-preserved : goal.loop-refusal-preserved
-loop-refusal-preserved c =
+loop-refusal-preserved g c =
     let more = rw c.in-Ok-true.field-0-test at c.in-Ok-true.ensures in
     rounds_go (more_step (assignment_by (here c.args.left))) (next_assignment_takes c.args.left) _ _ _ _ _ _ c.loop-refusal.invariant more
 
 pub loop-refusal-smaller : goal.loop-refusal-smaller
-loop-refusal-smaller c =
+loop-refusal-smaller g c =
     let more = rw c.in-Ok-true.field-0-test at c.in-Ok-true.ensures in
     next_assignment_takes c.args.left _ _ _ _ more

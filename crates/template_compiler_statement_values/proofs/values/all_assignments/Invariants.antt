@@ -5,8 +5,8 @@ use Rattle.template_compiler_statements.specs.Reader.{more_step, assignment_by, 
 use Rattle.template_compiler_statement_values.proofs.values.all_assignments.Given as goal
 
 abbrev pub invariant-loop-refusal : goal.invariant-loop-refusal
-invariant-loop-refusal l =
+invariant-loop-refusal g l =
     all (more_step (assignment_by (here l.left))) (assignments_in l.pairs.items) l.tokens ≡ all (more_step (assignment_by (here l.left))) (assignments_in l.initial.pairs.items) l.initial.tokens
 
 abbrev pub decreases-loop-refusal : goal.decreases-loop-refusal
-decreases-loop-refusal l = length l.tokens
+decreases-loop-refusal g l = length l.tokens

@@ -1,0 +1,18 @@
+-- A target, a sign and a value are an assignment.
+use Rattle.std.proofs.Common.{◌≡◌, ◌∙◌, ℕ, false, List, Ok, ap}
+use Rattle.template_tree.specs.Tree.{Expression, Assignments}
+use Rattle.template_compiler_tokens.specs.Token.{Token}
+use Rattle.template_compiler_reading.specs.Steps.{and_then}
+use Rattle.template_compiler_expressions.specs.Reader.{expression_at}
+use Rattle.template_compiler_statements.specs.Reader.{assignment_by, expect_assign, here, here_by, inner_targets, target_by}
+use Rattle.template_compiler_statements.specs.Trees.{and_assignment}
+use Rattle.template_compiler_statement_parts.proofs.Again.{again, assign_again, unit}
+
+pub assignment_is : (left : ℕ) (gs : Assignments) (ts us vs ws : List Token) (t e : Expression) →
+    target_by false (inner_targets false left) ts ≡ Ok (t, us) → expect_assign unit us ≡ Ok (unit, vs) → expression_at left vs ≡ Ok (e, ws) →
+    assignment_by (here left) gs ts ≡ Ok (and_assignment gs t e, ws)
+unfolding and_then here here_by assignment_by
+assignment_is left gs ts us vs ws t e a b c =
+    ap (λ r. and_then r (λ t us. and_then (expect_assign t us) (λ t vs. and_then (expression_at left vs) (λ e ws. Ok (and_assignment gs t e, ws))))) a
+    ∙ ap (λ r. and_then r (λ t vs. and_then (expression_at left vs) (λ e ws. Ok (and_assignment gs t e, ws)))) (assign_again t us ∙ ap (again t) b)
+    ∙ ap (λ r. and_then r (λ e ws. Ok (and_assignment gs t e, ws))) c
