@@ -12,8 +12,8 @@
 mod renders;
 mod requests;
 mod sizes;
-mod sources;
 mod tasks;
+mod works;
 
 use crate::sizes::answer_size;
 use crate::tasks::answer_time;

@@ -2,7 +2,7 @@
 use std::alloc::Global;
 use std::hint::black_box;
 use std::time::{Duration, Instant};
-use template_environment::Environment;
+use template_environment::{Environment, Template};
 use template_machine_ids::StateIds;
 use template_values_core::Value;
 use template_values_errors::Error;
@@ -27,8 +27,16 @@ pub(crate) fn add_template(rt: &HostRuntime) -> Option<Duration> {
     let source = "text {{ x }}\n".repeat(rt.alloc(), PRINTS).ok()?;
     let mut ids = StateIds::new(0);
     let mut environment = Environment::new(rt.alloc(), &mut ids).ok()?;
+    time_addition(rt, &mut environment, source.as_str())
+}
+
+fn time_addition<'source>(
+    rt: &HostRuntime,
+    environment: &mut Environment<'source>,
+    source: &'source str,
+) -> Option<Duration> {
     let start = Instant::now(rt).ok()?;
-    environment.add_template("t.txt", source.as_str()).ok()?;
+    environment.add_template("t.txt", source).ok()?;
     start.elapsed(rt).ok()
 }
 
@@ -55,16 +63,36 @@ fn numbers(alloc: Global, count: u32) -> Option<Value> {
 
 // The time of a render over a context of one name.
 fn render(rt: &HostRuntime, source: &str, name: &str, value: Value) -> Option<Duration> {
+    let context = context_of(rt.alloc(), name, value)?;
     let mut ids = StateIds::new(0);
     let environment = environment_of(rt.alloc(), source, &mut ids).ok()?;
+    render_in(rt, &environment, &mut ids, context)
+}
+
+fn context_of(alloc: Global, name: &str, value: Value) -> Option<Value> {
+    let pairs = vec![in alloc; (name, value)].ok()?;
+    Value::from_pairs(alloc, pairs).ok()
+}
+
+fn render_in(
+    rt: &HostRuntime,
+    environment: &Environment<'_>,
+    ids: &mut StateIds,
+    context: Value,
+) -> Option<Duration> {
     let template = environment.get_template("t.txt").ok()?;
-    let pairs = vec![in rt.alloc(); (name, value)].ok()?;
-    let context = Value::from_pairs(rt.alloc(), pairs).ok()?;
+    time_render(rt, &template, ids, context)
+}
+
+fn time_render(
+    rt: &HostRuntime,
+    template: &Template<'_, '_>,
+    ids: &mut StateIds,
+    context: Value,
+) -> Option<Duration> {
     let mut out = String::new(rt.alloc());
     let start = Instant::now(rt).ok()?;
-    template
-        .render_captured_to(&mut ids, context, &mut out)
-        .ok()?;
+    template.render_captured_to(ids, context, &mut out).ok()?;
     let time = start.elapsed(rt).ok()?;
     black_box(out.as_str().len());
     Some(time)

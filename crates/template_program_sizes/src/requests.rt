@@ -1,165 +1,130 @@
-//! Requests with long sources, and with many statements, templates, names, definitions, rounds and includes.
+//! Requests, and what is asked of each: what it writes, beside what it is to write.
 use crate::sizes::Came;
 use anyhow::bail;
 use std::alloc::Global;
 use template_machine_ids::StateIds;
 use template_program_run::{Command, Outcome, Request, run};
+use template_values_errors::{Error, ErrorKind};
 use template_values_modes::UndefinedBehavior;
+
+/// The name of the main template, where it is the only one or the first.
+pub(crate) const MAIN: &str = "t.txt";
 
 // How deep a render may be.
 const DEFAULT_LIMIT: usize = 500;
 
-const MANY: usize = 1000;
-
-/// How many is many, for items.
-pub(crate) const ITEMS: usize = 100_000;
-
-/// What a request has, and what it is to write.
-#[derive(Drop)]
-pub(crate) struct Case {
-    pub(crate) templates: Vec<(String, String)>,
-    pub(crate) context: Option<String>,
-    pub(crate) request: Request,
-    pub(crate) wanted: String,
+/// A name and a text, as templates and definitions have them.
+pub(crate) fn pair(alloc: Global, name: &str, text: &str) -> Result<(String, String), Error> {
+    let name = String::from_str(alloc, name)?;
+    Ok((name, String::from_str(alloc, text)?))
 }
 
-fn new_case(alloc: Global, command: Command, main: &str) -> anyhow::Result<Case> {
-    Ok(Case {
-        templates: Vec::new(alloc),
-        context: None,
-        request: Request {
-            main: String::from_str(alloc, main)?,
-            texts: Vec::new(alloc),
-            fuel: None,
-            limit: DEFAULT_LIMIT,
-            undefined: UndefinedBehavior::Lenient,
-            command,
-        },
-        wanted: String::new(alloc),
+/// The main template alone.
+pub(crate) fn main_template(alloc: Global, source: &str) -> Result<Vec<(String, String)>, Error> {
+    let mut templates = Vec::with_capacity(alloc, 2)?;
+    templates.push(pair(alloc, MAIN, source)?)?;
+    Ok(templates)
+}
+
+/// A request of that command, with definitions.
+pub(crate) fn request_of(
+    alloc: Global,
+    command: Command,
+    main: &str,
+    texts: Vec<(String, String)>,
+) -> Result<Request, Error> {
+    Ok(Request {
+        main: String::from_str(alloc, main)?,
+        texts,
+        fuel: None,
+        limit: DEFAULT_LIMIT,
+        undefined: UndefinedBehavior::Lenient,
+        command,
     })
 }
 
-/// A request that renders a source over an empty context.
-pub(crate) fn rendering(alloc: Global, source: String) -> anyhow::Result<Case> {
-    let mut case = new_case(alloc, Command::Render, "t.txt")?;
-    let name = String::from_str(alloc, "t.txt")?;
-    case.templates.push((name, source))?;
-    Ok(case)
+/// What a source renders to over a context.
+pub(crate) fn rendered(
+    alloc: Global,
+    source: &str,
+    context: Option<&str>,
+    wanted: &str,
+) -> anyhow::Result<Came> {
+    let templates = main_template(alloc, source)?;
+    rendered_among(alloc, templates.as_slice(), context, wanted)
 }
 
-/// What the request writes, beside what it is to write.
-pub(crate) fn answered(alloc: Global, case: &Case) -> anyhow::Result<Came> {
+/// What the first of the templates, which has that name, renders to over a context.
+pub(crate) fn rendered_among(
+    alloc: Global,
+    templates: &[(String, String)],
+    context: Option<&str>,
+    wanted: &str,
+) -> anyhow::Result<Came> {
+    let request = request_of(alloc, Command::Render, MAIN, Vec::new(alloc))?;
+    answered(alloc, &request, templates, context, wanted)
+}
+
+/// What a source renders to under definitions.
+pub(crate) fn rendered_under(
+    alloc: Global,
+    source: &str,
+    definitions: Vec<(String, String)>,
+    wanted: &str,
+) -> anyhow::Result<Came> {
+    let request = request_of(alloc, Command::Render, MAIN, definitions)?;
+    let templates = main_template(alloc, source)?;
+    answered(alloc, &request, templates.as_slice(), None, wanted)
+}
+
+/// What a request writes.
+pub(crate) fn answered(
+    alloc: Global,
+    request: &Request,
+    templates: &[(String, String)],
+    context: Option<&str>,
+    wanted: &str,
+) -> anyhow::Result<Came> {
     let mut out = String::new(alloc);
-    let templates = case.templates.as_slice();
-    let context = match &case.context {
-        Some(json) => Some(json.as_bytes()),
-        None => None,
-    };
-    let mut ids = StateIds::new(0);
-    match run(alloc, &case.request, templates, context, &mut ids, &mut out) {
-        Outcome::Done => Ok(Came::compared(out.as_bytes(), case.wanted.as_bytes())),
+    match outcome_of(alloc, request, templates, context, &mut out) {
+        Outcome::Done => Ok(Came::compared(out.as_bytes(), wanted.as_bytes())),
         Outcome::Render(error) | Outcome::Context(error) | Outcome::Template(error) => {
             bail!("it was refused: {error}")
         }
     }
 }
 
-/// A source without markers gives itself.
-pub(crate) fn one_text(alloc: Global, text: &str) -> anyhow::Result<Came> {
-    let mut case = rendering(alloc, String::from_str(alloc, text)?)?;
-    case.wanted.push_str(text)?;
-    answered(alloc, &case)
-}
-
-/// Texts and prints of one name, in turn.
-pub(crate) fn many_prints(alloc: Global) -> anyhow::Result<Came> {
-    let mut case = rendering(alloc, "line {{ x }}".repeat(alloc, 5000)?)?;
-    let name = String::from_str(alloc, "x")?;
-    case.request
-        .texts
-        .push((name, String::from_str(alloc, "é")?))?;
-    case.wanted
-        .push_str("line é".repeat(alloc, 5000)?.as_str())?;
-    answered(alloc, &case)
-}
-
-/// Templates that each write their own name, of which the last one is rendered.
-pub(crate) fn many_templates(alloc: Global) -> anyhow::Result<Came> {
-    let mut case = new_case(alloc, Command::Render, "t999.txt")?;
-    for number in 0..MANY {
-        let name = format!(in alloc; "t{number}.txt")?;
-        let source = format!(in alloc; "This is t{number}.txt")?;
-        case.templates.push((name, source))?;
+/// That a source is refused as none of the grammar, and what is written all the same.
+pub(crate) fn refused(alloc: Global, source: &str) -> anyhow::Result<Came> {
+    let templates = main_template(alloc, source)?;
+    let request = request_of(alloc, Command::Render, MAIN, Vec::new(alloc))?;
+    let mut out = String::new(alloc);
+    match outcome_of(alloc, &request, templates.as_slice(), None, &mut out) {
+        Outcome::Template(error) => Ok(Came {
+            bytes: out.len(),
+            is_right: error.kind() == ErrorKind::SyntaxError,
+        }),
+        _ => bail!("it was not refused"),
     }
-    case.wanted.push_str("This is t999.txt")?;
-    answered(alloc, &case)
 }
 
-/// A template that prints a thousand names, which are told.
-pub(crate) fn many_names(alloc: Global) -> anyhow::Result<Came> {
-    let mut case = new_case(alloc, Command::Names, "t.txt")?;
-    let mut source = String::new(alloc);
-    case.wanted.push_str("caller\nloop\n")?;
-    for number in 0..MANY {
-        let name = format!(in alloc; "n{:03}", number)?;
-        source.push_str(format!(in alloc; "{{{{ {name} }}}}")?.as_str())?;
-        case.wanted
-            .push_str(format!(in alloc; "{name}\n")?.as_str())?;
+fn outcome_of(
+    alloc: Global,
+    request: &Request,
+    templates: &[(String, String)],
+    context: Option<&str>,
+    out: &mut String,
+) -> Outcome {
+    let mut ids = StateIds::new(0);
+    match context {
+        None => run(alloc, request, templates, None, &mut ids, out),
+        Some(json) => run(
+            alloc,
+            request,
+            templates,
+            Some(json.as_bytes()),
+            &mut ids,
+            out,
+        ),
     }
-    case.wanted.push_str("self\nsuper\n")?;
-    let name = String::from_str(alloc, "t.txt")?;
-    case.templates.push((name, source))?;
-    answered(alloc, &case)
-}
-
-/// A template that prints a thousand names, of which each has a definition.
-pub(crate) fn many_definitions(alloc: Global) -> anyhow::Result<Came> {
-    let mut case = new_case(alloc, Command::Render, "t.txt")?;
-    let mut source = String::new(alloc);
-    for number in 0..MANY {
-        let name = format!(in alloc; "n{number}")?;
-        let text = format!(in alloc; "<{number}>")?;
-        source.push_str(format!(in alloc; "{{{{ {name} }}}}")?.as_str())?;
-        case.wanted.push_str(text.as_str())?;
-        case.request.texts.push((name, text))?;
-    }
-    let name = String::from_str(alloc, "t.txt")?;
-    case.templates.push((name, source))?;
-    answered(alloc, &case)
-}
-
-/// The context `{"x": [0, 0, ..]}`.
-pub(crate) fn zeros(alloc: Global, count: usize) -> anyhow::Result<String> {
-    let zeros = "0,".repeat(alloc, count.saturating_sub(1))?;
-    Ok(format!(in alloc; "{{\"x\": [{zeros}0]}}")?)
-}
-
-/// A print of a list with many items, which the context has.
-pub(crate) fn many_items(alloc: Global) -> anyhow::Result<Came> {
-    let mut case = rendering(alloc, String::from_str(alloc, "{{ x }}")?)?;
-    case.context = Some(zeros(alloc, ITEMS)?);
-    let zeros = "0, ".repeat(alloc, ITEMS - 1)?;
-    case.wanted = format!(in alloc; "[{zeros}0]")?;
-    answered(alloc, &case)
-}
-
-/// A loop over a list with many items.
-pub(crate) fn many_rounds(alloc: Global) -> anyhow::Result<Came> {
-    let source = "{% for y in x %}{{ y + 1 }},{% endfor %}";
-    let mut case = rendering(alloc, String::from_str(alloc, source)?)?;
-    case.context = Some(zeros(alloc, ITEMS)?);
-    case.wanted = "1,".repeat(alloc, ITEMS)?;
-    answered(alloc, &case)
-}
-
-/// A loop that includes another template in each round.
-pub(crate) fn many_includes(alloc: Global) -> anyhow::Result<Came> {
-    let source = "{% for y in x %}{% include 'part' %}{% endfor %}";
-    let mut case = rendering(alloc, String::from_str(alloc, source)?)?;
-    let name = String::from_str(alloc, "part")?;
-    let source = String::from_str(alloc, "<{{ y }}>")?;
-    case.templates.push((name, source))?;
-    case.context = Some(zeros(alloc, MANY)?);
-    case.wanted = "<0>".repeat(alloc, MANY)?;
-    answered(alloc, &case)
 }

@@ -1,9 +1,8 @@
 //! The program at size. Works make their requests, and what these are to write.
-use crate::requests::{
-    many_definitions, many_includes, many_items, many_names, many_prints, many_rounds,
-    many_templates, one_text,
+use crate::works::{
+    long_name, many_braces, many_definitions, many_includes, many_items, many_names, many_parts,
+    many_prints, many_rounds, many_rounds_in_rounds, many_templates, one_text,
 };
-use crate::sources::{long_name, many_braces, many_parts, many_rounds_in_rounds};
 use anyhow::bail;
 use std::alloc::Global;
 
