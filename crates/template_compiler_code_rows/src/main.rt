@@ -25,13 +25,11 @@
 #![tactic(auto)]
 
 mod code;
-mod names;
-mod questions;
 mod runs;
+mod trees;
 
 use crate::code::{about_code, owned_code, standing};
-use crate::names::{names_of, names_of_both};
-use crate::questions::{is_runnable_source, value};
+use crate::trees::{about_template, names_of_both, value};
 use serde_json::{Map, Value as Json};
 use std::alloc::Global;
 use std::io;
@@ -126,10 +124,7 @@ fn about_source(alloc: Global, source: &str, ask: &str, out: &mut String) -> Res
     match ask {
         "code" | "runs" | "references" => about_code(alloc, source, ask, out),
         "owned" => owned_code(alloc, source, out),
-        "runnable" => is_runnable_source(alloc, source, out),
-        "names" => names_of(alloc, source, false, out),
-        "nested" => names_of(alloc, source, true, out),
-        _ => unreadable(),
+        _ => about_template(alloc, source, ask, out),
     }
 }
 

@@ -1,9 +1,10 @@
 //! The forms of expressions.
 use crate::forms::{
-    ABSENT, Form, binary_word, comparison_word, deeper, open, quoted, unary_word, word,
+    ABSENT, Form, UNKNOWN, binary_word, comparison_word, deeper, open, quoted, unary_word, word,
 };
 use template_tree::{
-    Call, CallArg, Compare, CompareOp, Expr, Filter, GetAttr, IfExpr, Map, Slice, Test,
+    BinOp, Call, CallArg, Compare, CompareOp, Expr, Filter, GetAttr, GetItem, IfExpr, Map, Slice,
+    Test, UnaryOp,
 };
 use template_values_core::{Content, Value};
 use template_values_errors::Error;
@@ -15,30 +16,34 @@ pub(crate) fn expression(expr: &Expr, out: &mut Form, left: u32) -> Result<(), E
     out.place(expr.span())
 }
 
+// Names, literals, operators, look-ups and calls.
 #[cycle(expressions)]
 fn node(expr: &Expr, out: &mut Form, left: u32) -> Result<(), Error> {
     match expr {
         Expr::Var(n) => out.push_str(n.node.id),
         Expr::Const(n) => constant(&n.node.value, out),
+        Expr::UnaryOp(n) => unary(&n.node, out, left),
+        Expr::BinOp(n) => binary(&n.node, out, left),
+        Expr::GetAttr(n) => attribute(&n.node, out, left),
+        Expr::GetItem(n) => item(&n.node, out, left),
+        Expr::Call(n) => call(&n.node, out, left),
+        _ => rarer(expr, out, left),
+    }
+}
+
+// The others.
+#[cycle(expressions)]
+fn rarer(expr: &Expr, out: &mut Form, left: u32) -> Result<(), Error> {
+    match expr {
         Expr::Slice(n) => slice(&n.node, out, left),
-        Expr::UnaryOp(n) => single(unary_word(n.node.op), &n.node.expr, out, left),
-        Expr::BinOp(n) => pair(
-            binary_word(n.node.op),
-            &n.node.left,
-            &n.node.right,
-            out,
-            left,
-        ),
         Expr::Compare(n) => chain(&n.node, out, left),
         Expr::IfExpr(n) => choice(&n.node, out, left),
         Expr::Filter(n) => filter(&n.node, out, left),
         Expr::Test(n) => test(&n.node, out, left),
-        Expr::GetAttr(n) => attribute(&n.node, out, left),
-        Expr::GetItem(n) => pair("item", &n.node.expr, &n.node.subscript_expr, out, left),
-        Expr::Call(n) => call(&n.node, out, left),
         Expr::List(n) => group("list", n.node.items.as_slice(), out, left),
         Expr::Tuple(n) => group("tuple", n.node.items.as_slice(), out, left),
         Expr::Map(n) => map(&n.node, out, left),
+        _ => out.push_str(UNKNOWN),
     }
 }
 
@@ -49,7 +54,7 @@ fn constant(value: &Value, out: &mut Form) -> Result<(), Error> {
         Content::Truth(truth) => Ok(write!(out.text, "{truth}")?),
         Content::Int(number) => Ok(write!(out.text, "{number}")?),
         Content::Text(text) => quoted(text, out),
-        _ => out.push('?'),
+        _ => out.push_str(UNKNOWN),
     }
 }
 
@@ -90,6 +95,27 @@ pub(crate) fn pair(
     part(first, out, left)?;
     part(second, out, left)?;
     out.push(')')
+}
+
+#[cycle(expressions)]
+fn unary(unary: &UnaryOp, out: &mut Form, left: u32) -> Result<(), Error> {
+    single(unary_word(unary.op), &unary.expr, out, left)
+}
+
+#[cycle(expressions)]
+fn binary(binary: &BinOp, out: &mut Form, left: u32) -> Result<(), Error> {
+    pair(
+        binary_word(binary.op),
+        &binary.left,
+        &binary.right,
+        out,
+        left,
+    )
+}
+
+#[cycle(expressions)]
+fn item(item: &GetItem, out: &mut Form, left: u32) -> Result<(), Error> {
+    pair("item", &item.expr, &item.subscript_expr, out, left)
 }
 
 #[cycle(expressions)]

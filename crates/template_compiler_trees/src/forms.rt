@@ -57,6 +57,9 @@ impl Form {
 /// What is left out.
 pub(crate) const ABSENT: &str = "-";
 
+/// What has no form here.
+pub(crate) const UNKNOWN: &str = "?";
+
 pub(crate) fn unary_word(op: UnaryOpKind) -> &'static str {
     match op {
         UnaryOpKind::Not => "not",

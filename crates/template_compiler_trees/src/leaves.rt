@@ -1,11 +1,42 @@
 //! The forms of statements without a body, and of what stands in the heads of the others.
-use crate::expressions::{call, entry, expression, optional, part};
-use crate::forms::{Form, open, word_if};
+use crate::expressions::{call, entry, expression, optional, pair, part, single};
+use crate::forms::{Form, UNKNOWN, open, quoted, word_if};
 use template_tree::{Call, Expr, Spanned};
-use template_tree_statements::{Do, FromImport, Include};
+use template_tree_statements::{Do, FromImport, Import, Include, Set, Stmt};
 use template_values_errors::Error;
 
-pub(crate) fn from_import(import: &FromImport, out: &mut Form, left: u32) -> Result<(), Error> {
+/// A statement without a body.
+pub(crate) fn leaf(stmt: &Stmt, out: &mut Form, left: u32) -> Result<(), Error> {
+    match stmt {
+        Stmt::EmitRaw(n) => quoted(n.node.raw, out),
+        Stmt::EmitExpr(n) => single("print", &n.node.expr, out, left),
+        Stmt::Set(n) => set(&n.node, out, left),
+        Stmt::Include(n) => include(&n.node, out, left),
+        Stmt::Continue(_) => out.push_str("continue"),
+        Stmt::Break(_) => out.push_str("break"),
+        _ => rarer_leaf(stmt, out, left),
+    }
+}
+
+fn rarer_leaf(stmt: &Stmt, out: &mut Form, left: u32) -> Result<(), Error> {
+    match stmt {
+        Stmt::Import(n) => import(&n.node, out, left),
+        Stmt::FromImport(n) => from_import(&n.node, out, left),
+        Stmt::Extends(n) => single("extends", &n.node.name, out, left),
+        Stmt::Do(n) => do_call(&n.node, out, left),
+        _ => out.push_str(UNKNOWN),
+    }
+}
+
+fn set(set: &Set, out: &mut Form, left: u32) -> Result<(), Error> {
+    pair("set", &set.target, &set.expr, out, left)
+}
+
+fn import(import: &Import, out: &mut Form, left: u32) -> Result<(), Error> {
+    pair("import", &import.expr, &import.name, out, left)
+}
+
+fn from_import(import: &FromImport, out: &mut Form, left: u32) -> Result<(), Error> {
     open("from", out)?;
     part(&import.expr, out, left)?;
     for (name, alias) in &import.names {
@@ -21,14 +52,14 @@ fn imported(name: &Expr, alias: Option<&Expr>, out: &mut Form, left: u32) -> Res
     out.push(')')
 }
 
-pub(crate) fn include(include: &Include, out: &mut Form, left: u32) -> Result<(), Error> {
+fn include(include: &Include, out: &mut Form, left: u32) -> Result<(), Error> {
     open("include", out)?;
     part(&include.name, out, left)?;
     word_if(include.ignore_missing, "ignore", out)?;
     out.push(')')
 }
 
-pub(crate) fn do_call(do_call: &Do, out: &mut Form, left: u32) -> Result<(), Error> {
+fn do_call(do_call: &Do, out: &mut Form, left: u32) -> Result<(), Error> {
     open_call("do", &do_call.call, out, left)?;
     out.push(')')
 }

@@ -43,9 +43,10 @@ use crate::syntax::syntax_of;
 use serde_json::{Map, Value as Json};
 use std::alloc::Global;
 use std::io;
-use template_compiler_sources::{Parser, parse};
+use template_compiler_sources::Parser;
 use template_compiler_syntax::SyntaxConfig;
 use template_tree::Expr;
+use template_tree_statements::Stmt;
 use template_values_errors::{Error, ErrorKind};
 
 // How many levels of a tree are printed; a deeper one is told as `TooLarge`.
@@ -54,8 +55,12 @@ const LEVELS: u32 = 4000;
 // The name of each source.
 const NAME: &str = "<string>";
 
-// What is asked of a text where nothing is said.
-const TREE: &str = "tree";
+// What is asked of a template: its form, or how many statements it has.
+#[derive(Clone, Copy)]
+enum Asked {
+    Form,
+    Count,
+}
 
 fn main(rt: HostRuntime) -> io::Result<()> {
     let alloc = rt.alloc();
@@ -101,7 +106,13 @@ fn unreadable() -> Result<(), Error> {
 
 fn about_json(alloc: Global, json: &Json, out: &mut Form) -> Result<(), Error> {
     match json {
-        Json::String(source) => about_template(alloc, source.as_str(), SyntaxConfig::new(), out),
+        Json::String(source) => about_template(
+            alloc,
+            source.as_str(),
+            SyntaxConfig::new(),
+            Asked::Form,
+            out,
+        ),
         Json::Object(entries) => about_entries(alloc, entries, out),
         _ => unreadable(),
     }
@@ -109,12 +120,9 @@ fn about_json(alloc: Global, json: &Json, out: &mut Form) -> Result<(), Error> {
 
 fn about_entries(alloc: Global, entries: &Map<String, Json>, out: &mut Form) -> Result<(), Error> {
     out.with_places = entries.get("places").is_some();
-    if let Some(source) = text_in(entries, "source") {
-        return about_template(alloc, source, syntax_of(alloc, entries)?, out);
-    }
-    match text_in(entries, "expression") {
-        Some(source) => about_expression(alloc, source, text_in(entries, "ask"), out),
-        None => about_texts(alloc, entries, out),
+    match text_in(entries, "source") {
+        Some(source) => about_source(alloc, source, entries, out),
+        None => about_others(alloc, entries, out),
     }
 }
 
@@ -125,14 +133,49 @@ fn text_in<'line>(entries: &'line Map<String, Json>, name: &str) -> Option<&'lin
     }
 }
 
+fn about_source(
+    alloc: Global,
+    source: &str,
+    entries: &Map<String, Json>,
+    out: &mut Form,
+) -> Result<(), Error> {
+    match syntax_of(alloc, entries) {
+        Ok(syntax) => about_template(alloc, source, syntax, Asked::Form, out),
+        Err(error) => Err(error),
+    }
+}
+
 fn about_template(
     alloc: Global,
     source: &str,
     syntax: SyntaxConfig,
+    asked: Asked,
     out: &mut Form,
 ) -> Result<(), Error> {
     let mut parser = Parser::new(alloc, source, NAME, syntax);
-    statement(&parser.parse()?, out, LEVELS)
+    about_read(&parser.parse(), asked, out)
+}
+
+fn about_read(read: &Result<Stmt<'_>, Error>, asked: Asked, out: &mut Form) -> Result<(), Error> {
+    match read {
+        Ok(tree) => about_tree(tree, asked, out),
+        Err(error) => Err(Error::new(error.kind())),
+    }
+}
+
+fn about_tree(tree: &Stmt<'_>, asked: Asked, out: &mut Form) -> Result<(), Error> {
+    match asked {
+        Asked::Form => statement(tree, out, LEVELS),
+        Asked::Count => statement_count(tree, out),
+    }
+}
+
+// What is asked of an expression, or of a text that is told by its parts.
+fn about_others(alloc: Global, entries: &Map<String, Json>, out: &mut Form) -> Result<(), Error> {
+    match text_in(entries, "expression") {
+        Some(source) => about_expression(alloc, source, text_in(entries, "ask"), out),
+        None => about_texts(alloc, entries, out),
+    }
 }
 
 fn about_expression(
@@ -142,26 +185,45 @@ fn about_expression(
     out: &mut Form,
 ) -> Result<(), Error> {
     let mut parser = Parser::new(alloc, source, NAME, SyntaxConfig::new());
-    about_expr(&parser.parse_standalone_expr()?, ask.unwrap_or(TREE), out)
+    about_read_expr(&parser.parse_standalone_expr(), ask, out)
 }
 
-fn about_expr(expr: &Expr<'_>, ask: &str, out: &mut Form) -> Result<(), Error> {
+fn about_read_expr(
+    read: &Result<Expr<'_>, Error>,
+    ask: Option<&str>,
+    out: &mut Form,
+) -> Result<(), Error> {
+    match read {
+        Ok(expr) => about_expr(expr, ask, out),
+        Err(error) => Err(Error::new(error.kind())),
+    }
+}
+
+fn about_expr(expr: &Expr<'_>, ask: Option<&str>, out: &mut Form) -> Result<(), Error> {
     match ask {
-        TREE => expression(expr, out, LEVELS),
-        "words" => out.push_str(expr.description()),
-        "callee" => callee(expr, out),
-        _ => unreadable(),
+        None => expression(expr, out, LEVELS),
+        Some("words") => out.push_str(expr.description()),
+        Some("callee") => callee(expr, out),
+        Some(_) => unreadable(),
     }
 }
 
 fn about_texts(alloc: Global, entries: &Map<String, Json>, out: &mut Form) -> Result<(), Error> {
     match entries.get("repeat") {
-        Some(Json::Array(parts)) => {
-            let source = repeated(alloc, parts.as_slice())?;
-            count_statements(alloc, source.as_str(), out)
-        }
+        Some(Json::Array(parts)) => about_repeated(alloc, parts.as_slice(), out),
         _ => unreadable(),
     }
+}
+
+fn about_repeated(alloc: Global, parts: &[Json], out: &mut Form) -> Result<(), Error> {
+    let source = repeated(alloc, parts)?;
+    about_template(
+        alloc,
+        source.as_str(),
+        SyntaxConfig::new(),
+        Asked::Count,
+        out,
+    )
 }
 
 // The text that repeats each text so many times.
@@ -190,8 +252,4 @@ fn push_pair(pair: &[Json], source: &mut String) -> Result<(), Error> {
         }
         _ => unreadable(),
     }
-}
-
-fn count_statements(alloc: Global, source: &str, out: &mut Form) -> Result<(), Error> {
-    statement_count(&parse(alloc, source, NAME, SyntaxConfig::new())?, out)
 }

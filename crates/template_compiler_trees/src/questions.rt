@@ -1,5 +1,5 @@
 //! What is asked of trees besides their forms.
-use crate::forms::{ABSENT, Form};
+use crate::forms::{ABSENT, Form, word};
 use template_tree::{CallType, Expr};
 use template_tree_statements::Stmt;
 use template_values_errors::Error;
@@ -22,11 +22,19 @@ pub(crate) fn callee(expr: &Expr<'_>, out: &mut Form) -> Result<(), Error> {
 
 fn write_callee(callee: CallType<'_, '_>, out: &mut Form) -> Result<(), Error> {
     match callee {
-        CallType::Function(name) => Ok(write!(out.text, "function {name}")?),
-        CallType::Method(object, name) => {
-            Ok(write!(out.text, "method {name} of {}", object.description())?)
-        }
-        CallType::Block(name) => Ok(write!(out.text, "block {name}")?),
-        CallType::Object(object) => Ok(write!(out.text, "value of {}", object.description())?),
+        CallType::Function(name) => write_both("function", name, out),
+        CallType::Method(object, name) => write_method(object.description(), name, out),
+        CallType::Block(name) => write_both("block", name, out),
+        CallType::Object(object) => write_both("value of", object.description(), out),
     }
+}
+
+fn write_method(object: &str, name: &str, out: &mut Form) -> Result<(), Error> {
+    write_both("method", name, out)?;
+    write_both(" of", object, out)
+}
+
+fn write_both(what: &str, name: &str, out: &mut Form) -> Result<(), Error> {
+    out.push_str(what)?;
+    word(name, out)
 }

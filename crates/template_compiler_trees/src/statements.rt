@@ -1,10 +1,9 @@
 //! The forms of statements.
-use crate::expressions::{optional, pair, part, single};
-use crate::forms::{Form, deeper, open, quoted, word, word_if};
-use crate::leaves::{assignments, do_call, from_import, include, open_call, parts};
-use template_tree::Expr;
+use crate::expressions::{optional, part};
+use crate::forms::{Form, deeper, open, word, word_if};
+use crate::leaves::{assignments, leaf, open_call, parts};
 use template_tree_statements::{
-    Block, CallBlock, ForLoop, IfCond, Macro, SetBlock, Stmt, WithBlock,
+    AutoEscape, Block, CallBlock, FilterBlock, ForLoop, IfCond, Macro, SetBlock, Stmt, WithBlock,
 };
 use template_values_errors::Error;
 
@@ -15,45 +14,28 @@ pub(crate) fn statement(stmt: &Stmt, out: &mut Form, left: u32) -> Result<(), Er
     out.place(stmt.span())
 }
 
+// Whole templates, and what steers; all others are heads with a body, or none.
 #[cycle(statements)]
 fn node(stmt: &Stmt, out: &mut Form, left: u32) -> Result<(), Error> {
     match stmt {
         Stmt::Template(n) => list(n.node.children.as_slice(), out, left),
-        Stmt::EmitExpr(n) => single("print", &n.node.expr, out, left),
-        Stmt::EmitRaw(n) => quoted(n.node.raw, out),
         Stmt::ForLoop(n) => for_loop(&n.node, out, left),
         Stmt::IfCond(n) => condition(&n.node, out, left),
         Stmt::WithBlock(n) => with_block(&n.node, out, left),
-        Stmt::Set(n) => pair("set", &n.node.target, &n.node.expr, out, left),
-        Stmt::SetBlock(n) => set_block(&n.node, out, left),
-        Stmt::AutoEscape(n) => {
-            around(
-                "autoescape",
-                &n.node.enabled,
-                n.node.body.as_slice(),
-                out,
-                left,
-            )
-        }
-        Stmt::FilterBlock(n) => {
-            around(
-                "filter-block",
-                &n.node.filter,
-                n.node.body.as_slice(),
-                out,
-                left,
-            )
-        }
-        Stmt::Block(n) => block(&n.node, out, left),
-        Stmt::Import(n) => pair("import", &n.node.expr, &n.node.name, out, left),
-        Stmt::FromImport(n) => from_import(&n.node, out, left),
-        Stmt::Extends(n) => single("extends", &n.node.name, out, left),
-        Stmt::Include(n) => include(&n.node, out, left),
         Stmt::Macro(n) => macro_form(&n.node, out, left),
         Stmt::CallBlock(n) => call_block(&n.node, out, left),
-        Stmt::Continue(_) => out.push_str("continue"),
-        Stmt::Break(_) => out.push_str("break"),
-        Stmt::Do(n) => do_call(&n.node, out, left),
+        _ => with_head(stmt, out, left),
+    }
+}
+
+#[cycle(statements)]
+fn with_head(stmt: &Stmt, out: &mut Form, left: u32) -> Result<(), Error> {
+    match stmt {
+        Stmt::SetBlock(n) => set_block(&n.node, out, left),
+        Stmt::AutoEscape(n) => auto_escape(&n.node, out, left),
+        Stmt::FilterBlock(n) => filter_block(&n.node, out, left),
+        Stmt::Block(n) => block(&n.node, out, left),
+        _ => leaf(stmt, out, left),
     }
 }
 
@@ -82,14 +64,6 @@ fn body(body: &[Stmt], out: &mut Form, left: u32) -> Result<(), Error> {
 fn last_body(last: &[Stmt], out: &mut Form, left: u32) -> Result<(), Error> {
     body(last, out, left)?;
     out.push(')')
-}
-
-// A head with an expression and a body.
-#[cycle(statements)]
-fn around(head: &str, expr: &Expr, body: &[Stmt], out: &mut Form, left: u32) -> Result<(), Error> {
-    open(head, out)?;
-    part(expr, out, left)?;
-    last_body(body, out, left)
 }
 
 #[cycle(statements)]
@@ -124,6 +98,20 @@ fn set_block(set_block: &SetBlock, out: &mut Form, left: u32) -> Result<(), Erro
     part(&set_block.target, out, left)?;
     optional(set_block.filter.as_ref(), out, left)?;
     last_body(set_block.body.as_slice(), out, left)
+}
+
+#[cycle(statements)]
+fn auto_escape(auto_escape: &AutoEscape, out: &mut Form, left: u32) -> Result<(), Error> {
+    open("autoescape", out)?;
+    part(&auto_escape.enabled, out, left)?;
+    last_body(auto_escape.body.as_slice(), out, left)
+}
+
+#[cycle(statements)]
+fn filter_block(filter_block: &FilterBlock, out: &mut Form, left: u32) -> Result<(), Error> {
+    open("filter-block", out)?;
+    part(&filter_block.filter, out, left)?;
+    last_body(filter_block.body.as_slice(), out, left)
 }
 
 #[cycle(statements)]

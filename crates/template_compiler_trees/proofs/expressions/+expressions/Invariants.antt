@@ -5,7 +5,10 @@ abbrev pub decreases-expression : goal.decreases-expression
 decreases-expression l = 10 * l.left + 0
 
 abbrev pub decreases-node : goal.decreases-node
-decreases-node l = 10 * l.left + 7
+decreases-node l = 10 * l.left + 8
+
+abbrev pub decreases-rarer : goal.decreases-rarer
+decreases-rarer l = 10 * l.left + 7
 
 abbrev pub decreases-part : goal.decreases-part
 decreases-part l = 10 * l.left + 1
@@ -18,6 +21,15 @@ decreases-single l = 10 * l.left + 2
 
 abbrev pub decreases-pair : goal.decreases-pair
 decreases-pair l = 10 * l.left + 2
+
+abbrev pub decreases-unary : goal.decreases-unary
+decreases-unary l = 10 * l.left + 3
+
+abbrev pub decreases-binary : goal.decreases-binary
+decreases-binary l = 10 * l.left + 3
+
+abbrev pub decreases-item : goal.decreases-item
+decreases-item l = 10 * l.left + 3
 
 abbrev pub decreases-slice : goal.decreases-slice
 decreases-slice l = 10 * l.left + 3

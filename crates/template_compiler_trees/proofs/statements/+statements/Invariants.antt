@@ -7,6 +7,9 @@ decreases-statement l = 10 * l.left + 0
 abbrev pub decreases-node : goal.decreases-node
 decreases-node l = 10 * l.left + 6
 
+abbrev pub decreases-with_head : goal.decreases-with_head
+decreases-with_head l = 10 * l.left + 5
+
 abbrev pub decreases-list : goal.decreases-list
 decreases-list l = 10 * l.left + 1
 
@@ -15,9 +18,6 @@ decreases-body l = 10 * l.left + 2
 
 abbrev pub decreases-last_body : goal.decreases-last_body
 decreases-last_body l = 10 * l.left + 3
-
-abbrev pub decreases-around : goal.decreases-around
-decreases-around l = 10 * l.left + 4
 
 abbrev pub decreases-for_loop : goal.decreases-for_loop
 decreases-for_loop l = 10 * l.left + 4
@@ -30,6 +30,12 @@ decreases-with_block l = 10 * l.left + 4
 
 abbrev pub decreases-set_block : goal.decreases-set_block
 decreases-set_block l = 10 * l.left + 4
+
+abbrev pub decreases-auto_escape : goal.decreases-auto_escape
+decreases-auto_escape l = 10 * l.left + 4
+
+abbrev pub decreases-filter_block : goal.decreases-filter_block
+decreases-filter_block l = 10 * l.left + 4
 
 abbrev pub decreases-block : goal.decreases-block
 decreases-block l = 10 * l.left + 4
