@@ -7,17 +7,17 @@ use Rattle.template_compiler_syntax.specs.declared.settings.Settings.{Settings}
 
 abbrev pub syntax_of : Settings → Syntax
 syntax_of s = record {
-  block_start = cow_str_bytes s.block_start;
-  block_end = cow_str_bytes s.block_end;
-  variable_start = cow_str_bytes s.variable_start;
-  variable_end = cow_str_bytes s.variable_end;
-  comment_start = cow_str_bytes s.comment_start;
-  comment_end = cow_str_bytes s.comment_end;
-  line_statement_prefix = cow_str_bytes s.line_statement_prefix;
-  line_comment_prefix = cow_str_bytes s.line_comment_prefix;
-  trim_blocks = s.trim_blocks;
-  lstrip_blocks = s.lstrip_blocks;
-  keep_trailing_newline = s.keep_trailing_newline;
+  block_start = cow_str_bytes s.blocks.start;
+  block_end = cow_str_bytes s.blocks.end;
+  variable_start = cow_str_bytes s.variables.start;
+  variable_end = cow_str_bytes s.variables.end;
+  comment_start = cow_str_bytes s.comments.start;
+  comment_end = cow_str_bytes s.comments.end;
+  line_statement_prefix = cow_str_bytes s.prefixes.line_statement;
+  line_comment_prefix = cow_str_bytes s.prefixes.line_comment;
+  trim_blocks = s.white_space.trim_blocks;
+  lstrip_blocks = s.white_space.lstrip_blocks;
+  keep_trailing_newline = s.white_space.keep_trailing_newline;
 }
 
 -- no settings stand for the default syntax

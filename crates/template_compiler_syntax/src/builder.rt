@@ -5,7 +5,7 @@ ghost use Rattle.template_compiler_syntax.specs.Settings.{syntax_of};
 ghost use Rattle.template_compiler_syntax.specs.Syntax.{IsUsable, default_syntax};
 
 use crate::config::SyntaxConfig;
-use crate::settings::Settings;
+use crate::settings::{Delimiters, Settings};
 use std::alloc::Global;
 use std::borrow::CowStr;
 use std::marker::Model;
@@ -49,10 +49,7 @@ impl SyntaxConfigBuilder {
         ensures err { OnErr result (self.new ≡ self.old) }
         ensures refused { IfErr result (λ error. error ≡ ErrorKind.OutOfMemory ∷ []) }
     {
-        let start = copied(self.alloc, start)?;
-        let end = copied(self.alloc, end)?;
-        self.settings.block_start = start;
-        self.settings.block_end = end;
+        self.settings.blocks = copied_delimiters(self.alloc, start, end)?;
         Ok(())
     }
 
@@ -66,10 +63,7 @@ impl SyntaxConfigBuilder {
         ensures err { OnErr result (self.new ≡ self.old) }
         ensures refused { IfErr result (λ error. error ≡ ErrorKind.OutOfMemory ∷ []) }
     {
-        let start = copied(self.alloc, start)?;
-        let end = copied(self.alloc, end)?;
-        self.settings.variable_start = start;
-        self.settings.variable_end = end;
+        self.settings.variables = copied_delimiters(self.alloc, start, end)?;
         Ok(())
     }
 
@@ -83,10 +77,7 @@ impl SyntaxConfigBuilder {
         ensures err { OnErr result (self.new ≡ self.old) }
         ensures refused { IfErr result (λ error. error ≡ ErrorKind.OutOfMemory ∷ []) }
     {
-        let start = copied(self.alloc, start)?;
-        let end = copied(self.alloc, end)?;
-        self.settings.comment_start = start;
-        self.settings.comment_end = end;
+        self.settings.comments = copied_delimiters(self.alloc, start, end)?;
         Ok(())
     }
 
@@ -100,7 +91,7 @@ impl SyntaxConfigBuilder {
         ensures err { OnErr result (self.new ≡ self.old) }
         ensures refused { IfErr result (λ error. error ≡ ErrorKind.OutOfMemory ∷ []) }
     {
-        self.settings.line_statement_prefix = copied(self.alloc, prefix)?;
+        self.settings.prefixes.line_statement = copied(self.alloc, prefix)?;
         Ok(())
     }
 
@@ -114,7 +105,7 @@ impl SyntaxConfigBuilder {
         ensures err { OnErr result (self.new ≡ self.old) }
         ensures refused { IfErr result (λ error. error ≡ ErrorKind.OutOfMemory ∷ []) }
     {
-        self.settings.line_comment_prefix = copied(self.alloc, prefix)?;
+        self.settings.prefixes.line_comment = copied(self.alloc, prefix)?;
         Ok(())
     }
 
@@ -122,21 +113,21 @@ impl SyntaxConfigBuilder {
     pub fn trim_blocks(&mut self, yes: bool)
         ensures { self.new ≡ record self.old { trim_blocks = yes } }
     {
-        self.settings.trim_blocks = yes;
+        self.settings.white_space.trim_blocks = yes;
     }
 
     /// Sets whether the spaces and tabs before a block or a comment go, where they begin their line.
     pub fn lstrip_blocks(&mut self, yes: bool)
         ensures { self.new ≡ record self.old { lstrip_blocks = yes } }
     {
-        self.settings.lstrip_blocks = yes;
+        self.settings.white_space.lstrip_blocks = yes;
     }
 
     /// Sets whether a newline at the end of the source stays.
     pub fn keep_trailing_newline(&mut self, yes: bool)
         ensures { self.new ≡ record self.old { keep_trailing_newline = yes } }
     {
-        self.settings.keep_trailing_newline = yes;
+        self.settings.white_space.keep_trailing_newline = yes;
     }
 
     /// The syntax.
@@ -170,6 +161,16 @@ fn shared(alloc: Global, settings: &Settings) -> Option<Rc<Settings>>
 {
     let copy = settings.clone().ok()?;
     Rc::new(alloc, copy).ok()
+}
+
+fn copied_delimiters(alloc: Global, start: &str, end: &str) -> Result<Delimiters, Error>
+    ensures start { IfOk result (λ copy. cow_str_bytes copy.start ≡ start.now) }
+    ensures end { IfOk result (λ copy. cow_str_bytes copy.end ≡ end.now) }
+    ensures refused { IfErr result (λ error. error ≡ ErrorKind.OutOfMemory ∷ []) }
+{
+    let start = copied(alloc, start)?;
+    let end = copied(alloc, end)?;
+    Ok(Delimiters { start, end })
 }
 
 fn copied(alloc: Global, text: &str) -> Result<CowStr<'static>, Error>

@@ -89,7 +89,7 @@ impl SyntaxConfig {
         ensures usable { IsUsable self.now }
     {
         match &self.settings {
-            Some(shared) => (shared.block_start.as_str(), shared.block_end.as_str()),
+            Some(shared) => (shared.blocks.start.as_str(), shared.blocks.end.as_str()),
             None => ("{%", "%}"),
         }
     }
@@ -101,7 +101,10 @@ impl SyntaxConfig {
         ensures usable { IsUsable self.now }
     {
         match &self.settings {
-            Some(shared) => (shared.variable_start.as_str(), shared.variable_end.as_str()),
+            Some(shared) => (
+                shared.variables.start.as_str(),
+                shared.variables.end.as_str(),
+            ),
             None => ("{{", "}}"),
         }
     }
@@ -113,7 +116,7 @@ impl SyntaxConfig {
         ensures usable { IsUsable self.now }
     {
         match &self.settings {
-            Some(shared) => (shared.comment_start.as_str(), shared.comment_end.as_str()),
+            Some(shared) => (shared.comments.start.as_str(), shared.comments.end.as_str()),
             None => ("{#", "#}"),
         }
     }
@@ -124,7 +127,7 @@ impl SyntaxConfig {
             (λ prefix. (prefix.now ≡ self.now.line_statement_prefix) × IsSet prefix.now) }
     {
         match &self.settings {
-            Some(shared) => set_text(shared.line_statement_prefix.as_str()),
+            Some(shared) => set_text(shared.prefixes.line_statement.as_str()),
             None => None,
         }
     }
@@ -135,7 +138,7 @@ impl SyntaxConfig {
             (λ prefix. (prefix.now ≡ self.now.line_comment_prefix) × IsSet prefix.now) }
     {
         match &self.settings {
-            Some(shared) => set_text(shared.line_comment_prefix.as_str()),
+            Some(shared) => set_text(shared.prefixes.line_comment.as_str()),
             None => None,
         }
     }
@@ -149,11 +152,11 @@ impl SyntaxConfig {
             StartMarker::Block => self.block_delimiters().0,
             StartMarker::Comment => self.comment_delimiters().0,
             StartMarker::LineStatement => match &self.settings {
-                Some(shared) => shared.line_statement_prefix.as_str(),
+                Some(shared) => shared.prefixes.line_statement.as_str(),
                 None => "",
             },
             StartMarker::LineComment => match &self.settings {
-                Some(shared) => shared.line_comment_prefix.as_str(),
+                Some(shared) => shared.prefixes.line_comment.as_str(),
                 None => "",
             },
         }
@@ -198,7 +201,7 @@ impl SyntaxConfig {
         ensures { result ≡ self.now.trim_blocks }
     {
         match &self.settings {
-            Some(shared) => shared.trim_blocks,
+            Some(shared) => shared.white_space.trim_blocks,
             None => false,
         }
     }
@@ -208,7 +211,7 @@ impl SyntaxConfig {
         ensures { result ≡ self.now.lstrip_blocks }
     {
         match &self.settings {
-            Some(shared) => shared.lstrip_blocks,
+            Some(shared) => shared.white_space.lstrip_blocks,
             None => false,
         }
     }
@@ -218,7 +221,7 @@ impl SyntaxConfig {
         ensures { result ≡ self.now.keep_trailing_newline }
     {
         match &self.settings {
-            Some(shared) => shared.keep_trailing_newline,
+            Some(shared) => shared.white_space.keep_trailing_newline,
             None => false,
         }
     }

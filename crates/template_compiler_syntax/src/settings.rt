@@ -6,20 +6,36 @@ ghost use Rattle.template_compiler_syntax.specs.Syntax.{IsSet};
 use std::alloc::{AllocError, Global};
 use std::borrow::CowStr;
 
-/// The delimiters, the prefixes and what goes beside them. An empty prefix is none.
+/// What a kind of segment begins and ends with.
 #[derive(Clone, Drop)]
-pub(crate) struct Settings {
-    pub(crate) block_start: CowStr<'static>,
-    pub(crate) block_end: CowStr<'static>,
-    pub(crate) variable_start: CowStr<'static>,
-    pub(crate) variable_end: CowStr<'static>,
-    pub(crate) comment_start: CowStr<'static>,
-    pub(crate) comment_end: CowStr<'static>,
-    pub(crate) line_statement_prefix: CowStr<'static>,
-    pub(crate) line_comment_prefix: CowStr<'static>,
+pub(crate) struct Delimiters {
+    pub(crate) start: CowStr<'static>,
+    pub(crate) end: CowStr<'static>,
+}
+
+/// What begins a line that is a statement, or a comment.
+#[derive(Clone, Drop)]
+pub(crate) struct Prefixes {
+    pub(crate) line_statement: CowStr<'static>,
+    pub(crate) line_comment: CowStr<'static>,
+}
+
+/// Which white space goes beside segments.
+#[derive(Clone, Copy)]
+pub(crate) struct WhiteSpace {
     pub(crate) trim_blocks: bool,
     pub(crate) lstrip_blocks: bool,
     pub(crate) keep_trailing_newline: bool,
+}
+
+/// The delimiters, the prefixes and what goes beside them. An empty prefix is none.
+#[derive(Clone, Drop)]
+pub(crate) struct Settings {
+    pub(crate) blocks: Delimiters,
+    pub(crate) variables: Delimiters,
+    pub(crate) comments: Delimiters,
+    pub(crate) prefixes: Prefixes,
+    pub(crate) white_space: WhiteSpace,
 }
 
 impl Settings {
@@ -30,17 +46,27 @@ impl Settings {
         ensures { syntax_of result ≡ default_syntax }
     {
         Settings {
-            block_start: CowStr::Borrowed("{%"),
-            block_end: CowStr::Borrowed("%}"),
-            variable_start: CowStr::Borrowed("{{"),
-            variable_end: CowStr::Borrowed("}}"),
-            comment_start: CowStr::Borrowed("{#"),
-            comment_end: CowStr::Borrowed("#}"),
-            line_statement_prefix: CowStr::Borrowed(""),
-            line_comment_prefix: CowStr::Borrowed(""),
-            trim_blocks: false,
-            lstrip_blocks: false,
-            keep_trailing_newline: false,
+            blocks: Delimiters {
+                start: CowStr::Borrowed("{%"),
+                end: CowStr::Borrowed("%}"),
+            },
+            variables: Delimiters {
+                start: CowStr::Borrowed("{{"),
+                end: CowStr::Borrowed("}}"),
+            },
+            comments: Delimiters {
+                start: CowStr::Borrowed("{#"),
+                end: CowStr::Borrowed("#}"),
+            },
+            prefixes: Prefixes {
+                line_statement: CowStr::Borrowed(""),
+                line_comment: CowStr::Borrowed(""),
+            },
+            white_space: WhiteSpace {
+                trim_blocks: false,
+                lstrip_blocks: false,
+                keep_trailing_newline: false,
+            },
         }
     }
 
@@ -54,22 +80,22 @@ impl Settings {
     fn are_filled(&self) -> bool
         ensures { IsTrue result ↔ IsFilled (syntax_of self.now) }
     {
-        !(self.variable_start.is_empty()
-            || self.block_start.is_empty()
-            || self.comment_start.is_empty()
-            || self.variable_end.is_empty()
-            || self.block_end.is_empty()
-            || self.comment_end.is_empty())
+        !(self.variables.start.is_empty()
+            || self.blocks.start.is_empty()
+            || self.comments.start.is_empty()
+            || self.variables.end.is_empty()
+            || self.blocks.end.is_empty()
+            || self.comments.end.is_empty())
     }
 
     fn are_apart(&self) -> bool
         ensures { IsTrue result ↔ IsApart (syntax_of self.now) }
     {
-        let variable = self.variable_start.as_str();
-        let block = self.block_start.as_str();
-        let comment = self.comment_start.as_str();
-        let line_statement = self.line_statement_prefix.as_str();
-        let line_comment = self.line_comment_prefix.as_str();
+        let variable = self.variables.start.as_str();
+        let block = self.blocks.start.as_str();
+        let comment = self.comments.start.as_str();
+        let line_statement = self.prefixes.line_statement.as_str();
+        let line_comment = self.prefixes.line_comment.as_str();
         let pairs = [
             differ(variable, block),
             differ(variable, comment),
