@@ -165,7 +165,8 @@ pub fn verify<'source>(
     instructions: Instructions<'source>,
 ) -> Result<Checked<'source>, (Error, Instructions<'source>)>
     ensures good { IfOk result (λ checked. IsGood (kind_in checked) (code_in instructions.entry)) }
-    ensures first { IfOk result (λ checked. IsGood StreamKind.Template (code_in instructions.entry) → kind_in checked ≡ StreamKind.Template) }
+    ensures first { IfOk result (λ checked.
+        IsGood StreamKind.Template (code_in instructions.entry) → kind_in checked ≡ StreamKind.Template) }
     ensures accepted { IfOk result (λ checked. stream_in checked ≡ instructions.entry) }
     ensures bad { IfErr result (λ back. back.0 ≡ ErrorKind.BadStream ∷ [] → IsBad (code_in instructions.entry)) }
     ensures refused { IfErr result (λ back. (back.0 ≡ ErrorKind.BadStream ∷ []) ⊎ (back.0 ≡ ErrorKind.OutOfMemory ∷ [])) }

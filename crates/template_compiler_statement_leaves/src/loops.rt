@@ -23,7 +23,8 @@ pub fn read_break<'source>(
     in_loop: bool,
     span: Span,
 ) -> Result<Spanned<Break>, Refusal>
-    ensures { ParsedAs (λ n. statement_of (statements.Break n)) (if in_loop then tag_end break_loop tokens.old else Err bad_syntax) tokens.new result }
+    ensures { ParsedAs (λ n. statement_of (statements.Break n))
+        (if in_loop then tag_end break_loop tokens.old else Err bad_syntax) tokens.new result }
 {
     if !in_loop {
         return Err(Refusal::Token(Fault::Syntax));
@@ -43,7 +44,8 @@ pub fn read_continue<'source>(
     in_loop: bool,
     span: Span,
 ) -> Result<Spanned<Continue>, Refusal>
-    ensures { ParsedAs (λ n. statement_of (statements.Continue n)) (if in_loop then tag_end continue_loop tokens.old else Err bad_syntax) tokens.new result }
+    ensures { ParsedAs (λ n. statement_of (statements.Continue n))
+        (if in_loop then tag_end continue_loop tokens.old else Err bad_syntax) tokens.new result }
 {
     if !in_loop {
         return Err(Refusal::Token(Fault::Syntax));

@@ -31,7 +31,8 @@ pub fn read_print<'source, R: ReadsExpressions>(
     left: u32,
     span: Span,
 ) -> Result<Spanned<EmitExpr<'source>>, Refusal>
-    ensures { ParsedAs (λ n. statement_of (statements.EmitExpr n)) (and_then (expression_at left tokens.old) (λ e us. print_end (print e) us)) tokens.new result }
+    ensures { ParsedAs (λ n. statement_of (statements.EmitExpr n))
+        (and_then (expression_at left tokens.old) (λ e us. print_end (print e) us)) tokens.new result }
 {
     let expr = R::read_expression(alloc, tokens, left)?;
     expect_print_end(tokens)?;
@@ -52,7 +53,8 @@ pub fn read_set<'source, R: ReadsExpressions>(
     start: Span,
     span: Span,
 ) -> Result<Spanned<Box<Set<'source>>>, Refusal>
-    ensures { ParsedAs (λ n. statement_of (statements.Set n)) (set_targets (here left) (expression_of first.entry) tokens.old) tokens.new result }
+    ensures { ParsedAs (λ n. statement_of (statements.Set n))
+        (set_targets (here left) (expression_of first.entry) tokens.old) tokens.new result }
 {
     let target = read_more_targets(alloc, tokens, left, true, first, start)?;
     expect_assign(tokens)?;
@@ -67,7 +69,8 @@ fn read_set_value<'source, R: ReadsExpressions>(
     target: Expr<'source>,
     span: Span,
 ) -> Result<Spanned<Box<Set<'source>>>, Refusal>
-    ensures { ParsedAs (λ n. statement_of (statements.Set n)) (set_values (here left) (expression_of target.entry) tokens.old) tokens.new result }
+    ensures { ParsedAs (λ n. statement_of (statements.Set n))
+        (set_values (here left) (expression_of target.entry) tokens.old) tokens.new result }
 {
     let value = read_values::<R>(alloc, tokens, left)?;
     expect_tag_end(tokens)?;

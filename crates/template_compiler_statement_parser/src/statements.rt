@@ -243,7 +243,8 @@ fn for_in<'source, R: ReadsExpressions>(
     target: Expr<'source>,
     span: Span,
 ) -> Result<Spanned<Box<ForLoop<'source>>>, Refusal>
-    ensures { ParsedAs (λ n. statement_of (statements.ForLoop n)) (for_in (here left) (around_of around) (expression_of target.entry) tokens.old) tokens.new result }
+    ensures { ParsedAs (λ n. statement_of (statements.ForLoop n))
+        (for_in (here left) (around_of around) (expression_of target.entry) tokens.old) tokens.new result }
 {
     let iter = R::read_condition(alloc, tokens, left)?;
     let filter = read_loop_filter::<R>(alloc, tokens, left)?;
@@ -267,7 +268,8 @@ fn for_body<'source, R: ReadsExpressions>(
     recursive: bool,
     span: Span,
 ) -> Result<Spanned<Box<ForLoop<'source>>>, Refusal>
-    ensures { ParsedAs (λ n. statement_of (statements.ForLoop n)) (for_body (here left) (around_of around) (expression_of target.entry) (expression_of iter.entry)
+    ensures { ParsedAs (λ n. statement_of (statements.ForLoop n))
+        (for_body (here left) (around_of around) (expression_of target.entry) (expression_of iter.entry)
         (optional_in filter_expr.entry) recursive tokens.old)
         tokens.new result }
 {
@@ -419,7 +421,8 @@ fn set_block<'source, R: ReadsExpressions>(
     target: Expr<'source>,
     span: Span,
 ) -> Result<Spanned<Box<SetBlock<'source>>>, Refusal>
-    ensures { ParsedAs (λ n. statement_of (statements.SetBlock n)) (set_body (here left) (around_of around) (expression_of target.entry) tokens.old) tokens.new result }
+    ensures { ParsedAs (λ n. statement_of (statements.SetBlock n))
+        (set_body (here left) (around_of around) (expression_of target.entry) tokens.old) tokens.new result }
 {
     let filter = R::read_filter_chain(alloc, tokens, left, None)?;
     parts::expect_tag_end(tokens)?;
@@ -437,7 +440,8 @@ fn auto_escape<'source, R: ReadsExpressions>(
     around: Around,
     span: Span,
 ) -> Result<Spanned<Box<AutoEscape<'source>>>, Refusal>
-    ensures { ParsedAs (λ n. statement_of (statements.AutoEscape n)) (autoescape_by (here left) (around_of around) tokens.old) tokens.new result }
+    ensures { ParsedAs (λ n. statement_of (statements.AutoEscape n))
+        (autoescape_by (here left) (around_of around) tokens.old) tokens.new result }
 {
     let enabled = R::read_expression(alloc, tokens, left)?;
     parts::expect_tag_end(tokens)?;
@@ -501,7 +505,8 @@ fn block_behind<'source, R: ReadsExpressions>(
     required: bool,
     span: Span,
 ) -> Result<Spanned<Box<Block<'source>>>, Refusal>
-    ensures { ParsedAs (λ n. statement_of (statements.Block n)) (block_body (here left) (around_of around) name.now required tokens.old) tokens.new result }
+    ensures { ParsedAs (λ n. statement_of (statements.Block n))
+        (block_body (here left) (around_of around) name.now required tokens.old) tokens.new result }
 {
     parts::expect_tag_end(tokens)?;
     let body = body::<R>(alloc, tokens, left, around.within_block())?;
@@ -591,7 +596,8 @@ fn call_behind<'source, R: ReadsExpressions>(
     call: Spanned<Box<Call<'source>>>,
     span: Span,
 ) -> Result<Spanned<Box<CallBlock<'source>>>, Refusal>
-    ensures { ParsedAs (λ n. statement_of (statements.CallBlock n)) (call_body (here left) (parameters_of parameters.entry) (expression_of call.entry.node.value.expr)
+    ensures { ParsedAs (λ n. statement_of (statements.CallBlock n))
+        (call_body (here left) (parameters_of parameters.entry) (expression_of call.entry.node.value.expr)
         (arguments_in call.entry.node.value.args.items) tokens.old) tokens.new result }
 {
     parts::expect_tag_end(tokens)?;

@@ -48,7 +48,8 @@ fn accepted<'source>(
 ) -> Result<Checked<'source>, Error>
     requires { (kind : StreamKind) × IsGood kind (code_in instructions) }
     ensures stream { IfOk result (λ checked. stream_in checked ≡ instructions.entry) }
-    ensures first { IfOk result (λ checked. IsGood StreamKind.Template (code_in instructions.entry) → kind_in checked ≡ StreamKind.Template) }
+    ensures first { IfOk result (λ checked.
+        IsGood StreamKind.Template (code_in instructions.entry) → kind_in checked ≡ StreamKind.Template) }
     ensures refused { IfErr result NoMemory }
 {
     match verify(alloc, instructions) {
