@@ -73,7 +73,7 @@ impl<'source> CompiledTemplates<'source> {
         let _removed = self.by_name.remove(name);
     }
 
-    /// No template stands any more.
+    /// No template stands any more. Linear in what stood.
     pub fn clear(&mut self)
         ensures { (name : List ℕ) → compiled_at self.new name ≡ None }
     {

@@ -343,7 +343,7 @@ impl<'source> CodeGenerator<'source> {
     }
 
     /// Adds the instructions of an expression, which gives its value. They come from the expression, whatever line and
-    /// spans are open.
+    /// spans are open. Linear in the expression, besides what the operators of constant trees cost.
     ///
     /// # Errors
     ///
@@ -358,7 +358,7 @@ impl<'source> CodeGenerator<'source> {
     }
 
     /// Adds the instructions of a whole template. They come from its expressions and statements, whatever line and spans
-    /// are open.
+    /// are open. Linear in the template, besides what the operators of constant trees cost.
     ///
     /// # Errors
     ///
@@ -374,7 +374,7 @@ impl<'source> CodeGenerator<'source> {
     }
 
     /// Adds the instructions that store the value on top in a target. They come from the names in it, whatever line and
-    /// spans are open.
+    /// spans are open. Linear in the target.
     ///
     /// # Errors
     ///

@@ -6,21 +6,37 @@ ghost use Rattle.template_compiler_statements.specs.Reader.{opening};
 /// The statement that a word begins.
 #[derive(Clone, Copy)]
 pub enum Opening {
+    /// `for`
     For,
+    /// `if`
     If,
+    /// `with`
     With,
+    /// `set`
     Set,
+    /// `autoescape`
     AutoEscape,
+    /// `filter`
     Filter,
+    /// `block`
     Block,
+    /// `import`
     Import,
+    /// `from`
     From,
+    /// `extends`
     Extends,
+    /// `include`
     Include,
+    /// `macro`
     Macro,
+    /// `call`
     Call,
+    /// `do`
     Do,
+    /// `break`
     Break,
+    /// `continue`
     Continue,
 }
 

@@ -12,30 +12,55 @@ use template_tree::{BinOpKind, CompareOpKind};
 /// A sign or a bracket.
 #[derive(Clone, Copy)]
 pub enum Sign {
+    /// `+`
     Plus,
+    /// `-`
     Minus,
+    /// `*`
     Mul,
+    /// `/`
     Div,
+    /// `//`
     FloorDiv,
+    /// `**`
     Pow,
+    /// `%`
     Mod,
+    /// `.`
     Dot,
+    /// `,`
     Comma,
+    /// `:`
     Colon,
+    /// `~`
     Tilde,
+    /// `=`
     Assign,
+    /// `|`
     Pipe,
+    /// `==`
     Eq,
+    /// `!=`
     Ne,
+    /// `>`
     Gt,
+    /// `>=`
     Gte,
+    /// `<`
     Lt,
+    /// `<=`
     Lte,
+    /// `[`
     BracketOpen,
+    /// `]`
     BracketClose,
+    /// `(`
     ParenOpen,
+    /// `)`
     ParenClose,
+    /// `{`
     BraceOpen,
+    /// `}`
     BraceClose,
 }
 

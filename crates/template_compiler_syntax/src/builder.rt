@@ -1,5 +1,5 @@
 //! A syntax that is being put together.
-ghost use Rattle.std.specs.Prelude.{◌≡◌, ◌⊎◌, [], ◌∷◌, OnOk, OnErr, IfOk, IfErr, IfSome};
+ghost use Rattle.std.specs.Prelude.{◌≡◌, ◌⊎◌, [], ◌∷◌, OnOk, OnErr, IfOk, IfErr};
 ghost use Rattle.std.specs.Cow.{cow_str_bytes};
 ghost use Rattle.template_compiler_syntax.specs.Settings.{syntax_of};
 ghost use Rattle.template_compiler_syntax.specs.Syntax.{IsUsable, default_syntax};
@@ -147,20 +147,19 @@ impl SyntaxConfigBuilder {
         if !self.settings.are_usable() {
             return Err(Error::new(ErrorKind::InvalidDelimiter));
         }
-        match shared(self.alloc, &self.settings) {
-            Some(shared) => Ok(SyntaxConfig {
-                settings: Some(shared),
-            }),
-            None => Err(Error::new(ErrorKind::OutOfMemory)),
-        }
+        let shared = shared(self.alloc, &self.settings)?;
+        Ok(SyntaxConfig {
+            settings: Some(shared),
+        })
     }
 }
 
-fn shared(alloc: Global, settings: &Settings) -> Option<Rc<Settings>>
-    ensures { IfSome result (λ shared. syntax_of shared.value ≡ syntax_of settings.now) }
+fn shared(alloc: Global, settings: &Settings) -> Result<Rc<Settings>, Error>
+    ensures ok { IfOk result (λ shared. syntax_of shared.value ≡ syntax_of settings.now) }
+    ensures err { IfErr result (λ error. error ≡ ErrorKind.OutOfMemory ∷ []) }
 {
-    let copy = settings.clone().ok()?;
-    Rc::new(alloc, copy).ok()
+    let copy = settings.clone()?;
+    Ok(Rc::new(alloc, copy)?)
 }
 
 fn copied_delimiters(alloc: Global, start: &str, end: &str) -> Result<Delimiters, Error>
@@ -177,8 +176,6 @@ fn copied(alloc: Global, text: &str) -> Result<CowStr<'static>, Error>
     ensures ok { IfOk result (λ copy. cow_str_bytes copy ≡ text.now) }
     ensures err { IfErr result (λ error. error ≡ ErrorKind.OutOfMemory ∷ []) }
 {
-    match String::from_str(alloc, text) {
-        Ok(copy) => Ok(CowStr::Owned(copy)),
-        Err(_refused) => Err(Error::new(ErrorKind::OutOfMemory)),
-    }
+    let copy = String::from_str(alloc, text)?;
+    Ok(CowStr::Owned(copy))
 }

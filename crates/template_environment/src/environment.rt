@@ -252,7 +252,7 @@ impl<'source, R: AutoEscapeRule> Environment<'source, R> {
         self.registry.remove(name);
     }
 
-    /// No template stands any more.
+    /// No template stands any more. Linear in what stood.
     pub fn clear_templates(&mut self)
         ensures cleared { Changes changes.cleared self.old self.new }
         ensures settings { settings_of (registry_of self.new) ≡ settings_of (registry_of self.old) }

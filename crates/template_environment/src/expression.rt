@@ -92,7 +92,8 @@ impl<'env, 'source, R: AutoEscapeRule> Expression<'env, 'source, R> {
     ghost use Rattle.template_environment.specs.Evaluations.{AgreeAlong, IsSameEvaluation, evaluation_of, fuel_under, text_of};
 
     /// The value of the expression over a context, under no escape and the fuel of its environment. The templates that
-    /// stand there do so here. Contexts that agree at the names that stand in the expression give the same.
+    /// stand there do so here. Contexts that agree at the names that stand in the expression give the same. Linear in
+    /// the instructions that it runs, besides what operators cost.
     ///
     /// # Errors
     ///

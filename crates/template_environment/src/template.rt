@@ -147,7 +147,7 @@ impl<'env, 'source, R: AutoEscapeRule> Template<'env, 'source, R> {
     }
 
     /// The text of a render of the template over a context, under the escape of its name and the fuel of its
-    /// environment.
+    /// environment. Linear in the instructions that it runs and in its text, besides what operators cost.
     ///
     /// # Errors
     ///
@@ -174,7 +174,7 @@ impl<'env, 'source, R: AutoEscapeRule> Template<'env, 'source, R> {
     }
 
     /// Renders the template over a context, under the escape of its name and the fuel of its environment, and keeps
-    /// the text beside what the render leaves.
+    /// the text beside what the render leaves. Its cost is that of [`Template::render`].
     ///
     /// # Errors
     ///
@@ -227,7 +227,8 @@ impl<'env, 'source, R: AutoEscapeRule> Template<'env, 'source, R> {
     }
 
     /// Renders the template over a context, under the escape of its name and the fuel of its environment, and
-    /// writes the text into a sink as it comes. What the render leaves has an empty output.
+    /// writes the text into a sink as it comes. What the render leaves has an empty output. Its cost is that of
+    /// [`Template::render`], and the sink's.
     ///
     /// # Errors
     ///

@@ -13,6 +13,10 @@ use std::alloc::Global;
 
 /// Reads the command line; `words` are those behind the program's own name. What `clap` refuses is
 /// told before a definition without `=` is.
+///
+/// # Errors
+///
+/// What `clap` refuses, a definition without `=`, or want of memory.
 pub fn read_words<'a>(alloc: Global, words: &'a [&'a str]) -> Result<Words<'a>, WordsFault>
     // What `clap` finds in the words, by its own account of a command line.
     ensures reads { IfOk result (ReadsWords (subcommand_of program (map (λ word. word.now) words.entry.now))) }

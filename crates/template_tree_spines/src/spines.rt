@@ -9,6 +9,10 @@ use template_tree::Expr;
 
 /// The expression, its left part, that one's left part and so on, the last one first: what goes over a
 /// tree goes along this list, and calls itself for the other parts alone. Linear in its length.
+///
+/// # Errors
+///
+/// Want of memory.
 pub fn spine<'a, 'source>(
     alloc: Global,
     expr: &'a Expr<'source>,

@@ -18,7 +18,7 @@ struct SharedItems {
 }
 
 impl Value {
-    /// A list of the items.
+    /// A list of the items, which it takes as they are. Linear in their number: it asks each for its depth.
     ///
     /// # Errors
     ///
@@ -38,7 +38,7 @@ impl Value {
         })
     }
 
-    /// A tuple of the items.
+    /// A tuple of the items, which it takes as they are. Linear in their number: it asks each for its depth.
     ///
     /// # Errors
     ///

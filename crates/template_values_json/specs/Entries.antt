@@ -3,6 +3,7 @@ use Rattle.std.specs.Prelude.{◌≡◌, ◌<◌, ℕ, List, option_and_then, op
 use Rattle.serde_json.specs.Data.{Data}
 use Rattle.serde_json.specs.Find.{get}
 use Rattle.template_values_model.specs.Val.{Val, text}
+use Rattle.template_values_model.specs.declared.TheConstants.{DEPTH_LIMIT}
 use Rattle.template_values_core.specs.Depth.{depth}
 use Rattle.template_values_core.specs.Maps.{last_at}
 use Rattle.template_values_core.specs.Shape.{pairs_in}
@@ -15,7 +16,7 @@ IsPlainText v = (bytes : List ℕ) × (v ≡ text bytes)
 -- keys are plain texts, and values leave a level for a map of them
 abbrev pub ArePlain : List Entry → Type 0
 ArePlain [] = Unit {0}
-ArePlain (e ∷ later) = IsPlainText e.key × (depth e.value < 500) × ArePlain later
+ArePlain (e ∷ later) = IsPlainText e.key × (depth e.value < DEPTH_LIMIT) × ArePlain later
 
 -- the entries say the same as the members of the data
 abbrev pub SayData : Data → List Entry → Type 0
