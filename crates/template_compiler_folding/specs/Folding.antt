@@ -1,6 +1,7 @@
 -- What is known before a render runs of a tree whose parts are or are not constant.
-use Rattle.std.specs.Prelude.{Option, option_and_then}
+use Rattle.std.specs.Prelude.{Bool, false, Option, None, Some, option_and_then}
 use Rattle.template_values_model.specs.Val.{Val}
+use Rattle.template_values_core.specs.Reads.{is_true}
 use Rattle.template_values_forms.specs.Known.{nothing_known}
 use Rattle.template_tree.specs.declared.operators.UnaryOpKind.{UnaryOpKind}
 use Rattle.template_tree.specs.declared.operators.BinOpKind.{BinOpKind}
@@ -16,3 +17,8 @@ binary_folded op left right = option_and_then (λ v. option_and_then (binary_con
 
 abbrev pub comparison_folded : CompareOpKind → Option Val → Option Val → Option Val
 comparison_folded op left right = option_and_then (λ v. option_and_then (λ w. made (compared nothing_known op v w)) right) left
+
+-- a comparison that is constant and true: a chain goes on behind it
+abbrev pub is_known_true : Option Val → Bool
+is_known_true (Some holds) = is_true holds
+is_known_true None = false

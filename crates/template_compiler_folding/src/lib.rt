@@ -5,4 +5,4 @@ mod containers;
 mod operators;
 
 pub use containers::{fold_list, fold_map, fold_tuple};
-pub use operators::{fold_binary, fold_comparison, fold_unary};
+pub use operators::{fold_binary, fold_comparison, fold_unary, goes_on};

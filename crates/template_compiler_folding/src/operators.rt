@@ -5,7 +5,7 @@ ghost use Rattle.template_values_model.specs.Fault.{Fault};
 ghost use Rattle.template_values_model.specs.Gives.{Gives};
 ghost use Rattle.template_values_model.specs.Val.{Val};
 ghost use Rattle.template_walk.specs.Constants.{binary_constant, made};
-ghost use Rattle.template_compiler_folding.specs.Folding.{unary_folded, binary_folded, comparison_folded};
+ghost use Rattle.template_compiler_folding.specs.Folding.{unary_folded, binary_folded, comparison_folded, is_known_true};
 
 use std::alloc::Global;
 use template_tree::{BinOpKind, CompareOpKind, UnaryOpKind};
@@ -112,5 +112,15 @@ pub fn fold_comparison(
             None => Ok(None),
         },
         None => Ok(None),
+    }
+}
+
+/// Whether a chain of comparisons goes on behind one, of which the truth is given where it is known: it is known and true.
+pub fn goes_on(holds: &Option<Value>) -> bool
+    ensures { result ≡ is_known_true holds.now }
+{
+    match holds {
+        Some(holds) => holds.is_true(),
+        None => false,
     }
 }

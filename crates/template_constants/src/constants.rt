@@ -4,11 +4,11 @@ ghost use Rattle.template_values_errors.specs.Memory.{NoMemory};
 ghost use Rattle.template_tree.specs.View.{expression_of, links_in};
 ghost use Rattle.template_walk.specs.Constants.{constant_of, chain_constant};
 ghost use Rattle.template_compiler_folding.specs.Folding.{binary_folded};
-ghost use Rattle.template_constants.specs.Nodes.{is_known_true, node_constant};
+ghost use Rattle.template_constants.specs.Nodes.{node_constant};
 
 use std::alloc::Global;
 use template_compiler_folding::{
-    fold_binary, fold_comparison, fold_list, fold_map, fold_tuple, fold_unary,
+    fold_binary, fold_comparison, fold_list, fold_map, fold_tuple, fold_unary, goes_on,
 };
 use template_tree::{BinOpKind, CompareOp, Expr};
 use template_tree_spines::spine;
@@ -109,14 +109,4 @@ fn chain_constant(
         left = right;
     }
     Ok(holds)
-}
-
-// Whether a chain goes on behind a comparison: it is constant and true.
-fn goes_on(holds: &Option<Value>) -> bool
-    ensures { result ≡ is_known_true holds.now }
-{
-    match holds {
-        Some(holds) => holds.is_true(),
-        None => false,
-    }
 }
