@@ -89,6 +89,9 @@ whole_runs s n r node is =
     subst (λ (t : Statement). Decides r (RunsWhole t)) (sym tree)
     (Decides-at r (statements_run false (statements_in n.node.children.items)) is (Decides-statements_run false (statements_in n.node.children.items)))
 
+pub no_whole : (s x : Stmt) → s ≡ x → (RunsWhole (statement_of x) → ⊥) → Decides false (RunsWhole (statement_of s))
+no_whole s x is none = (λ h. cc, λ h. absurd (none (subst (λ (y : Stmt). RunsWhole (statement_of y)) is h)))
+
 whole_call_by : (n : Spanned (Box CallBlock Global)) (v : CallBlock) → RunsWhole (statement_of (calls (with_value n v))) → ⊥
 unfolding with_value
 whole_call_by n (called call q name args defaults shape body inner) h = h

@@ -6,7 +6,7 @@ use Rattle.template_tree.specs.declared.expressions.Map.{Map as MapNode}
 use Rattle.template_tree.specs.declared.expressions.Slice.{Slice as SliceNode}
 use Rattle.template_tree.specs.declared.expressions.Expr.{Expr, size-Expr, the_lemmas}
 use Rattle.template_tree.proofs.Rows.{expressions_row}
-use Rattle.template_compiler_runnable.specs.Running.{all_run, chain_runs, left_deep, left_runs, runs_if_given}
+use Rattle.template_compiler_runnable.specs.Running.{all_run, chain_runs, left_deep, left_runs, runs_beside, runs_if_given}
 use Rattle.template_compiler_runnable.proofs.Parts.{goes_left, left_within, chain_beside, map_beside, slice_beside, first_fails, then}
 use Rattle.template_compiler_runnable.proofs.expressions.+expression.Goals as goal
 
@@ -67,3 +67,18 @@ others_run-returns-else-not-items_run t c =
     let values = c.items_run-in-Map-2.ensures ∙ ap (λ (es : Items Expr). all_run (expressions_in es))
     (c.deref-in-Map-4.ensures.value ∙ ap (λ (m : MapNode). m.values.items) c.deref-in-Map-3.ensures) in
     values ∙ sym (then _ (map_beside c.args.expr.now c.in-Map.n c.in-Map.is) (sym keys ∙ c.if-not-items_run.false))
+
+pub others_run-returns-in-Filter : goal.others_run-returns-in-Filter
+others_run-returns-in-Filter t c = ap (λ (x : Expr). runs_beside (expression_of x)) (sym c.in-Filter.is)
+
+pub others_run-returns-in-Test : goal.others_run-returns-in-Test
+others_run-returns-in-Test t c = ap (λ (x : Expr). runs_beside (expression_of x)) (sym c.in-Test.is)
+
+pub others_run-returns-in-Call : goal.others_run-returns-in-Call
+others_run-returns-in-Call t c = ap (λ (x : Expr). runs_beside (expression_of x)) (sym c.in-Call.is)
+
+pub others_run-returns-in-GetAttr : goal.others_run-returns-in-GetAttr
+others_run-returns-in-GetAttr t c = ap (λ (x : Expr). runs_beside (expression_of x)) (sym c.in-GetAttr.is)
+
+pub others_run-returns-in-Const : goal.others_run-returns-in-Const
+others_run-returns-in-Const t c = ap (λ (x : Expr). runs_beside (expression_of x)) (sym c.in-Const.is)

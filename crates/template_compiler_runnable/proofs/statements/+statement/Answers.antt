@@ -1,6 +1,6 @@
 use Rattle.std.proofs.Common.{◌≡◌, ◌≤◌, length, get_or, vec_len, true, List, sym, ap, ◌∙◌, arith}
 use Rattle.template_tree.specs.View.{expression_of}
-use Rattle.template_tree_statements.specs.View.{assignments_in}
+use Rattle.template_tree_statements.specs.View.{assignments_in, statement_of}
 use Rattle.template_tree_statements.specs.declared.statements.AutoEscape.{AutoEscape as AutoEscapeNode}
 use Rattle.template_tree_statements.specs.declared.statements.ForLoop.{ForLoop as ForLoopNode}
 use Rattle.template_tree_statements.specs.declared.statements.IfCond.{IfCond as IfCondNode}
@@ -8,7 +8,7 @@ use Rattle.template_tree_statements.specs.declared.statements.WithBlock.{WithBlo
 use Rattle.template_tree_statements.specs.declared.statements.Stmt.{Stmt, size-Stmt}
 use Rattle.template_tree_parts.specs.Listed.{statements_in}
 use Rattle.std.specs.Prelude.{is_some}
-use Rattle.template_compiler_runnable.specs.Running.{runs, is_target, assignments_run, statements_run}
+use Rattle.template_compiler_runnable.specs.Running.{runs, is_target, assignments_run, statement_runs, statements_run}
 use Rattle.template_compiler_runnable.proofs.Parts.{first_fails, then}
 use Rattle.template_compiler_runnable.proofs.Bodies.{for_runs, if_runs, with_runs, escape_runs, no_call, only_runs, else_smaller}
 use Rattle.template_compiler_runnable.proofs.statements.+statement.Goals as goal
@@ -116,3 +116,30 @@ statement_runs-loop-at-preserved t c =
       decides = c.loop-at.invariant.decides ∙ others ∙ only_runs c.args.looping items c.index.result.now one at;
       deep = omega (arith, within, same, deep);
     }
+
+pub parts_run-returns-in-Template : goal.parts_run-returns-in-Template
+parts_run-returns-in-Template t c = ap (λ (x : Stmt). statement_runs c.args.looping (statement_of x)) (sym c.in-Template.is)
+
+pub parts_run-returns-in-SetBlock : goal.parts_run-returns-in-SetBlock
+parts_run-returns-in-SetBlock t c = ap (λ (x : Stmt). statement_runs c.args.looping (statement_of x)) (sym c.in-SetBlock.is)
+
+pub parts_run-returns-in-FilterBlock : goal.parts_run-returns-in-FilterBlock
+parts_run-returns-in-FilterBlock t c = ap (λ (x : Stmt). statement_runs c.args.looping (statement_of x)) (sym c.in-FilterBlock.is)
+
+pub parts_run-returns-in-Block : goal.parts_run-returns-in-Block
+parts_run-returns-in-Block t c = ap (λ (x : Stmt). statement_runs c.args.looping (statement_of x)) (sym c.in-Block.is)
+
+pub parts_run-returns-in-Import : goal.parts_run-returns-in-Import
+parts_run-returns-in-Import t c = ap (λ (x : Stmt). statement_runs c.args.looping (statement_of x)) (sym c.in-Import.is)
+
+pub parts_run-returns-in-FromImport : goal.parts_run-returns-in-FromImport
+parts_run-returns-in-FromImport t c = ap (λ (x : Stmt). statement_runs c.args.looping (statement_of x)) (sym c.in-FromImport.is)
+
+pub parts_run-returns-in-Extends : goal.parts_run-returns-in-Extends
+parts_run-returns-in-Extends t c = ap (λ (x : Stmt). statement_runs c.args.looping (statement_of x)) (sym c.in-Extends.is)
+
+pub parts_run-returns-in-Macro : goal.parts_run-returns-in-Macro
+parts_run-returns-in-Macro t c = ap (λ (x : Stmt). statement_runs c.args.looping (statement_of x)) (sym c.in-Macro.is)
+
+pub parts_run-returns-in-Do : goal.parts_run-returns-in-Do
+parts_run-returns-in-Do t c = ap (λ (x : Stmt). statement_runs c.args.looping (statement_of x)) (sym c.in-Do.is)
