@@ -17,7 +17,7 @@ ghost use Rattle.template_compiler_emission.specs.Puts.{Puts, unless, behind};
 ghost use Rattle.template_compiler_expression_codegen.specs.Chains.{Grows, constant_behind, leaps_in, left_behind, link_code, linked_to};
 ghost use Rattle.template_compiler_expression_codegen.specs.Own.{own_constant, own_code};
 
-use crate::chains::{is_false, tell_leaps};
+use crate::chains::{is_false, put_leap, tell_leaps};
 use std::alloc::Global;
 use std::borrow::CowStr;
 use template_code::{Instruction, Instructions};
@@ -53,14 +53,14 @@ pub fn fold_expr<'source>(
     ensures refused { IfErr result (TakesNoMore (code_in code.new)) }
 {
     if left(expr).is_none() {
-        return fold_node(alloc, code, expr, None, from);
+        return fold_node(alloc, code, expr, &mut None, from);
     }
     let nodes = spine(alloc, expr)?;
     let mut constant = None;
     let mut i = 0;
     while i < nodes.len() {
         let told = first_from(i, &constant, from);
-        constant = fold_node(alloc, code, nodes[i], constant, told)?;
+        constant = fold_node(alloc, code, nodes[i], &mut constant, told)?;
         i += 1;
     }
     Ok(constant)
@@ -88,22 +88,21 @@ pub(crate) fn compile_expr<'source>(
     ensures refused { IfErr result (TakesNoMore (code_in code.new)) }
 {
     let constant = fold_expr(alloc, code, expr, from)?;
-    load(code, constant, from)?;
-    Ok(())
+    load(code, constant, from)
 }
 
-// A node behind its left part, whose value is given where it was held back.
+// A node behind its left part, whose value is given where it was held back, and taken where it is put.
 #[cycle(expression)]
 fn fold_node<'source>(
     alloc: Global,
     code: &mut Instructions<'source>,
     expr: &Expr<'source>,
-    left: Option<Value>,
+    left: &mut Option<Value>,
     from: Option<Span>,
 ) -> Result<Option<Value>, Error>
     requires { IsRunnable (expression_of expr.now) }
-    ensures constant { IfOk result (λ o. o ≡ own_constant left (expression_of expr.now)) }
-    ensures put { IfOk result (λ o. Puts (unless o (own_code left (expression_of expr.now))) code.old code.new) }
+    ensures constant { IfOk result (λ o. o ≡ own_constant left.old (expression_of expr.now)) }
+    ensures put { IfOk result (λ o. Puts (unless o (own_code left.old (expression_of expr.now))) code.old code.new) }
     ensures refused { IfErr result (TakesNoMore (code_in code.new)) }
 {
     match expr {
@@ -133,7 +132,7 @@ fn fold_node<'source>(
             Ok(None)
         }
         Expr::GetAttr(n) => {
-            load(code, left, from)?;
+            load(code, left.take(), from)?;
             put(
                 code,
                 Instruction::GetAttr(CowStr::Borrowed(n.node.name)),
@@ -142,7 +141,7 @@ fn fold_node<'source>(
             Ok(None)
         }
         Expr::GetItem(n) => {
-            compile_item(alloc, code, left, &n.node.subscript_expr, from)?;
+            compile_item(alloc, code, left.take(), &n.node.subscript_expr, from)?;
             Ok(None)
         }
         Expr::Filter(_) => unreachable!(),
@@ -152,7 +151,7 @@ fn fold_node<'source>(
             compile_slice(
                 alloc,
                 code,
-                left,
+                left.take(),
                 &n.node.start,
                 &n.node.stop,
                 &n.node.step,
@@ -205,21 +204,21 @@ fn fold_choice<'source>(
     code: &mut Instructions<'source>,
     op: BinOpKind,
     leap: Leap,
-    left: Option<Value>,
+    left: &Option<Value>,
     right: &Expr<'source>,
     from: Option<Span>,
 ) -> Result<Option<Value>, Error>
     requires { IsRunnable (expression_of right.now) }
-    ensures constant { IfOk result (λ o. o ≡ binary_folded op left (constant_of (expression_of right.now))) }
+    ensures constant { IfOk result (λ o. o ≡ binary_folded op left.now (constant_of (expression_of right.now))) }
     ensures put { IfOk result
-        (λ o. Puts (unless o (behind left (skipped (leap_code leap) (expression_code (expression_of right.now))))) code.old code.new) }
+        (λ o. Puts (unless o (behind left.now (skipped (leap_code leap) (expression_code (expression_of right.now))))) code.old code.new) }
     ensures refused { IfErr result (TakesNoMore (code_in code.new)) }
 {
     let begins = code.len();
-    load_copy(code, &left, from)?;
+    load_copy(code, left, from)?;
     let jump = reserve(code, leap, None)?;
     let constant = fold_expr(alloc, code, right, None)?;
-    match fold_binary(alloc, op, &left, &constant)? {
+    match fold_binary(alloc, op, left, &constant)? {
         Some(value) => {
             code.truncate(begins);
             Ok(Some(value))
@@ -239,21 +238,21 @@ fn fold_operator<'source>(
     alloc: Global,
     code: &mut Instructions<'source>,
     op: BinOpKind,
-    left: Option<Value>,
+    left: &Option<Value>,
     right: &Expr<'source>,
     from: Option<Span>,
 ) -> Result<Option<Value>, Error>
     requires right { IsRunnable (expression_of right.now) }
     requires op { IsNone (leap_of op) }
-    ensures constant { IfOk result (λ o. o ≡ binary_folded op left (constant_of (expression_of right.now))) }
+    ensures constant { IfOk result (λ o. o ≡ binary_folded op left.now (constant_of (expression_of right.now))) }
     ensures put { IfOk result
-        (λ o. Puts (unless o (behind left (then_code (expression_code (expression_of right.now)) (one (operate op))))) code.old code.new) }
+        (λ o. Puts (unless o (behind left.now (then_code (expression_code (expression_of right.now)) (one (operate op))))) code.old code.new) }
     ensures refused { IfErr result (TakesNoMore (code_in code.new)) }
 {
     let begins = code.len();
-    load_copy(code, &left, from)?;
+    load_copy(code, left, from)?;
     let constant = fold_expr(alloc, code, right, None)?;
-    match fold_binary(alloc, op, &left, &constant)? {
+    match fold_binary(alloc, op, left, &constant)? {
         Some(value) => {
             code.truncate(begins);
             Ok(Some(value))
@@ -551,7 +550,7 @@ fn compile_links<'source>(
             let Link { holds, .. } = link;
             return Ok(Linked { holds, leaps });
         }
-        leaps.push(reserve(code, Leap::IfFalseOrPop, None)?)?;
+        put_leap(code, &mut leaps)?;
         link = compile_link(alloc, code, &link.left, next)?;
     }
     let Link { holds, .. } = link;
@@ -594,18 +593,18 @@ fn compile_chain<'source>(
 fn fold_chain<'source>(
     alloc: Global,
     code: &mut Instructions<'source>,
-    left: Option<Value>,
+    left: &Option<Value>,
     links: &[CompareOp<'source>],
     from: Option<Span>,
 ) -> Result<Option<Value>, Error>
     requires { IsRunnableChain (links_in links.now) }
-    ensures constant { IfOk result (λ o. o ≡ option_and_then (λ v. chain_constant v (links_in links.now)) left) }
-    ensures put { IfOk result (λ o. Puts (unless o (behind left (chain_code (links_in links.now)))) code.old code.new) }
+    ensures constant { IfOk result (λ o. o ≡ option_and_then (λ v. chain_constant v (links_in links.now)) left.now) }
+    ensures put { IfOk result (λ o. Puts (unless o (behind left.now (chain_code (links_in links.now)))) code.old code.new) }
     ensures refused { IfErr result (TakesNoMore (code_in code.new)) }
 {
     let begins = code.len();
-    load_copy(code, &left, from)?;
-    match compile_chain(alloc, code, &left, links)? {
+    load_copy(code, left, from)?;
+    match compile_chain(alloc, code, left, links)? {
         Some(holds) => {
             code.truncate(begins);
             Ok(Some(holds))

@@ -31,12 +31,12 @@ use Rattle.template_compiler_expression_codegen.proofs.Sizes.{item_deep, link_de
 use Rattle.template_compiler_expression_codegen.proofs.Trees.{chain_deep, chain_is, keys_deep, list_deep, list_is, map_is, tuple_deep, tuple_is, values_deep}
 use Rattle.template_compiler_expression_codegen.proofs.expressions.+expression.Goals as goal
 
-pub fold_choice-returns-clause-put : goal.fold_choice-returns-clause-put
-fold_choice-returns-clause-put t c =
+pub fold_choice-returns-in_ok-load-in-None-clause-put : goal.fold_choice-returns-in_ok-load-in-None-clause-put
+fold_choice-returns-in_ok-load-in-None-clause-put t c =
     let whole = puts_whole (expression_of c.args.right.now) c.in_ok-constant.ensures.constant c.in_ok-constant.ensures.put c.in_ok-load-in-None.ensures.put in
     let landed = c.land.ensures.landed ∙
     ap (λ m. set (code_in c.load.new.code) m (leap_code c.args.leap (length (code_in c.load.new.code)))) c.in_ok-jump.ensures.place in
-    puts_behind c.args.left c.in_ok-load_copy.ensures.put (puts_skipped c.args.leap c.in_ok-jump.ensures.put whole landed c.land.ensures.same)
+    puts_behind c.args.left.now c.in_ok-load_copy.ensures.put (puts_skipped c.args.leap c.in_ok-jump.ensures.put whole landed c.land.ensures.same)
 
 pub fold_expr-loop-i-preserved : goal.fold_expr-loop-i-preserved
 fold_expr-loop-i-preserved t c =
@@ -84,10 +84,10 @@ fold_expr-returns-clause-put t c =
       same = c.loop-i.invariant.same;
     }
 
-pub fold_operator-returns-clause-put : goal.fold_operator-returns-clause-put
-fold_operator-returns-clause-put t c =
+pub fold_operator-returns-in_ok-put-in-None-clause-put : goal.fold_operator-returns-in_ok-put-in-None-clause-put
+fold_operator-returns-in_ok-put-in-None-clause-put t c =
     let whole = puts_whole (expression_of c.args.right.now) c.in_ok-constant.ensures.constant c.in_ok-constant.ensures.put c.in_ok-load-in-None.ensures.put in
-    puts_behind c.args.left c.in_ok-load_copy.ensures.put (puts_then whole (puts_as c.operator_instruction.ensures c.in_ok-put-in-None.ensures.put))
+    puts_behind c.args.left.now c.in_ok-load_copy.ensures.put (puts_then whole (puts_as c.operator_instruction.ensures c.in_ok-put-in-None.ensures.put))
 
 pub compile_chain-returns-in_ok-put-in-None-holds-2-clause-constant : goal.compile_chain-returns-in_ok-put-in-None-holds-2-clause-constant
 compile_chain-returns-in_ok-put-in-None-holds-2-clause-constant t c =
@@ -191,20 +191,19 @@ compile_links-loop-next-preserved t c =
     let behind = c.in_ok-link.link.left in
     let goes : is_false holds ≡ false = sym c.is_false.ensures ∙ c.if-is_false.false in
     let before = code_in c.loop-next.code in
-    let leapt = code_in c.reserve.new.code in
+    let leapt = code_in c.put_leap.new.code in
     let after = code_in c.compile_link.new.code in
     let places = c.loop-next.leaps.items in
     record {
       stays = behind_none later behind (constant_of e) c.in_ok-link.ensures.left;
       constant = link_goes x.op e rest holds left later behind goes c.loop-next.invariant.stays c.in_ok-link.ensures.holds c.in_ok-link.ensures.left ∙
           ap (λ (l : Links). constant_behind holds left l) (sym at) ∙ c.loop-next.invariant.constant;
-      leaps = ap (λ (qs : List ℕ). qs ++ leaps_in rest (length after)) c.in_ok-push.ensures.items ∙
-          ap (λ (m : ℕ). (places ++ m ∷ []) ++ leaps_in rest (length after)) c.in_ok-reserve.ensures.place ∙
-          place_more x.op e rest before leapt after places c.in_ok-reserve.ensures.put.code c.in_ok-link.ensures.put.code ∙
+      leaps = ap (λ (qs : List ℕ). qs ++ leaps_in rest (length after)) c.in_ok-put_leap.ensures.kept ∙
+          place_more x.op e rest before leapt after places c.in_ok-put_leap.ensures.put.code c.in_ok-link.ensures.put.code ∙
           ap (λ (l : Links). places ++ leaps_in l (length before)) (sym at) ∙ c.loop-next.invariant.leaps;
-      code = link_more x.op e rest before leapt after c.in_ok-reserve.ensures.put.code c.in_ok-link.ensures.put.code ∙
+      code = link_more x.op e rest before leapt after c.in_ok-put_leap.ensures.put.code c.in_ok-link.ensures.put.code ∙
           ap (λ (l : Links). before ++ linked_to 0 l (length before)) (sym at) ∙ c.loop-next.invariant.code;
-      grown = grows_then c.loop-next.invariant.grown (grows_then (grows_by c.in_ok-reserve.ensures.put) (grows_by c.in_ok-link.ensures.put));
+      grown = grows_then c.loop-next.invariant.grown (grows_then (grows_by c.in_ok-put_leap.ensures.put) (grows_by c.in_ok-link.ensures.put));
     }
 
 pub fold_list_literal-returns-in_ok-put-in-None-clause-put : goal.fold_list_literal-returns-in_ok-put-in-None-clause-put
@@ -340,3 +339,11 @@ pub fold_unary_operator-returns-in_ok-put-in-None-clause-put : goal.fold_unary_o
 fold_unary_operator-returns-in_ok-put-in-None-clause-put t c =
     let whole = puts_whole (expression_of c.args.operand.now) c.in_ok-constant.ensures.constant c.in_ok-constant.ensures.put c.in_ok-load-in-None.ensures.put in
     puts_then whole (puts_as c.unary_instruction.ensures c.in_ok-put-in-None.ensures.put)
+
+pub compile_expr-returns-clause-put : goal.compile_expr-returns-clause-put
+compile_expr-returns-clause-put t c = on_ok_weaker c.load.result (λ last.
+    puts_whole (expression_of c.args.expr.now) c.in_ok-constant.ensures.constant c.in_ok-constant.ensures.put last) c.load.ensures.put
+
+pub compile_item-returns-clause-put : goal.compile_item-returns-clause-put
+compile_item-returns-clause-put t c = on_ok_weaker c.put.result (λ last.
+    puts_behind c.args.left c.in_ok-load.ensures.put (puts_then c.in_ok-compile_expr.ensures.put last)) c.put.ensures.put
