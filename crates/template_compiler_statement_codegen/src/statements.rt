@@ -43,8 +43,7 @@ pub fn compile_template<'source>(
     ensures refused { IfErr result (TakesNoMore (code_in code.new)) }
 {
     let mut round = Round::new(alloc, 0);
-    compile_body(alloc, code, &mut round, children(tree))?;
-    Ok(())
+    compile_body(alloc, code, &mut round, children(tree))
 }
 
 // The statements of a whole template.
@@ -223,8 +222,7 @@ fn compile_closed<'source>(
     round.closings.push(closing)?;
     compile_body(alloc, code, round, body)?;
     round.closings.truncate(open);
-    put(code, closing.instruction(), Some(span))?;
-    Ok(())
+    put(code, closing.instruction(), Some(span))
 }
 
 // A frame with assignments, around a body.
@@ -426,26 +424,8 @@ fn elif<'ast, 'source>(otherwise: &'ast [Stmt<'source>]) -> Option<&'ast IfCond<
         return None;
     }
     match &otherwise[0] {
-        Stmt::IfCond(n) => return Some(&n.node),
-        Stmt::Template(_) => return None,
-        Stmt::EmitExpr(_) => return None,
-        Stmt::EmitRaw(_) => return None,
-        Stmt::ForLoop(_) => return None,
-        Stmt::WithBlock(_) => return None,
-        Stmt::Set(_) => return None,
-        Stmt::SetBlock(_) => return None,
-        Stmt::AutoEscape(_) => return None,
-        Stmt::FilterBlock(_) => return None,
-        Stmt::Block(_) => return None,
-        Stmt::Import(_) => return None,
-        Stmt::FromImport(_) => return None,
-        Stmt::Extends(_) => return None,
-        Stmt::Include(_) => return None,
-        Stmt::Macro(_) => return None,
-        Stmt::CallBlock(_) => return None,
-        Stmt::Continue(_) => return None,
-        Stmt::Break(_) => return None,
-        Stmt::Do(_) => return None,
+        Stmt::IfCond(n) => Some(&n.node),
+        _ => None,
     }
 }
 

@@ -61,8 +61,9 @@ compile_closed-returns-clause-lowered t c =
     let behind = c.compile_body.new.round in
     let last : Round = record { asks = behind.asks; closings = c.truncate.new.self; breaks = behind.breaks } in
     let long : c.len-open.result ≡ length r.closings.items = omega (arith, c.len-open.ensures, r.closings.ok.0) in
+    on_ok_weaker c.put.result (λ closed.
     lowers_closed c.args.closing (statements_in c.args.body.now) r inside behind last c.len-open.result c.in_ok-push.ensures.items refl refl
-    c.in_ok-compile_body.ensures.lowered long c.truncate.ensures.items refl refl (puts_as c.instruction.ensures c.in_ok-put.ensures.put)
+    c.in_ok-compile_body.ensures.lowered long c.truncate.ensures.items refl refl (puts_as c.instruction.ensures closed)) c.put.ensures.put
 
 pub compile_condition-loop-left-preserved-in-Continue-branch-3 : goal.compile_condition-loop-left-preserved-in-Continue-branch-3
 compile_condition-loop-left-preserved-in-Continue-branch-3 t c =
@@ -212,3 +213,30 @@ pub compile_loop-returns-clause-lowered : goal.compile_loop-returns-clause-lower
 compile_loop-returns-clause-lowered t c = on_ok_weaker c.compile_loop_end.result (λ last.
     lowers_behind c.in_ok-compile_expr.ensures.put
     (lowers_behind c.in_ok-put.ensures.put (lowers_behind c.in_ok-compile_rounds.ensures.put last))) c.compile_loop_end.ensures.lowered
+
+pub compile_statement-unreachable-requires : goal.compile_statement-unreachable-requires
+compile_statement-unreachable-requires t c = subst (λ (s : Stmt). IsRunnableStatement true (statement_of s)) c.in-Template.is c.requires
+
+pub compile_statement-unreachable-requires-in-SetBlock : goal.compile_statement-unreachable-requires-in-SetBlock
+compile_statement-unreachable-requires-in-SetBlock t c = subst (λ (s : Stmt). IsRunnableStatement true (statement_of s)) c.in-SetBlock.is c.requires
+
+pub compile_statement-unreachable-requires-in-FilterBlock : goal.compile_statement-unreachable-requires-in-FilterBlock
+compile_statement-unreachable-requires-in-FilterBlock t c = subst (λ (s : Stmt). IsRunnableStatement true (statement_of s)) c.in-FilterBlock.is c.requires
+
+pub compile_statement-unreachable-requires-in-Block : goal.compile_statement-unreachable-requires-in-Block
+compile_statement-unreachable-requires-in-Block t c = subst (λ (s : Stmt). IsRunnableStatement true (statement_of s)) c.in-Block.is c.requires
+
+pub compile_statement-unreachable-requires-in-Import : goal.compile_statement-unreachable-requires-in-Import
+compile_statement-unreachable-requires-in-Import t c = subst (λ (s : Stmt). IsRunnableStatement true (statement_of s)) c.in-Import.is c.requires
+
+pub compile_statement-unreachable-requires-in-FromImport : goal.compile_statement-unreachable-requires-in-FromImport
+compile_statement-unreachable-requires-in-FromImport t c = subst (λ (s : Stmt). IsRunnableStatement true (statement_of s)) c.in-FromImport.is c.requires
+
+pub compile_statement-unreachable-requires-in-Extends : goal.compile_statement-unreachable-requires-in-Extends
+compile_statement-unreachable-requires-in-Extends t c = subst (λ (s : Stmt). IsRunnableStatement true (statement_of s)) c.in-Extends.is c.requires
+
+pub compile_statement-unreachable-requires-in-Macro : goal.compile_statement-unreachable-requires-in-Macro
+compile_statement-unreachable-requires-in-Macro t c = subst (λ (s : Stmt). IsRunnableStatement true (statement_of s)) c.in-Macro.is c.requires
+
+pub compile_statement-unreachable-requires-in-Do : goal.compile_statement-unreachable-requires-in-Do
+compile_statement-unreachable-requires-in-Do t c = subst (λ (s : Stmt). IsRunnableStatement true (statement_of s)) c.in-Do.is c.requires

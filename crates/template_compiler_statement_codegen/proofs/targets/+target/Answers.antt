@@ -55,3 +55,39 @@ pub compile_targets-returns-clause-put : goal.compile_targets-returns-clause-put
 compile_targets-returns-clause-put t c =
     puts_targets (one (unpack_list (number_of (expressions_in c.args.targets.now)))) c.args.targets.now c.loop-target.target-index (omega arith)
     c.loop-target.invariant
+
+pub compile_assignment-unreachable-requires : goal.compile_assignment-unreachable-requires
+compile_assignment-unreachable-requires t c = subst (λ (e : Expr). IsTarget (expression_of e)) c.in-Const.is c.requires
+
+pub compile_assignment-unreachable-requires-in-Slice : goal.compile_assignment-unreachable-requires-in-Slice
+compile_assignment-unreachable-requires-in-Slice t c = subst (λ (e : Expr). IsTarget (expression_of e)) c.in-Slice.is c.requires
+
+pub compile_assignment-unreachable-requires-in-UnaryOp : goal.compile_assignment-unreachable-requires-in-UnaryOp
+compile_assignment-unreachable-requires-in-UnaryOp t c = subst (λ (e : Expr). IsTarget (expression_of e)) c.in-UnaryOp.is c.requires
+
+pub compile_assignment-unreachable-requires-in-BinOp : goal.compile_assignment-unreachable-requires-in-BinOp
+compile_assignment-unreachable-requires-in-BinOp t c = subst (λ (e : Expr). IsTarget (expression_of e)) c.in-BinOp.is c.requires
+
+pub compile_assignment-unreachable-requires-in-IfExpr : goal.compile_assignment-unreachable-requires-in-IfExpr
+compile_assignment-unreachable-requires-in-IfExpr t c = subst (λ (e : Expr). IsTarget (expression_of e)) c.in-IfExpr.is c.requires
+
+pub compile_assignment-unreachable-requires-in-Filter : goal.compile_assignment-unreachable-requires-in-Filter
+compile_assignment-unreachable-requires-in-Filter t c = subst (λ (e : Expr). IsTarget (expression_of e)) c.in-Filter.is c.requires
+
+pub compile_assignment-unreachable-requires-in-Test : goal.compile_assignment-unreachable-requires-in-Test
+compile_assignment-unreachable-requires-in-Test t c = subst (λ (e : Expr). IsTarget (expression_of e)) c.in-Test.is c.requires
+
+pub compile_assignment-unreachable-requires-in-GetAttr : goal.compile_assignment-unreachable-requires-in-GetAttr
+compile_assignment-unreachable-requires-in-GetAttr t c = subst (λ (e : Expr). IsTarget (expression_of e)) c.in-GetAttr.is c.requires
+
+pub compile_assignment-unreachable-requires-in-GetItem : goal.compile_assignment-unreachable-requires-in-GetItem
+compile_assignment-unreachable-requires-in-GetItem t c = subst (λ (e : Expr). IsTarget (expression_of e)) c.in-GetItem.is c.requires
+
+pub compile_assignment-unreachable-requires-in-Call : goal.compile_assignment-unreachable-requires-in-Call
+compile_assignment-unreachable-requires-in-Call t c = subst (λ (e : Expr). IsTarget (expression_of e)) c.in-Call.is c.requires
+
+pub compile_assignment-unreachable-requires-in-Tuple : goal.compile_assignment-unreachable-requires-in-Tuple
+compile_assignment-unreachable-requires-in-Tuple t c = subst (λ (e : Expr). IsTarget (expression_of e)) c.in-Tuple.is c.requires
+
+pub compile_assignment-unreachable-requires-in-Map : goal.compile_assignment-unreachable-requires-in-Map
+compile_assignment-unreachable-requires-in-Map t c = subst (λ (e : Expr). IsTarget (expression_of e)) c.in-Map.is c.requires
