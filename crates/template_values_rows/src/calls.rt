@@ -3,8 +3,9 @@ use crate::constructors::{owned, text_of};
 use crate::errors::error_of;
 use crate::modes::{behavior_named, escape_named};
 use crate::scene::{STATE, Scene};
-use crate::sizes::large;
+use crate::sizes::{digest, nested, numbered_names, numbers, octets};
 use std::alloc::Global;
+use std::collections::BTreeSet;
 use template_values::*;
 
 // What stands before all that prints.
@@ -37,31 +38,22 @@ pub(crate) fn of_one(
     name: &str,
     value: &Value,
 ) -> Result<Value, Error> {
-    if let Some(made) = record_or_number(name, value)? {
-        return Ok(made);
+    match name {
+        "int" => int(value),
+        "neg" => neg(value),
+        "namespace" => Ok(Value::namespace(STATE, place(value)?)),
+        "loop" => Ok(Value::loop_record(STATE, place(value)?)),
+        "macro" => Ok(Value::macro_record(STATE, place(value)?)),
+        _ => written(alloc, scene, name, value),
     }
-    if let Some(text) = text_from(alloc, scene, name, value)? {
-        return Value::from_text(text);
-    }
-    if let Some(made) = large(alloc, name, value)? {
-        return Ok(made);
-    }
-    if let Some(told) = told(alloc, name, value)? {
-        return Ok(told);
-    }
-    fact(alloc, scene, name, value)
 }
 
-// A record of the state, or a number.
-fn record_or_number(name: &str, value: &Value) -> Result<Option<Value>, Error> {
-    Ok(Some(match name {
-        "int" => int(value)?,
-        "neg" => neg(value)?,
-        "namespace" => Value::namespace(STATE, place(value)?),
-        "loop" => Value::loop_record(STATE, place(value)?),
-        "macro" => Value::macro_record(STATE, place(value)?),
-        _ => return Ok(None),
-    }))
+// The text of a value, or what else the call of that name gives.
+fn written(alloc: Global, scene: &Scene, name: &str, value: &Value) -> Result<Value, Error> {
+    match text_from(alloc, scene, name, value)? {
+        Some(text) => Value::from_text(text),
+        None => made(alloc, scene, name, value),
+    }
 }
 
 // The value as it prints, or under an escape. A refusal that does not leave the text before it as it was
@@ -107,17 +99,32 @@ fn behind(alloc: Global, text: &str) -> Result<String, Error> {
     }
 }
 
-// The context that JSON is, how many entries it has, or what an error prints.
-fn told(alloc: Global, name: &str, value: &Value) -> Result<Option<Value>, Error> {
-    Ok(Some(match name {
-        "context" => context_from_json(alloc, text_of(value)?.as_bytes())?,
-        "entries" => {
-            let entries = entries_from_json(alloc, text_of(value)?.as_bytes())?;
-            Value::from_int(entries.len() as i128)
-        }
-        "error" => Value::from_text(format!(in alloc; "{}", error_of(alloc, value)?)?)?,
-        _ => return Ok(None),
-    }))
+// What is large, or is made of JSON, and what an error prints.
+fn made(alloc: Global, scene: &Scene, name: &str, value: &Value) -> Result<Value, Error> {
+    match name {
+        "numbers" => numbers(alloc, place(value)?),
+        "names" => numbered_names(alloc, place(value)?),
+        "nested" => nested(alloc, place(value)?),
+        "octets" => octets(alloc, place(value)?),
+        "digest" => digest(alloc, text_of(value)?),
+        "context" => context_from_json(alloc, text_of(value)?.as_bytes()),
+        "entries" => entry_count(alloc, text_of(value)?),
+        "error" => error_text(alloc, value),
+        _ => fact(alloc, scene, name, value),
+    }
+}
+
+// How many entries the context has that JSON is.
+fn entry_count(alloc: Global, json: &str) -> Result<Value, Error> {
+    match entries_from_json(alloc, json.as_bytes()) {
+        Ok(entries) => Ok(Value::from_int(entries.len() as i128)),
+        Err(error) => Err(error),
+    }
+}
+
+fn error_text(alloc: Global, kinds: &Value) -> Result<Value, Error> {
+    let error = error_of(alloc, kinds)?;
+    Value::from_text(format!(in alloc; "{error}")?)
 }
 
 // What a value is.
@@ -144,15 +151,32 @@ pub(crate) fn of_two(
     left: &Value,
     right: &Value,
 ) -> Result<Value, Error> {
-    if let Some(value) = arithmetic(alloc, name, left, right)? {
-        return Ok(value);
+    match name {
+        "add" => add(alloc, left, right),
+        "sub" => sub(left, right),
+        "mul" => mul(alloc, left, right),
+        "div" => div(left, right),
+        "int_div" => int_div(left, right),
+        "rem" => rem(left, right),
+        "pow" => pow(left, right),
+        _ => looked_up(alloc, scene, name, left, right),
     }
+}
+
+// What is joined or looked up, or whether two are alike.
+fn looked_up(
+    alloc: Global,
+    scene: &Scene,
+    name: &str,
+    left: &Value,
+    right: &Value,
+) -> Result<Value, Error> {
     match name {
         "string_concat" => string_concat(alloc, left, right, scene),
         "contains" => Ok(Value::from_bool(contains(left, right, scene)?)),
         "get_attr" => get_attr(alloc, left, text_of(right)?, scene),
         "get_item" => get_item(alloc, left, right, scene),
-        "kwargs_get" => keywords(left)?.get(text_of(right)?),
+        "kwargs_get" => keyword(left, text_of(right)?),
         _ => Ok(Value::from_bool(compare(alloc, name, left, right)?)),
     }
 }
@@ -162,29 +186,24 @@ fn compare(alloc: Global, name: &str, left: &Value, right: &Value) -> Result<boo
     match name {
         "equal" => Ok(left == right),
         "less" => Ok(left < right),
-        "same_error" => Ok(error_of(alloc, left)? == error_of(alloc, right)?),
-        "same_escape" => Ok(escape_named(text_of(left)?) == escape_named(text_of(right)?)),
-        "same_behavior" => Ok(behavior_named(text_of(left)?) == behavior_named(text_of(right)?)),
+        "same_error" => same_error(alloc, left, right),
+        "same_escape" => Ok(same_escape(text_of(left)?, text_of(right)?)),
+        "same_behavior" => Ok(same_behavior(text_of(left)?, text_of(right)?)),
         _ => Err(unknown()),
     }
 }
 
-fn arithmetic(
-    alloc: Global,
-    name: &str,
-    left: &Value,
-    right: &Value,
-) -> Result<Option<Value>, Error> {
-    Ok(Some(match name {
-        "add" => add(alloc, left, right)?,
-        "sub" => sub(left, right)?,
-        "mul" => mul(alloc, left, right)?,
-        "div" => div(left, right)?,
-        "int_div" => int_div(left, right)?,
-        "rem" => rem(left, right)?,
-        "pow" => pow(left, right)?,
-        _ => return Ok(None),
-    }))
+fn same_error(alloc: Global, left: &Value, right: &Value) -> Result<bool, Error> {
+    let left = error_of(alloc, left)?;
+    Ok(left == error_of(alloc, right)?)
+}
+
+fn same_escape(left: &str, right: &str) -> bool {
+    escape_named(left) == escape_named(right)
+}
+
+fn same_behavior(left: &str, right: &str) -> bool {
+    behavior_named(left) == behavior_named(right)
 }
 
 fn unknown() -> Error {
@@ -224,10 +243,24 @@ fn keywords(value: &Value) -> Result<Kwargs, Error> {
     }
 }
 
-fn names(alloc: Global, value: &Value) -> Result<Value, Error> {
-    let mut names = Vec::new(alloc);
-    for name in &keywords(value)?.names(alloc)? {
-        names.push(Value::from_str(alloc, name.as_str())?)?;
+fn keyword(value: &Value, name: &str) -> Result<Value, Error> {
+    match keywords(value) {
+        Ok(keywords) => keywords.get(name),
+        Err(error) => Err(error),
     }
-    Value::from_list(alloc, names)
+}
+
+fn names(alloc: Global, value: &Value) -> Result<Value, Error> {
+    match keywords(value) {
+        Ok(keywords) => list_of(alloc, &keywords.names(alloc)?),
+        Err(error) => Err(error),
+    }
+}
+
+fn list_of(alloc: Global, names: &BTreeSet<String>) -> Result<Value, Error> {
+    let mut values = Vec::new(alloc);
+    for name in names {
+        values.push(Value::from_str(alloc, name.as_str())?)?;
+    }
+    Value::from_list(alloc, values)
 }

@@ -1,25 +1,9 @@
-//! The constructors of values, by name.
+//! What values are made of.
 use std::alloc::Global;
 use template_values::{Entry, Error, ErrorKind, Value};
 
-/// What the constructor of that name makes of the arguments; none where there is no such one.
-pub(crate) fn construct(
-    alloc: Global,
-    name: &str,
-    arguments: &[Value],
-) -> Result<Option<Value>, Error> {
-    Ok(Some(match name {
-        "list" => Value::from_list(alloc, copies(alloc, arguments)?)?,
-        "tuple" => Value::from_tuple(alloc, copies(alloc, arguments)?)?,
-        "map" => Value::from_map(alloc, entries(alloc, arguments)?)?,
-        "kwargs" => Value::from_kwargs(alloc, entries(alloc, arguments)?)?,
-        "module" => module(alloc, arguments)?,
-        "bytes" => Value::from_bytes(alloc, bytes(alloc, arguments)?)?,
-        _ => return Ok(None),
-    }))
-}
-
-fn copies(alloc: Global, values: &[Value]) -> Result<Vec<Value>, Error> {
+/// Copies of the values.
+pub(crate) fn copies(alloc: Global, values: &[Value]) -> Result<Vec<Value>, Error> {
     let mut copies = Vec::new(alloc);
     for value in values {
         copies.push(value.copy()?)?;
@@ -27,21 +11,25 @@ fn copies(alloc: Global, values: &[Value]) -> Result<Vec<Value>, Error> {
     Ok(copies)
 }
 
-// Keys and values stand in turn.
-fn entries(alloc: Global, values: &[Value]) -> Result<Vec<Entry>, Error> {
+/// The entries whose keys and values stand in turn.
+pub(crate) fn entries(alloc: Global, values: &[Value]) -> Result<Vec<Entry>, Error> {
     let mut entries = Vec::new(alloc);
     for pair in values.chunks_exact(2) {
         if let [key, value] = pair {
-            let key = key.copy()?;
-            let value = value.copy()?;
-            entries.push(Entry { key, value })?;
+            entries.push(entry(key, value)?)?;
         }
     }
     Ok(entries)
 }
 
-// The text stands first.
-fn module(alloc: Global, arguments: &[Value]) -> Result<Value, Error> {
+fn entry(key: &Value, value: &Value) -> Result<Entry, Error> {
+    let key = key.copy()?;
+    let value = value.copy()?;
+    Ok(Entry { key, value })
+}
+
+/// The module whose text stands first, before its entries.
+pub(crate) fn module(alloc: Global, arguments: &[Value]) -> Result<Value, Error> {
     match arguments {
         [text, members @ ..] => {
             let text = owned(alloc, text)?;
@@ -51,7 +39,8 @@ fn module(alloc: Global, arguments: &[Value]) -> Result<Value, Error> {
     }
 }
 
-fn bytes(alloc: Global, values: &[Value]) -> Result<Vec<u8>, Error> {
+/// The bytes that the values are.
+pub(crate) fn bytes(alloc: Global, values: &[Value]) -> Result<Vec<u8>, Error> {
     let mut bytes = Vec::new(alloc);
     for value in values {
         bytes.push(byte(value)?)?;

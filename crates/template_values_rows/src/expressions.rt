@@ -1,7 +1,7 @@
 //! Expressions in JSON: `null` is none, an array is a call of the name that stands first with the values
 //! of the others, and all else is itself.
 use crate::calls::{constant, of_one, of_two};
-use crate::constructors::construct;
+use crate::constructors::{bytes, copies, entries, module};
 use crate::scene::Scene;
 use serde_json::Value as Json;
 use std::alloc::Global;
@@ -24,10 +24,14 @@ fn wants_memory(answered: &Result<String, Error>) -> bool {
 }
 
 fn answer_once(alloc: Global, expression: &str) -> Result<String, Error> {
-    let expression = Json::from_str(alloc, expression).map_err(refusal)?;
-    let scene = Scene::new(alloc)?;
-    let value = value_of(alloc, &scene, expression)?;
-    shown(alloc, &scene, value)
+    answer_in(alloc, &Scene::new(alloc)?, expression)
+}
+
+fn answer_in(alloc: Global, scene: &Scene, expression: &str) -> Result<String, Error> {
+    match Json::from_str(alloc, expression) {
+        Ok(expression) => shown(alloc, scene, value_of(alloc, scene, expression)?),
+        Err(error) => Err(refusal(error)),
+    }
 }
 
 fn refusal(error: serde_json::Error) -> Error {
@@ -40,16 +44,24 @@ fn refusal(error: serde_json::Error) -> Error {
 
 // As the item of a list, without the list's brackets.
 fn shown(alloc: Global, scene: &Scene, value: Value) -> Result<String, Error> {
+    shown_within(alloc, scene, &list_of_one(alloc, value)?)
+}
+
+fn list_of_one(alloc: Global, value: Value) -> Result<Value, Error> {
     let mut items = Vec::new(alloc);
     items.push(value)?;
-    let list = Value::from_list(alloc, items)?;
+    Value::from_list(alloc, items)
+}
+
+fn shown_within(alloc: Global, scene: &Scene, list: &Value) -> Result<String, Error> {
     let mut text = String::new(alloc);
-    print_to(&list, scene, &mut text)?;
-    let inner = text
-        .strip_prefix("[")
-        .and_then(|rest| rest.strip_suffix("]"))
-        .unwrap_or("");
-    Ok(String::from_str(alloc, inner)?)
+    print_to(list, scene, &mut text)?;
+    Ok(String::from_str(alloc, without_brackets(text.as_str()))?)
+}
+
+fn without_brackets(text: &str) -> &str {
+    let inner = text.strip_prefix("[").unwrap_or(text);
+    inner.strip_suffix("]").unwrap_or(inner)
 }
 
 #[cycle(expressions)]
@@ -93,9 +105,23 @@ fn call_by_name(
     name: &str,
     arguments: &[Value],
 ) -> Result<Value, Error> {
-    if let Some(value) = construct(alloc, name, arguments)? {
-        return Ok(value);
+    match name {
+        "list" => Value::from_list(alloc, copies(alloc, arguments)?),
+        "tuple" => Value::from_tuple(alloc, copies(alloc, arguments)?),
+        "map" => Value::from_map(alloc, entries(alloc, arguments)?),
+        "kwargs" => Value::from_kwargs(alloc, entries(alloc, arguments)?),
+        "module" => module(alloc, arguments),
+        "bytes" => Value::from_bytes(alloc, bytes(alloc, arguments)?),
+        _ => call_by_count(alloc, scene, name, arguments),
     }
+}
+
+fn call_by_count(
+    alloc: Global,
+    scene: &Scene,
+    name: &str,
+    arguments: &[Value],
+) -> Result<Value, Error> {
     match arguments {
         [] => constant(name),
         [value] => of_one(alloc, scene, name, value),

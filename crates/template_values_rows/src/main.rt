@@ -14,18 +14,26 @@ mod sizes;
 
 use crate::expressions::answer;
 use std::io;
+use template_values::Error;
 
 fn main(rt: HostRuntime) -> io::Result<()> {
     for line in rt.lines(rt.alloc()) {
-        let line = line?;
-        if line.starts_with('#') || line.is_empty() {
-            println!(rt; "{line}")?;
-            continue;
-        }
-        match answer(rt.alloc(), line.as_str()) {
-            Ok(text) => println!(rt; "{line} = {text}")?,
-            Err(error) => println!(rt; "{line} = {}", error.kind().name())?,
-        }
+        write_line(&rt, line?.as_str())?;
     }
     Ok(())
+}
+
+fn write_line(rt: &HostRuntime, line: &str) -> io::Result<()> {
+    if line.starts_with('#') || line.is_empty() {
+        println!(rt; "{line}")
+    } else {
+        write_answer(rt, line, &answer(rt.alloc(), line))
+    }
+}
+
+fn write_answer(rt: &HostRuntime, line: &str, answer: &Result<String, Error>) -> io::Result<()> {
+    match answer {
+        Ok(text) => println!(rt; "{line} = {text}"),
+        Err(error) => println!(rt; "{line} = {}", error.kind().name()),
+    }
 }

@@ -21,29 +21,42 @@ pub(crate) struct Scene {
 
 impl Scene {
     pub(crate) fn new(alloc: Global) -> Result<Scene, Error> {
-        let mut entries = Vec::new(alloc);
-        push_entry(&mut entries, Value::from_int(7), Value::from_int(70))?;
-        push_entry(&mut entries, text(alloc, "k")?, text(alloc, "<b>")?)?;
-        let mut own = Vec::new(alloc);
-        push_entry(&mut own, text(alloc, "self")?, Value::namespace(STATE, 2))?;
-        let mut items = Vec::new(alloc);
+        let mut scene = Scene {
+            entries: Vec::new(alloc),
+            own: Vec::new(alloc),
+            items: Vec::new(alloc),
+            arguments: Vec::new(alloc),
+        };
+        scene.fill(alloc)?;
+        Ok(scene)
+    }
+
+    fn fill(&mut self, alloc: Global) -> Result<(), Error> {
+        push_entry(&mut self.entries, Value::from_int(7), Value::from_int(70))?;
+        push_named(alloc, &mut self.entries, "k", text(alloc, "<b>")?)?;
+        push_named(alloc, &mut self.own, "self", Value::namespace(STATE, 2))?;
         for number in [10, 20, 30] {
-            items.push(Value::from_int(number))?;
+            self.items.push(Value::from_int(number))?;
         }
-        let mut arguments = Vec::new(alloc);
-        arguments.push(text(alloc, "a")?)?;
-        arguments.push(text(alloc, "b")?)?;
-        Ok(Scene {
-            entries,
-            own,
-            items,
-            arguments,
-        })
+        self.arguments.push(text(alloc, "a")?)?;
+        Ok(self.arguments.push(text(alloc, "b")?)?)
     }
 }
 
 fn text(alloc: Global, text: &str) -> Result<Value, Error> {
     Value::from_str(alloc, text)
+}
+
+fn push_named(
+    alloc: Global,
+    entries: &mut Vec<Entry>,
+    name: &str,
+    value: Value,
+) -> Result<(), Error> {
+    match text(alloc, name) {
+        Ok(key) => push_entry(entries, key, value),
+        Err(error) => Err(error),
+    }
 }
 
 fn push_entry(entries: &mut Vec<Entry>, key: Value, value: Value) -> Result<(), Error> {

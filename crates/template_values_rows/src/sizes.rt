@@ -1,23 +1,9 @@
 //! Large values, and what tells of a large text without writing it.
-use crate::calls::place;
-use crate::constructors::text_of;
 use std::alloc::Global;
 use template_values::{Entry, Error, Value};
 
-/// What the call of that name makes of a number, or of a text; none where there is no such call.
-pub(crate) fn large(alloc: Global, name: &str, value: &Value) -> Result<Option<Value>, Error> {
-    Ok(Some(match name {
-        "numbers" => numbers(alloc, place(value)?)?,
-        "names" => names(alloc, place(value)?)?,
-        "nested" => nested(alloc, place(value)?)?,
-        "octets" => octets(alloc, place(value)?)?,
-        "digest" => digest(alloc, text_of(value)?)?,
-        _ => return Ok(None),
-    }))
-}
-
-// The list of the numbers from 0 to below the count.
-fn numbers(alloc: Global, count: usize) -> Result<Value, Error> {
+/// The list of the numbers from 0 to below the count.
+pub(crate) fn numbers(alloc: Global, count: usize) -> Result<Value, Error> {
     let mut numbers = Vec::new(alloc);
     for number in 0..count {
         numbers.push(int(number))?;
@@ -25,8 +11,8 @@ fn numbers(alloc: Global, count: usize) -> Result<Value, Error> {
     Value::from_list(alloc, numbers)
 }
 
-// The map of so many names, each with its number, given from the last to the first.
-fn names(alloc: Global, count: usize) -> Result<Value, Error> {
+/// The map of so many names, each with its number, given from the last to the first.
+pub(crate) fn numbered_names(alloc: Global, count: usize) -> Result<Value, Error> {
     let mut entries = Vec::new(alloc);
     for number in (0..count).rev() {
         let key = Value::from_text(format!(in alloc; "name {number}")?)?;
@@ -36,8 +22,8 @@ fn names(alloc: Global, count: usize) -> Result<Value, Error> {
     Value::from_map(alloc, entries)
 }
 
-// So many lists, one in the other.
-fn nested(alloc: Global, count: usize) -> Result<Value, Error> {
+/// So many lists, one in the other.
+pub(crate) fn nested(alloc: Global, count: usize) -> Result<Value, Error> {
     let mut value = Value::none();
     for _ in 0..count {
         let mut items = Vec::new(alloc);
@@ -47,8 +33,8 @@ fn nested(alloc: Global, count: usize) -> Result<Value, Error> {
     Ok(value)
 }
 
-// The bytes from 0 to 255 so many times over.
-fn octets(alloc: Global, count: usize) -> Result<Value, Error> {
+/// The bytes from 0 to 255 so many times over.
+pub(crate) fn octets(alloc: Global, count: usize) -> Result<Value, Error> {
     let mut bytes = Vec::new(alloc);
     for _ in 0..count {
         for byte in 0..=u8::MAX {
@@ -58,8 +44,8 @@ fn octets(alloc: Global, count: usize) -> Result<Value, Error> {
     Value::from_bytes(alloc, bytes)
 }
 
-// How many bytes a text has, and their Adler-32 checksum.
-fn digest(alloc: Global, text: &str) -> Result<Value, Error> {
+/// How many bytes a text has, and their Adler-32 checksum.
+pub(crate) fn digest(alloc: Global, text: &str) -> Result<Value, Error> {
     let mut parts = Vec::new(alloc);
     parts.push(int(text.len()))?;
     parts.push(Value::from_int(i128::from(checksum(text.as_bytes()))))?;
