@@ -1,9 +1,13 @@
 -- What was listed so far, and what is read of the items that are left.
-use Rattle.std.proofs.Common.{◌≡◌, ℕ, List, [], ◌∷◌, ◌++◌, Option, None, Some, refl, sym, ap, append_assoc, map, option_map, ◌∙◌}
+use Rattle.std.proofs.Common.{◌≡◌, ℕ, List, [], ◌∷◌, ◌++◌, Option, None, Some, refl, sym, ap, append_assoc, map, option_and_then, option_map, String, Global, string_bytes, ◌∙◌, rules}
 use Rattle.std.proofs.lemmas.List.{map-append}
+use Rattle.std.proofs.lemmas.Option.{none-some, same_Some}
+use Rattle.std.specs.Borrow.{Bor}
+use Rattle.serde_json.specs.Data.{Data}
+use Rattle.serde_json.specs.Find.{as_str}
 use Rattle.serde_json.specs.View.{view, items_view}
-use Rattle.serde_json.specs.declared.value.Value.{Value}
-use Rattle.template_rows.specs.Entries.{Pair, all_in, pair_in, texts_of_pair}
+use Rattle.serde_json.specs.declared.value.Value.{Value, String as OfText, the_lemmas}
+use Rattle.template_rows.specs.Entries.{Pair, all_in, pair_in, part_in, parts_in, texts_of_pair}
 
 abbrev pub behind : {A : Type 0} → List A → Option (List A) → Option (List A)
 behind done left = option_map (λ more. done ++ more) left
@@ -12,11 +16,36 @@ pub behind-more : {A : Type 0} (done part : List A) (left : Option (List A)) →
 behind-more done part None = refl
 behind-more done part (Some more) = ap Some (sym (append_assoc done part more))
 
+-- one more item
+pub one-more : {A : Type 0} (read : Data → Option A) (done : List A) (one : A) (here : Value) (later : List Value) (all : Option (List A)) → read (view here) ≡ Some one
+    → all ≡ behind done (all_in read (items_view (here ∷ later))) → all ≡ behind (done ++ one ∷ []) (all_in read (items_view later))
+one-more read done one here later all is h =
+    let left = all_in read (items_view later) in
+    let opened : all ≡ behind done (option_map (λ more. one ∷ more) left) = rw is at h in
+    opened ∙ behind-more done (one ∷ []) left
+
+-- the text that a value is
+pub as_str-text : (text : String Global) → as_str (view (OfText text)) ≡ Some (string_bytes text)
+as_str-text text = search (rules, the_lemmas)
+
+-- one more text
+pub texts-one : (done : List (Bor (List ℕ))) (text : Bor (List ℕ)) (here : Value) (later : List Value) (all : Option (List (List ℕ))) → as_str (view here) ≡ Some text.now
+    → all ≡ behind (map (λ t. t.now) done) (all_in as_str (items_view (here ∷ later))) → all ≡ behind (map (λ t. t.now) (done ++ text ∷ [])) (all_in as_str (items_view later))
+texts-one done text here later all is h =
+    one-more as_str (map (λ t. t.now) done) text.now here later all is h ∙ ap (λ texts. behind texts (all_in as_str (items_view later))) (sym (map-append (λ t. t.now) done (text ∷ [])))
+
 -- one more pair
 pub pairs-one : (done : List Pair) (pair : Pair) (here : Value) (later : List Value) (all : Option (List (List ℕ × List ℕ))) → pair_in (view here) ≡ Some (texts_of_pair pair)
     → all ≡ behind (map texts_of_pair done) (all_in pair_in (items_view (here ∷ later))) → all ≡ behind (map texts_of_pair (done ++ pair ∷ [])) (all_in pair_in (items_view later))
 pairs-one done pair here later all is h =
-    let texts = map texts_of_pair done in
-    let left = all_in pair_in (items_view later) in
-    let opened : all ≡ behind texts (option_map (λ more. texts_of_pair pair ∷ more) left) = rw is at h in
-    opened ∙ behind-more texts (texts_of_pair pair ∷ []) left ∙ ap (λ all. behind all left) (sym (map-append texts_of_pair done (pair ∷ [])))
+    one-more pair_in (map texts_of_pair done) (texts_of_pair pair) here later all is h ∙ ap (λ pairs. behind pairs (all_in pair_in (items_view later))) (sym (map-append texts_of_pair done (pair ∷ [])))
+
+-- the bytes of one more part
+bytes-behind : (done new : List ℕ) (all part left : Option (List ℕ)) → option_map (λ more. done ++ more) part ≡ Some new
+    → all ≡ behind done (option_and_then (λ p. option_map (λ rest. p ++ rest) left) part) → all ≡ behind new left
+bytes-behind done new all None left is h = absurd (none-some new is)
+bytes-behind done new all (Some part) left is h = h ∙ behind-more done part left ∙ ap (λ new. behind new left) (same_Some (done ++ part) new is)
+
+pub bytes-more : (done new : List ℕ) (here : Value) (later : List Value) (all : Option (List ℕ)) → option_map (λ more. done ++ more) (part_in (view here)) ≡ Some new
+    → all ≡ behind done (parts_in (items_view (here ∷ later))) → all ≡ behind new (parts_in (items_view later))
+bytes-more done new here later all is h = bytes-behind done new all (part_in (view here)) (parts_in (items_view later)) is h
