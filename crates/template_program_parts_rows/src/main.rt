@@ -70,17 +70,24 @@ use template_values_errors::Error;
 
 fn main(rt: HostRuntime) -> io::Result<()> {
     for line in rt.lines(rt.alloc()) {
-        let line = line?;
-        if line.starts_with('#') || line.is_empty() {
-            println!(rt; "{line}")?;
-            continue;
-        }
-        match answer_of_line(&rt, line.as_str()) {
-            Ok(text) => println!(rt; "{line} = {text}")?,
-            Err(error) => println!(rt; "{line} = ? {error}")?,
-        }
+        write_line(&rt, line?.as_str())?;
     }
     Ok(())
+}
+
+fn write_line(rt: &HostRuntime, line: &str) -> io::Result<()> {
+    if line.starts_with('#') || line.is_empty() {
+        println!(rt; "{line}")
+    } else {
+        write_answer(rt, line, &answer_of_line(rt, line))
+    }
+}
+
+fn write_answer(rt: &HostRuntime, line: &str, answer: &anyhow::Result<String>) -> io::Result<()> {
+    match answer {
+        Ok(text) => println!(rt; "{line} = {text}"),
+        Err(error) => println!(rt; "{line} = ? {error}"),
+    }
 }
 
 // What comes of a line of JSON.

@@ -56,20 +56,26 @@ fn repeated(alloc: Global, text: &str, times: usize) -> Option<Value> {
 }
 
 fn print(rt: &HostRuntime) -> Option<Duration> {
-    let value = repeated(rt.alloc(), LINE, LINES)?;
+    print_of(rt, &repeated(rt.alloc(), LINE, LINES)?)
+}
+
+fn print_of(rt: &HostRuntime, value: &Value) -> Option<Duration> {
     let mut out = String::new(rt.alloc());
     let start = Instant::now(rt).ok()?;
-    print_to(&value, &NoRecords, &mut out).ok()?;
+    print_to(value, &NoRecords, &mut out).ok()?;
     let time = start.elapsed(rt).ok()?;
     black_box(out.as_str().len());
     Some(time)
 }
 
 fn escape(rt: &HostRuntime, text: &str, times: usize, rule: AutoEscape) -> Option<Duration> {
-    let value = repeated(rt.alloc(), text, times)?;
+    escape_of(rt, &repeated(rt.alloc(), text, times)?, rule)
+}
+
+fn escape_of(rt: &HostRuntime, value: &Value, rule: AutoEscape) -> Option<Duration> {
     let mut out = String::new(rt.alloc());
     let start = Instant::now(rt).ok()?;
-    escape_to(&value, rule, &NoRecords, &mut out).ok()?;
+    escape_to(value, rule, &NoRecords, &mut out).ok()?;
     let time = start.elapsed(rt).ok()?;
     black_box(out.as_str().len());
     Some(time)
@@ -107,17 +113,30 @@ fn sort_map(rt: &HostRuntime) -> Option<Duration> {
 }
 
 fn look_up(rt: &HostRuntime) -> Option<Duration> {
-    let map = Value::from_map(rt.alloc(), entries(rt.alloc())?).ok()?;
-    let mut names = Vec::new(rt.alloc());
+    let names = names(rt.alloc())?;
+    let entries = entries(rt.alloc())?;
+    match Value::from_map(rt.alloc(), entries) {
+        Ok(map) => look_up_in(rt, &map, names.as_slice()),
+        Err(_refused) => None,
+    }
+}
+
+// The keys in the order in which they are looked up.
+fn names(alloc: Global) -> Option<Vec<String>> {
+    let mut names = Vec::new(alloc);
     for number in 0..KEYS {
         names
-            .push(format!(in rt.alloc(); "key {}", shuffled(number)).ok()?)
+            .push(format!(in alloc; "key {}", shuffled(number)).ok()?)
             .ok()?;
     }
+    Some(names)
+}
+
+fn look_up_in(rt: &HostRuntime, map: &Value, names: &[String]) -> Option<Duration> {
     let mut found = 0u32;
     let start = Instant::now(rt).ok()?;
     for _ in 0..LOOK_UPS / KEYS {
-        for name in &names {
+        for name in names {
             if map.value_at(name.as_str()).is_some() {
                 found = found.wrapping_add(1);
             }
@@ -128,11 +147,13 @@ fn look_up(rt: &HostRuntime) -> Option<Duration> {
 }
 
 fn add_up(rt: &HostRuntime) -> Option<Duration> {
-    let mut sum = Value::from_int(0);
-    let one = Value::from_int(1);
+    add_up_to(rt, &mut Value::from_int(0), &Value::from_int(1))
+}
+
+fn add_up_to(rt: &HostRuntime, sum: &mut Value, one: &Value) -> Option<Duration> {
     let start = Instant::now(rt).ok()?;
     for _ in 0..ADDITIONS {
-        sum = add(rt.alloc(), &sum, &one).ok()?;
+        *sum = add(rt.alloc(), sum, one).ok()?;
     }
     let time = start.elapsed(rt).ok()?;
     if sum.as_int() == Some(i128::from(ADDITIONS)) {
@@ -143,11 +164,19 @@ fn add_up(rt: &HostRuntime) -> Option<Duration> {
 }
 
 fn copy(rt: &HostRuntime) -> Option<Duration> {
-    let mut items = Vec::new(rt.alloc());
+    copies_of(rt, &list(rt.alloc())?)
+}
+
+// The list of the numbers from 0 to `KEYS`.
+fn list(alloc: Global) -> Option<Value> {
+    let mut items = Vec::new(alloc);
     for number in 0..KEYS {
         items.push(Value::from_int(i128::from(number))).ok()?;
     }
-    let list = Value::from_list(rt.alloc(), items).ok()?;
+    Value::from_list(alloc, items).ok()
+}
+
+fn copies_of(rt: &HostRuntime, list: &Value) -> Option<Duration> {
     let mut copied = 0u32;
     let start = Instant::now(rt).ok()?;
     for _ in 0..COPIES {
