@@ -9,19 +9,20 @@ use template_values_errors::Error;
 /// The default syntax with what the entries change, `source`, `ask` and `places` aside. An entry of another name or kind
 /// is a SyntaxError.
 pub(crate) fn syntax_of(alloc: Global, entries: &Map<String, Json>) -> Result<SyntaxConfig, Error> {
-    let mut builder = SyntaxConfig::builder(alloc);
-    set_all(&mut builder, entries)?;
-    builder.build()
+    built(&mut SyntaxConfig::builder(alloc), entries)
 }
 
-fn set_all(builder: &mut SyntaxConfigBuilder, entries: &Map<String, Json>) -> Result<(), Error> {
+fn built(
+    builder: &mut SyntaxConfigBuilder,
+    entries: &Map<String, Json>,
+) -> Result<SyntaxConfig, Error> {
     for (name, value) in entries {
         match name.as_str() {
             "source" | "ask" | "places" => {}
             name => set(builder, name, value)?,
         }
     }
-    Ok(())
+    builder.build()
 }
 
 fn set(builder: &mut SyntaxConfigBuilder, name: &str, value: &Json) -> Result<(), Error> {
