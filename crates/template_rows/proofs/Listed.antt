@@ -1,13 +1,12 @@
 -- What was listed so far, and what is read of the items that are left.
-use Rattle.std.proofs.Common.{◌≡◌, ℕ, List, [], ◌∷◌, ◌++◌, Option, None, Some, refl, sym, ap, append_assoc, map, option_and_then, option_map, String, Global, string_bytes, ◌∙◌, rules}
+use Rattle.std.proofs.Common.{◌≡◌, ℕ, List, [], ◌∷◌, ◌++◌, Option, None, Some, refl, sym, ap, append_assoc, map, option_map, String, Global, string_bytes, ◌∙◌, rules}
 use Rattle.std.proofs.lemmas.List.{map-append}
-use Rattle.std.proofs.lemmas.Option.{none-some, same_Some}
 use Rattle.std.specs.Borrow.{Bor}
 use Rattle.serde_json.specs.Data.{Data}
 use Rattle.serde_json.specs.Find.{as_str}
 use Rattle.serde_json.specs.View.{view, items_view}
 use Rattle.serde_json.specs.declared.value.Value.{Value, String as OfText, the_lemmas}
-use Rattle.template_rows.specs.Entries.{Pair, all_in, pair_in, part_in, parts_in, texts_of_pair}
+use Rattle.template_rows.specs.Entries.{Pair, all_in, pair_in, texts_of_pair}
 
 abbrev pub behind : {A : Type 0} → List A → Option (List A) → Option (List A)
 behind done left = option_map (λ more. done ++ more) left
@@ -39,13 +38,3 @@ pub pairs-one : (done : List Pair) (pair : Pair) (here : Value) (later : List Va
     → all ≡ behind (map texts_of_pair done) (all_in pair_in (items_view (here ∷ later))) → all ≡ behind (map texts_of_pair (done ++ pair ∷ [])) (all_in pair_in (items_view later))
 pairs-one done pair here later all is h =
     one-more pair_in (map texts_of_pair done) (texts_of_pair pair) here later all is h ∙ ap (λ pairs. behind pairs (all_in pair_in (items_view later))) (sym (map-append texts_of_pair done (pair ∷ [])))
-
--- the bytes of one more part
-bytes-behind : (done new : List ℕ) (all part left : Option (List ℕ)) → option_map (λ more. done ++ more) part ≡ Some new
-    → all ≡ behind done (option_and_then (λ p. option_map (λ rest. p ++ rest) left) part) → all ≡ behind new left
-bytes-behind done new all None left is h = absurd (none-some new is)
-bytes-behind done new all (Some part) left is h = h ∙ behind-more done part left ∙ ap (λ new. behind new left) (same_Some (done ++ part) new is)
-
-pub bytes-more : (done new : List ℕ) (here : Value) (later : List Value) (all : Option (List ℕ)) → option_map (λ more. done ++ more) (part_in (view here)) ≡ Some new
-    → all ≡ behind done (parts_in (items_view (here ∷ later))) → all ≡ behind new (parts_in (items_view later))
-bytes-more done new here later all is h = bytes-behind done new all (part_in (view here)) (parts_in (items_view later)) is h
