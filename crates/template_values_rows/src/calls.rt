@@ -251,8 +251,15 @@ fn keyword(value: &Value, name: &str) -> Result<Value, Error> {
 }
 
 fn names(alloc: Global, value: &Value) -> Result<Value, Error> {
+    match names_in(alloc, value) {
+        Ok(names) => list_of(alloc, &names),
+        Err(error) => Err(error),
+    }
+}
+
+fn names_in(alloc: Global, value: &Value) -> Result<BTreeSet<String>, Error> {
     match keywords(value) {
-        Ok(keywords) => list_of(alloc, &keywords.names(alloc)?),
+        Ok(keywords) => keywords.names(alloc),
         Err(error) => Err(error),
     }
 }

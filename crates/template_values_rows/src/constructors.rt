@@ -16,16 +16,12 @@ pub(crate) fn entries(alloc: Global, values: &[Value]) -> Result<Vec<Entry>, Err
     let mut entries = Vec::new(alloc);
     for pair in values.chunks_exact(2) {
         if let [key, value] = pair {
-            entries.push(entry(key, value)?)?;
+            let key = key.copy()?;
+            let value = value.copy()?;
+            entries.push(Entry { key, value })?;
         }
     }
     Ok(entries)
-}
-
-fn entry(key: &Value, value: &Value) -> Result<Entry, Error> {
-    let key = key.copy()?;
-    let value = value.copy()?;
-    Ok(Entry { key, value })
 }
 
 /// The module whose text stands first, before its entries.
