@@ -4,7 +4,7 @@ top=collections.Counter()
 for f in glob.glob(sys.argv[1]+'/*.json'):
     d=json.load(open(f)); 
     if len(sys.argv)>2 and d['crate']!=sys.argv[2]: continue
-    if 'rt-copy' not in d['cwd'] and '/g2/' not in d['cwd']: continue
+    pass
     ms=sorted((t,x) for x,t in d['mods'].items())
     prev=ms[0][0]
     for t,x in ms:
