@@ -10,10 +10,25 @@
 //! - `syntax`: what the syntax has: the delimiters of blocks, prints and comments, the prefixes of line statements and
 //!   line comments, and the answers to `trim_blocks`, `lstrip_blocks` and `keep_trailing_newline`.
 //!
+//! An object with `expression` is the text of an expression, whose `calls` the stream of its tokens answers in turn, with
+//! a `;` behind each answer. A call is one of these, or an array of a word, which it passes where that stands next:
+//!
+//! - `(`, `)`, `factor`, `term`, `dotted`, `keyword`: passes what it says, where that stands next; `text`: the same, behind
+//!   what it passed;
+//! - `take`: takes the next token; `advance`: passes it, and answers nothing;
+//! - `begins_argument`, `closes`, `fault`: what the stream says of the next token.
+//!
 //! Other objects have one entry:
 //!
 //! - `token`, a text: the token that it begins with, and how many bytes it takes;
 //! - `places`, two texts: the place of the second one behind the first;
+//! - `difference` and `one_entry`, two names: what the sample of that name makes of them; `attributes`, a count: what a
+//!   chain of so many is, and how many nodes its descent has;
+//! - `listed`, two arrays, steps and places: the line and the span of each of the places among the instructions that the
+//!   steps list, with a `;` behind it. A step is `null` for an instruction alone, a line, `[line]` for a span that starts
+//!   in that line and has nothing else, or `"drop"`, which drops the last one;
+//! - `many` and `pairs`, two counts: how many numbers lie on one another, from 0 on, and how many values or pairs of them
+//!   are taken: what was taken, the lowest first, then the number on top, if there is one, each with a `;` behind it;
 //! - `stream`, an array of instructions, words or words with the place to which they lead: of what it is a stream, or
 //!   why it is none, and how many instructions come back.
 //!
@@ -22,12 +37,20 @@
 //! `stdin`.
 #![tactic(auto)]
 
+mod calls;
 mod forms;
+mod listed;
+mod made;
+mod operands;
 mod streams;
 mod syntax;
 mod tokens;
 
+use crate::calls::answers_of_stream;
 use crate::forms::Form;
+use crate::listed::listed;
+use crate::made::{chain, write_description};
+use crate::operands::about_operands;
 use crate::streams::verified;
 use crate::syntax::{parts_of_syntax, syntax_of};
 use crate::tokens::{first_token, place_behind, streamed_tokens, tokens_of};
@@ -35,6 +58,7 @@ use serde_json::{Map, Value as Json};
 use std::alloc::Global;
 use std::io;
 use template_compiler_syntax::SyntaxConfig;
+use template_tree_samples::{difference, one_entry};
 use template_values_errors::{Error, ErrorKind};
 
 // The name of each source.
@@ -96,7 +120,21 @@ fn about_entries(alloc: Global, entries: &Map<String, Json>, out: &mut Form) -> 
             let ask = text_in(entries, "ask").unwrap_or("");
             about_source(alloc, source, syntax_of(alloc, entries)?, ask, out)
         }
-        None => about_first(alloc, entries, out),
+        None => about_expression(alloc, entries, out),
+    }
+}
+
+// The calls of an expression's stream, where there is an expression.
+fn about_expression(
+    alloc: Global,
+    entries: &Map<String, Json>,
+    out: &mut Form,
+) -> Result<(), Error> {
+    match (text_in(entries, "expression"), entries.get("calls")) {
+        (Some(source), Some(Json::Array(calls))) => {
+            answers_of_stream(alloc, source, calls.as_slice(), out)
+        }
+        _ => about_first(alloc, entries, out),
     }
 }
 
@@ -133,17 +171,39 @@ fn about_first(alloc: Global, entries: &Map<String, Json>, out: &mut Form) -> Re
 fn about_entry(alloc: Global, name: &str, value: &Json, out: &mut Form) -> Result<(), Error> {
     match (name, value) {
         ("token", Json::String(text)) => first_token(alloc, text.as_str(), out),
+        ("many" | "pairs", Json::Array(counts)) => {
+            about_operands(alloc, name, counts.as_slice(), out)
+        }
         ("stream", Json::Array(steps)) => verified(alloc, steps.as_slice(), out),
-        ("places", Json::Array(texts)) => about_places(texts.as_slice(), out),
+        ("attributes", count) => chain(alloc, count.as_u64().unwrap_or(0), out),
+        (name, Json::Array(parts)) => about_parts(alloc, name, parts.as_slice(), out),
         _ => unreadable(),
     }
 }
 
-fn about_places(texts: &[Json], out: &mut Form) -> Result<(), Error> {
-    match texts {
-        [Json::String(before), Json::String(text)] => {
-            place_behind(before.as_str(), text.as_str(), out)
+fn about_parts(alloc: Global, name: &str, parts: &[Json], out: &mut Form) -> Result<(), Error> {
+    match parts {
+        [Json::String(first), Json::String(second)] => {
+            about_texts(alloc, name, first.as_str(), second.as_str(), out)
         }
+        [Json::Array(steps), Json::Array(places)] if name == "listed" => {
+            listed(alloc, steps.as_slice(), places.as_slice(), out)
+        }
+        _ => unreadable(),
+    }
+}
+
+fn about_texts(
+    alloc: Global,
+    name: &str,
+    first: &str,
+    second: &str,
+    out: &mut Form,
+) -> Result<(), Error> {
+    match name {
+        "places" => place_behind(first, second, out),
+        "difference" => write_description(difference(alloc, first, second), out),
+        "one_entry" => write_description(one_entry(alloc, first, second), out),
         _ => unreadable(),
     }
 }

@@ -1,0 +1,76 @@
+//! Instructions that are listed one by one, and where they come from.
+use crate::forms::Form;
+use crate::unreadable;
+use serde_json::Value as Json;
+use std::alloc::Global;
+use template_code::{Instruction, Instructions};
+use template_tree::Span;
+use template_values_errors::Error;
+
+/// Where the instructions at some places come from, as a copy with texts of its own has it.
+pub(crate) fn listed(
+    alloc: Global,
+    steps: &[Json],
+    places: &[Json],
+    out: &mut Form,
+) -> Result<(), Error> {
+    match copied(alloc, steps) {
+        Ok(code) => write_places(&code, places, out),
+        Err(error) => Err(error),
+    }
+}
+
+fn copied(alloc: Global, steps: &[Json]) -> Result<Instructions<'static>, Error> {
+    let mut code = Instructions::new(alloc, "t.txt", "");
+    for step in steps {
+        list(&mut code, step)?;
+    }
+    code.into_owned(alloc)
+}
+
+// An instruction alone, with a line, or with a span that starts in a line; all else drops the last one.
+fn list(code: &mut Instructions<'_>, step: &Json) -> Result<(), Error> {
+    match step {
+        Json::Null => added(code.add(Instruction::Emit)),
+        Json::Number(_) => added(code.add_with_line(Instruction::Emit, line_in(step))),
+        Json::Array(line) => match line.as_slice() {
+            [line] => added(code.add_with_span(Instruction::Emit, span_from(line_in(line)))),
+            _ => unreadable(),
+        },
+        _ => {
+            code.truncate(code.len().saturating_sub(1));
+            Ok(())
+        }
+    }
+}
+
+// Whether an instruction was added.
+fn added(place: Result<u32, Error>) -> Result<(), Error> {
+    match place {
+        Ok(_place) => Ok(()),
+        Err(error) => Err(error),
+    }
+}
+
+// A line. A number that is none is line 0.
+fn line_in(number: &Json) -> u16 {
+    u16::try_from(number.as_u64().unwrap_or(0)).unwrap_or(0)
+}
+
+// A span that starts in a line, and has nothing else.
+fn span_from(line: u16) -> Span {
+    Span {
+        start_line: line,
+        ..Span::default()
+    }
+}
+
+// The line and the span of the instructions at some places.
+fn write_places(code: &Instructions<'_>, places: &[Json], out: &mut Form) -> Result<(), Error> {
+    for place in places {
+        let place = u32::from(line_in(place));
+        let (line, span) = (code.get_line(place), code.get_span(place));
+        write!(out.text, "{line:?} {span:?};")?;
+    }
+    Ok(())
+}
