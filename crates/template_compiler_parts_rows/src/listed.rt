@@ -44,8 +44,8 @@ fn list(code: &mut Instructions<'_>, step: &Json) -> Result<(), Error> {
     }
 }
 
-// Whether an instruction was added.
-fn added(place: Result<u32, Error>) -> Result<(), Error> {
+/// Whether an instruction was added.
+pub(crate) fn added(place: Result<u32, Error>) -> Result<(), Error> {
     match place {
         Ok(_place) => Ok(()),
         Err(error) => Err(error),

@@ -1,32 +1,46 @@
 //! Streams of instructions that are listed one by one, and what the check of streams says of them.
 use crate::forms::Form;
+use crate::listed::added;
 use serde_json::Value as Json;
 use std::alloc::Global;
 use std::borrow::CowStr;
 use template_code::{
     CaptureMode, Instruction, Instructions, LOOP_FLAG_RECURSIVE, LOOP_FLAG_WITH_LOOP_VAR,
 };
-use template_code_shapes::verify;
+use template_code_shapes::{Checked, verify};
 use template_values_core::Value;
 use template_values_errors::{Error, ErrorKind};
 
 /// What the steps are a stream of, or why they are refused, and how many of them come back.
 pub(crate) fn verified(alloc: Global, steps: &[Json], out: &mut Form) -> Result<(), Error> {
     match verify(alloc, listed(alloc, steps)?) {
-        Ok(checked) => {
-            let (kind, count) = (checked.kind(), checked.instructions().len());
-            Ok(write!(out.text, "{kind:?} {count}")?)
-        }
-        Err((error, back)) => Ok(write!(out.text, "! {error} {}", back.len())?),
+        Ok(checked) => write_checked(&checked, out),
+        Err((error, back)) => write_refused(&error, back.len(), out),
     }
+}
+
+fn write_checked(checked: &Checked<'_>, out: &mut Form) -> Result<(), Error> {
+    let (kind, count) = (checked.kind(), checked.instructions().len());
+    Ok(write!(out.text, "{kind:?} {count}")?)
+}
+
+fn write_refused(error: &Error, count: usize, out: &mut Form) -> Result<(), Error> {
+    Ok(write!(out.text, "! {error} {count}")?)
 }
 
 fn listed(alloc: Global, steps: &[Json]) -> Result<Instructions<'static>, Error> {
     let mut instructions = Instructions::new(alloc, "t.txt", "");
     for step in steps {
-        instructions.add(instruction(step)?)?;
+        add(&mut instructions, step)?;
     }
     Ok(instructions)
+}
+
+fn add(instructions: &mut Instructions<'static>, step: &Json) -> Result<(), Error> {
+    match instruction(step) {
+        Ok(instruction) => added(instructions.add(instruction)),
+        Err(error) => Err(error),
+    }
 }
 
 // The instruction that a word says, or a word and the place to which it leads.
