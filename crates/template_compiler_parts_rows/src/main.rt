@@ -13,8 +13,8 @@
 //! An object with `expression` is the text of an expression, whose `calls` the stream of its tokens answers in turn, with
 //! a `;` behind each answer. A call is one of these, or an array of a word, which it passes where that stands next:
 //!
-//! - `(`, `)`, `factor`, `term`, `dotted`, `keyword`: passes what it says, where that stands next; `text`: the same, behind
-//!   what it passed;
+//! - `(`, `)`, `factor`, `term`, `dotted`, `keyword`: passes what it says, where that stands next; `text`: the same,
+//!   behind what it passed;
 //! - `take`: takes the next token; `advance`: passes it, and answers nothing;
 //! - `begins_argument`, `closes`, `fault`: what the stream says of the next token.
 //!

@@ -1,6 +1,6 @@
-//! Samples of trees that an operator's and a map's makers make. Their contracts tell in which order a maker takes its
-//! parts: two names have one type, and which of them stands where is a matter of meaning alone. They stand above the makers, so
-//! that a must-fail edit that swaps two parts proves this crate anew and no other.
+//! Samples of trees, whose contracts tell in which order an operator's and a map's makers take their parts: two names
+//! have one type, and which of them stands where is a matter of meaning alone. They stand above the makers, so that a
+//! must-fail edit that swaps two parts proves no more than them.
 #![tactic(auto)]
 
 mod samples;
