@@ -7,14 +7,14 @@ ghost use Rattle.template_compiler_expressions.specs.Reader.{link_behind, argume
 ghost use Rattle.template_compiler_expressions.specs.Trees.{nothing_paired, nothing_written};
 ghost use Rattle.template_compiler_expressions.specs.Words.{disjunction};
 ghost use Rattle.template_compiler_reading.specs.Steps.{and_then, all, goes, under};
-ghost use Rattle.template_tree.specs.Tree.{call, expressions_more, given, no_expressions, no_links, tuple_literal};
+ghost use Rattle.template_tree.specs.Tree.{arguments_more, call, expressions_more, given, no_expressions, no_arguments, no_links, positional, tuple_literal};
 ghost use Rattle.template_tree.specs.View.{argument_of, arguments_in, expression_of, expressions_in, links_in, optional_in};
 
 use std::alloc::Global;
 use std::borrow::CowStr;
 use template_compiler_expression_parts::{
-    Behind, Pairs, Written, attribute, before_colon, compared, deeper, in_braces, in_brackets,
-    in_order, in_parens, literal, name, separated, tested,
+    Behind, Pairs, Written, attribute, before_colon, compared, deeper, in_order, in_parens,
+    literal, name, put, separated, tested,
 };
 use template_compiler_stream::{Level, Refusal, Sign, TokenStream};
 use template_tree::{BinOpKind, CallArg, CompareOp, CompareOpKind, Expr, Span, UnaryOpKind};
@@ -30,11 +30,17 @@ pub(crate) fn expression<'source>(
     ensures { Parsed (expression_by (deeper left) tokens.old) tokens.new result }
 {
     let span = tokens.span();
-    let value = binary(alloc, tokens, left, Level::Disjunction)?;
-    if tokens.skip_word("if") {
-        branches(alloc, tokens, deeper(left)?, value, span)
-    } else {
-        Ok(value)
+    match binary(alloc, tokens, left, Level::Disjunction) {
+        Ok(value) => {
+            if !tokens.skip_word("if") {
+                return Ok(value);
+            }
+            match deeper(left) {
+                Ok(left) => return branches(alloc, tokens, left, value, span),
+                Err(refusal) => return Err(refusal),
+            }
+        }
+        Err(refusal) => return Err(refusal),
     }
 }
 
@@ -51,13 +57,24 @@ fn branches<'source>(
     ensures { Parsed (and_then (binary_by (deeper left) disjunction tokens.old)
         (else_behind (deeper (suc left)) (expression_of value.entry))) tokens.new result }
 {
-    let test = binary(alloc, tokens, left, Level::Disjunction)?;
-    let other = if tokens.skip_word("else") {
-        Some(expression(alloc, tokens, left)?)
-    } else {
-        None
-    };
-    Ok(Expr::conditional(alloc, test, value, other, tokens.expand_span(span))?)
+    match binary(alloc, tokens, left, Level::Disjunction) {
+        Ok(test) => {
+            if !tokens.skip_word("else") {
+                let span = tokens.expand_span(span);
+                return Expr::conditional(alloc, test, value, None, span).map_err(Refusal::from);
+            }
+            match expression(alloc, tokens, left) {
+                Ok(other) => {
+                    let span = tokens.expand_span(span);
+                    return Expr::conditional(alloc, test, value, Some(other), span).map_err(
+                        Refusal::from,
+                    );
+                }
+                Err(refusal) => return Err(refusal),
+            }
+        }
+        Err(refusal) => return Err(refusal),
+    }
 }
 
 // Operands with the operators of a level between them. Most are alone, and go through no level below.
@@ -75,8 +92,10 @@ pub(crate) fn binary<'source>(
         return literal(alloc, tokens);
     }
     let span = tokens.span();
-    let value = operand(alloc, tokens, left, level)?;
-    operands(alloc, tokens, left, level, value, span)
+    match operand(alloc, tokens, left, level) {
+        Ok(value) => return operands(alloc, tokens, left, level, value, span),
+        Err(refusal) => return Err(refusal),
+    }
 }
 
 #[cycle(parser)]
@@ -115,14 +134,16 @@ fn next_operand<'source>(
         (expression_of value.entry) tokens.old tokens.new result }
 {
     match tokens.skip_operator(level) {
-        Some(op) => {
-            let right = match operand(alloc, tokens, left, level) {
-                Ok(right) => right,
-                Err(refusal) => return Err(refusal),
-            };
-            Ok(Behind::Goes(Expr::binary(alloc, op, value, right, tokens.expand_span(span))?))
-        }
-        None => Ok(Behind::Stops(value)),
+        Some(op) => match operand(alloc, tokens, left, level) {
+            Ok(right) => {
+                match Expr::binary(alloc, op, value, right, tokens.expand_span(span)) {
+                    Ok(next) => return Ok(Behind::Goes(next)),
+                    Err(_) => return Err(Refusal::OutOfMemory),
+                }
+            }
+            Err(refusal) => return Err(refusal),
+        },
+        None => return Ok(Behind::Stops(value)),
     }
 }
 
@@ -137,11 +158,11 @@ fn operand<'source>(
     ensures { Parsed (operand_by (deeper left) (level_of level) tokens.old) tokens.new result }
 {
     match level {
-        Level::Factors => power(alloc, tokens, left),
-        Level::Texts => binary(alloc, tokens, left, Level::Factors),
-        Level::Terms => binary(alloc, tokens, left, Level::Texts),
-        Level::Conjunction => negation(alloc, tokens, left),
-        Level::Disjunction => binary(alloc, tokens, left, Level::Conjunction),
+        Level::Factors => return power(alloc, tokens, left),
+        Level::Texts => return binary(alloc, tokens, left, Level::Factors),
+        Level::Terms => return binary(alloc, tokens, left, Level::Texts),
+        Level::Conjunction => return negation(alloc, tokens, left),
+        Level::Disjunction => return binary(alloc, tokens, left, Level::Conjunction),
     }
 }
 
@@ -155,11 +176,19 @@ fn negation<'source>(
     ensures { Parsed (negation_by (deeper left) tokens.old) tokens.new result }
 {
     let span = tokens.span();
-    if tokens.skip_word("not") {
-        let operand = negation(alloc, tokens, deeper(left)?)?;
-        Ok(Expr::unary(alloc, UnaryOpKind::Not, operand, tokens.expand_span(span))?)
-    } else {
-        comparison(alloc, tokens, left)
+    if !tokens.skip_word("not") {
+        return comparison(alloc, tokens, left);
+    }
+    let left = match deeper(left) {
+        Ok(left) => left,
+        Err(refusal) => return Err(refusal),
+    };
+    match negation(alloc, tokens, left) {
+        Ok(operand) => {
+            let span = tokens.expand_span(span);
+            return Expr::unary(alloc, UnaryOpKind::Not, operand, span).map_err(Refusal::from);
+        }
+        Err(refusal) => return Err(refusal),
     }
 }
 
@@ -174,9 +203,16 @@ fn comparison<'source>(
     ensures { Parsed (comparison_by (deeper left) tokens.old) tokens.new result }
 {
     let span = tokens.span();
-    let value = binary(alloc, tokens, left, Level::Terms)?;
-    let links = links(alloc, tokens, left)?;
-    Ok(compared(alloc, value, links, tokens.expand_span(span))?)
+    match binary(alloc, tokens, left, Level::Terms) {
+        Ok(value) => match links(alloc, tokens, left) {
+            Ok(links) => {
+                let span = tokens.expand_span(span);
+                return compared(alloc, value, links, span).map_err(Refusal::from);
+            }
+            Err(refusal) => return Err(refusal),
+        },
+        Err(refusal) => return Err(refusal),
+    }
 }
 
 #[cycle(parser)]
@@ -233,12 +269,13 @@ fn put_link<'source>(
     ensures { SteppedTo (link_behind (Some op) false (terms_by (deeper left)) (links_in links.old.items) tokens.old)
         (links_in links.old.items) tokens.old (links_in links.new.items) tokens.new result }
 {
-    let right = match binary(alloc, tokens, left, Level::Terms) {
-        Ok(right) => right,
+    match binary(alloc, tokens, left, Level::Terms) {
+        Ok(expr) => match put(links, CompareOp { op, expr }) {
+            Ok(()) => return Ok(true),
+            Err(_) => return Err(Refusal::OutOfMemory),
+        },
         Err(refusal) => return Err(refusal),
-    };
-    links.push(CompareOp { op, expr: right })?;
-    Ok(true)
+    }
 }
 
 // Behind the `not` of a `not in`.
@@ -270,19 +307,36 @@ fn power<'source>(
     ensures { Parsed (power_by (deeper left) tokens.old) tokens.new result }
 {
     let span = tokens.span();
-    let value = filtered(alloc, tokens, left)?;
-    if tokens.skip(Sign::Pow) {
-        let right = power(alloc, tokens, deeper(left)?)?;
-        Ok(Expr::binary(
-            alloc,
-            BinOpKind::Pow,
-            value,
-            right,
-            tokens.expand_span(span),
-        )?)
-    } else {
-        Ok(value)
+    match filtered(alloc, tokens, left) {
+        Ok(value) => {
+            if !tokens.skip(Sign::Pow) {
+                return Ok(value);
+            }
+            match exponent(alloc, tokens, left) {
+                Ok(right) => {
+                    let span = tokens.expand_span(span);
+                    return Expr::binary(alloc, BinOpKind::Pow, value, right, span).map_err(
+                        Refusal::from,
+                    );
+                }
+                Err(refusal) => return Err(refusal),
+            }
+        }
+        Err(refusal) => return Err(refusal),
     }
+}
+
+// Behind `**`: a power, one level deeper.
+#[cycle(parser)]
+#[tactic(auto, unfolding(template_compiler_expressions::specs::Reader::deeper))]
+fn exponent<'source>(
+    alloc: Global,
+    tokens: &mut TokenStream<'source>,
+    left: u32,
+) -> Result<Expr<'source>, Refusal>
+    ensures { Parsed ((deeper left).power tokens.old) tokens.new result }
+{
+    power(alloc, tokens, deeper(left)?)
 }
 
 // An unary, with filters and tests behind it.
@@ -296,8 +350,10 @@ fn filtered<'source>(
     ensures { Parsed (filtered_by (deeper left) tokens.old) tokens.new result }
 {
     let span = tokens.span();
-    let value = unary(alloc, tokens, left)?;
-    filters(alloc, tokens, left, value, span)
+    match unary(alloc, tokens, left) {
+        Ok(value) => return filters(alloc, tokens, left, value, span),
+        Err(refusal) => return Err(refusal),
+    }
 }
 
 #[cycle(parser)]
@@ -333,12 +389,12 @@ fn next_filter<'source>(
         tokens.new result }
 {
     if tokens.skip(Sign::Pipe) {
-        Ok(Behind::Goes(piped(alloc, tokens, left, value, span)?))
-    } else if tokens.skip_word("is") {
-        Ok(Behind::Goes(asked(alloc, tokens, left, value, span)?))
-    } else {
-        Ok(Behind::Stops(value))
+        return piped(alloc, tokens, left, value, span).map(Behind::Goes);
     }
+    if tokens.skip_word("is") {
+        return asked(alloc, tokens, left, value, span).map(Behind::Goes);
+    }
+    Ok(Behind::Stops(value))
 }
 
 // Behind `|`: a filter, with the parts of its result.
@@ -354,8 +410,10 @@ fn piped<'source>(
     ensures { Parsed (and_then (filter_by (deeper left) (given (expression_of value.entry)) tokens.old) (parts_by (deeper left)))
         tokens.new result }
 {
-    let filtered = filter(alloc, tokens, left, Some(value), span)?;
-    parts(alloc, tokens, left, filtered, span)
+    match filter(alloc, tokens, left, Some(value), span) {
+        Ok(filtered) => return parts(alloc, tokens, left, filtered, span),
+        Err(refusal) => return Err(refusal),
+    }
 }
 
 // A filter's name and its arguments.
@@ -370,9 +428,16 @@ pub(crate) fn filter<'source>(
 ) -> Result<Expr<'source>, Refusal>
     ensures { Parsed (filter_by (deeper left) (optional_in value.entry) tokens.old) tokens.new result }
 {
-    let name = name(alloc, tokens)?;
-    let arguments = optional_arguments(alloc, tokens, left)?;
-    Ok(Expr::filtered(alloc, name, value, arguments, tokens.expand_span(span))?)
+    match name(alloc, tokens) {
+        Ok(name) => match optional_arguments(alloc, tokens, left) {
+            Ok(arguments) => {
+                let span = tokens.expand_span(span);
+                return Expr::filtered(alloc, name, value, arguments, span).map_err(Refusal::from);
+            }
+            Err(refusal) => return Err(refusal),
+        },
+        Err(refusal) => return Err(refusal),
+    }
 }
 
 // Arguments in parentheses, where a `(` stands next.
@@ -386,10 +451,9 @@ fn optional_arguments<'source>(
     ensures { ParsedAs (λ v. arguments_in v.items) (optional_arguments_by (deeper left) tokens.old) tokens.new result }
 {
     if tokens.skip(Sign::ParenOpen) {
-        arguments(alloc, tokens, deeper(left)?)
-    } else {
-        Ok(Vec::new(alloc))
+        return arguments(alloc, tokens, left);
     }
+    Ok(Vec::new(alloc))
 }
 
 // Behind `is`.
@@ -421,11 +485,14 @@ fn test<'source>(
 ) -> Result<Expr<'source>, Refusal>
     ensures { Parsed (test_by (deeper left) negated (expression_of value.entry) tokens.old) tokens.new result }
 {
-    let name = name(alloc, tokens)?;
-    if tokens.begins_argument() {
-        bare_test(alloc, tokens, left, negated, name, value, span)
-    } else {
-        plain_test(alloc, tokens, left, negated, name, value, span)
+    match name(alloc, tokens) {
+        Ok(name) => {
+            if tokens.begins_argument() {
+                return bare_test(alloc, tokens, left, negated, name, value, span);
+            }
+            return plain_test(alloc, tokens, left, negated, name, value, span);
+        }
+        Err(refusal) => return Err(refusal),
     }
 }
 
@@ -444,17 +511,34 @@ fn bare_test<'source>(
     ensures { Parsed (test_arguments_by (deeper left) true negated (expression_of value.entry) (cow_str_bytes name.entry) tokens.old)
         tokens.new result }
 {
-    let argument = unary(alloc, tokens, left)?;
+    match bare_argument(alloc, tokens, left) {
+        Ok(arguments) => {
+            let span = tokens.expand_span(span);
+            return tested(alloc, negated, name, value, arguments, span).map_err(Refusal::from);
+        }
+        Err(refusal) => return Err(refusal),
+    }
+}
+
+// The one argument of a test.
+#[cycle(parser)]
+#[tactic(auto, unfolding(template_compiler_reading::specs::Steps::and_then))]
+fn bare_argument<'source>(
+    alloc: Global,
+    tokens: &mut TokenStream<'source>,
+    left: u32,
+) -> Result<Vec<CallArg<'source>>, Refusal>
+    ensures { ParsedAs (λ v. arguments_in v.items) (and_then (unary_by (deeper left) tokens.old)
+        (λ b us. Ok (arguments_more (positional b) no_arguments, us))) tokens.new result }
+{
     let mut arguments = Vec::new(alloc);
-    arguments.push(CallArg::Pos(argument))?;
-    Ok(tested(
-        alloc,
-        negated,
-        name,
-        value,
-        arguments,
-        tokens.expand_span(span),
-    )?)
+    match unary(alloc, tokens, left) {
+        Ok(argument) => match put(&mut arguments, CallArg::Pos(argument)) {
+            Ok(()) => return Ok(arguments),
+            Err(_) => return Err(Refusal::OutOfMemory),
+        },
+        Err(refusal) => return Err(refusal),
+    }
 }
 
 // A test with arguments in parentheses, or with none.
@@ -472,16 +556,22 @@ fn plain_test<'source>(
     ensures { Parsed (test_arguments_by (deeper left) false negated (expression_of value.entry) (cow_str_bytes name.entry) tokens.old)
         tokens.new result }
 {
-    let arguments = optional_arguments(alloc, tokens, left)?;
-    let test = tested(
-        alloc,
-        negated,
-        name,
-        value,
-        arguments,
-        tokens.expand_span(span),
-    )?;
-    parts(alloc, tokens, left, test, span)
+    match optional_arguments(alloc, tokens, left) {
+        Ok(arguments) => {
+            match tested(
+                alloc,
+                negated,
+                name,
+                value,
+                arguments,
+                tokens.expand_span(span),
+            ) {
+                Ok(test) => return parts(alloc, tokens, left, test, span),
+                Err(_) => return Err(Refusal::OutOfMemory),
+            }
+        }
+        Err(refusal) => return Err(refusal),
+    }
 }
 
 // A minus, or a primary with its parts.
@@ -496,11 +586,21 @@ fn unary<'source>(
 {
     let span = tokens.span();
     if tokens.skip(Sign::Minus) {
-        let operand = unary(alloc, tokens, deeper(left)?)?;
-        Ok(Expr::unary(alloc, UnaryOpKind::Neg, operand, tokens.expand_span(span))?)
-    } else {
-        let value = primary(alloc, tokens, left)?;
-        parts(alloc, tokens, left, value, span)
+        let left = match deeper(left) {
+            Ok(left) => left,
+            Err(refusal) => return Err(refusal),
+        };
+        match unary(alloc, tokens, left) {
+            Ok(operand) => {
+                let span = tokens.expand_span(span);
+                return Expr::unary(alloc, UnaryOpKind::Neg, operand, span).map_err(Refusal::from);
+            }
+            Err(refusal) => return Err(refusal),
+        }
+    }
+    match primary(alloc, tokens, left) {
+        Ok(value) => return parts(alloc, tokens, left, value, span),
+        Err(refusal) => return Err(refusal),
     }
 }
 
@@ -537,14 +637,18 @@ fn next_part<'source>(
         result }
 {
     if tokens.skip(Sign::Dot) {
-        Ok(Behind::Goes(attribute(alloc, tokens, value, span)?))
-    } else if tokens.skip(Sign::BracketOpen) {
-        Ok(Behind::Goes(subscript(alloc, tokens, deeper(left)?, value, span)?))
-    } else if tokens.skip(Sign::ParenOpen) {
-        Ok(Behind::Goes(call(alloc, tokens, deeper(left)?, value, span)?))
-    } else {
-        Ok(Behind::Stops(value))
+        return attribute(alloc, tokens, value, span).map(Behind::Goes);
     }
+    if tokens.skip(Sign::BracketOpen) {
+        match deeper(left) {
+            Ok(left) => return subscript(alloc, tokens, left, value, span).map(Behind::Goes),
+            Err(refusal) => return Err(refusal),
+        }
+    }
+    if tokens.skip(Sign::ParenOpen) {
+        return call(alloc, tokens, left, value, span).map(Behind::Goes);
+    }
+    Ok(Behind::Stops(value))
 }
 
 // Behind the `(` of a call.
@@ -557,16 +661,21 @@ fn call<'source>(
     value: Expr<'source>,
     span: Span,
 ) -> Result<Expr<'source>, Refusal>
-    ensures { WentOn (under (arguments_by (expression_by (deeper left)) tokens.old)
+    ensures { WentOn (under ((deeper left).arguments tokens.old)
         (λ args us. goes (call (expression_of value.entry) args) us)) tokens.new result }
 {
-    let arguments = arguments(alloc, tokens, left)?;
-    Ok(Expr::call(alloc, value, arguments, tokens.expand_span(span))?)
+    match arguments(alloc, tokens, left) {
+        Ok(arguments) => {
+            let span = tokens.expand_span(span);
+            return Expr::call(alloc, value, arguments, span).map_err(Refusal::from);
+        }
+        Err(refusal) => return Err(refusal),
+    }
 }
 
 // Behind the `[` of an item or a slice.
 #[cycle(parser)]
-#[tactic(auto, using(template_compiler_expression_parts::proofs::Nothing::a_key, template_compiler_expression_parts::proofs::Nothing::no_key), unfolding(template_compiler_reading::specs::Steps::and_then, template_compiler_expressions::specs::Reader::subscript_by, template_compiler_expressions::specs::Reader::subscript_behind))]
+#[tactic(auto, using(template_compiler_expression_parts::proofs::Nothing::a_key, template_compiler_expression_parts::proofs::Nothing::no_key, template_compiler_expression_parts::proofs::Nothing::no_bracket), unfolding(template_compiler_reading::specs::Steps::and_then, template_compiler_expressions::specs::Reader::bracket_end, template_compiler_expressions::specs::Reader::subscript_by, template_compiler_expressions::specs::Reader::subscript_behind))]
 fn subscript<'source>(
     alloc: Global,
     tokens: &mut TokenStream<'source>,
@@ -576,20 +685,29 @@ fn subscript<'source>(
 ) -> Result<Expr<'source>, Refusal>
     ensures { Parsed (subscript_by (expression_by (deeper left)) (expression_of value.entry) tokens.old) tokens.new result }
 {
-    let start = bound(alloc, tokens, left)?;
-    if tokens.skip(Sign::Colon) {
-        return slice(alloc, tokens, left, value, start, span);
-    }
-    let span = tokens.span_through_next(span);
-    match start {
-        Some(key) => in_brackets(tokens, Expr::item(alloc, value, key, span)?),
-        None => Err(Refusal::Token(tokens.fault())),
+    match bound(alloc, tokens, left) {
+        Ok(start) => {
+            if tokens.skip(Sign::Colon) {
+                return slice(alloc, tokens, left, value, start, span);
+            }
+            match start {
+                Some(key) => {
+                    if tokens.skip(Sign::BracketClose) {
+                        let span = tokens.expand_span(span);
+                        return Expr::item(alloc, value, key, span).map_err(Refusal::from);
+                    }
+                    return Err(Refusal::Token(tokens.fault()));
+                }
+                None => return Err(Refusal::Token(tokens.fault())),
+            }
+        }
+        Err(refusal) => return Err(refusal),
     }
 }
 
 // Behind the first colon of a slice.
 #[cycle(parser)]
-#[tactic(auto, unfolding(template_compiler_reading::specs::Steps::and_then, template_compiler_expressions::specs::Reader::slice_by))]
+#[tactic(auto, using(template_compiler_expression_parts::proofs::Nothing::no_bracket), unfolding(template_compiler_reading::specs::Steps::and_then, template_compiler_expressions::specs::Reader::bracket_end, template_compiler_expressions::specs::Reader::slice_by))]
 fn slice<'source>(
     alloc: Global,
     tokens: &mut TokenStream<'source>,
@@ -601,10 +719,21 @@ fn slice<'source>(
     ensures { Parsed (slice_by (expression_by (deeper left)) (expression_of value.entry) (optional_in start.entry) tokens.old)
         tokens.new result }
 {
-    let stop = bound(alloc, tokens, left)?;
-    let step = step(alloc, tokens, left)?;
-    let span = tokens.span_through_next(span);
-    in_brackets(tokens, Expr::slice(alloc, value, start, stop, step, span)?)
+    match bound(alloc, tokens, left) {
+        Ok(stop) => match step(alloc, tokens, left) {
+            Ok(step) => {
+                if tokens.skip(Sign::BracketClose) {
+                    let span = tokens.expand_span(span);
+                    return Expr::slice(alloc, value, start, stop, step, span).map_err(
+                        Refusal::from,
+                    );
+                }
+                return Err(Refusal::Token(tokens.fault()));
+            }
+            Err(refusal) => return Err(refusal),
+        },
+        Err(refusal) => return Err(refusal),
+    }
 }
 
 // A bound of a slice, where it is not left out.
@@ -618,10 +747,9 @@ fn bound<'source>(
     ensures { ParsedOptional (bound_by (expression_by (deeper left)) tokens.old) tokens.new result }
 {
     if tokens.ends_bound() {
-        Ok(None)
-    } else {
-        Ok(Some(expression(alloc, tokens, left)?))
+        return Ok(None);
     }
+    expression(alloc, tokens, left).map(Some)
 }
 
 // The step of a slice, where a second colon stands next.
@@ -635,10 +763,9 @@ fn step<'source>(
     ensures { ParsedOptional (step_by (expression_by (deeper left)) tokens.old) tokens.new result }
 {
     if tokens.skip(Sign::Colon) {
-        bound(alloc, tokens, left)
-    } else {
-        Ok(None)
+        return bound(alloc, tokens, left);
     }
+    Ok(None)
 }
 
 #[cycle(parser)]
@@ -652,14 +779,24 @@ fn primary<'source>(
 {
     let span = tokens.span();
     if tokens.skip(Sign::ParenOpen) {
-        paren(alloc, tokens, deeper(left)?, span)
-    } else if tokens.skip(Sign::BracketOpen) {
-        list(alloc, tokens, deeper(left)?, span)
-    } else if tokens.skip(Sign::BraceOpen) {
-        map(alloc, tokens, deeper(left)?, span)
-    } else {
-        literal(alloc, tokens)
+        match deeper(left) {
+            Ok(left) => return paren(alloc, tokens, left, span),
+            Err(refusal) => return Err(refusal),
+        }
     }
+    if tokens.skip(Sign::BracketOpen) {
+        match deeper(left) {
+            Ok(left) => return list(alloc, tokens, left, span),
+            Err(refusal) => return Err(refusal),
+        }
+    }
+    if tokens.skip(Sign::BraceOpen) {
+        match deeper(left) {
+            Ok(left) => return map(alloc, tokens, left, span),
+            Err(refusal) => return Err(refusal),
+        }
+    }
+    literal(alloc, tokens)
 }
 
 // Behind `(`.
@@ -674,19 +811,23 @@ fn paren<'source>(
     ensures { Parsed (paren_by (expression_by (deeper left)) tokens.old) tokens.new result }
 {
     if tokens.skip(Sign::ParenClose) {
-        return Ok(Expr::tuple(alloc, Vec::new(alloc), tokens.expand_span(span))?);
+        let span = tokens.expand_span(span);
+        return Expr::tuple(alloc, Vec::new(alloc), span).map_err(Refusal::from);
     }
-    let first = expression(alloc, tokens, left)?;
-    if tokens.skip(Sign::Comma) {
-        tuple(alloc, tokens, left, first, span)
-    } else {
-        in_parens(tokens, first)
+    match expression(alloc, tokens, left) {
+        Ok(first) => {
+            if tokens.skip(Sign::Comma) {
+                return tuple(alloc, tokens, left, first, span);
+            }
+            return in_parens(tokens, first);
+        }
+        Err(refusal) => return Err(refusal),
     }
 }
 
 // Behind the first comma of a tuple.
 #[cycle(parser)]
-#[tactic(auto, unfolding(template_compiler_reading::specs::Steps::and_then))]
+#[tactic(auto, using(template_compiler_expression_parts::proofs::Nothing::no_paren), unfolding(template_compiler_reading::specs::Steps::and_then, template_compiler_expressions::specs::Reader::paren_end))]
 fn tuple<'source>(
     alloc: Global,
     tokens: &mut TokenStream<'source>,
@@ -699,15 +840,25 @@ fn tuple<'source>(
         result }
 {
     let mut held = Vec::new(alloc);
-    held.push(first)?;
-    let held = items(alloc, tokens, left, held)?;
-    let span = tokens.span_through_next(span);
-    in_parens(tokens, Expr::tuple(alloc, held, span)?)
+    match put(&mut held, first) {
+        Ok(()) => {}
+        Err(_) => return Err(Refusal::OutOfMemory),
+    }
+    match items(alloc, tokens, left, held) {
+        Ok(held) => {
+            if tokens.skip(Sign::ParenClose) {
+                let span = tokens.expand_span(span);
+                return Expr::tuple(alloc, held, span).map_err(Refusal::from);
+            }
+            return Err(Refusal::Token(tokens.fault()));
+        }
+        Err(refusal) => return Err(refusal),
+    }
 }
 
 // Behind the `[` of a list.
 #[cycle(parser)]
-#[tactic(auto, unfolding(template_compiler_reading::specs::Steps::and_then, template_compiler_expressions::specs::Reader::list_by, template_compiler_expressions::specs::Reader::items_by))]
+#[tactic(auto, using(template_compiler_expression_parts::proofs::Nothing::no_bracket), unfolding(template_compiler_reading::specs::Steps::and_then, template_compiler_expressions::specs::Reader::bracket_end, template_compiler_expressions::specs::Reader::list_by, template_compiler_expressions::specs::Reader::items_by))]
 fn list<'source>(
     alloc: Global,
     tokens: &mut TokenStream<'source>,
@@ -716,9 +867,16 @@ fn list<'source>(
 ) -> Result<Expr<'source>, Refusal>
     ensures { Parsed (list_by (expression_by (deeper left)) tokens.old) tokens.new result }
 {
-    let held = items(alloc, tokens, left, Vec::new(alloc))?;
-    let span = tokens.span_through_next(span);
-    in_brackets(tokens, Expr::list(alloc, held, span)?)
+    match items(alloc, tokens, left, Vec::new(alloc)) {
+        Ok(held) => {
+            if tokens.skip(Sign::BracketClose) {
+                let span = tokens.expand_span(span);
+                return Expr::list(alloc, held, span).map_err(Refusal::from);
+            }
+            return Err(Refusal::Token(tokens.fault()));
+        }
+        Err(refusal) => return Err(refusal),
+    }
 }
 
 // Items, with commas between them, up to a closing bracket.
@@ -756,18 +914,21 @@ fn next_item<'source>(
     if tokens.closes() {
         return Ok(false);
     }
-    let item = match expression(alloc, tokens, left) {
-        Ok(item) => item,
+    match expression(alloc, tokens, left) {
+        Ok(item) => match put(held, item) {
+            Ok(()) => match separated(tokens) {
+                Ok(()) => return Ok(true),
+                Err(refusal) => return Err(refusal),
+            },
+            Err(_) => return Err(Refusal::OutOfMemory),
+        },
         Err(refusal) => return Err(refusal),
-    };
-    held.push(item)?;
-    separated(tokens)?;
-    Ok(true)
+    }
 }
 
 // Behind the `{` of a map.
 #[cycle(parser)]
-#[tactic(auto, unfolding(template_compiler_reading::specs::Steps::and_then, template_compiler_expressions::specs::Reader::map_by, template_compiler_expressions::specs::Reader::pairs_by))]
+#[tactic(auto, using(template_compiler_expression_parts::proofs::Nothing::no_brace), unfolding(template_compiler_reading::specs::Steps::and_then, template_compiler_expressions::specs::Reader::brace_end, template_compiler_expressions::specs::Reader::map_by, template_compiler_expressions::specs::Reader::pairs_by))]
 fn map<'source>(
     alloc: Global,
     tokens: &mut TokenStream<'source>,
@@ -776,9 +937,16 @@ fn map<'source>(
 ) -> Result<Expr<'source>, Refusal>
     ensures { Parsed (map_by (expression_by (deeper left)) tokens.old) tokens.new result }
 {
-    let Pairs { keys, values } = pairs(alloc, tokens, left)?;
-    let span = tokens.span_through_next(span);
-    in_braces(tokens, Expr::map(alloc, keys, values, span)?)
+    match pairs(alloc, tokens, left) {
+        Ok(Pairs { keys, values }) => {
+            if tokens.skip(Sign::BraceClose) {
+                let span = tokens.expand_span(span);
+                return Expr::map(alloc, keys, values, span).map_err(Refusal::from);
+            }
+            return Err(Refusal::Token(tokens.fault()));
+        }
+        Err(refusal) => return Err(refusal),
+    }
 }
 
 // Pairs, with commas between them, up to a closing bracket.
@@ -817,17 +985,19 @@ fn next_pair<'source>(
     if tokens.closes() {
         return Ok(false);
     }
-    let key = match key(alloc, tokens, left) {
-        Ok(key) => key,
+    match key(alloc, tokens, left) {
+        Ok(key) => match expression(alloc, tokens, left) {
+            Ok(value) => match held.push(key, value) {
+                Ok(()) => match separated(tokens) {
+                    Ok(()) => return Ok(true),
+                    Err(refusal) => return Err(refusal),
+                },
+                Err(_) => return Err(Refusal::OutOfMemory),
+            },
+            Err(refusal) => return Err(refusal),
+        },
         Err(refusal) => return Err(refusal),
-    };
-    let value = match expression(alloc, tokens, left) {
-        Ok(value) => value,
-        Err(refusal) => return Err(refusal),
-    };
-    held.push(key, value)?;
-    separated(tokens)?;
-    Ok(true)
+    }
 }
 
 // A key and the colon behind it.
@@ -840,22 +1010,26 @@ fn key<'source>(
 ) -> Result<Expr<'source>, Refusal>
     ensures { Parsed (and_then (expression_by (deeper left) tokens.old) colon_end) tokens.new result }
 {
-    let key = expression(alloc, tokens, left)?;
-    before_colon(tokens, key)
+    match expression(alloc, tokens, left) {
+        Ok(key) => return before_colon(tokens, key),
+        Err(refusal) => return Err(refusal),
+    }
 }
 
-// Behind the `(` of arguments.
+// Behind the `(` of arguments, which are one level deeper.
 #[cycle(parser)]
-#[tactic(auto, unfolding(template_compiler_reading::specs::Steps::and_then, template_compiler_expressions::specs::Reader::arguments_by))]
+#[tactic(auto, unfolding(template_compiler_reading::specs::Steps::and_then, template_compiler_expressions::specs::Reader::arguments_by, template_compiler_expressions::specs::Reader::deeper))]
 fn arguments<'source>(
     alloc: Global,
     tokens: &mut TokenStream<'source>,
     left: u32,
 ) -> Result<Vec<CallArg<'source>>, Refusal>
-    ensures { ParsedAs (λ v. arguments_in v.items) (arguments_by (expression_by (deeper left)) tokens.old) tokens.new result }
+    ensures { ParsedAs (λ v. arguments_in v.items) ((deeper left).arguments tokens.old) tokens.new result }
 {
-    let held = written(alloc, tokens, left)?;
-    in_order(tokens, held)
+    match written(alloc, tokens, deeper(left)?) {
+        Ok(held) => return in_order(tokens, held),
+        Err(refusal) => return Err(refusal),
+    }
 }
 
 // Arguments, with commas between them, up to a closing bracket.
@@ -894,13 +1068,16 @@ fn next_argument<'source>(
     if tokens.closes() {
         return Ok(false);
     }
-    let argument = match argument(alloc, tokens, left) {
-        Ok(argument) => argument,
+    match argument(alloc, tokens, left) {
+        Ok(argument) => match held.push(argument) {
+            Ok(()) => match separated(tokens) {
+                Ok(()) => return Ok(true),
+                Err(refusal) => return Err(refusal),
+            },
+            Err(_) => return Err(Refusal::OutOfMemory),
+        },
         Err(refusal) => return Err(refusal),
-    };
-    held.push(argument)?;
-    separated(tokens)?;
-    Ok(true)
+    }
 }
 
 #[cycle(parser)]
@@ -913,8 +1090,11 @@ fn argument<'source>(
     ensures { ParsedAs argument_of (argument_by (expression_by (deeper left)) tokens.old) tokens.new result }
 {
     match tokens.skip_keyword() {
-        Some(name) => Ok(CallArg::Kwarg(name, expression(alloc, tokens, left)?)),
-        None => unnamed(alloc, tokens, left),
+        Some(name) => match expression(alloc, tokens, left) {
+            Ok(value) => return Ok(CallArg::Kwarg(name, value)),
+            Err(refusal) => return Err(refusal),
+        },
+        None => return unnamed(alloc, tokens, left),
     }
 }
 
@@ -928,10 +1108,10 @@ fn unnamed<'source>(
     ensures { ParsedAs argument_of (unnamed_by (expression_by (deeper left)) tokens.old) tokens.new result }
 {
     if tokens.skip(Sign::Mul) {
-        Ok(CallArg::PosSplat(expression(alloc, tokens, left)?))
-    } else if tokens.skip(Sign::Pow) {
-        Ok(CallArg::KwargSplat(expression(alloc, tokens, left)?))
-    } else {
-        Ok(CallArg::Pos(expression(alloc, tokens, left)?))
+        return expression(alloc, tokens, left).map(CallArg::PosSplat);
     }
+    if tokens.skip(Sign::Pow) {
+        return expression(alloc, tokens, left).map(CallArg::KwargSplat);
+    }
+    expression(alloc, tokens, left).map(CallArg::Pos)
 }

@@ -30,8 +30,10 @@ impl<'source> Pairs<'source> {
         ensures { IfOk result (λ _. paired_in self.new ≡ and_pair (paired_in self.old) (expression_of key.entry)
             (expression_of value.entry)) }
     {
-        put(&mut self.keys, key)?;
-        put(&mut self.values, value)
+        match put(&mut self.keys, key) {
+            Ok(()) => return put(&mut self.values, value),
+            Err(error) => return Err(error),
+        }
     }
 }
 
@@ -49,16 +51,17 @@ impl<'source> Written<'source> {
         ensures { IfOk result (λ _. written_in self.new ≡ and_written (written_in self.old) (argument_of argument.entry)) }
     {
         match argument {
-            CallArg::Pos(expr) => put(&mut self.by_place, CallArg::Pos(expr)),
-            CallArg::PosSplat(expr) => put(&mut self.by_place, CallArg::PosSplat(expr)),
-            CallArg::Kwarg(name, expr) => put(&mut self.by_keyword, CallArg::Kwarg(name, expr)),
-            CallArg::KwargSplat(expr) => put(&mut self.by_keyword, CallArg::KwargSplat(expr)),
+            CallArg::Pos(_) => return put(&mut self.by_place, argument),
+            CallArg::PosSplat(_) => return put(&mut self.by_place, argument),
+            CallArg::Kwarg(_, _) => return put(&mut self.by_keyword, argument),
+            CallArg::KwargSplat(_) => return put(&mut self.by_keyword, argument),
         }
     }
 }
 
-// Puts an item behind the others. Where memory is refused it is dropped here, so that no caller holds it.
-fn put<T: Drop>(items: &mut Vec<T>, item: T) -> Result<(), AllocError>
+/// Puts an item behind the others. Where memory is refused it is dropped here, so that no caller holds it.
+#[inline]
+pub fn put<T: Drop>(items: &mut Vec<T>, item: T) -> Result<(), AllocError>
     ensures { IfOk result (λ _. items.new.items ≡ items.old.items ++ item ∷ []) }
 {
     items.push(item)?;

@@ -36,11 +36,10 @@ pub fn in_parens<'source>(
 ) -> Result<Expr<'source>, Refusal>
     ensures { Parsed (paren_end (expression_of value.entry) tokens.old) tokens.new result }
 {
-    if tokens.skip(Sign::ParenClose) {
-        Ok(value)
-    } else {
-        Err(Refusal::Token(tokens.fault()))
+    if !tokens.skip(Sign::ParenClose) {
+        return Err(Refusal::Token(tokens.fault()));
     }
+    Ok(value)
 }
 
 /// The value, behind which a `]` stands.
@@ -51,11 +50,10 @@ pub fn in_brackets<'source>(
 ) -> Result<Expr<'source>, Refusal>
     ensures { Parsed (bracket_end (expression_of value.entry) tokens.old) tokens.new result }
 {
-    if tokens.skip(Sign::BracketClose) {
-        Ok(value)
-    } else {
-        Err(Refusal::Token(tokens.fault()))
+    if !tokens.skip(Sign::BracketClose) {
+        return Err(Refusal::Token(tokens.fault()));
     }
+    Ok(value)
 }
 
 /// The value, behind which a `}` stands.
@@ -66,11 +64,10 @@ pub fn in_braces<'source>(
 ) -> Result<Expr<'source>, Refusal>
     ensures { Parsed (brace_end (expression_of value.entry) tokens.old) tokens.new result }
 {
-    if tokens.skip(Sign::BraceClose) {
-        Ok(value)
-    } else {
-        Err(Refusal::Token(tokens.fault()))
+    if !tokens.skip(Sign::BraceClose) {
+        return Err(Refusal::Token(tokens.fault()));
     }
+    Ok(value)
 }
 
 /// The key, behind which a `:` stands.
@@ -81,11 +78,10 @@ pub fn before_colon<'source>(
 ) -> Result<Expr<'source>, Refusal>
     ensures { Parsed (colon_end (expression_of key.entry) tokens.old) tokens.new result }
 {
-    if tokens.skip(Sign::Colon) {
-        Ok(key)
-    } else {
-        Err(Refusal::Token(tokens.fault()))
+    if !tokens.skip(Sign::Colon) {
+        return Err(Refusal::Token(tokens.fault()));
     }
+    Ok(key)
 }
 
 /// Passes the comma behind an item; a closing bracket may stand there too, and stays.
@@ -110,10 +106,9 @@ pub fn in_order<'source>(
         result }
 {
     if tokens.skip(Sign::ParenClose) {
-        few(written)
-    } else {
-        Err(Refusal::Token(tokens.fault()))
+        return few(written);
     }
+    Err(Refusal::Token(tokens.fault()))
 }
 
 // Those by place, and behind them those by keyword.
@@ -122,14 +117,16 @@ fn few<'source>(written: Written<'source>) -> Result<Vec<CallArg<'source>>, Refu
     ensures { (ts : List Token) → ParsedAs (λ v. arguments_in v.items) (few_arguments (written_in written.entry) ts) ts result }
 {
     let Written {
-        by_place,
-        by_keyword,
+        mut by_place,
+        mut by_keyword,
     } = written;
-    let mut arguments = by_place;
-    let mut named = by_keyword;
-    arguments.append(&mut named)?;
-    if arguments.len() > ARGUMENT_LIMIT {
-        return Err(Refusal::Token(Fault::Syntax));
+    match by_place.append(&mut by_keyword) {
+        Ok(()) => {
+            if by_place.len() > ARGUMENT_LIMIT {
+                return Err(Refusal::Token(Fault::Syntax));
+            }
+            return Ok(by_place);
+        }
+        Err(error) => return Err(Refusal::from(error)),
     }
-    Ok(arguments)
 }

@@ -6,7 +6,7 @@ mod ends;
 mod literals;
 mod trees;
 
-pub use behind::{Behind, Pairs, Written};
+pub use behind::{Behind, Pairs, Written, put};
 pub use ends::{before_colon, deeper, in_braces, in_brackets, in_order, in_parens, separated};
 pub use literals::{attribute, literal, name};
 pub use trees::{compared, tested};

@@ -87,12 +87,15 @@ pub fn literal<'source>(
     if let Some(name) = tokens.word() {
         let span = tokens.span();
         tokens.advance();
-        return Ok(word(alloc, name, span)?);
+        match word(alloc, name, span) {
+            Ok(value) => return Ok(value),
+            Err(_) => return Err(Refusal::OutOfMemory),
+        }
     }
     match tokens.take() {
-        First::Token(token, span) => literal_from(alloc, tokens, token, span),
-        First::End => Err(Refusal::Token(Fault::Syntax)),
-        First::Bad(fault) => Err(Refusal::Token(fault)),
+        First::Token(token, span) => return literal_from(alloc, tokens, token, span),
+        First::End => return Err(Refusal::Token(Fault::Syntax)),
+        First::Bad(fault) => return Err(Refusal::Token(fault)),
     }
 }
 
@@ -107,12 +110,22 @@ fn literal_from<'source>(
     ensures { Parsed (primary_by nothing_deeper (token_of token.entry ∷ tokens.old)) tokens.new result }
 {
     match token {
-        Token::Ident(name) => Ok(word(alloc, name, span)?),
-        Token::Int(n) => Ok(Expr::constant(alloc, Value::from_int(i128::from(n)), span)?),
-        Token::Int128(n) => Ok(Expr::constant(alloc, whole(n)?, span)?),
-        Token::Str(text) => texts(alloc, tokens, String::from_str(alloc, text)?, span),
-        Token::String(text) => texts(alloc, tokens, text, span),
-        _ => Err(Refusal::Token(Fault::Syntax)),
+        Token::Ident(name) => return word(alloc, name, span).map_err(Refusal::from),
+        Token::Int(n) => {
+            return Expr::constant(alloc, Value::from_int(i128::from(n)), span).map_err(
+                Refusal::from,
+            );
+        }
+        Token::Int128(n) => match whole(n) {
+            Ok(value) => return Expr::constant(alloc, value, span).map_err(Refusal::from),
+            Err(refusal) => return Err(refusal),
+        },
+        Token::Str(text) => match String::from_str(alloc, text) {
+            Ok(text) => return texts(alloc, tokens, text, span),
+            Err(error) => return Err(Refusal::from(error)),
+        },
+        Token::String(text) => return texts(alloc, tokens, text, span),
+        _ => return Err(Refusal::Token(Fault::Syntax)),
     }
 }
 
@@ -121,8 +134,8 @@ fn word<'source>(alloc: Global, name: &'source str, span: Span) -> Result<Expr<'
     ensures { IfOk result (λ e. expression_of e ≡ word_tree (literal_word name.now) name.now) }
 {
     match literal_word(name) {
-        Some(value) => Expr::constant(alloc, value, span),
-        None => Ok(Expr::variable(name, span)),
+        Some(value) => return Expr::constant(alloc, value, span),
+        None => return Ok(Expr::variable(name, span)),
     }
 }
 
@@ -166,8 +179,10 @@ fn texts<'source>(
     ensures { Parsed (and_then (all text_step (string_bytes first) tokens.old) (λ t us. Ok (constant (text t), us))) tokens.new result }
 {
     match Value::from_text(adjacent(tokens, first)?) {
-        Ok(value) => Ok(Expr::constant(alloc, value, tokens.expand_span(span))?),
-        Err(_) => Err(Refusal::OutOfMemory),
+        Ok(value) => {
+            return Expr::constant(alloc, value, tokens.expand_span(span)).map_err(Refusal::from);
+        }
+        Err(_) => return Err(Refusal::OutOfMemory),
     }
 }
 
@@ -200,10 +215,10 @@ pub fn attribute<'source>(
 {
     match tokens.take() {
         First::Token(token, place) => {
-            attribute_from(alloc, token, place, value, tokens.expand_span(span))
+            return attribute_from(alloc, token, place, value, tokens.expand_span(span));
         }
-        First::End => Err(Refusal::Token(Fault::Syntax)),
-        First::Bad(fault) => Err(Refusal::Token(fault)),
+        First::End => return Err(Refusal::Token(Fault::Syntax)),
+        First::Bad(fault) => return Err(Refusal::Token(fault)),
     }
 }
 
@@ -218,10 +233,20 @@ fn attribute_from<'source>(
     ensures { (ts : List lexed.Token) → WentOn (dot_part (expression_of value.entry) (token_of token.entry ∷ ts)) ts result }
 {
     match token {
-        Token::Ident(name) => Ok(Expr::attribute(alloc, value, name, span)?),
-        Token::Int(n) => Ok(numbered(alloc, value, Value::from_int(i128::from(n)), place, span)?),
-        Token::Int128(n) => Ok(numbered(alloc, value, whole(n)?, place, span)?),
-        _ => Err(Refusal::Token(Fault::Syntax)),
+        Token::Ident(name) => {
+            return Expr::attribute(alloc, value, name, span).map_err(Refusal::from);
+        }
+        Token::Int(n) => {
+            let number = Value::from_int(i128::from(n));
+            return numbered(alloc, value, number, place, span).map_err(Refusal::from);
+        }
+        Token::Int128(n) => match whole(n) {
+            Ok(number) => {
+                return numbered(alloc, value, number, place, span).map_err(Refusal::from);
+            }
+            Err(refusal) => return Err(refusal),
+        },
+        _ => return Err(Refusal::Token(Fault::Syntax)),
     }
 }
 
@@ -235,6 +260,8 @@ fn numbered<'source>(
 ) -> Result<Expr<'source>, AllocError>
     ensures { IfOk result (λ e. expression_of e ≡ item (expression_of value.entry) (constant number)) }
 {
-    let key = Expr::constant(alloc, number, place)?;
-    Expr::item(alloc, value, key, span)
+    match Expr::constant(alloc, number, place) {
+        Ok(key) => return Expr::item(alloc, value, key, span),
+        Err(error) => return Err(error),
+    }
 }

@@ -23,8 +23,8 @@ pub fn compared<'source>(
         return Expr::chain(alloc, value, links, span);
     }
     match links.pop() {
-        Some(link) => compared_once(alloc, value, link, span),
-        None => Ok(value),
+        Some(link) => return compared_once(alloc, value, link, span),
+        None => return Ok(value),
     }
 }
 
@@ -47,8 +47,10 @@ fn compared_once<'source>(
         CompareOpKind::Gte => BinOpKind::Gte,
         CompareOpKind::In => BinOpKind::In,
         CompareOpKind::NotIn => {
-            let within = Expr::binary(alloc, BinOpKind::In, value, expr, span)?;
-            return Expr::unary(alloc, UnaryOpKind::Not, within, span);
+            match Expr::binary(alloc, BinOpKind::In, value, expr, span) {
+                Ok(within) => return Expr::unary(alloc, UnaryOpKind::Not, within, span),
+                Err(error) => return Err(error),
+            }
         }
     };
     Expr::binary(alloc, kind, value, expr, span)
@@ -67,10 +69,12 @@ pub fn tested<'source>(
         (λ e. expression_of e ≡ tested_as negated (cow_str_bytes name.entry) (expression_of value.entry)
         (arguments_in arguments.entry.items)) }
 {
-    let test = Expr::tested(alloc, name, value, arguments, span)?;
-    if negated {
-        Expr::unary(alloc, UnaryOpKind::Not, test, span)
-    } else {
-        Ok(test)
+    let test = Expr::tested(alloc, name, value, arguments, span);
+    if !negated {
+        return test;
+    }
+    match test {
+        Ok(test) => return Expr::unary(alloc, UnaryOpKind::Not, test, span),
+        Err(error) => return Err(error),
     }
 }

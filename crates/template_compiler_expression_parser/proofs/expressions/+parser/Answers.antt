@@ -14,10 +14,10 @@ pub binary-returns-then-begins_alone : goal.binary-returns-then-begins_alone
 binary-returns-then-begins_alone t c =
     parsed_alone (deeper c.args.left) (level_of c.args.level) _ _ _ (sym c.begins_alone.ensures ∙ c.if-begins_alone.true) c.literal.ensures
 
-pub next_operand-returns-in_ok-binary-in-Some : goal.next_operand-returns-in_ok-binary-in-Some
-next_operand-returns-in_ok-binary-in-Some t c =
+pub next_operand-returns-in-Ok-binary : goal.next_operand-returns-in-Ok-binary
+next_operand-returns-in-Ok-binary t c =
     next_operand_goes (level_of c.args.level) (operand_by (deeper c.args.left) (level_of c.args.level)) _ _ _ _ _ _ c.in-Some.op
-    c.in-Some.ensures.operator c.in-Some.ensures.passed c.in-Ok.ensures c.in_ok-binary-in-Some.ensures.tree
+    c.in-Some.ensures.operator c.in-Some.ensures.passed c.in-Ok.ensures c.in-Ok-binary.ensures.tree
 
 pub next_operand-returns-in-Err : goal.next_operand-returns-in-Err
 next_operand-returns-in-Err t c =
@@ -161,17 +161,17 @@ written-loop-held-smaller t c =
     let more = rw c.in-Ok-true.field-0-test at c.in-Ok-true.ensures in
     next_argument_takes c.args.left _ _ _ _ more
 
-pub next_item-returns : goal.next_item-returns
-next_item-returns t c =
+pub next_item-returns-in-Ok-separated : goal.next_item-returns-in-Ok-separated
+next_item-returns-in-Ok-separated t c =
     item_goes (expression_by (deeper c.args.left)) _ _ (expression_of c.in-Ok.item) _ _ _ (sym c.closes.ensures ∙ c.if-closes.false)
-    c.in-Ok.ensures (ap expressions_in c.in_ok-push.ensures.items ∙ expressions_push _ _) c.in_ok-separated.ensures
+    c.in-Ok.ensures (ap expressions_in c.in-Ok-put.ensures ∙ expressions_push _ _) c.in-Ok-separated.ensures
 
-pub next_pair-returns : goal.next_pair-returns
-next_pair-returns t c =
+pub next_pair-returns-in-Ok-separated : goal.next_pair-returns-in-Ok-separated
+next_pair-returns-in-Ok-separated t c =
     pair_goes (expression_by (deeper c.args.left)) _ _ (expression_of c.in-Ok.key) (expression_of c.in-Ok-expression.value) _ _ _ _
-    (sym c.closes.ensures ∙ c.if-closes.false) c.in-Ok.ensures c.in-Ok-expression.ensures c.in_ok-push.ensures c.in_ok-separated.ensures
+    (sym c.closes.ensures ∙ c.if-closes.false) c.in-Ok.ensures c.in-Ok-expression.ensures c.in-Ok-push.ensures c.in-Ok-separated.ensures
 
-pub next_argument-returns : goal.next_argument-returns
-next_argument-returns t c =
+pub next_argument-returns-in-Ok-separated : goal.next_argument-returns-in-Ok-separated
+next_argument-returns-in-Ok-separated t c =
     argument_goes (expression_by (deeper c.args.left)) _ _ (argument_of c.in-Ok.argument) _ _ _ (sym c.closes.ensures ∙ c.if-closes.false)
-    c.in-Ok.ensures c.in_ok-push.ensures c.in_ok-separated.ensures
+    c.in-Ok.ensures c.in-Ok-push.ensures c.in-Ok-separated.ensures

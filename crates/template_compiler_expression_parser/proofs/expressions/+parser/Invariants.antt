@@ -56,6 +56,9 @@ decreases-put_link l = 100 * l.left + 36
 abbrev pub decreases-power : goal.decreases-power
 decreases-power l = 100 * l.left + 22
 
+abbrev pub decreases-exponent : goal.decreases-exponent
+decreases-exponent l = 100 * l.left + 21
+
 abbrev pub decreases-filtered : goal.decreases-filtered
 decreases-filtered l = 100 * l.left + 21
 
@@ -76,6 +79,9 @@ decreases-test l = 100 * l.left + 17
 
 abbrev pub decreases-bare_test : goal.decreases-bare_test
 decreases-bare_test l = 100 * l.left + 16
+
+abbrev pub decreases-bare_argument : goal.decreases-bare_argument
+decreases-bare_argument l = 100 * l.left + 15
 
 abbrev pub decreases-plain_test : goal.decreases-plain_test
 decreases-plain_test l = 100 * l.left + 16
@@ -99,10 +105,10 @@ abbrev pub decreases-optional_arguments : goal.decreases-optional_arguments
 decreases-optional_arguments l = 100 * l.left + 5
 
 abbrev pub decreases-call : goal.decreases-call
-decreases-call l = 100 * l.left + 82
+decreases-call l = 100 * l.left + 6
 
 abbrev pub decreases-arguments : goal.decreases-arguments
-decreases-arguments l = 100 * l.left + 80
+decreases-arguments l = 100 * l.left + 4
 
 abbrev pub decreases-written : goal.decreases-written
 decreases-written l = 100 * l.left + 79
