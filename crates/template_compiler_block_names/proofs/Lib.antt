@@ -1,3 +1,3 @@
+mod Blocks
 pub mod Lists
 pub mod Seeing
-pub mod Weighing

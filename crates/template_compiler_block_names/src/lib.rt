@@ -3,7 +3,6 @@
 
 mod distinct;
 mod names;
-mod parts;
 
 pub use distinct::are_distinct;
 pub use names::block_names;

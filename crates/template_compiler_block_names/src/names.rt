@@ -1,11 +1,10 @@
-//! The names of the blocks among statements.
-ghost use Rattle.std.specs.Prelude.{◌≡◌, ◌++◌, ◌+◌, ◌≤◌, ◌<◌, IfOk};
-ghost use Rattle.template_compiler_block_names.specs.Waiting.{blocks_waiting, named, texts_in, weight_waiting, weights, within};
+//! The names of the blocks among statements. A chain of `elif` is gone along in a loop; other bodies nest at most 150 deep.
+ghost use Rattle.std.specs.Prelude.{◌≡◌, ◌++◌, IfOk};
+ghost use Rattle.template_compiler_block_names.specs.Waiting.{texts_in};
 ghost use Rattle.template_compiler_statement_makers.specs.Listed.{statements_in};
 ghost use Rattle.template_compiler_statements.specs.Trees.{blocks_among, blocks_in};
 ghost use Rattle.template_tree_statements.specs.View.{statement_of};
 
-use crate::parts::{body_of, name_of, other_of};
 use std::alloc::{AllocError, Global};
 use template_tree_statements::Stmt;
 
@@ -21,58 +20,68 @@ pub fn block_names<'source>(
     ensures { IfOk result (λ names. texts_in names.items ≡ blocks_among (statements_in body.now)) }
 {
     let mut names = Vec::new(alloc);
-    let mut waiting = Vec::new(alloc);
-    waiting.push(body)?;
-    while let Some(statements) = waiting.pop() {
-        take_first(&mut names, &mut waiting, statements)?;
-    }
+    take_names(&mut names, body)?;
     Ok(names)
 }
 
-// Takes the first statement's name; its bodies wait, and the statements behind it.
-fn take_first<'ast, 'source>(
+// The names in the statements of a body.
+#[cycle(statement)]
+fn take_names<'source>(
     names: &mut Vec<&'source str>,
-    waiting: &mut Vec<&'ast [Stmt<'source>]>,
-    statements: &'ast [Stmt<'source>],
+    body: &[Stmt<'source>],
 ) -> Result<(), AllocError>
-    ensures blocks { IfOk result (λ _. texts_in names.new.items ++ blocks_waiting waiting.new.items ≡
-        texts_in names.old.items ++ (blocks_among (statements_in statements.now) ++ blocks_waiting waiting.old.items)) }
-    ensures less { IfOk result (λ _. weight_waiting waiting.new.items < weights (statements_in statements.now)
-        + weight_waiting waiting.old.items) }
+    ensures { IfOk result (λ _. texts_in names.new.items ≡ texts_in names.old.items ++ blocks_among (statements_in body.now)) }
 {
-    if let Some((first, behind)) = statements.split_first() {
-        wait_for(waiting, Some(behind))?;
-        wait_for(waiting, other_of(first))?;
-        wait_for(waiting, body_of(first))?;
-        take_name(names, name_of(first))?;
+    for statement in body {
+        take_names_of(names, statement)?;
     }
     Ok(())
 }
 
-#[tactic(auto, using(crate::proofs::Lists::texts_push))]
-fn take_name<'source>(
+// The names in a statement, its own first.
+#[cycle(statement)]
+fn take_names_of<'source>(
     names: &mut Vec<&'source str>,
-    name: Option<&'source str>,
+    statement: &Stmt<'source>,
 ) -> Result<(), AllocError>
-    ensures { IfOk result (λ _. texts_in names.new.items ≡ texts_in names.old.items ++ named name.entry) }
+    ensures { IfOk result (λ _. texts_in names.new.items ≡ texts_in names.old.items ++ blocks_in (statement_of statement.now)) }
 {
-    if let Some(name) = name {
-        names.push(name)?;
+    let mut at = statement;
+    loop {
+        at = match at {
+            Stmt::IfCond(n) => {
+                take_names(names, &n.node.true_body)?;
+                let other = &n.node.false_body;
+                if other.len() != 1 {
+                    return take_names(names, other);
+                }
+                &other[0]
+            }
+            Stmt::ForLoop(n) => {
+                take_names(names, &n.node.body)?;
+                return take_names(names, &n.node.else_body);
+            }
+            Stmt::Block(n) => {
+                names.push(n.node.name)?;
+                return take_names(names, &n.node.body);
+            }
+            Stmt::Template(n) => return take_names(names, &n.node.children),
+            Stmt::WithBlock(n) => return take_names(names, &n.node.body),
+            Stmt::SetBlock(n) => return take_names(names, &n.node.body),
+            Stmt::AutoEscape(n) => return take_names(names, &n.node.body),
+            Stmt::FilterBlock(n) => return take_names(names, &n.node.body),
+            Stmt::Macro(n) => return take_names(names, &n.node.body),
+            Stmt::CallBlock(n) => return take_names(names, &n.node.macro_decl.node.body),
+            Stmt::EmitExpr(_) => return Ok(()),
+            Stmt::EmitRaw(_) => return Ok(()),
+            Stmt::Set(_) => return Ok(()),
+            Stmt::Import(_) => return Ok(()),
+            Stmt::FromImport(_) => return Ok(()),
+            Stmt::Extends(_) => return Ok(()),
+            Stmt::Include(_) => return Ok(()),
+            Stmt::Continue(_) => return Ok(()),
+            Stmt::Break(_) => return Ok(()),
+            Stmt::Do(_) => return Ok(()),
+        };
     }
-    Ok(())
-}
-
-#[tactic(auto, using(crate::proofs::Lists::waiting_push, crate::proofs::Lists::weight_push))]
-fn wait_for<'ast, 'source>(
-    waiting: &mut Vec<&'ast [Stmt<'source>]>,
-    body: Option<&'ast [Stmt<'source>]>,
-) -> Result<(), AllocError>
-    ensures blocks { IfOk result (λ _. blocks_waiting waiting.new.items ≡ blocks_among (within body.entry)
-        ++ blocks_waiting waiting.old.items) }
-    ensures weight { IfOk result (λ _. weight_waiting waiting.new.items ≤ weights (within body.entry) + weight_waiting waiting.old.items) }
-{
-    if let Some(body) = body {
-        waiting.push(body)?;
-    }
-    Ok(())
 }

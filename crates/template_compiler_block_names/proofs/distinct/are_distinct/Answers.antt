@@ -1,4 +1,4 @@
-use Rattle.std.proofs.Common.{◌≡◌, ℕ, List, length, ◌<◌, ◌+◌, arith}
+use Rattle.std.proofs.Common.{length, ◌<◌, ◌+◌, arith}
 use Rattle.std.proofs.Math.Seq.{drop-cons}
 use Rattle.template_compiler_block_names.specs.Seen.{has_seen}
 use Rattle.template_compiler_block_names.proofs.Seeing.{kept, twice, at_first, unseen}

@@ -1,0 +1,101 @@
+-- A statement's blocks, by its parts.
+use Rattle.std.proofs.Common.{◌≡◌, ℕ, ◌<◌, ◌≤◌, length, get_or, Result, Ok, Err, IfOk, List, [], ◌∷◌, ◌++◌, sym, ap, ◌∙◌, arith, rules, Box, Global}
+use Rattle.std.proofs.lemmas.List.{append-nil, append_assoc}
+use Rattle.template_tree_statements.specs.View.{statement_of}
+use Rattle.template_tree.specs.declared.span.Spanned.{Spanned}
+use Rattle.template_tree_statements.specs.declared.statements.AutoEscape.{AutoEscape as AutoEscapeNode}
+use Rattle.template_tree_statements.specs.declared.statements.Block.{Block as BlockNode}
+use Rattle.template_tree_statements.specs.declared.statements.CallBlock.{CallBlock as CallBlockNode, CallBlock' as called, out-CallBlock}
+use Rattle.template_tree_statements.specs.declared.statements.FilterBlock.{FilterBlock as FilterBlockNode}
+use Rattle.template_tree_statements.specs.declared.statements.ForLoop.{ForLoop as ForLoopNode}
+use Rattle.template_tree_statements.specs.declared.statements.IfCond.{IfCond as IfCondNode}
+use Rattle.template_tree_statements.specs.declared.statements.Macro.{Macro as MacroNode}
+use Rattle.template_tree_statements.specs.declared.statements.SetBlock.{SetBlock as SetBlockNode}
+use Rattle.template_tree_statements.specs.declared.statements.Template.{Template as TemplateNode}
+use Rattle.template_tree_statements.specs.declared.statements.WithBlock.{WithBlock as WithBlockNode}
+use Rattle.template_tree_statements.specs.declared.statements.Stmt.{Stmt, size-Stmt, Template, ForLoop, IfCond, WithBlock, SetBlock, AutoEscape, FilterBlock, Block, Macro, CallBlock, the_lemmas}
+use Rattle.template_compiler_statement_makers.specs.Listed.{statements_in}
+use Rattle.template_compiler_statement_makers.proofs.Rows.{statements_row}
+use Rattle.template_compiler_statements.specs.Trees.{blocks_in, blocks_among}
+
+abbrev blocks_of : List Stmt → List (List ℕ)
+blocks_of body = blocks_among (statements_in body)
+
+pub template_blocks : (n : Spanned TemplateNode) → blocks_in (statement_of (Template n)) ≡ blocks_of n.node.children.items
+template_blocks n = search (rules, the_lemmas, statements_row)
+
+pub for_blocks : (n : Spanned (Box ForLoopNode Global)) → blocks_in (statement_of (ForLoop n))
+    ≡ blocks_of n.node.value.body.items ++ blocks_of n.node.value.else_body.items
+for_blocks n = search (rules, the_lemmas, statements_row)
+
+pub if_blocks : (n : Spanned (Box IfCondNode Global)) → blocks_in (statement_of (IfCond n))
+    ≡ blocks_of n.node.value.true_body.items ++ blocks_of n.node.value.false_body.items
+if_blocks n = search (rules, the_lemmas, statements_row)
+
+pub with_blocks : (n : Spanned (Box WithBlockNode Global)) → blocks_in (statement_of (WithBlock n)) ≡ blocks_of n.node.value.body.items
+with_blocks n = search (rules, the_lemmas, statements_row)
+
+pub set_blocks : (n : Spanned (Box SetBlockNode Global)) → blocks_in (statement_of (SetBlock n)) ≡ blocks_of n.node.value.body.items
+set_blocks n = search (rules, the_lemmas, statements_row)
+
+pub escape_blocks : (n : Spanned (Box AutoEscapeNode Global)) → blocks_in (statement_of (AutoEscape n)) ≡ blocks_of n.node.value.body.items
+escape_blocks n = search (rules, the_lemmas, statements_row)
+
+pub filter_blocks : (n : Spanned (Box FilterBlockNode Global)) → blocks_in (statement_of (FilterBlock n)) ≡ blocks_of n.node.value.body.items
+filter_blocks n = search (rules, the_lemmas, statements_row)
+
+pub block_blocks : (n : Spanned (Box BlockNode Global)) → blocks_in (statement_of (Block n))
+    ≡ (n.node.value.name.now ∷ []) ++ blocks_of n.node.value.body.items
+block_blocks n = search (rules, the_lemmas, statements_row)
+
+pub macro_blocks : (n : Spanned (Box MacroNode Global)) → blocks_in (statement_of (Macro n)) ≡ blocks_of n.node.value.body.items
+macro_blocks n = search (rules, the_lemmas, statements_row)
+
+with_value : Spanned (Box CallBlockNode Global) → CallBlockNode → Spanned (Box CallBlockNode Global)
+with_value n v = record { node = record { ptr = n.node.ptr; alloc = n.node.alloc; value = v }; span = n.span }
+
+call_by : (n : Spanned (Box CallBlockNode Global)) (v : CallBlockNode) → blocks_in (statement_of (CallBlock (with_value n v)))
+    ≡ blocks_of (out-CallBlock v).macro_decl.node.value.body.items
+unfolding with_value out-CallBlock
+call_by n (called call q name args defaults shape body inner) = search (rules, the_lemmas, statements_row)
+
+pub call_blocks : (n : Spanned (Box CallBlockNode Global)) → blocks_in (statement_of (CallBlock n))
+    ≡ blocks_of (out-CallBlock n.node.value).macro_decl.node.value.body.items
+unfolding with_value
+call_blocks n = call_by n n.node.value
+
+-- what is still to be taken: a statement's parts, the parts behind one that is taken, and a body to its end
+pub parts : {bs : List (List ℕ)} (ns : List (List ℕ)) {s x : Stmt} {all : List (List ℕ)} → s ≡ x → blocks_in (statement_of x) ≡ bs →
+    ns ++ blocks_in (statement_of s) ≡ all → ns ++ bs ≡ all
+parts ns is tree left = ap (λ l. ns ++ l) (sym tree) ∙ ap (λ (y : Stmt). ns ++ blocks_in (statement_of y)) (sym is) ∙ left
+
+pub nothing : (ns : List (List ℕ)) {s x : Stmt} {all : List (List ℕ)} → s ≡ x → blocks_in (statement_of x) ≡ [] →
+    ns ++ blocks_in (statement_of s) ≡ all → ns ≡ all
+nothing ns is tree left = sym (append-nil ns) ∙ parts ns is tree left
+
+pub behind : {all : List (List ℕ)} (ns ms part rest : List (List ℕ)) → ms ≡ ns ++ part → ns ++ (part ++ rest) ≡ all → ms ++ rest ≡ all
+behind ns ms part rest taken left = ap (λ l. l ++ rest) taken ∙ append_assoc ns part rest ∙ left
+
+pub body_behind : {all : List (List ℕ)} {read body : List Stmt} (ns ms rest : List (List ℕ)) → read ≡ body → ms ≡ ns ++ blocks_of read →
+    ns ++ (blocks_of body ++ rest) ≡ all → ms ++ rest ≡ all
+body_behind {body = body} ns ms rest same taken left =
+    behind ns ms (blocks_of body) rest (taken ∙ ap (λ (ss : List Stmt). ns ++ blocks_of ss) same) left
+
+pub body_end : {T E : Type 0} {all : List (List ℕ)} {read body : List Stmt} (ns ms : List (List ℕ)) (r : Result T E) → read ≡ body →
+    IfOk r (λ _. ms ≡ ns ++ blocks_of read) → ns ++ blocks_of body ≡ all → IfOk r (λ _. ms ≡ all)
+body_end ns ms (Ok value) same taken left = taken ∙ ap (λ (ss : List Stmt). ns ++ blocks_of ss) same ∙ left
+body_end ns ms (Err error) same taken left = tt
+
+-- an `elif`
+pub only_blocks : (body : List Stmt) (s : Stmt) → length body ≡ 1 → s ≡ get_or body 0 s → blocks_in (statement_of s) ≡ blocks_of body
+only_blocks [] s one read = absurd (omega (arith, one))
+only_blocks (x ∷ []) s one read = ap (λ (y : Stmt). blocks_in (statement_of y)) read ∙ sym (append-nil (blocks_in (statement_of x)))
+only_blocks (x ∷ y ∷ body) s one read = absurd (omega (arith, one))
+
+else_below : (n : Spanned (Box IfCondNode Global)) (i : ℕ) (d : Stmt) → i < length n.node.value.false_body.items
+    → size-Stmt (get_or n.node.value.false_body.items i d) < size-Stmt (IfCond n)
+else_below n i d within = search (rules, the_lemmas)
+
+pub else_smaller : (s : Stmt) (n : Spanned (Box IfCondNode Global)) (i : ℕ) (d : Stmt) → s ≡ IfCond n → i < length n.node.value.false_body.items
+    → size-Stmt (get_or n.node.value.false_body.items i d) ≤ size-Stmt s
+else_smaller s n i d node within = rw node (let less = else_below n i d within in omega (arith, less))

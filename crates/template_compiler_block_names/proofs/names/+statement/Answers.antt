@@ -1,0 +1,140 @@
+use Rattle.std.proofs.Common.{◌≡◌, ◌≤◌, length, get_or, vec_len, [], ◌∷◌, ◌++◌, refl, ap, ◌∙◌, arith}
+use Rattle.template_tree_statements.specs.declared.statements.AutoEscape.{AutoEscape as AutoEscapeNode}
+use Rattle.template_tree_statements.specs.declared.statements.Block.{Block as BlockNode}
+use Rattle.template_tree_statements.specs.declared.statements.CallBlock.{CallBlock as CallBlockNode, out-CallBlock}
+use Rattle.template_tree_statements.specs.declared.statements.FilterBlock.{FilterBlock as FilterBlockNode}
+use Rattle.template_tree_statements.specs.declared.statements.ForLoop.{ForLoop as ForLoopNode}
+use Rattle.template_tree_statements.specs.declared.statements.IfCond.{IfCond as IfCondNode}
+use Rattle.template_tree_statements.specs.declared.statements.Macro.{Macro as MacroNode}
+use Rattle.template_tree_statements.specs.declared.statements.SetBlock.{SetBlock as SetBlockNode}
+use Rattle.template_tree_statements.specs.declared.statements.WithBlock.{WithBlock as WithBlockNode}
+use Rattle.template_tree_statements.specs.declared.statements.Stmt.{Stmt, size-Stmt}
+use Rattle.template_compiler_statement_makers.specs.Listed.{statements_in}
+use Rattle.template_compiler_statements.specs.Trees.{blocks_among}
+use Rattle.template_compiler_block_names.specs.Waiting.{texts_in}
+use Rattle.template_compiler_block_names.proofs.Lists.{texts_push}
+use Rattle.template_compiler_block_names.proofs.Blocks.{parts, nothing, behind, body_behind, body_end, only_blocks, else_smaller, template_blocks, for_blocks, if_blocks, with_blocks, set_blocks, escape_blocks, filter_blocks, block_blocks, macro_blocks, call_blocks}
+use Rattle.template_compiler_block_names.proofs.names.+statement.Goals as goal
+
+pub take_names_of-returns-in-Template : goal.take_names_of-returns-in-Template
+take_names_of-returns-in-Template t c =
+    let n = c.in-Template.n in
+    body_end _ _ c.take_names-in-Template.result c.deref-in-Template.ensures.value c.take_names-in-Template.ensures
+    (parts (texts_in c.loop-at.names.items) c.in-Template.is (template_blocks n) c.loop-at.invariant.taken)
+
+pub take_names_of-returns-in-WithBlock : goal.take_names_of-returns-in-WithBlock
+take_names_of-returns-in-WithBlock t c =
+    let read = c.deref-in-WithBlock-2.ensures.value ∙ ap (λ (x : WithBlockNode). x.body.items) c.deref-in-WithBlock.ensures in
+    body_end _ _ c.take_names-in-WithBlock.result read c.take_names-in-WithBlock.ensures
+    (parts (texts_in c.loop-at.names.items) c.in-WithBlock.is (with_blocks c.in-WithBlock.n) c.loop-at.invariant.taken)
+
+pub take_names_of-returns-in-SetBlock : goal.take_names_of-returns-in-SetBlock
+take_names_of-returns-in-SetBlock t c =
+    let read = c.deref-in-SetBlock-2.ensures.value ∙ ap (λ (x : SetBlockNode). x.body.items) c.deref-in-SetBlock.ensures in
+    body_end _ _ c.take_names-in-SetBlock.result read c.take_names-in-SetBlock.ensures
+    (parts (texts_in c.loop-at.names.items) c.in-SetBlock.is (set_blocks c.in-SetBlock.n) c.loop-at.invariant.taken)
+
+pub take_names_of-returns-in-AutoEscape : goal.take_names_of-returns-in-AutoEscape
+take_names_of-returns-in-AutoEscape t c =
+    let read = c.deref-in-AutoEscape-2.ensures.value ∙ ap (λ (x : AutoEscapeNode). x.body.items) c.deref-in-AutoEscape.ensures in
+    body_end _ _ c.take_names-in-AutoEscape.result read c.take_names-in-AutoEscape.ensures
+    (parts (texts_in c.loop-at.names.items) c.in-AutoEscape.is (escape_blocks c.in-AutoEscape.n) c.loop-at.invariant.taken)
+
+pub take_names_of-returns-in-FilterBlock : goal.take_names_of-returns-in-FilterBlock
+take_names_of-returns-in-FilterBlock t c =
+    let read = c.deref-in-FilterBlock-2.ensures.value ∙ ap (λ (x : FilterBlockNode). x.body.items) c.deref-in-FilterBlock.ensures in
+    body_end _ _ c.take_names-in-FilterBlock.result read c.take_names-in-FilterBlock.ensures
+    (parts (texts_in c.loop-at.names.items) c.in-FilterBlock.is (filter_blocks c.in-FilterBlock.n) c.loop-at.invariant.taken)
+
+pub take_names_of-returns-in-Macro : goal.take_names_of-returns-in-Macro
+take_names_of-returns-in-Macro t c =
+    let read = c.deref-in-Macro-2.ensures.value ∙ ap (λ (x : MacroNode). x.body.items) c.deref-in-Macro.ensures in
+    body_end _ _ c.take_names-in-Macro.result read c.take_names-in-Macro.ensures
+    (parts (texts_in c.loop-at.names.items) c.in-Macro.is (macro_blocks c.in-Macro.n) c.loop-at.invariant.taken)
+
+pub take_names_of-returns-in-CallBlock : goal.take_names_of-returns-in-CallBlock
+take_names_of-returns-in-CallBlock t c =
+    let declared = ap (λ (x : CallBlockNode). (out-CallBlock x).macro_decl.node.value) c.deref-in-CallBlock.ensures in
+    let read = c.deref-in-CallBlock-3.ensures.value ∙ ap (λ (x : MacroNode). x.body.items) (c.deref-in-CallBlock-2.ensures ∙ declared) in
+    body_end _ _ c.take_names-in-CallBlock.result read c.take_names-in-CallBlock.ensures
+    (parts (texts_in c.loop-at.names.items) c.in-CallBlock.is (call_blocks c.in-CallBlock.n) c.loop-at.invariant.taken)
+
+pub take_names_of-returns-in-Block : goal.take_names_of-returns-in-Block
+take_names_of-returns-in-Block t c =
+    let v = c.in-Block.n.node.value in
+    let name = c.deref-in-Block.result.now.name in
+    let pushed = ap texts_in c.in_ok-push-in-Block.ensures.items ∙ texts_push c.loop-at.names.items name ∙
+    ap (λ (x : BlockNode). texts_in c.loop-at.names.items ++ x.name.now ∷ []) c.deref-in-Block.ensures in
+    let read = c.deref-in-Block-3.ensures.value ∙ ap (λ (x : BlockNode). x.body.items) c.deref-in-Block-2.ensures in
+    body_end _ _ c.take_names-in-Block.result read c.take_names-in-Block.ensures
+    (behind _ _ (v.name.now ∷ []) (blocks_among (statements_in v.body.items)) pushed
+    (parts (texts_in c.loop-at.names.items) c.in-Block.is (block_blocks c.in-Block.n) c.loop-at.invariant.taken))
+
+pub take_names_of-returns-in-ForLoop : goal.take_names_of-returns-in-ForLoop
+take_names_of-returns-in-ForLoop t c =
+    let v = c.in-ForLoop.n.node.value in
+    let body = c.deref-in-ForLoop-2.ensures.value ∙ ap (λ (x : ForLoopNode). x.body.items) c.deref-in-ForLoop.ensures in
+    let other = c.deref-in-ForLoop-4.ensures.value ∙ ap (λ (x : ForLoopNode). x.else_body.items) c.deref-in-ForLoop-3.ensures in
+    body_end _ _ c.take_names-in-ForLoop-2.result other c.take_names-in-ForLoop-2.ensures
+    (body_behind _ _ (blocks_among (statements_in v.else_body.items)) body c.in_ok-take_names-in-ForLoop.ensures
+    (parts (texts_in c.loop-at.names.items) c.in-ForLoop.is (for_blocks c.in-ForLoop.n) c.loop-at.invariant.taken))
+
+pub take_names_of-returns-then-len-ne1 : goal.take_names_of-returns-then-len-ne1
+take_names_of-returns-then-len-ne1 t c =
+    let v = c.in-IfCond.n.node.value in
+    let body = c.deref-in-IfCond.ensures.value ∙ ap (λ (x : IfCondNode). x.true_body.items) c.deref.ensures in
+    let other = c.deref-then-len-ne1.ensures.value ∙ ap (λ (x : IfCondNode). x.false_body.items) c.deref-in-IfCond-2.ensures in
+    body_end _ _ c.take_names-then-len-ne1.result other c.take_names-then-len-ne1.ensures
+    (body_behind _ _ (blocks_among (statements_in v.false_body.items)) body c.in_ok-take_names-in-IfCond.ensures
+    (parts (texts_in c.loop-at.names.items) c.in-IfCond.is (if_blocks c.in-IfCond.n) c.loop-at.invariant.taken))
+
+pub take_names_of-loop-at-preserved : goal.take_names_of-loop-at-preserved
+take_names_of-loop-at-preserved t c =
+    let v = c.in-IfCond.n.node.value in
+    let items = v.false_body.items in
+    let body = c.deref-in-IfCond.ensures.value ∙ ap (λ (x : IfCondNode). x.true_body.items) c.deref.ensures in
+    let behind_it = body_behind _ _ (blocks_among (statements_in items)) body c.in_ok-take_names-in-IfCond.ensures
+    (parts (texts_in c.loop-at.names.items) c.in-IfCond.is (if_blocks c.in-IfCond.n) c.loop-at.invariant.taken) in
+    let shared = ap (λ (x : IfCondNode). vec_len x.false_body) c.deref-in-IfCond-2.ensures in
+    let counted = c.len.ensures in
+    let tested = c.if-len-ne1.false in
+    let one : length items ≡ 1 = omega (arith, shared, counted, tested, v.false_body.ok.0) in
+    let at : c.index.result.now ≡ get_or items 0 c.index.result.now =
+    c.index.ensures ∙ ap (λ (x : IfCondNode). get_or x.false_body.items 0 c.index.result.now) c.deref-in-IfCond-2.ensures in
+    let within = else_smaller c.loop-at.at.now c.in-IfCond.n 0 c.index.result.now c.in-IfCond.is (omega (arith, one)) in
+    let same : size-Stmt c.index.result.now ≡ size-Stmt (get_or items 0 c.index.result.now) = ap (λ (s : Stmt). size-Stmt s) at in
+    let deep : size-Stmt c.loop-at.at.now ≤ size-Stmt c.args.statement.now = c.loop-at.invariant.deep in
+    record {
+      taken = ap (λ bs. texts_in c.take_names.new.names.items ++ bs) (only_blocks items c.index.result.now one at) ∙ behind_it;
+      deep = omega (arith, within, same, deep);
+    }
+
+pub take_names_of-returns-in-EmitExpr : goal.take_names_of-returns-in-EmitExpr
+take_names_of-returns-in-EmitExpr t c = nothing (texts_in c.loop-at.names.items) c.in-EmitExpr.is refl c.loop-at.invariant.taken
+
+pub take_names_of-returns-in-EmitRaw : goal.take_names_of-returns-in-EmitRaw
+take_names_of-returns-in-EmitRaw t c = nothing (texts_in c.loop-at.names.items) c.in-EmitRaw.is refl c.loop-at.invariant.taken
+
+pub take_names_of-returns-in-Set : goal.take_names_of-returns-in-Set
+take_names_of-returns-in-Set t c = nothing (texts_in c.loop-at.names.items) c.in-Set.is refl c.loop-at.invariant.taken
+
+pub take_names_of-returns-in-Import : goal.take_names_of-returns-in-Import
+take_names_of-returns-in-Import t c = nothing (texts_in c.loop-at.names.items) c.in-Import.is refl c.loop-at.invariant.taken
+
+pub take_names_of-returns-in-FromImport : goal.take_names_of-returns-in-FromImport
+take_names_of-returns-in-FromImport t c = nothing (texts_in c.loop-at.names.items) c.in-FromImport.is refl c.loop-at.invariant.taken
+
+pub take_names_of-returns-in-Extends : goal.take_names_of-returns-in-Extends
+take_names_of-returns-in-Extends t c = nothing (texts_in c.loop-at.names.items) c.in-Extends.is refl c.loop-at.invariant.taken
+
+pub take_names_of-returns-in-Include : goal.take_names_of-returns-in-Include
+take_names_of-returns-in-Include t c = nothing (texts_in c.loop-at.names.items) c.in-Include.is refl c.loop-at.invariant.taken
+
+pub take_names_of-returns-in-Continue : goal.take_names_of-returns-in-Continue
+take_names_of-returns-in-Continue t c = nothing (texts_in c.loop-at.names.items) c.in-Continue.is refl c.loop-at.invariant.taken
+
+pub take_names_of-returns-in-Break : goal.take_names_of-returns-in-Break
+take_names_of-returns-in-Break t c = nothing (texts_in c.loop-at.names.items) c.in-Break.is refl c.loop-at.invariant.taken
+
+pub take_names_of-returns-in-Do : goal.take_names_of-returns-in-Do
+take_names_of-returns-in-Do t c = nothing (texts_in c.loop-at.names.items) c.in-Do.is refl c.loop-at.invariant.taken

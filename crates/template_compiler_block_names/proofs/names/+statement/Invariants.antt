@@ -1,0 +1,19 @@
+-- The names so far, and those of what is left.
+use Rattle.std.proofs.Common.{◌≡◌, ◌≤◌, ◌++◌, drop}
+use Rattle.template_tree_statements.specs.View.{statement_of}
+use Rattle.template_tree_statements.specs.declared.statements.Stmt.{size-Stmt}
+use Rattle.template_compiler_statements.specs.Trees.{blocks_among, blocks_in}
+use Rattle.template_compiler_statement_makers.specs.Listed.{statements_in}
+use Rattle.template_compiler_block_names.specs.Waiting.{texts_in}
+use Rattle.template_compiler_block_names.proofs.names.+statement.Given as goal
+
+abbrev pub invariant-take_names-loop-statement : goal.invariant-take_names-loop-statement
+invariant-take_names-loop-statement l =
+    texts_in l.names.items ++ blocks_among (statements_in (drop l.statement-index l.body)) ≡
+    texts_in l.initial.names.items ++ blocks_among (statements_in l.body)
+
+abbrev pub invariant-take_names_of-loop-at : goal.invariant-take_names_of-loop-at
+invariant-take_names_of-loop-at l = record {
+  taken : texts_in l.names.items ++ blocks_in (statement_of l.at) ≡ texts_in l.initial.names.items ++ blocks_in (statement_of l.fn.statement);
+  deep : size-Stmt l.at ≤ size-Stmt l.fn.statement;
+}
