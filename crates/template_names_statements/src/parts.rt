@@ -1,16 +1,15 @@
 //! The names in parts of statements that hold no statements.
-ghost use Rattle.std.specs.Prelude.{◌≡◌, not, ◌&&◌, ◌||◌, IfSome, OnOk, codes};
+ghost use Rattle.std.specs.Prelude.{◌≡◌, not, ◌&&◌, ◌||◌, OnOk, codes};
 ghost use Rattle.template_tree.specs.View.{arguments_in, expression_of, optional_in};
 ghost use Rattle.template_names.specs.Names.{is_stored_in, place_if_given, place_in, place_in_arguments, place_in_target};
 ghost use Rattle.template_names_state.specs.Among.{just, nothing};
 ghost use Rattle.template_names_state.specs.Goes.{Goes};
-ghost use Rattle.template_names_statements.specs.Choices.{IsAlone};
 
 use std::alloc::AllocError;
 use template_names_expressions::{assign_target, use_arguments, use_expression, use_optional};
 use template_names_state::Names;
-use template_tree::{Call, Spanned};
-use template_tree_statements::{ForLoop, IfCond, SetBlock, Stmt};
+use template_tree::Call;
+use template_tree_statements::{ForLoop, SetBlock};
 
 // A loop's target, its filter, and the name that is stored in its body.
 pub(crate) fn begin_loop<'source>(
@@ -49,19 +48,4 @@ pub(crate) fn use_call<'source>(
 {
     use_expression(names, &call.expr)?;
     use_arguments(names, &call.args)
-}
-
-// The `if` that is alone in a body.
-pub(crate) fn elif<'a, 'source>(
-    body: &'a [Stmt<'source>],
-) -> Option<&'a Spanned<Box<IfCond<'source>>>>
-    ensures { IfSome result (λ choice. IsAlone choice.now body.now) }
-{
-    if body.len() != 1 {
-        return None;
-    }
-    match &body[0] {
-        Stmt::IfCond(n) => Some(n),
-        _ => None,
-    }
 }

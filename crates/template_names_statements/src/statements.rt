@@ -7,9 +7,9 @@ ghost use Rattle.template_names.specs.Names.{is_stored_by, place_by, place_of_ma
 ghost use Rattle.template_names_state.specs.Among.{nothing};
 ghost use Rattle.template_names_state.specs.Goes.{Goes};
 ghost use Rattle.template_names_expressions.specs.Stores.{is_stored_among};
-ghost use Rattle.template_names_statements.specs.Choices.{choice_of, else_places, loop_of, test_places, with_of};
+ghost use Rattle.template_names_statements.specs.Choices.{choice_of, loop_of, with_of};
 
-use crate::parts::{begin_loop, elif, end_set_block, use_call};
+use crate::parts::{begin_loop, end_set_block, use_call};
 use std::alloc::AllocError;
 use template_names_expressions::{
     assign, bind_arguments, bind_imports, use_assignments, use_expression,
@@ -68,37 +68,20 @@ fn use_chain<'source>(
 ) -> Result<(), AllocError>
     ensures { OnOk result (Goes (λ places. place_by places (choice_of first.now)) nothing names.old names.new) }
 {
-    let mut choice = Some(first);
-    while let Some(at) = choice {
-        use_choice(names, at)?;
-        let next = elif(&at.node.false_body);
-        if next.is_none() {
-            return use_else(names, at);
+    let mut at = first;
+    loop {
+        let node = &at.node;
+        use_expression(names, &node.expr)?;
+        use_region(names, &node.true_body)?;
+        let other = &node.false_body;
+        if other.len() != 1 {
+            return use_region(names, other);
         }
-        choice = next;
+        at = match &other[0] {
+            Stmt::IfCond(n) => n,
+            _ => return use_region(names, other),
+        };
     }
-    Ok(())
-}
-
-#[cycle(statement)]
-fn use_choice<'source>(
-    names: &mut Names<'source>,
-    choice: &Spanned<Box<IfCond<'source>>>,
-) -> Result<(), AllocError>
-    ensures { OnOk result (Goes (λ places. test_places places (choice_of choice.now)) nothing names.old names.new) }
-{
-    use_expression(names, &choice.node.expr)?;
-    use_region(names, &choice.node.true_body)
-}
-
-#[cycle(statement)]
-fn use_else<'source>(
-    names: &mut Names<'source>,
-    choice: &Spanned<Box<IfCond<'source>>>,
-) -> Result<(), AllocError>
-    ensures { OnOk result (Goes (λ places. else_places places (choice_of choice.now)) nothing names.old names.new) }
-{
-    use_region(names, &choice.node.false_body)
 }
 
 // A region that begins with assignments.

@@ -1,8 +1,7 @@
-use Rattle.std.proofs.Common.{◌≡◌, ◌≤◌, ◌+◌, ◌||◌, not, ◌&&◌, codes, List as Items, Option, Bor, Box, Global, arith, refl, sym, ap, ◌∙◌}
-use Rattle.std.specs.Prelude.{false, is_none}
+use Rattle.std.proofs.Common.{◌≡◌, ◌≤◌, length, get_or, vec_len, ◌||◌, not, ◌&&◌, codes, List as Items, arith, refl, sym, ap, ◌∙◌}
+use Rattle.std.specs.Prelude.{false}
 use Rattle.template_tree.specs.View.{arguments_in, expression_of, expressions_in, optional_in}
 use Rattle.template_tree_statements.specs.View.{assignments_in, statement_of}
-use Rattle.template_tree.specs.declared.span.Spanned.{Spanned}
 use Rattle.template_tree_statements.specs.declared.statements.IfCond.{IfCond as IfCondNode}
 use Rattle.template_tree_statements.specs.declared.statements.Stmt.{Stmt, size-Stmt, IfCond}
 use Rattle.template_tree.specs.declared.expressions.Expr.{Expr}
@@ -20,13 +19,11 @@ use Rattle.template_tree_statements.specs.declared.statements.SetBlock.{SetBlock
 use Rattle.template_tree_statements.specs.declared.statements.WithBlock.{WithBlock as WithBlockNode}
 use Rattle.template_names_statements.proofs.Bodies.{at_node, at_tree, macro_reads, set_block_tree, filter_block_tree, block_tree, macro_tree, call_tree}
 use Rattle.template_names.specs.Names.{is_stored_by, is_stored_in, place_by, place_of_macro, place_in_target, place_from, place_within, place_if_given, place_in, place_in_arguments}
-use Rattle.template_names_statements.specs.Choices.{chain_deep, chain_places, choice_of}
-use Rattle.template_names_state.specs.Goes.{Goes}
 use Rattle.template_names_expressions.specs.Stores.{is_assigned, is_stored_among}
-use Rattle.template_names_state.specs.Among.{just, nothing}
-use Rattle.template_names_state.proofs.Laws.{goes_as, goes_end, goes_inside, goes_item, goes_nowhere, goes_then, goes_then_on, or_assoc, or_false, uses_as, uses_on, uses_then, uses_then_on}
+use Rattle.template_names_state.specs.Among.{just}
+use Rattle.template_names_state.proofs.Laws.{goes_as, goes_end, goes_inside, goes_item, goes_then, goes_then_on, or_assoc, or_false, uses_as, uses_then, uses_then_on}
 use Rattle.template_names_expressions.proofs.Storing.{used_from}
-use Rattle.template_names_statements.proofs.Walking.{loop_uses, chain_end, chain_ends, chain_within, else_is, macro_uses, test_is}
+use Rattle.template_names_statements.proofs.Walking.{loop_uses, chain_end, chain_goes, else_below, macro_uses}
 use Rattle.template_names_statements.proofs.statements.+statement.Goals as goal
 
 pub use_statements-loop-statement-preserved : goal.use_statements-loop-statement-preserved
@@ -54,44 +51,46 @@ use_macro-returns t c =
     (goes_then c.open.new.self c.bind_arguments.new.names c.store.new.self c.in_ok-bind_arguments.ensures c.in_ok-store.ensures)
     c.in_ok-use_statements.ensures) c.close.ensures)
 
-pub use_chain-returns-then-is_none : goal.use_chain-returns-then-is_none
-use_chain-returns-then-is_none t c =
-    chain_end (λ d. Goes (λ q. place_by q (choice_of c.args.first.now)) nothing c.args.names.now d) c.in-Some.at c.loop-choice.choice c.loop-choice.names
-    c.use_choice.new.names c.use_else.new.names c.use_else.result c.in-Some.is c.loop-choice.invariant.ends c.in_ok-use_choice.ensures c.use_else.ensures
-
-pub use_chain-loop-choice-preserved : goal.use_chain-loop-choice-preserved
-use_chain-loop-choice-preserved t c =
-    let at = c.in-Some.at in
-    let body = c.deref-in-Some.result.now in
-    let read = c.deref-in-Some.ensures.value ∙ ap (λ (x : IfCondNode). x.false_body.items) c.deref.ensures in
-    let some : is_none c.elif-next.result ≡ false = grind (arith, c.is_none.ensures, c.if-is_none.false) in
-    let deep : chain_deep c.loop-choice.choice ≡ size-Stmt (IfCond at.now) + 1 =
-    ap (λ (o : Option (Bor (Spanned (Box IfCondNode Global)))). chain_deep o) c.in-Some.is in
-    let inside : chain_deep c.loop-choice.choice ≤ size-Stmt (IfCond c.args.first.now) + 1 = c.loop-choice.invariant.deep in
-    record {
-      ends = chain_ends at body c.loop-choice.choice c.elif-next.result c.loop-choice.names c.use_choice.new.names c.in-Some.is read c.elif-next.ensures some
-          c.loop-choice.invariant.ends c.in_ok-use_choice.ensures;
-      deep = chain_within at.now body c.elif-next.result (size-Stmt (IfCond c.args.first.now)) read c.elif-next.ensures (omega (arith, deep, inside));
-    }
-
-pub use_chain-returns : goal.use_chain-returns
-use_chain-returns t c =
-    c.loop-choice.invariant.ends c.loop-choice.names
-    (uses_as (λ q. ap (λ (o : Option (Bor (Spanned (Box IfCondNode Global)))). chain_places o q) (sym c.in_default.is)) (goes_nowhere c.loop-choice.names))
-
-pub use_choice-returns : goal.use_choice-returns
-use_choice-returns t c =
-    let v = c.args.choice.now.node.value in
+pub use_chain-returns-then-len-ne1 : goal.use_chain-returns-then-len-ne1
+use_chain-returns-then-len-ne1 t c =
     let test = uses_as (λ q. ap (λ (x : IfCondNode). place_in q (expression_of x.expr)) c.deref.ensures) c.in_ok-use_expression.ensures in
-    let read = c.deref-3.ensures.value ∙ ap (λ (x : IfCondNode). x.true_body.items) c.deref-2.ensures in
-    uses_then_on _ c.args.names.now c.use_expression.new.names c.use_region.new.names c.use_region.result test c.use_region.ensures
-    (λ q. ap (λ (ss : Items Stmt). place_in q (expression_of v.expr) || place_within q (statements_in ss)) read ∙ test_is q c.args.choice.now)
+    let read = c.deref-in-loop-names-2.ensures.value ∙ ap (λ (x : IfCondNode). x.true_body.items) c.deref-in-loop-names.ensures in
+    let body = uses_as (λ q. ap (λ (ss : Items Stmt). place_within q (statements_in ss)) read) c.in_ok-use_region.ensures in
+    let tested = uses_then c.loop-names.names c.use_expression.new.names c.use_region.new.names test body in
+    let other = c.deref-then-len-ne1.ensures.value ∙ ap (λ (x : IfCondNode). x.false_body.items) c.deref-in-loop-names-3.ensures in
+    chain_end c.loop-names.at.now c.deref-then-len-ne1.result.now c.loop-names.names c.use_region.new.names c.use_region-then-len-ne1.new.names
+    c.use_region-then-len-ne1.result c.loop-names.invariant.ends tested other c.use_region-then-len-ne1.ensures
 
-pub use_else-returns : goal.use_else-returns
-use_else-returns t c =
-    let read = c.deref-2.ensures.value ∙ ap (λ (x : IfCondNode). x.false_body.items) c.deref.ensures in
-    uses_on c.args.names.now c.use_region.new.names c.use_region.result
-    (λ q. ap (λ (ss : Items Stmt). place_within q (statements_in ss)) read ∙ else_is q c.args.choice.now) c.use_region.ensures
+pub use_chain-returns-in_default : goal.use_chain-returns-in_default
+use_chain-returns-in_default t c =
+    let test = uses_as (λ q. ap (λ (x : IfCondNode). place_in q (expression_of x.expr)) c.deref.ensures) c.in_ok-use_expression.ensures in
+    let read = c.deref-in-loop-names-2.ensures.value ∙ ap (λ (x : IfCondNode). x.true_body.items) c.deref-in-loop-names.ensures in
+    let body = uses_as (λ q. ap (λ (ss : Items Stmt). place_within q (statements_in ss)) read) c.in_ok-use_region.ensures in
+    let tested = uses_then c.loop-names.names c.use_expression.new.names c.use_region.new.names test body in
+    let other = c.deref-in_default.ensures.value ∙ ap (λ (x : IfCondNode). x.false_body.items) c.deref-in-loop-names-3.ensures in
+    chain_end c.loop-names.at.now c.deref-in_default.result.now c.loop-names.names c.use_region.new.names c.use_region-in_default.new.names
+    c.use_region-in_default.result c.loop-names.invariant.ends tested other c.use_region-in_default.ensures
+
+pub use_chain-loop-names-preserved : goal.use_chain-loop-names-preserved
+use_chain-loop-names-preserved t c =
+    let n = c.loop-names.at.now in
+    let items = n.node.value.false_body.items in
+    let test = uses_as (λ q. ap (λ (x : IfCondNode). place_in q (expression_of x.expr)) c.deref.ensures) c.in_ok-use_expression.ensures in
+    let read = c.deref-in-loop-names-2.ensures.value ∙ ap (λ (x : IfCondNode). x.true_body.items) c.deref-in-loop-names.ensures in
+    let body = uses_as (λ q. ap (λ (ss : Items Stmt). place_within q (statements_in ss)) read) c.in_ok-use_region.ensures in
+    let tested = uses_then c.loop-names.names c.use_expression.new.names c.use_region.new.names test body in
+    let shared = ap (λ (x : IfCondNode). vec_len x.false_body) c.deref-in-loop-names-3.ensures in
+    let counted = c.len.ensures in
+    let alone = c.if-len-ne1.false in
+    let one : length items ≡ 1 = omega (arith, shared, counted, alone, n.node.value.false_body.ok.0) in
+    let at : c.index.result.now ≡ get_or items 0 c.index.result.now =
+    c.index.ensures ∙ ap (λ (x : IfCondNode). get_or x.false_body.items 0 c.index.result.now) c.deref-in-loop-names-3.ensures in
+    let less = else_below n c.in-IfCond.n c.index.result.now one at c.in-IfCond.is in
+    let deep : size-Stmt (IfCond n) ≤ size-Stmt (IfCond c.args.first.now) = c.loop-names.invariant.deep in
+    record {
+      ends = chain_goes n c.in-IfCond.n c.index.result.now c.loop-names.names c.use_region.new.names one at c.in-IfCond.is c.loop-names.invariant.ends tested;
+      deep = omega (arith, less, deep);
+    }
 
 pub use_statement-returns-in-Template : goal.use_statement-returns-in-Template
 use_statement-returns-in-Template t c =

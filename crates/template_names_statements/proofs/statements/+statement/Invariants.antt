@@ -4,7 +4,7 @@ use Rattle.template_tree_statements.specs.declared.statements.Stmt.{size-Stmt, F
 use Rattle.template_tree_parts.specs.Listed.{statements_in}
 use Rattle.template_names.specs.Names.{place_by, place_within}
 use Rattle.template_names_state.specs.declared.state.Names.{Names}
-use Rattle.template_names_statements.specs.Choices.{chain_deep, chain_places, choice_of}
+use Rattle.template_names_statements.specs.Choices.{choice_of}
 use Rattle.template_names_state.specs.Among.{nothing}
 use Rattle.template_names_state.specs.Goes.{Goes}
 use Rattle.template_names_expressions.specs.Stores.{is_stored_among}
@@ -15,12 +15,6 @@ decreases-use_statement l = 6 * size-Stmt l.statement.now + 5
 
 abbrev pub decreases-use_chain : goal.decreases-use_chain
 decreases-use_chain l = 6 * size-Stmt (IfCond l.first.now) + 4
-
-abbrev pub decreases-use_choice : goal.decreases-use_choice
-decreases-use_choice l = 6 * size-Stmt (IfCond l.choice.now) + 3
-
-abbrev pub decreases-use_else : goal.decreases-use_else
-decreases-use_else l = 6 * size-Stmt (IfCond l.choice.now) + 3
 
 abbrev pub decreases-use_loop : goal.decreases-use_loop
 decreases-use_loop l = 6 * size-Stmt (ForLoop l.node.now) + 4
@@ -43,12 +37,12 @@ invariant-use_statements-loop-statement l = (c : Names) →
     (λ name. is_stored_among name (statements_in (drop l.statement-index l.body))) l.names c →
     Goes (λ places. place_within places (statements_in l.body)) (λ name. is_stored_among name (statements_in l.body)) l.initial.names c
 
-abbrev pub invariant-use_chain-loop-choice : goal.invariant-use_chain-loop-choice
-invariant-use_chain-loop-choice l = record {
-  ends : (c : Names) → Goes (chain_places l.choice) nothing l.names c →
+abbrev pub invariant-use_chain-loop-names : goal.invariant-use_chain-loop-names
+invariant-use_chain-loop-names l = record {
+  ends : (c : Names) → Goes (λ places. place_by places (choice_of l.at)) nothing l.names c →
       Goes (λ places. place_by places (choice_of l.fn.first)) nothing l.initial.names c;
-  deep : chain_deep l.choice ≤ size-Stmt (IfCond l.fn.first) + 1;
+  deep : size-Stmt (IfCond l.at) ≤ size-Stmt (IfCond l.fn.first);
 }
 
-abbrev pub decreases-use_chain-loop-choice : goal.decreases-use_chain-loop-choice
-decreases-use_chain-loop-choice l = chain_deep l.choice
+abbrev pub decreases-use_chain-loop-names : goal.decreases-use_chain-loop-names
+decreases-use_chain-loop-names l = size-Stmt (IfCond l.at)
