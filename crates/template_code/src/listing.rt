@@ -141,6 +141,7 @@ impl<'source> Instructions<'source> {
     {
         let place = self.code.len();
         if place >= u32::MAX as usize {
+            discard(instruction);
             return Err(Error::new(ErrorKind::TooLarge));
         }
         match self.code.push(instruction) {
@@ -229,7 +230,7 @@ impl<'source> Instructions<'source> {
     {
         let index = index as usize;
         if index >= self.code.len() {
-            return;
+            return discard(instruction);
         }
         self.code[index] = instruction;
     }
@@ -264,6 +265,9 @@ fn told_at_start(span: Span) -> Option<Span>
     }
     Some(span)
 }
+
+// Lets an instruction go.
+fn discard(_instruction: Instruction<'_>) {}
 
 // Instructions with texts of their own.
 fn owned_code<'owned>(
