@@ -3,7 +3,7 @@ use crate::NAME;
 use crate::runs::write_runs;
 use std::alloc::Global;
 use std::borrow::CowStr;
-use template_code::{Instruction, Instructions};
+use template_code::{Instruction, Instructions, LOOP_FLAG_WITH_LOOP_VAR};
 use template_code_references::get_referenced_names;
 use template_compiled::{CompiledTemplate, TemplateConfig};
 use template_compiled_templates::CompiledTemplates;
@@ -54,7 +54,7 @@ fn write_owned(template: &CompiledTemplate<'_>, out: &mut String) -> Result<(), 
     Ok(out.push(')')?)
 }
 
-fn write_instructions(code: &Instructions<'_>, out: &mut String) -> Result<(), Error> {
+pub(crate) fn write_instructions(code: &Instructions<'_>, out: &mut String) -> Result<(), Error> {
     for index in 0..code.len() as u32 {
         out.push(' ')?;
         if let Some(instruction) = code.get(index) {
@@ -69,9 +69,31 @@ fn write_instruction(instruction: &Instruction<'_>, out: &mut String) -> Result<
         Instruction::EmitRaw(text) => Ok(write!(out, "(raw {:?})", text.as_str())?),
         Instruction::Lookup(name) => Ok(write!(out, "(lookup {})", name.as_str())?),
         Instruction::LoadConst(value) => write_load(value, out),
+        Instruction::StoreLocal(name) => Ok(write!(out, "(store {})", name.as_str())?),
         Instruction::Emit => Ok(out.push_str("emit")?),
+        _ => write_control(instruction, out),
+    }
+}
+
+// A jump, or what opens or closes a frame.
+fn write_control(instruction: &Instruction<'_>, out: &mut String) -> Result<(), Error> {
+    match instruction {
+        Instruction::Jump(to) => write_jump("jump", *to, out),
+        Instruction::JumpIfFalse(to) => write_jump("jump_if_false", *to, out),
+        Instruction::JumpIfFalseOrPop(to) => write_jump("jump_if_false_or_pop", *to, out),
+        Instruction::JumpIfTrueOrPop(to) => write_jump("jump_if_true_or_pop", *to, out),
+        Instruction::Iterate(to) => write_jump("iterate", *to, out),
+        Instruction::PushWith => Ok(out.push_str("with")?),
+        Instruction::PopFrame => Ok(out.push_str("end_frame")?),
+        Instruction::PushLoop(LOOP_FLAG_WITH_LOOP_VAR) => Ok(out.push_str("loop_with_variable")?),
+        Instruction::PushDidNotIterate => Ok(out.push_str("did_not_iterate")?),
+        Instruction::PopLoopFrame => Ok(out.push_str("end_loop")?),
         _ => Ok(out.push('?')?),
     }
+}
+
+fn write_jump(word: &str, to: u32, out: &mut String) -> Result<(), Error> {
+    Ok(write!(out, "({word} {to})")?)
 }
 
 // A constant of a kind that literals have.

@@ -18,17 +18,22 @@
 //! Other objects have one entry:
 //!
 //! - `names`, two sources: the names that they use, put into one set;
-//! - `standing`, two sources that are put under one name: what stands there then, and what after it is removed.
+//! - `standing`, two sources that are put under one name: what stands there then, and what after it is removed;
+//! - `generated`, calls of a generator and places: how many instructions come of the calls, the hint of room for them and
+//!   those places, each with a `;` behind it, and then the instructions. A call is its name, or an array of its name
+//!   and a text, a line, or the line that a span starts in.
 //!
 //! Texts are as `Debug` shows them. The stored run is the table of the cases of the compiler, with answers that were
 //! written by hand. To add a case, write its line into `stdout`, and what stands before the last ` = ` into `stdin`.
 #![tactic(auto)]
 
 mod code;
+mod generated;
 mod runs;
 mod trees;
 
 use crate::code::{about_code, owned_code, standing};
+use crate::generated::generated;
 use crate::trees::{about_template, names_of_both, value};
 use serde_json::{Map, Value as Json};
 use std::alloc::Global;
@@ -140,6 +145,9 @@ fn about_both(alloc: Global, name: &str, texts: &[Json], out: &mut String) -> Re
     match texts {
         [Json::String(first), Json::String(second)] => {
             about_pair(alloc, name, first.as_str(), second.as_str(), out)
+        }
+        [Json::Array(calls), Json::Array(places)] if name == "generated" => {
+            generated(alloc, calls.as_slice(), places.as_slice(), out)
         }
         _ => unreadable(),
     }

@@ -50,25 +50,3 @@ impl StateIds {
         Ok(id)
     }
 }
-
-#[cfg(test)]
-mod tests {
-    use super::*;
-    use std::test::Fail;
-
-    // Three numbers from 7 on; and before the last of all, one number and then refusals.
-    #[test]
-    fn gives_each_number_once(rt: HostRuntime) -> Result<(), Fail> {
-        let mut ids = StateIds::new(7);
-        for want in [7, 8, 9] {
-            assert_eq!(rt; ids.next().ok(), Some(want));
-        }
-        let mut last = StateIds::new(u64::MAX - 1);
-        assert_eq!(rt; last.next().ok(), Some(u64::MAX - 1));
-        for _ in 0..2 {
-            let kind = last.next().err().map(|error| error.kind());
-            assert_eq!(rt; kind, Some(ErrorKind::InvalidOperation));
-        }
-        Ok(())
-    }
-}

@@ -34,6 +34,12 @@
 //!
 //! Inputs give, and outputs take, three bytes in a call at most.
 //!
+//! The escape of a name: `escape`, the name. It gives what its ending says, then its escape under the rule by name, under
+//! the one that never escapes, and under a fixed one, which is JSON's.
+//!
+//! Numbers of states: `first_id`, the first number, and `count`, how many are asked for, one if left out. It gives each, or
+//! `! Kind` where none is left.
+//!
 //! A long text that goes through a sink or a reader: `size`, its name. It gives how many bytes came out, and whether they
 //! are the right ones.
 //!
@@ -52,6 +58,7 @@ mod pieces;
 mod readers;
 mod sinks;
 mod sizes;
+mod states;
 mod tasks;
 mod words;
 
@@ -60,10 +67,12 @@ use crate::files::{remove_files, write_files};
 use crate::inputs::{answer_file, answer_input};
 use crate::pieces::answer_pieces;
 use crate::sizes::answer_size;
+use crate::states::{answer_escape, answer_ids};
 use crate::tasks::answer_time;
 use crate::words::answer_words;
 use anyhow::bail;
 use serde_json::{Map, Value as Json};
+use std::alloc::Global;
 use std::io;
 use template_rows::unreadable;
 use template_values_errors::Error;
@@ -136,8 +145,17 @@ fn answer_of_part(rt: &HostRuntime, entries: &Map<String, Json>) -> Result<Strin
     if let Some(path) = entries.get("file") {
         return answer_file(rt, path, entries);
     }
-    match entries.get("pieces") {
-        Some(pieces) => answer_pieces(alloc, pieces, entries),
-        None => unreadable(),
+    if let Some(pieces) = entries.get("pieces") {
+        return answer_pieces(alloc, pieces, entries);
+    }
+    answer_of_state(alloc, entries)
+}
+
+// What comes of what surrounds a render.
+fn answer_of_state(alloc: Global, entries: &Map<String, Json>) -> Result<String, Error> {
+    match (entries.get("escape"), entries.get("first_id")) {
+        (Some(name), None) => answer_escape(alloc, name, entries),
+        (None, Some(first)) => answer_ids(alloc, first, entries),
+        _ => unreadable(),
     }
 }
