@@ -1,4 +1,5 @@
 //! What comes of requests.
+use crate::requests::DEFAULT_LIMIT;
 use serde_json::{Map, Value as Json};
 use std::alloc::Global;
 use template_machine_ids::StateIds;
@@ -7,9 +8,6 @@ use template_rows::{
     behavior_of, count_of, expect_names, number_of, pairs_of, quoted, text_of, unreadable,
 };
 use template_values_errors::Error;
-
-// How deep a render may be where nothing is told.
-const DEFAULT_LIMIT: usize = 500;
 
 /// What a request writes, and how it ends.
 pub(crate) fn answer_request(

@@ -3,15 +3,15 @@ use crate::sizes::Came;
 use anyhow::bail;
 use std::alloc::Global;
 use template_machine_ids::StateIds;
-use template_program_run::{Command, Outcome, Request, run};
+use template_program_start::{Command, Outcome, Request, run};
 use template_values_errors::{Error, ErrorKind};
 use template_values_modes::UndefinedBehavior;
 
 /// The name of the main template, where it is the only one or the first.
 pub(crate) const MAIN: &str = "t.txt";
 
-// How deep a render may be.
-const DEFAULT_LIMIT: usize = 500;
+/// How deep a render may be where nothing is told.
+pub(crate) const DEFAULT_LIMIT: usize = 500;
 
 /// A name and a text, as templates and definitions have them.
 pub(crate) fn pair(alloc: Global, name: &str, text: &str) -> Result<(String, String), Error> {
