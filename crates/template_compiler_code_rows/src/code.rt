@@ -10,48 +10,64 @@ use template_compiled_templates::CompiledTemplates;
 use template_values_core::{Content, Value};
 use template_values_errors::Error;
 
-/// What is asked of the code of a template: `code`, `runs` or `references`.
+/// What is asked of the code of a template: `code`, `owned`, `runs` or `references`.
 pub(crate) fn about_code(
     alloc: Global,
     source: &str,
     ask: &str,
     out: &mut String,
 ) -> Result<(), Error> {
-    match CompiledTemplate::new(alloc, NAME, source, &TemplateConfig::new()) {
-        Ok(template) => write_code(alloc, source, template.instructions(), ask, out),
-        Err(error) => Err(error),
+    let compiled = compiled(alloc, source, ask == "owned");
+    about_compiled(alloc, &compiled, ask, out)
+}
+
+// The template, with a name and a source that it lends, or with copies of them.
+fn compiled(
+    alloc: Global,
+    source: &str,
+    is_owned: bool,
+) -> Result<CompiledTemplate<'_>, Error> {
+    let config = TemplateConfig::new();
+    if is_owned {
+        let (name, source) = (CowStr::Borrowed(NAME), CowStr::Borrowed(source));
+        return CompiledTemplate::from_owned(alloc, name, source, &config);
+    }
+    CompiledTemplate::new(alloc, NAME, source, &config)
+}
+
+fn about_compiled(
+    alloc: Global,
+    compiled: &Result<CompiledTemplate<'_>, Error>,
+    ask: &str,
+    out: &mut String,
+) -> Result<(), Error> {
+    match compiled {
+        Ok(template) => write_code(alloc, template, ask, out),
+        Err(error) => Err(Error::new(error.kind())),
     }
 }
 
 fn write_code(
     alloc: Global,
-    source: &str,
-    code: &Instructions<'_>,
+    template: &CompiledTemplate<'_>,
     ask: &str,
     out: &mut String,
 ) -> Result<(), Error> {
     write!(out, "({ask}")?;
+    let code = template.instructions();
     match ask {
-        "runs" => write_runs(source, code, out)?,
+        "runs" => write_runs(template.source(), code, out)?,
         "references" => write_references(alloc, code, out)?,
+        "owned" => write_owned(template, out)?,
         _ => write_instructions(code, out)?,
     }
     Ok(out.push(')')?)
 }
 
-/// The instructions of a template that keeps copies of its texts, behind its name and its source.
-pub(crate) fn owned_code(alloc: Global, source: &str, out: &mut String) -> Result<(), Error> {
-    let (name, source) = (CowStr::Borrowed(NAME), CowStr::Borrowed(source));
-    match CompiledTemplate::from_owned(alloc, name, source, &TemplateConfig::new()) {
-        Ok(template) => write_owned(&template, out),
-        Err(error) => Err(error),
-    }
-}
-
+// The instructions behind the name and the source.
 fn write_owned(template: &CompiledTemplate<'_>, out: &mut String) -> Result<(), Error> {
-    write!(out, "(owned {} {:?}", template.name(), template.source())?;
-    write_instructions(template.instructions(), out)?;
-    Ok(out.push(')')?)
+    write!(out, " {} {:?}", template.name(), template.source())?;
+    write_instructions(template.instructions(), out)
 }
 
 pub(crate) fn write_instructions(code: &Instructions<'_>, out: &mut String) -> Result<(), Error> {
@@ -154,7 +170,7 @@ fn put<'source>(
     templates: &mut CompiledTemplates<'source>,
     source: &'source str,
 ) -> Result<(), Error> {
-    match CompiledTemplate::new(alloc, NAME, source, &TemplateConfig::new()) {
+    match compiled(alloc, source, false) {
         Ok(template) => templates.insert(alloc, template),
         Err(error) => Err(error),
     }

@@ -1,41 +1,56 @@
 //! Instructions that calls of a generator make, one behind the other.
 use crate::code::write_instructions;
 use crate::{NAME, unreadable};
-use serde_json::Value as Json;
+use serde_json::{Map, Value as Json};
 use std::alloc::Global;
 use std::borrow::CowStr;
 use template_code::{Instruction, Instructions};
 use template_compiler_generator::CodeGenerator;
 use template_compiler_runnable::is_runnable;
-use template_compiler_sources::parse;
-use template_compiler_syntax::SyntaxConfig;
 use template_tree::{Expr, Span};
 use template_tree_statements::Stmt;
 use template_values_errors::Error;
 
 /// How many instructions the calls make, the hint of room for them, where those at some places come from, and all of
-/// them, where no block is open.
-pub(crate) fn generated(
+/// them, where no block is open. The tree is what the call `template` compiles.
+pub(crate) fn generated<'line>(
     alloc: Global,
-    calls: &[Json],
-    places: &[Json],
+    tree: &Stmt<'line>,
+    entries: &'line Map<String, Json>,
     out: &mut String,
 ) -> Result<(), Error> {
-    let mut generator = CodeGenerator::new(alloc, NAME, "");
-    match generate(alloc, &mut generator, calls, out) {
-        Ok(()) => write_generated(generator, places, out),
-        Err(error) => Err(error),
+    match (entries.get("calls"), entries.get("places")) {
+        (Some(Json::Array(calls)), Some(Json::Array(places))) => {
+            generate(alloc, tree, calls.as_slice(), places.as_slice(), out)
+        }
+        _ => unreadable(),
     }
 }
 
 fn generate<'line>(
     alloc: Global,
+    tree: &Stmt<'line>,
+    calls: &'line [Json],
+    places: &[Json],
+    out: &mut String,
+) -> Result<(), Error> {
+    let mut generator = CodeGenerator::new(alloc, NAME, "");
+    make_all(&mut generator, tree, calls, out)?;
+    if generator.is_closed() {
+        write_generated(&generator.finish(), places, out)
+    } else {
+        unreadable()
+    }
+}
+
+fn make_all<'line>(
     generator: &mut CodeGenerator<'line>,
+    tree: &Stmt<'line>,
     calls: &'line [Json],
     out: &mut String,
 ) -> Result<(), Error> {
     for call in calls {
-        make(alloc, generator, call)?;
+        make(generator, tree, call)?;
     }
     let (count, hint) = (generator.next_instruction(), generator.buffer_size_hint());
     Ok(write!(out, "{count};{hint};")?)
@@ -43,28 +58,31 @@ fn generate<'line>(
 
 // A call by its name, alone or with a text or a line.
 fn make<'line>(
-    alloc: Global,
     generator: &mut CodeGenerator<'line>,
+    tree: &Stmt<'line>,
     call: &'line Json,
 ) -> Result<(), Error> {
     match call {
+        Json::String(name) if name.as_str() == "template" => make_tree(generator, tree),
         Json::String(name) => make_plain(generator, name.as_str()),
-        Json::Array(parts) => match parts.as_slice() {
-            [Json::String(name), Json::String(text)] => {
-                make_of_text(alloc, generator, name.as_str(), text.as_str())
-            }
-            [Json::String(name), line] => make_at(generator, name.as_str(), line_in(line)),
-            _ => unreadable(),
-        },
+        Json::Array(parts) => make_of_parts(generator, parts.as_slice()),
         _ => unreadable(),
+    }
+}
+
+fn make_tree<'line>(generator: &mut CodeGenerator<'line>, tree: &Stmt<'line>) -> Result<(), Error> {
+    if is_runnable(tree) {
+        generator.compile_stmt(tree)
+    } else {
+        unreadable()
     }
 }
 
 fn make_plain(generator: &mut CodeGenerator<'_>, name: &str) -> Result<(), Error> {
     match name {
-        "emit" => added(generator.add(Instruction::Emit)),
-        "with" => added(generator.add(Instruction::PushWith)),
-        "end_frame" => added(generator.add(Instruction::PopFrame)),
+        "emit" => add(generator, Instruction::Emit),
+        "with" => add(generator, Instruction::PushWith),
+        "end_frame" => add(generator, Instruction::PopFrame),
         "if" => generator.start_if(),
         "loop" => generator.start_for_loop(true, false),
         "choice" => generator.start_sc_bool(),
@@ -73,6 +91,16 @@ fn make_plain(generator: &mut CodeGenerator<'_>, name: &str) -> Result<(), Error
             Ok(())
         }
         _ => make_inside(generator, name),
+    }
+}
+
+fn add<'line>(
+    generator: &mut CodeGenerator<'line>,
+    instruction: Instruction<'line>,
+) -> Result<(), Error> {
+    match generator.add(instruction) {
+        Ok(_place) => Ok(()),
+        Err(error) => Err(error),
     }
 }
 
@@ -95,8 +123,48 @@ fn make_inside(generator: &mut CodeGenerator<'_>, name: &str) -> Result<(), Erro
     }
 }
 
-fn added(place: Result<u32, Error>) -> Result<(), Error> {
-    match place {
+fn make_of_parts<'line>(
+    generator: &mut CodeGenerator<'line>,
+    parts: &'line [Json],
+) -> Result<(), Error> {
+    match parts {
+        [Json::String(name), Json::String(text)] => {
+            make_of_text(generator, name.as_str(), text.as_str())
+        }
+        [Json::String(name), line] => make_at(generator, name.as_str(), line_in(line)),
+        _ => unreadable(),
+    }
+}
+
+// A call with a text, which is a name.
+fn make_of_text<'line>(
+    generator: &mut CodeGenerator<'line>,
+    call: &str,
+    name: &'line str,
+) -> Result<(), Error> {
+    let variable = Expr::variable(name, Span::default());
+    match call {
+        "lookup" => add(generator, Instruction::Lookup(CowStr::Borrowed(name))),
+        "expression" => generator.compile_expr(&variable),
+        "target" => generator.compile_assignment(&variable),
+        _ => unreadable(),
+    }
+}
+
+// A call with a line, or with a span that starts there.
+fn make_at(generator: &mut CodeGenerator<'_>, name: &str, line: u16) -> Result<(), Error> {
+    match name {
+        "line" => generator.set_line(line),
+        "line_of_span" => generator.set_line_from_span(span_from(line)),
+        "span" => return generator.push_span(span_from(line)),
+        "emit" => return emit_from(generator, span_from(line)),
+        _ => return unreadable(),
+    }
+    Ok(())
+}
+
+fn emit_from(generator: &mut CodeGenerator<'_>, span: Span) -> Result<(), Error> {
+    match generator.add_with_span(Instruction::Emit, span) {
         Ok(_place) => Ok(()),
         Err(error) => Err(error),
     }
@@ -115,65 +183,13 @@ fn span_from(line: u16) -> Span {
     }
 }
 
-// A call with a line, or with a span that starts there.
-fn make_at(generator: &mut CodeGenerator<'_>, name: &str, line: u16) -> Result<(), Error> {
-    match name {
-        "line" => generator.set_line(line),
-        "line_of_span" => generator.set_line_from_span(span_from(line)),
-        "span" => return generator.push_span(span_from(line)),
-        "emit" => return added(generator.add_with_span(Instruction::Emit, span_from(line))),
-        _ => return unreadable(),
-    }
-    Ok(())
-}
-
-fn make_of_text<'line>(
-    alloc: Global,
-    generator: &mut CodeGenerator<'line>,
-    name: &str,
-    text: &'line str,
-) -> Result<(), Error> {
-    match name {
-        "lookup" => added(generator.add(Instruction::Lookup(CowStr::Borrowed(text)))),
-        "expression" => generator.compile_expr(&Expr::variable(text, Span::default())),
-        "target" => generator.compile_assignment(&Expr::variable(text, Span::default())),
-        "template" => make_template(alloc, generator, text),
-        _ => unreadable(),
-    }
-}
-
-fn make_template<'line>(
-    alloc: Global,
-    generator: &mut CodeGenerator<'line>,
-    source: &'line str,
-) -> Result<(), Error> {
-    match parse(alloc, source, NAME, SyntaxConfig::new()) {
-        Ok(tree) => make_tree(generator, &tree),
-        Err(error) => Err(error),
-    }
-}
-
-fn make_tree<'line>(generator: &mut CodeGenerator<'line>, tree: &Stmt<'line>) -> Result<(), Error> {
-    if is_runnable(tree) {
-        generator.compile_stmt(tree)
-    } else {
-        unreadable()
-    }
-}
-
 fn write_generated(
-    generator: CodeGenerator<'_>,
+    code: &Instructions<'_>,
     places: &[Json],
     out: &mut String,
 ) -> Result<(), Error> {
-    if !generator.is_closed() {
-        return unreadable();
-    }
-    let code = generator.finish();
-    match write_places(&code, places, out) {
-        Ok(()) => write_instructions(&code, out),
-        Err(error) => Err(error),
-    }
+    write_places(code, places, out)?;
+    write_instructions(code, out)
 }
 
 // The line and the span of the instructions at some places.

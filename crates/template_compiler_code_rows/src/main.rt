@@ -10,7 +10,11 @@
 //! - `references`: the names that the instructions up to each one refer to, and up to one past the last, the latest
 //!   first, as `(index name ..)`;
 //! - `runnable`: whether all of its constructs run; `names`: the names that it uses; `nested`: the same, each with the
-//!   dotted names that stand directly behind it.
+//!   dotted names that stand directly behind it;
+//! - `generated`, with two more entries, `calls` of a generator and `places`: how many instructions come of the calls, the
+//!   hint of room for them and where those at the places come from, each with a `;` behind it, and then the instructions.
+//!   A call is its name, or an array of its name and a text, a line, or the line that a span starts in; `template`
+//!   compiles the source.
 //!
 //! One with `expression` has an entry `ask` too, which is `value`: what the expression prints, if it is constant, else
 //! `-`.
@@ -18,10 +22,7 @@
 //! Other objects have one entry:
 //!
 //! - `names`, two sources: the names that they use, put into one set;
-//! - `standing`, two sources that are put under one name: what stands there then, and what after it is removed;
-//! - `generated`, calls of a generator and places: how many instructions come of the calls, the hint of room for them and
-//!   those places, each with a `;` behind it, and then the instructions. A call is its name, or an array of its name
-//!   and a text, a line, or the line that a span starts in.
+//! - `standing`, two sources that are put under one name: what stands there then, and what after it is removed.
 //!
 //! Texts are as `Debug` shows them. The stored run is the table of the cases of the compiler, with answers that were
 //! written by hand. To add a case, write its line into `stdout`, and what stands before the last ` = ` into `stdin`.
@@ -32,8 +33,7 @@ mod generated;
 mod runs;
 mod trees;
 
-use crate::code::{about_code, owned_code, standing};
-use crate::generated::generated;
+use crate::code::{about_code, standing};
 use crate::trees::{about_template, names_of_both, value};
 use serde_json::{Map, Value as Json};
 use std::alloc::Global;
@@ -117,7 +117,7 @@ fn about_text(
     out: &mut String,
 ) -> Result<(), Error> {
     match text_in(entries, "source") {
-        Some(source) => about_source(alloc, source, ask, out),
+        Some(source) => about_source(alloc, source, ask, entries, out),
         None => match text_in(entries, "expression") {
             Some(source) if ask == "value" => value(alloc, source, out),
             _ => unreadable(),
@@ -125,11 +125,16 @@ fn about_text(
     }
 }
 
-fn about_source(alloc: Global, source: &str, ask: &str, out: &mut String) -> Result<(), Error> {
+fn about_source<'line>(
+    alloc: Global,
+    source: &'line str,
+    ask: &str,
+    entries: &'line Map<String, Json>,
+    out: &mut String,
+) -> Result<(), Error> {
     match ask {
-        "code" | "runs" | "references" => about_code(alloc, source, ask, out),
-        "owned" => owned_code(alloc, source, out),
-        _ => about_template(alloc, source, ask, out),
+        "code" | "owned" | "runs" | "references" => about_code(alloc, source, ask, out),
+        _ => about_template(alloc, source, ask, entries, out),
     }
 }
 
@@ -145,9 +150,6 @@ fn about_both(alloc: Global, name: &str, texts: &[Json], out: &mut String) -> Re
     match texts {
         [Json::String(first), Json::String(second)] => {
             about_pair(alloc, name, first.as_str(), second.as_str(), out)
-        }
-        [Json::Array(calls), Json::Array(places)] if name == "generated" => {
-            generated(alloc, calls.as_slice(), places.as_slice(), out)
         }
         _ => unreadable(),
     }

@@ -1,5 +1,7 @@
-//! What is asked of trees: whether they run, the names that they use, and what a constant one is.
+//! What is asked of trees: whether they run, the names that they use, what is generated of one, and what a constant one is.
+use crate::generated::generated;
 use crate::{NAME, unreadable};
+use serde_json::{Map, Value as Json};
 use std::alloc::Global;
 use std::collections::BTreeSet;
 use template_compiler_runnable::is_runnable;
@@ -12,21 +14,40 @@ use template_tree_statements::Stmt;
 use template_values_errors::Error;
 use template_values_text::{NoRecords, print_to};
 
-/// What is asked of the tree of a template: `runnable`, `names` or `nested`.
-pub(crate) fn about_template(
+/// What is asked of the tree of a template: `runnable`, `names`, `nested`, or what a generator makes of it.
+pub(crate) fn about_template<'line>(
     alloc: Global,
-    source: &str,
+    source: &'line str,
     ask: &str,
+    entries: &'line Map<String, Json>,
     out: &mut String,
 ) -> Result<(), Error> {
-    match parse(alloc, source, NAME, SyntaxConfig::new()) {
-        Ok(tree) => about_tree(alloc, &tree, ask, out),
-        Err(error) => Err(error),
+    let read = parse(alloc, source, NAME, SyntaxConfig::new());
+    about_read(alloc, &read, ask, entries, out)
+}
+
+fn about_read<'line>(
+    alloc: Global,
+    read: &Result<Stmt<'line>, Error>,
+    ask: &str,
+    entries: &'line Map<String, Json>,
+    out: &mut String,
+) -> Result<(), Error> {
+    match read {
+        Ok(tree) => about_tree(alloc, tree, ask, entries, out),
+        Err(error) => Err(Error::new(error.kind())),
     }
 }
 
-fn about_tree(alloc: Global, tree: &Stmt<'_>, ask: &str, out: &mut String) -> Result<(), Error> {
+fn about_tree<'line>(
+    alloc: Global,
+    tree: &Stmt<'line>,
+    ask: &str,
+    entries: &'line Map<String, Json>,
+    out: &mut String,
+) -> Result<(), Error> {
     match ask {
+        "generated" => generated(alloc, tree, entries, out),
         "runnable" => Ok(write!(out, "{}", is_runnable(tree))?),
         "names" => names(alloc, tree, false, out),
         "nested" => names(alloc, tree, true, out),
@@ -62,21 +83,35 @@ pub(crate) fn names_of_both(
 }
 
 fn add_names(alloc: Global, names: &mut BTreeSet<String>, source: &str) -> Result<(), Error> {
-    match parse(alloc, source, NAME, SyntaxConfig::new()) {
-        Ok(tree) => add_names_of(alloc, names, &tree),
-        Err(error) => Err(error),
-    }
+    let read = parse(alloc, source, NAME, SyntaxConfig::new());
+    add_names_of(alloc, names, &read)
 }
 
-fn add_names_of(alloc: Global, names: &mut BTreeSet<String>, tree: &Stmt<'_>) -> Result<(), Error> {
-    Ok(add_undeclared(alloc, names, tree)?)
+fn add_names_of(
+    alloc: Global,
+    names: &mut BTreeSet<String>,
+    read: &Result<Stmt<'_>, Error>,
+) -> Result<(), Error> {
+    match read {
+        Ok(tree) => Ok(add_undeclared(alloc, names, tree)?),
+        Err(error) => Err(Error::new(error.kind())),
+    }
 }
 
 /// The value of a constant expression, as it prints.
 pub(crate) fn value(alloc: Global, source: &str, out: &mut String) -> Result<(), Error> {
-    match parse_expr(alloc, source) {
-        Ok(expr) => value_of(alloc, &expr, out),
-        Err(error) => Err(error),
+    let read = parse_expr(alloc, source);
+    value_of_read(alloc, &read, out)
+}
+
+fn value_of_read(
+    alloc: Global,
+    read: &Result<Expr<'_>, Error>,
+    out: &mut String,
+) -> Result<(), Error> {
+    match read {
+        Ok(expr) => value_of(alloc, expr, out),
+        Err(error) => Err(Error::new(error.kind())),
     }
 }
 
