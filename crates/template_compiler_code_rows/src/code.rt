@@ -22,11 +22,7 @@ pub(crate) fn about_code(
 }
 
 // The template, with a name and a source that it lends, or with copies of them.
-fn compiled(
-    alloc: Global,
-    source: &str,
-    is_owned: bool,
-) -> Result<CompiledTemplate<'_>, Error> {
+fn compiled(alloc: Global, source: &str, is_owned: bool) -> Result<CompiledTemplate<'_>, Error> {
     let config = TemplateConfig::new();
     if is_owned {
         let (name, source) = (CowStr::Borrowed(NAME), CowStr::Borrowed(source));

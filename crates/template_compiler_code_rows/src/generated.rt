@@ -6,7 +6,7 @@ use std::alloc::Global;
 use std::borrow::CowStr;
 use template_code::{Instruction, Instructions};
 use template_compiler_generator::CodeGenerator;
-use template_compiler_runnable::is_runnable;
+use template_compiler_runnable::{is_runnable, is_runnable_expr};
 use template_tree::{Expr, Span};
 use template_tree_statements::Stmt;
 use template_values_errors::Error;
@@ -145,9 +145,20 @@ fn make_of_text<'line>(
     let variable = Expr::variable(name, Span::default());
     match call {
         "lookup" => add(generator, Instruction::Lookup(CowStr::Borrowed(name))),
-        "expression" => generator.compile_expr(&variable),
+        "expression" => make_expression(generator, &variable),
         "target" => generator.compile_assignment(&variable),
         _ => unreadable(),
+    }
+}
+
+fn make_expression<'line>(
+    generator: &mut CodeGenerator<'line>,
+    expr: &Expr<'line>,
+) -> Result<(), Error> {
+    if is_runnable_expr(expr) {
+        generator.compile_expr(expr)
+    } else {
+        unreadable()
     }
 }
 

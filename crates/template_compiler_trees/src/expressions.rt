@@ -2,9 +2,7 @@
 use crate::forms::{
     ABSENT, Form, UNKNOWN, binary_word, comparison_word, deeper, open, quoted, unary_word, word,
 };
-use template_tree::{
-    Call, CallArg, Compare, Expr, Filter, GetAttr, IfExpr, Map, Slice, Test,
-};
+use template_tree::{Call, CallArg, Compare, Expr, Filter, GetAttr, IfExpr, Map, Slice, Test};
 use template_values_core::{Content, Value};
 use template_values_errors::Error;
 
@@ -22,7 +20,13 @@ fn node(expr: &Expr, out: &mut Form, left: u32) -> Result<(), Error> {
         Expr::Var(n) => out.push_str(n.node.id),
         Expr::Const(n) => constant(&n.node.value, out),
         Expr::UnaryOp(n) => single(unary_word(n.node.op), &n.node.expr, out, left),
-        Expr::BinOp(n) => pair(binary_word(n.node.op), &n.node.left, &n.node.right, out, left),
+        Expr::BinOp(n) => pair(
+            binary_word(n.node.op),
+            &n.node.left,
+            &n.node.right,
+            out,
+            left,
+        ),
         Expr::GetAttr(n) => attribute(&n.node, out, left),
         Expr::GetItem(n) => pair("item", &n.node.expr, &n.node.subscript_expr, out, left),
         Expr::Call(n) => call(&n.node, out, left),
