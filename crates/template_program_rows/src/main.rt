@@ -79,23 +79,23 @@ fn answer_of_line(rt: &HostRuntime, line: &str) -> anyhow::Result<String> {
 // The same, while its files stand.
 fn answer_among_files(rt: &HostRuntime, entries: &Map<String, Json>) -> anyhow::Result<String> {
     match entries.get("files") {
-        None => answer(rt, entries),
+        None => Ok(answer(rt, entries)?),
         Some(Json::Object(files)) => {
             write_files(rt, files)?;
             let answer = answer(rt, entries);
             remove_files(rt, files)?;
-            answer
+            Ok(answer?)
         }
         Some(_) => Ok(unreadable()?),
     }
 }
 
 // The entry that only lines of one kind have tells the kind.
-fn answer(rt: &HostRuntime, entries: &Map<String, Json>) -> anyhow::Result<String> {
+fn answer(rt: &HostRuntime, entries: &Map<String, Json>) -> Result<String, Error> {
     match (entries.get("size"), entries.get("time")) {
         (Some(Json::String(work)), None) => answer_size(rt.alloc(), work.as_str()),
         (None, Some(Json::String(task))) => answer_time(rt, task.as_str()),
-        _ => Ok(answer_of_run(rt, entries)?),
+        _ => answer_of_run(rt, entries),
     }
 }
 

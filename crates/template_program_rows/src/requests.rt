@@ -1,9 +1,9 @@
 //! Requests, and what is asked of each: what it writes, beside what it is to write.
 use crate::sizes::Came;
-use anyhow::bail;
 use std::alloc::Global;
 use template_machine_ids::StateIds;
 use template_program_start::{Command, Outcome, Request, run};
+use template_rows::unreadable;
 use template_values_errors::{Error, ErrorKind};
 use template_values_modes::UndefinedBehavior;
 
@@ -49,7 +49,7 @@ pub(crate) fn rendered(
     source: &str,
     context: Option<&str>,
     wanted: &str,
-) -> anyhow::Result<Came> {
+) -> Result<Came, Error> {
     let templates = main_template(alloc, source)?;
     rendered_among(alloc, templates.as_slice(), context, wanted)
 }
@@ -60,7 +60,7 @@ pub(crate) fn rendered_among(
     templates: &[(String, String)],
     context: Option<&str>,
     wanted: &str,
-) -> anyhow::Result<Came> {
+) -> Result<Came, Error> {
     let request = request_of(alloc, Command::Render, MAIN, Vec::new(alloc))?;
     answered(alloc, &request, templates, context, wanted)
 }
@@ -71,7 +71,7 @@ pub(crate) fn rendered_under(
     source: &str,
     definitions: Vec<(String, String)>,
     wanted: &str,
-) -> anyhow::Result<Came> {
+) -> Result<Came, Error> {
     let request = request_of(alloc, Command::Render, MAIN, definitions)?;
     let templates = main_template(alloc, source)?;
     answered(alloc, &request, templates.as_slice(), None, wanted)
@@ -84,18 +84,16 @@ pub(crate) fn answered(
     templates: &[(String, String)],
     context: Option<&str>,
     wanted: &str,
-) -> anyhow::Result<Came> {
+) -> Result<Came, Error> {
     let mut out = String::new(alloc);
     match outcome_of(alloc, request, templates, context, &mut out) {
         Outcome::Done => Ok(Came::compared(out.as_bytes(), wanted.as_bytes())),
-        Outcome::Render(error) | Outcome::Context(error) | Outcome::Template(error) => {
-            bail!("it was refused: {error}")
-        }
+        Outcome::Render(error) | Outcome::Context(error) | Outcome::Template(error) => Err(error),
     }
 }
 
 /// That a source is refused as none of the grammar, and what is written all the same.
-pub(crate) fn refused(alloc: Global, source: &str) -> anyhow::Result<Came> {
+pub(crate) fn refused(alloc: Global, source: &str) -> Result<Came, Error> {
     let templates = main_template(alloc, source)?;
     let request = request_of(alloc, Command::Render, MAIN, Vec::new(alloc))?;
     let mut out = String::new(alloc);
@@ -104,7 +102,7 @@ pub(crate) fn refused(alloc: Global, source: &str) -> anyhow::Result<Came> {
             bytes: out.len(),
             is_right: error.kind() == ErrorKind::SyntaxError,
         }),
-        _ => bail!("it was not refused"),
+        _ => unreadable(),
     }
 }
 

@@ -1,13 +1,14 @@
 //! The tasks that are timed.
 use crate::renders::{INCLUDES, ITEMS, LOOP, SUMS, add_template, render_items, render_prints};
-use anyhow::bail;
 use std::time::Duration;
+use template_rows::unreadable;
+use template_values_errors::Error;
 
-/// The time of the task of that name, in words.
-pub(crate) fn answer_time(rt: &HostRuntime, task: &str) -> anyhow::Result<String> {
+/// The time of the task of that name, in words; `SyntaxError` where there is no such task, or something was refused.
+pub(crate) fn answer_time(rt: &HostRuntime, task: &str) -> Result<String, Error> {
     match measure(rt, task) {
         Some(time) => Ok(format!(in rt.alloc(); "{} microseconds", time.as_micros())?),
-        None => bail!("no such task, or it was refused"),
+        None => unreadable(),
     }
 }
 

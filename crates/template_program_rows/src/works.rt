@@ -14,12 +14,12 @@ const MANY: usize = 1000;
 const ITEMS: usize = 100_000;
 
 /// A source without markers gives itself.
-pub(crate) fn one_text(alloc: Global, text: &str) -> anyhow::Result<Came> {
+pub(crate) fn one_text(alloc: Global, text: &str) -> Result<Came, Error> {
     rendered(alloc, text, None, text)
 }
 
 /// Texts and prints of one name, in turn.
-pub(crate) fn many_prints(alloc: Global) -> anyhow::Result<Came> {
+pub(crate) fn many_prints(alloc: Global) -> Result<Came, Error> {
     let source = "line {{ x }}".repeat(alloc, 5000)?;
     let wanted = "line é".repeat(alloc, 5000)?;
     let mut definitions = Vec::new(alloc);
@@ -28,7 +28,7 @@ pub(crate) fn many_prints(alloc: Global) -> anyhow::Result<Came> {
 }
 
 /// Templates that each write their own name, of which the last one is rendered.
-pub(crate) fn many_templates(alloc: Global) -> anyhow::Result<Came> {
+pub(crate) fn many_templates(alloc: Global) -> Result<Came, Error> {
     let templates = named_templates(alloc)?;
     let request = request_of(alloc, Command::Render, "t999.txt", Vec::new(alloc))?;
     answered(
@@ -54,7 +54,7 @@ fn named_template(alloc: Global, number: usize) -> Result<(String, String), Allo
 }
 
 /// A template that prints a thousand names, which are told.
-pub(crate) fn many_names(alloc: Global) -> anyhow::Result<Came> {
+pub(crate) fn many_names(alloc: Global) -> Result<Came, Error> {
     let source = printed_names(alloc)?;
     let wanted = told_names(alloc)?;
     let templates = main_template(alloc, source.as_str())?;
@@ -80,7 +80,7 @@ fn told_names(alloc: Global) -> Result<String, AllocError> {
 }
 
 /// A template that prints a thousand names, of which each has a definition.
-pub(crate) fn many_definitions(alloc: Global) -> anyhow::Result<Came> {
+pub(crate) fn many_definitions(alloc: Global) -> Result<Came, Error> {
     let source = printed_names(alloc)?;
     let wanted = defined_texts(alloc)?;
     rendered_under(alloc, source.as_str(), named_texts(alloc)?, wanted.as_str())
@@ -120,14 +120,14 @@ fn printed_zeros(alloc: Global) -> Result<String, AllocError> {
 }
 
 /// A print of a list with many items, which the context has.
-pub(crate) fn many_items(alloc: Global) -> anyhow::Result<Came> {
+pub(crate) fn many_items(alloc: Global) -> Result<Came, Error> {
     let context = zeros(alloc, ITEMS)?;
     let wanted = printed_zeros(alloc)?;
     rendered(alloc, "{{ x }}", Some(context.as_str()), wanted.as_str())
 }
 
 /// A loop over a list with many items.
-pub(crate) fn many_rounds(alloc: Global) -> anyhow::Result<Came> {
+pub(crate) fn many_rounds(alloc: Global) -> Result<Came, Error> {
     let source = "{% for y in x %}{{ y + 1 }},{% endfor %}";
     let context = zeros(alloc, ITEMS)?;
     let wanted = "1,".repeat(alloc, ITEMS)?;
@@ -135,7 +135,7 @@ pub(crate) fn many_rounds(alloc: Global) -> anyhow::Result<Came> {
 }
 
 /// A loop that includes another template in each round.
-pub(crate) fn many_includes(alloc: Global) -> anyhow::Result<Came> {
+pub(crate) fn many_includes(alloc: Global) -> Result<Came, Error> {
     let context = zeros(alloc, MANY)?;
     let wanted = "<0>".repeat(alloc, MANY)?;
     let templates = with_part(alloc)?;
@@ -151,12 +151,12 @@ fn with_part(alloc: Global) -> Result<Vec<(String, String)>, Error> {
 }
 
 /// Braces alone begin a print and never end it, so the source is refused, and nothing is written.
-pub(crate) fn many_braces(alloc: Global) -> anyhow::Result<Came> {
+pub(crate) fn many_braces(alloc: Global) -> Result<Came, Error> {
     refused(alloc, "{".repeat(alloc, 1_000_000)?.as_str())
 }
 
 /// A list of many parts, each of them a name.
-pub(crate) fn many_parts(alloc: Global) -> anyhow::Result<Came> {
+pub(crate) fn many_parts(alloc: Global) -> Result<Came, Error> {
     let source = print_of_parts(alloc)?;
     let wanted = printed_zeros(alloc)?;
     rendered(alloc, source.as_str(), Some("{\"y\": 0}"), wanted.as_str())
@@ -168,7 +168,7 @@ fn print_of_parts(alloc: Global) -> Result<String, AllocError> {
 }
 
 /// A print of a name of ten thousand letters.
-pub(crate) fn long_name(alloc: Global) -> anyhow::Result<Came> {
+pub(crate) fn long_name(alloc: Global) -> Result<Came, Error> {
     let name = "n".repeat(alloc, 10_000)?;
     let source = format!(in alloc; "{{{{ {name} }}}}")?;
     let context = format!(in alloc; "{{\"{name}\": 1}}")?;
@@ -176,7 +176,7 @@ pub(crate) fn long_name(alloc: Global) -> anyhow::Result<Came> {
 }
 
 /// A loop over a list with many items, ten times in a loop.
-pub(crate) fn many_rounds_in_rounds(alloc: Global) -> anyhow::Result<Came> {
+pub(crate) fn many_rounds_in_rounds(alloc: Global) -> Result<Came, Error> {
     let source =
         "{% for z in [0, 1, 2, 3, 4, 5, 6, 7, 8, 9] %}{% for y in x %}{{ z }}{% endfor %}{% endfor %}";
     let context = zeros(alloc, ITEMS)?;
