@@ -14,6 +14,11 @@ use template_code_marks::{Mark, Marks};
 use template_tree::Span;
 use template_values_errors::{Error, ErrorKind};
 
+// How many bytes of a source give an instruction, and how many one that is marked, where it has little text.
+const BYTES_AN_INSTRUCTION: usize = 4;
+
+const BYTES_A_MARK: usize = 8;
+
 /// The instructions of a template, with its name and the source that they were compiled from, and where they come from.
 /// There are fewer than 2^32.
 #[derive(Drop)]
@@ -29,7 +34,7 @@ pub struct Instructions<'source> {
 impl<'source> Instructions<'source> {
     ghost use Rattle.template_code.specs.Listing.{name_in, source_in, code_in, line_in, places_in, span_in, IsFull, TakesNoMore, IsSameTemplate, line_mark, span_mark};
 
-    /// No instructions yet.
+    /// No instructions yet, with room for those that a source of this length may have, where it can be had.
     pub fn new(alloc: Global, name: &'source str, source: &'source str) -> Instructions<'source>
         ensures name { name_in result ≡ name.now }
         ensures source { source_in result ≡ source.now }
@@ -39,9 +44,19 @@ impl<'source> Instructions<'source> {
         Instructions {
             name: CowStr::Borrowed(name),
             source: CowStr::Borrowed(source),
-            code: Vec::new(alloc),
-            marks: Marks::new(alloc),
+            code: with_room(alloc, source.len() / BYTES_AN_INSTRUCTION),
+            marks: Marks::with_room(alloc, source.len() / BYTES_A_MARK),
         }
+    }
+
+    /// Gives back the room behind the last instruction, where it can be.
+    pub fn shrink_to_fit(&mut self)
+        ensures code { code_in self.new ≡ code_in self.old }
+        ensures same { IsSameTemplate self.old self.new }
+        ensures places { places_in self.new ≡ places_in self.old }
+    {
+        self.code.shrink_to_fit();
+        self.marks.shrink_to_fit();
     }
 
     /// The same with texts of their own, which are copied where they were borrowed. Takes time and memory linear in the
@@ -242,6 +257,16 @@ impl<'source> Instructions<'source> {
     {
         self.marks.truncate(len);
         self.code.truncate(len);
+    }
+}
+
+// A list with room for so many instructions where it can be had. Where it cannot, it grows as it needs.
+fn with_room<'source>(alloc: Global, count: usize) -> Vec<Instruction<'source>>
+    ensures { result.items ≡ [] }
+{
+    match Vec::with_capacity(alloc, count) {
+        Ok(code) => code,
+        Err(_refused) => Vec::new(alloc),
     }
 }
 

@@ -35,6 +35,23 @@ impl Marks {
         }
     }
 
+    /// No marks yet, with room for so many where it can be had. Where it cannot, the table grows as it needs.
+    pub fn with_room(alloc: Global, count: usize) -> Marks
+        ensures { marks_in result ≡ [] }
+    {
+        match Vec::with_capacity(alloc, count) {
+            Ok(entries) => Marks { entries },
+            Err(_refused) => Marks::new(alloc),
+        }
+    }
+
+    /// Gives back the room behind the last mark, where it can be.
+    pub fn shrink_to_fit(&mut self)
+        ensures { marks_in self.new ≡ marks_in self.old }
+    {
+        self.entries.shrink_to_fit();
+    }
+
     /// The line of an instruction: that of the last mark at or before it. Takes a search by halving.
     pub fn line(&self, index: u32) -> Option<u16>
         ensures { result ≡ line_at (marks_in self.now) index }

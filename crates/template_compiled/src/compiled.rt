@@ -94,6 +94,7 @@ impl<'source> CompiledTemplate<'source> {
         }
         let mut instructions = Instructions::new(alloc, name, source);
         compile_template(alloc, &mut instructions, &tree)?;
+        instructions.shrink_to_fit();
         Ok(CompiledTemplate {
             instructions,
             config: config.clone()?,

@@ -66,6 +66,7 @@ impl<'source> CompiledExpression<'source> {
         }
         let mut instructions = Instructions::new(alloc, NAME, source);
         compile_expr(alloc, &mut instructions, &tree)?;
+        instructions.shrink_to_fit();
         Ok(CompiledExpression { instructions })
     }
 

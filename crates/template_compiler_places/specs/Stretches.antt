@@ -1,12 +1,13 @@
 -- Stretches of a source without newlines and without characters of several bytes.
-use Rattle.std.specs.Prelude.{ℕ, ◌+◌, ◌-◌, ◌≤◌, List, length, take, drop}
+use Rattle.std.specs.Prelude.{ℕ, ◌+◌, ◌-◌, ◌^◌, ◌≤◌, List, length, take, drop}
 use Rattle.template_compiler_places.specs.Bytes.{ArePlain}
 use Rattle.template_compiler_places.specs.Places.{IsBehind}
 use Rattle.template_compiler_places.specs.declared.stretch.Stretch.{Stretch}
 
--- no column of the stretch is past the last one that is told
-abbrev pub IsNarrow : Stretch → Type 0
-IsNarrow stretch = stretch.first.column + (stretch.end - stretch.begin) ≤ 65535
+-- no column of the stretch is past the last one that is told, and no offset
+pub record IsNarrow (stretch : Stretch) : Type 0 where
+  pub columns : stretch.first.column + (stretch.end - stretch.begin) ≤ 65535
+  pub offsets : stretch.first.offset + (stretch.end - stretch.begin) ≤ 2 ^ 32 - 1
 
 -- the stretch begins at its first place, and up to its end each byte is a character of its line
 pub record IsStretch (s : List ℕ) (stretch : Stretch) : Type 0 where

@@ -62,8 +62,9 @@ impl Stretch {
         ensures end { at ≤ result.end }
     {
         let first = self.place(self.end).after_bytes(&bytes[self.end..at]);
-        let limit = (u16::MAX - first.column) as usize;
-        let near = beginning(bytes.split_at(at).1, limit.min(REACH));
+        let columns = (u16::MAX - first.column) as usize;
+        let offsets = (u32::MAX - first.offset) as usize;
+        let near = beginning(bytes.split_at(at).1, columns.min(offsets).min(REACH));
         Stretch {
             begin: at,
             end: at + plain_len(near),
@@ -79,10 +80,11 @@ impl Stretch {
         requires narrow { IsNarrow self }
         ensures { (source : List ℕ) → IsStretch source self → IsBehind (take at source) result }
     {
+        let passed = at - self.begin;
         Place {
             line: self.first.line,
-            column: self.first.column + (at - self.begin) as u16,
-            offset: at.min(u32::MAX as usize) as u32,
+            column: self.first.column + passed as u16,
+            offset: self.first.offset + passed as u32,
         }
     }
 }

@@ -47,10 +47,11 @@ invariant_of-result c =
     let copied : c.in_ok-clone-2.field-0 ≡ c.args.config.now = search rules in
     let runs : c.is_runnable.result ≡ true = search rules in
     let put = c.in_ok-compile_template.ensures.put in
-    kept c.args.name.now _ c.args.source.now _ c.args.config.now _ _ _ tree (put.same.name ∙ c.new-instructions.ensures.name)
-    (put.same.source ∙ c.new-instructions.ensures.source) copied c.usable.ensures c.in_ok-tree.ensures.too_large
+    let shrunk = c.shrink_to_fit.ensures in
+    kept c.args.name.now _ c.args.source.now _ c.args.config.now _ _ _ tree (shrunk.same.name ∙ put.same.name ∙ c.new-instructions.ensures.name)
+    (shrunk.same.source ∙ put.same.source ∙ c.new-instructions.ensures.source) copied c.usable.ensures c.in_ok-tree.ensures.too_large
     (subst (λ (x : Syntax). IsSource x c.args.source.now tree) shared c.in_ok-tree.ensures.found) (c.is_runnable.ensures.0 runs) c.escape.ensures
-    (put.code ∙ ap (λ (l : List Code). l ++ statements_code no_ways (body_in tree) (length l)) c.new-instructions.ensures.empty)
+    (shrunk.code ∙ put.code ∙ ap (λ (l : List Code). l ++ statements_code no_ways (body_in tree) (length l)) c.new-instructions.ensures.empty)
 
 pub returns-clause-faithful : goal.returns-clause-faithful
 returns-clause-faithful c =
@@ -59,7 +60,8 @@ returns-clause-faithful c =
     let copied : c.in_ok-clone-2.field-0 ≡ c.args.config.now = search rules in
     let runs : c.is_runnable.result ≡ true = search rules in
     let put = c.in_ok-compile_template.ensures.put in
-    (kept c.args.name.now _ c.args.source.now _ c.args.config.now _ _ _ tree (put.same.name ∙ c.new-instructions.ensures.name)
-    (put.same.source ∙ c.new-instructions.ensures.source) copied c.usable.ensures c.in_ok-tree.ensures.too_large
+    let shrunk = c.shrink_to_fit.ensures in
+    (kept c.args.name.now _ c.args.source.now _ c.args.config.now _ _ _ tree (shrunk.same.name ∙ put.same.name ∙ c.new-instructions.ensures.name)
+    (shrunk.same.source ∙ put.same.source ∙ c.new-instructions.ensures.source) copied c.usable.ensures c.in_ok-tree.ensures.too_large
     (subst (λ (x : Syntax). IsSource x c.args.source.now tree) shared c.in_ok-tree.ensures.found) (c.is_runnable.ensures.0 runs) c.escape.ensures
-    (put.code ∙ ap (λ (l : List Code). l ++ statements_code no_ways (body_in tree) (length l)) c.new-instructions.ensures.empty)).0
+    (shrunk.code ∙ put.code ∙ ap (λ (l : List Code). l ++ statements_code no_ways (body_in tree) (length l)) c.new-instructions.ensures.empty)).0

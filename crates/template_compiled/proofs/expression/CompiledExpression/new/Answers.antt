@@ -11,18 +11,20 @@ invariant_of-result c =
     let e = expression_of c.in_ok-tree.tree in
     let runs : c.is_runnable_expr.result ≡ true = search rules in
     let put = c.in_ok-compile_expr.ensures.put in
-    kept_alone c.args.source.now _ _ e (put.same.source ∙ c.new-instructions.ensures.source) c.in_ok-tree.ensures.too_large
+    let shrunk = c.shrink_to_fit.ensures in
+    kept_alone c.args.source.now _ _ e (shrunk.same.source ∙ put.same.source ∙ c.new-instructions.ensures.source) c.in_ok-tree.ensures.too_large
     c.in_ok-tree.ensures.found (c.is_runnable_expr.ensures.0 runs)
-    (put.code ∙ ap (λ (l : List Code). l ++ expression_code e (length l)) c.new-instructions.ensures.empty)
+    (shrunk.code ∙ put.code ∙ ap (λ (l : List Code). l ++ expression_code e (length l)) c.new-instructions.ensures.empty)
 
 pub returns-clause-faithful : goal.returns-clause-faithful
 returns-clause-faithful c =
     let e = expression_of c.in_ok-tree.tree in
     let runs : c.is_runnable_expr.result ≡ true = search rules in
     let put = c.in_ok-compile_expr.ensures.put in
-    (kept_alone c.args.source.now _ _ e (put.same.source ∙ c.new-instructions.ensures.source) c.in_ok-tree.ensures.too_large
+    let shrunk = c.shrink_to_fit.ensures in
+    (kept_alone c.args.source.now _ _ e (shrunk.same.source ∙ put.same.source ∙ c.new-instructions.ensures.source) c.in_ok-tree.ensures.too_large
     c.in_ok-tree.ensures.found (c.is_runnable_expr.ensures.0 runs)
-    (put.code ∙ ap (λ (l : List Code). l ++ expression_code e (length l)) c.new-instructions.ensures.empty)).0
+    (shrunk.code ∙ put.code ∙ ap (λ (l : List Code). l ++ expression_code e (length l)) c.new-instructions.ensures.empty)).0
 
 pub returns-in_err-compile_expr-clause-refused : goal.returns-in_err-compile_expr-clause-refused
 returns-in_err-compile_expr-clause-refused c =

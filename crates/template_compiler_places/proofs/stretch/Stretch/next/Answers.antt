@@ -10,8 +10,9 @@ returns-clause-stretch c =
     let at = c.args.at in
     let end = c.args.self.end in
     let n = c.plain_len.result in
-    let m = c.min.result in
-    let limit = c.min.ensures in
+    let m = c.min-2.result in
+    let least = c.min.ensures in
+    let limit = c.min-2.ensures in
     let near = c.beginning-near.ensures.bytes ∙ ap (λ t. take m t) c.split_at.ensures.back in
     let len = ap length near ∙ length-take m (drop at s) in
     let rest = length-drop at s in
@@ -26,5 +27,5 @@ returns-clause-stretch c =
       ordered = omega arith;
       within = omega arith;
       plain = subst ArePlain same c.plain_len.ensures.plain;
-      narrow = omega arith;
+      narrow = record { columns = omega arith; offsets = omega arith };
     }

@@ -28,8 +28,9 @@ returns c = λ s stretch.
     let line_same = ap (λ u. count_by is_newline u) same in
     let column_same = ap (λ u. fold next_column 0 u) same in
     let len = length-take at s in
+    let first = length-take begin s in
     record {
       line = omega (arith, line_same, lines, none, h.line);
-      column = omega (arith, column_same, rest, left, column, narrow, within, h.column);
-      offset = omega (arith, len, within);
+      column = omega (arith, column_same, rest, left, column, narrow.columns, within, h.column);
+      offset = omega (arith, len, within, narrow.offsets, first, h.offset);
     }
