@@ -75,7 +75,7 @@ fn first_from(passed: usize, constant: &Option<Value>, from: Option<Span>) -> Op
     }
 }
 
-// Puts the code of an expression behind the instructions.
+// Puts the code of an expression behind the instructions. Most are names, for which no constant is sought.
 #[cycle(expression)]
 pub(crate) fn compile_expr<'source>(
     alloc: Global,
@@ -87,6 +87,9 @@ pub(crate) fn compile_expr<'source>(
     ensures put { OnOk result (Puts (expression_code (expression_of expr.now)) code.old code.new) }
     ensures refused { IfErr result (TakesNoMore (code_in code.new)) }
 {
+    if let Expr::Var(n) = expr {
+        return put(code, Instruction::Lookup(CowStr::Borrowed(n.node.id)), from);
+    }
     let constant = fold_expr(alloc, code, expr, from)?;
     load(code, constant, from)
 }

@@ -65,16 +65,21 @@ pub(crate) fn blank_end_at(
     }
 }
 
-// The end delimiter at a token's place.
+// The end delimiter at a token's place. Few places have one, and so white space is asked for behind it.
 #[inline(always)]
 fn delimited_end_at(bytes: &[u8], end: &[u8], place: usize) -> Option<(Sign, usize)>
     requires { place ≤ length bytes.now }
     ensures { FindsDelimitedEnd bytes.now end.now place result }
 {
-    if is_white_at(bytes, place) {
-        None
-    } else {
-        delimiter_at(bytes, end, place)
+    match delimiter_at(bytes, end, place) {
+        Some(found) => {
+            if is_white_at(bytes, place) {
+                None
+            } else {
+                Some(found)
+            }
+        }
+        None => None,
     }
 }
 
