@@ -1,7 +1,6 @@
 -- Along a chain of `elif`: each branch leaves its else part, and the jumps at the end of branches lead to the end of all.
-use Rattle.std.proofs.Common.{◌≡◌, ◌+◌, ◌<◌, ◌≤◌, Bor, Option, Some, None, IfSome, Bool, false, not, arith, ℕ, true, List, [], ◌∷◌, ◌++◌, length, refl, sym, ap, subst, ◌∙◌}
+use Rattle.std.proofs.Common.{◌≡◌, ℕ, true, List, [], ◌∷◌, ◌++◌, length, refl, sym, ap, subst}
 use Rattle.std.proofs.Math.ListN.{set}
-use Rattle.std.specs.Option.{is_some}
 use Rattle.template_tree.specs.Tree.{Statements, no_statements, statements_more}
 use Rattle.template_tree_statements.specs.declared.statements.IfCond.{IfCond}
 use Rattle.template_tree_statements.specs.declared.statements.Stmt.{Stmt}
@@ -15,8 +14,8 @@ use Rattle.template_compiler_emission.specs.Leaps.{leap_code}
 use Rattle.template_compiler_emission.specs.Puts.{Keeps, Puts}
 use Rattle.template_compiler_lowering.specs.Breaks.{Places, no_places, then_places, branches_places, breaks_of, breaks_in}
 use Rattle.template_tree_parts.specs.Listed.{statements_in}
-use Rattle.template_compiler_statement_codegen.specs.Listed.{body_deep, condition_deep, condition_of}
-use Rattle.template_compiler_statement_codegen.specs.Rounds.{Lowers, LowersBody, LowersBranch, Remains, ways_of}
+use Rattle.template_compiler_statement_codegen.specs.Listed.{condition_of}
+use Rattle.template_compiler_statement_codegen.specs.Rounds.{Lowers, LowersBody, LowersBranch, LowersChain, Remains, ways_of}
 use Rattle.template_compiler_statement_codegen.specs.declared.rounds.Round.{Round}
 use Rattle.template_compiler_statement_codegen.proofs.Lowering.{branch_alone, branch_before, remains_all, remains_last, remains_one, remains_trans, same_ways}
 
@@ -97,56 +96,17 @@ later_runs at later h tree =
     subst (λ (ss : Statements). AreRunnableStatements true ss) tree h.2 in
     runs.0
 
--- what is left: a condition, or nothing
-abbrev pub RemainsOf : IfCond → Option (Bor IfCond) → List ℕ → Instructions → Instructions → Round → Round → Type 0
-RemainsOf c (Some at) ends old now round later = RemainsAt c at.now ends old now round later
-RemainsOf c None ends old now round later =
-    Remains (statement_code (ways_of round) (condition_of c)) (breaks_of (ways_of round) (condition_of c)) nothing no_places ends old now round later
+-- the next condition of the chain is left
+pub chain_next : (c at node later : IfCond) (ends more all : List ℕ) {a b d : Instructions} {r s t : Round} → node ≡ at
+    → statements_in at.false_body.items ≡ statements_more (condition_of later) no_statements → all ≡ ends ++ more → RemainsAt c at ends a b r s
+    → LowersBranch node more b d s t → RemainsAt c later all a d r t
+chain_next c at node later ends more all {a} {b} {d} {r} {s} {t} read tree same p q =
+    chain_goes c at later ends more all same tree p (subst (λ (x : IfCond). LowersBranch x more b d s t) read q)
 
-abbrev pub LeftRuns : Option (Bor IfCond) → Type 0
-LeftRuns (Some at) = IsRunnableStatement true (condition_of at.now)
-LeftRuns None = Unit {0}
-
-abbrev pub left_deep : Option (Bor IfCond) → ℕ
-left_deep (Some at) = condition_deep at.now + 1
-left_deep None = 0
-
-true_false : true ≡ false → ⊥
-true_false h = cc
-
-false_true : false ≡ true → ⊥
-false_true h = cc
-
--- what `elif` gives is left
-pub chain_on : (o : Option (Bor IfCond)) (found : Bool) (c at : IfCond) (body : List Stmt) (ends more all : List ℕ) {a b d : Instructions} {r s t : Round}
-    → is_some o ≡ not found → found ≡ false → body ≡ at.false_body.items
-    → IfSome o (λ later. statements_in body ≡ statements_more (condition_of later.now) no_statements) → all ≡ ends ++ more → RemainsAt c at ends a b r s
-    → LowersBranch at more b d s t → RemainsOf c o all a d r t
-chain_on None found c at body ends more all tested holds read tree same p q = absurd (false_true (tested ∙ ap not holds))
-chain_on (Some later) found c at body ends more all tested holds read tree same p q =
-    chain_goes c at later.now ends more all same (ap (λ (l : List Stmt). statements_in l) (sym read) ∙ tree) p q
-
--- or nothing, behind the last else part
-pub chain_stops : (o : Option (Bor IfCond)) (found : Bool) (c at : IfCond) (body : List Stmt) (ends more all : List ℕ) {a b d e : Instructions} {r s t u : Round}
-    → is_some o ≡ not found → found ≡ true → body ≡ at.false_body.items → all ≡ ends ++ more → RemainsAt c at ends a b r s → LowersBranch at more b d s t
-    → LowersBody (statements_in body) d e t u → RemainsOf c o all a e r u
-chain_stops (Some later) found c at body ends more all tested holds read same p q last = absurd (true_false (tested ∙ ap not holds))
-chain_stops None found c at body ends more all {a} {b} {d} {e} {r} {s} {t} {u} tested holds read same p q last =
-    chain_last c at ends more all same p q (subst (λ (l : List Stmt). LowersBody (statements_in l) d e t u) read last)
-
-pub left_runs : (o : Option (Bor IfCond)) (at : IfCond) (body : List Stmt) → body ≡ at.false_body.items
-    → IfSome o (λ later. statements_in body ≡ statements_more (condition_of later.now) no_statements) → IsRunnableStatement true (condition_of at)
-    → LeftRuns o
-left_runs None at body read tree h = tt
-left_runs (Some later) at body read tree h = later_runs at later.now h (ap (λ (l : List Stmt). statements_in l) (sym read) ∙ tree)
-
-pub left_smaller : (o : Option (Bor IfCond)) (at : IfCond) (body : List Stmt) → body ≡ at.false_body.items
-    → IfSome o (λ later. condition_deep later.now < body_deep body) → left_deep o ≤ condition_deep at
-left_smaller None at body read smaller = omega arith
-left_smaller (Some later) at body read smaller =
-    let same : body_deep body ≡ body_deep at.false_body.items = ap (λ (l : List Stmt). body_deep l) read in omega (arith, smaller, same)
-
--- where a condition is left
-pub at_left : (o : Option (Bor IfCond)) (at : Bor IfCond) (c : IfCond) (ends : List ℕ) {a b : Instructions} {r s : Round} → o ≡ Some at
-    → RemainsOf c o ends a b r s → RemainsAt c at.now ends a b r s
-at_left o at c ends {a} {b} {r} {s} is p = subst (λ (x : Option (Bor IfCond)). RemainsOf c x ends a b r s) is p
+-- nothing is left behind the last else part
+pub chain_ends : (c at node : IfCond) (body : List Stmt) (ends more all : List ℕ) {a b d e : Instructions} {r s t u : Round} → node ≡ at
+    → body ≡ at.false_body.items → all ≡ ends ++ more → RemainsAt c at ends a b r s → LowersBranch node more b d s t
+    → LowersBody (statements_in body) d e t u → LowersChain c all a e r u
+chain_ends c at node body ends more all {a} {b} {d} {e} {r} {s} {t} {u} read other same p q last =
+    chain_last c at ends more all same p (subst (λ (x : IfCond). LowersBranch x more b d s t) read q)
+    (subst (λ (l : List Stmt). LowersBody (statements_in l) d e t u) other last)

@@ -5,7 +5,7 @@ use Rattle.template_tree_statements.specs.declared.statements.IfCond.{IfCond}
 use Rattle.template_code.specs.Code.{Code, pop_frame, pop_auto_escape}
 use Rattle.template_code.specs.Listing.{code_in}
 use Rattle.template_code.specs.declared.listing.Instructions.{Instructions}
-use Rattle.template_compiler_codegen.specs.Expressions.{Coded, one, then_code}
+use Rattle.template_compiler_codegen.specs.Expressions.{Coded, one, nothing, then_code}
 use Rattle.template_compiler_codegen.specs.Statements.{Ways, closing_with, statement_code, statements_code}
 use Rattle.template_compiler_emission.specs.Puts.{Keeps, Puts}
 use Rattle.template_compiler_lowering.specs.Breaks.{Places, no_places, then_places, breaks_of, breaks_in, led}
@@ -62,6 +62,11 @@ LowersBranch c ends old new round later =
     Remains (statement_code (ways_of round) (condition_of c)) (breaks_of (ways_of round) (condition_of c))
     (statements_code (ways_of round) (statements_in c.false_body.items)) (breaks_in (ways_of round) (statements_in c.false_body.items))
     ends old new round later
+
+-- a condition with the chain behind it, but for the jumps behind its branches, which are not told yet
+abbrev pub LowersChain : IfCond → List ℕ → Instructions → Instructions → Round → Round → Type 0
+LowersChain c ends old new round later =
+    Remains (statement_code (ways_of round) (condition_of c)) (breaks_of (ways_of round) (condition_of c)) nothing no_places ends old new round later
 
 abbrev pub places_in : Option ℕ → List ℕ
 places_in (Some place) = place ∷ []

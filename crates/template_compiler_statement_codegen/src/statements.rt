@@ -1,7 +1,7 @@
 //! Statements. Bodies nest at most 150 deep; a chain of `elif`, which may be as long as the source, is gone
 //! along in a loop.
-ghost use Rattle.std.specs.Prelude.{◌≡◌, ◌<◌, ◌++◌, true, false, OnOk, IfOk, IfErr, IfSome};
-ghost use Rattle.template_tree.specs.Tree.{absent, auto_escape, for_loop, no_statements, statements_more, with_block};
+ghost use Rattle.std.specs.Prelude.{◌≡◌, ◌++◌, [], true, false, OnOk, IfOk, IfErr};
+ghost use Rattle.template_tree.specs.Tree.{absent, auto_escape, for_loop, with_block};
 ghost use Rattle.template_tree_statements.specs.View.{statement_of, assignments_in};
 ghost use Rattle.template_tree.specs.View.{expression_of};
 ghost use Rattle.template_walk.specs.Runnable.{IsRunnable, IsTarget, AreAssignments, IsRunnableStatement, AreRunnableStatements};
@@ -12,8 +12,8 @@ ghost use Rattle.template_compiler_codegen.specs.Statements.{loop_end_code, no_w
 ghost use Rattle.template_compiler_emission.specs.Puts.{Puts};
 ghost use Rattle.template_compiler_lowering.specs.Breaks.{breaks_in, loop_end_places};
 ghost use Rattle.template_tree_parts.specs.Listed.{statements_in};
-ghost use Rattle.template_compiler_statement_codegen.specs.Listed.{IsRunnableTree, body_deep, body_in, condition_deep, condition_of};
-ghost use Rattle.template_compiler_statement_codegen.specs.Rounds.{Lowers, LowersBody, LowersStatement, LowersBranch, closed_code, closed_places, closing_code, places_in, ways_of};
+ghost use Rattle.template_compiler_statement_codegen.specs.Listed.{IsRunnableTree, body_in, condition_of};
+ghost use Rattle.template_compiler_statement_codegen.specs.Rounds.{Lowers, LowersBody, LowersStatement, LowersBranch, LowersChain, closed_code, closed_places, closing_code, places_in, ways_of};
 
 use crate::rounds::{Closing, Round, put_break, put_continue};
 use crate::targets::{compile_assignment, compile_assignments};
@@ -23,7 +23,7 @@ use template_code::{Instruction, Instructions, LOOP_FLAG_WITH_LOOP_VAR};
 use template_compiler_emission::{Leap, land, put, reserve};
 use template_compiler_expression_codegen::compile_expr;
 use template_compiler_lowering::tell_breaks;
-use template_tree::{Expr, Span};
+use template_tree::{Expr, Span, Spanned};
 use template_tree_statements::{IfCond, Stmt};
 use template_values_errors::Error;
 
@@ -113,7 +113,7 @@ fn compile_statement<'source>(
         Stmt::EmitExpr(n) => compile_print(alloc, code, &n.node.expr),
         Stmt::Set(n) => compile_set(alloc, code, &n.node.target, &n.node.expr),
         Stmt::Include(n) => compile_include(alloc, code, &n.node.name, n.node.ignore_missing),
-        Stmt::IfCond(n) => compile_condition(alloc, code, round, &n.node, n.span),
+        Stmt::IfCond(n) => compile_condition(alloc, code, round, n),
         Stmt::ForLoop(n) => {
             let node = &n.node;
             compile_loop(
@@ -356,27 +356,46 @@ fn compile_condition<'source>(
     alloc: Global,
     code: &mut Instructions<'source>,
     round: &mut Round,
-    condition: &IfCond<'source>,
-    span: Span,
+    first: &Spanned<Box<IfCond<'source>>>,
 ) -> Result<(), Error>
-    requires { IsRunnableStatement true (condition_of condition.now) }
-    ensures lowered { OnOk result (LowersStatement (condition_of condition.now) code.old code.new round.old round.new) }
+    requires { IsRunnableStatement true (condition_of first.now.node.value) }
+    ensures lowered { OnOk result (LowersStatement (condition_of first.now.node.value) code.old code.new round.old round.new) }
     ensures refused { IfErr result (TakesNoMore (code_in code.new)) }
 {
     let mut ends = Vec::new(alloc);
-    let mut left = Some(condition);
-    let mut own = span;
-    while let Some(at) = left {
-        let end = compile_branch(alloc, code, round, at, own)?;
-        keep(&mut ends, end)?;
-        left = elif(&at.false_body);
-        own = elif_span(&at.false_body, own);
-        if left.is_none() {
-            compile_body(alloc, code, round, &at.false_body)?;
-        }
-    }
+    compile_chain(alloc, code, round, first, &mut ends)?;
     tell_breaks(code, ends);
     Ok(())
+}
+
+// The branches of the chain, and its last else part. Keeps the places of the jumps behind branches.
+#[cycle(statement)]
+fn compile_chain<'source>(
+    alloc: Global,
+    code: &mut Instructions<'source>,
+    round: &mut Round,
+    first: &Spanned<Box<IfCond<'source>>>,
+    ends: &mut Vec<u32>,
+) -> Result<(), Error>
+    requires runs { IsRunnableStatement true (condition_of first.now.node.value) }
+    requires none { ends.old.items ≡ [] }
+    ensures lowered { OnOk result (LowersChain first.now.node.value ends.new.items code.old code.new round.old round.new) }
+    ensures refused { IfErr result (TakesNoMore (code_in code.new)) }
+{
+    let mut at = first;
+    loop {
+        let node = &at.node;
+        let end = compile_branch(alloc, code, round, node, at.span)?;
+        keep(ends, end)?;
+        let other = &node.false_body;
+        if other.len() != 1 {
+            return compile_body(alloc, code, round, other);
+        }
+        at = match &other[0] {
+            Stmt::IfCond(n) => n,
+            _ => return compile_body(alloc, code, round, other),
+        };
+    }
 }
 
 // A test, and the branch that runs where it holds. Where an else part follows, a jump leads past it, whose
@@ -413,27 +432,4 @@ fn keep(places: &mut Vec<u32>, place: Option<u32>) -> Result<(), AllocError>
         places.push(place)?;
     }
     Ok(())
-}
-
-// The condition that an else part is, where it is one alone.
-fn elif<'ast, 'source>(otherwise: &'ast [Stmt<'source>]) -> Option<&'ast IfCond<'source>>
-    ensures alone { IfSome result (λ later. statements_in otherwise.now ≡ statements_more (condition_of later.now) no_statements) }
-    ensures smaller { IfSome result (λ later. condition_deep later.now < body_deep otherwise.now) }
-{
-    if otherwise.len() != 1 {
-        return None;
-    }
-    match &otherwise[0] {
-        Stmt::IfCond(n) => Some(&n.node),
-        _ => None,
-    }
-}
-
-// The span of the condition that an else part begins with; where it begins with another statement, that of the
-// condition before it.
-fn elif_span(otherwise: &[Stmt<'_>], before: Span) -> Span {
-    match otherwise.first() {
-        Some(Stmt::IfCond(n)) => n.span,
-        _ => before,
-    }
 }

@@ -1,5 +1,5 @@
 //! The locals of a frame.
-ghost use Rattle.std.specs.Prelude.{◌≡◌, ◌==◌, ℕ, List, ◌||◌, [], ◌∷◌, ◌++◌, length, is_some, not, IsTrue, IfErr, OnOk, OnErr, option_copied};
+ghost use Rattle.std.specs.Prelude.{◌≡◌, ◌==◌, ℕ, List, ◌||◌, ◌-◌, [], ◌∷◌, ◌++◌, length, take, is_some, not, IsTrue, IfErr, OnOk, OnErr, option_copied};
 ghost use Rattle.std.specs.BTreeSet.{contains_text};
 ghost use Rattle.std.specs.List.{find, position};
 ghost use Rattle.template_values_errors.specs.Memory.{NoMemory};
@@ -103,6 +103,14 @@ fn push_growing<'env>(locals: &mut Vec<Local<'env>>, local: Local<'env>) -> bool
     locals.push(local).is_ok()
 }
 
+// The last local goes, where there is one.
+#[inline(always)]
+fn drop_last(locals: &mut Vec<Local<'_>>)
+    ensures { locals.new.items ≡ take (length locals.old.items - 1) locals.old.items }
+{
+    locals.pop();
+}
+
 impl<'env> Locals<'env> {
     /// No names.
     pub fn new(alloc: Global) -> Locals<'env>
@@ -189,8 +197,8 @@ impl<'env> Locals<'env> {
         ensures { self.new ≡ [] }
     {
         // There are mostly one or two, which go sooner alone.
-        let _last = self.locals.pop();
-        let _other = self.locals.pop();
+        drop_last(&mut self.locals);
+        drop_last(&mut self.locals);
         if !self.locals.is_empty() {
             self.locals.clear();
         }

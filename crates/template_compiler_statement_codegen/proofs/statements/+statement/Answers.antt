@@ -1,4 +1,4 @@
-use Rattle.std.proofs.Common.{◌≡◌, ◌+◌, ◌<◌, length, true, false, Option, Bor, ap, subst, ◌∙◌, arith, refl}
+use Rattle.std.proofs.Common.{◌≡◌, ℕ, ◌<◌, List, length, get_or, vec_len, true, false, ap, sym, subst, ◌∙◌, arith, refl}
 use Rattle.std.proofs.lemmas.Result.{on_ok_weaker}
 use Rattle.template_tree_statements.specs.View.{assignments_in, statement_of}
 use Rattle.template_tree.specs.Tree.{Statement, absent, auto_escape, for_loop, with_block}
@@ -8,21 +8,21 @@ use Rattle.template_tree_statements.specs.declared.statements.IfCond.{IfCond as 
 use Rattle.template_tree_statements.specs.declared.statements.Stmt.{Stmt}
 use Rattle.template_tree_statements.specs.declared.statements.WithBlock.{WithBlock as WithBlockNode}
 use Rattle.template_tree.specs.View.{expression_of}
-use Rattle.template_walk.specs.Runnable.{IsRunnableStatement}
+use Rattle.template_walk.specs.Runnable.{AreRunnableStatements, IsRunnableStatement}
 use Rattle.template_code.specs.Listing.{code_in}
 use Rattle.template_compiler_codegen.specs.Statements.{target_code}
 use Rattle.template_compiler_emission.specs.declared.leaps.Leap.TheVariants.{IfFalse}
 use Rattle.template_compiler_expression_codegen.proofs.Putting.{landed_at, puts_as}
 use Rattle.template_tree_parts.specs.Listed.{statements_in}
-use Rattle.template_compiler_statement_codegen.specs.Listed.{condition_deep, condition_of}
+use Rattle.template_compiler_statement_codegen.specs.Listed.{body_deep, condition_deep, condition_of}
 use Rattle.template_compiler_statement_codegen.specs.Rounds.{LowersBody, places_in, ways_of}
 use Rattle.template_compiler_statement_codegen.specs.declared.rounds.Round.{Round}
 use Rattle.template_compiler_statement_codegen.proofs.Bodies.{no_items, some_items, statement_deep, statement_runnable}
 use Rattle.template_compiler_statement_codegen.proofs.Closings.{lowers_closed}
-use Rattle.template_compiler_statement_codegen.proofs.Elifs.{alone, at_left, before_other, chain_on, chain_stops, left_runs, left_smaller, LeftRuns, left_deep}
+use Rattle.template_compiler_statement_codegen.proofs.Elifs.{RemainsAt, alone, before_other, chain_begins, chain_ends, chain_next, later_runs}
 use Rattle.template_compiler_statement_codegen.proofs.Looping.{ends_otherwise, puts_rounds}
-use Rattle.template_compiler_statement_codegen.proofs.Lowering.{lowers_behind}
-use Rattle.template_compiler_statement_codegen.proofs.Nodes.{call_no_statement, condition_is, condition_within, escape_deep, escape_is, loop_deep, loop_is, loop_other_deep, with_deep, with_is}
+use Rattle.template_compiler_statement_codegen.proofs.Lowering.{lowers_behind, remains_told}
+use Rattle.template_compiler_statement_codegen.proofs.Nodes.{call_no_statement, condition_is, condition_within, elif_smaller, elif_tree, escape_deep, escape_is, loop_deep, loop_is, loop_other_deep, with_deep, with_is}
 use Rattle.template_compiler_statement_codegen.proofs.statements.+statement.Goals as goal
 
 pub compile_body-compile_statement-requires : goal.compile_body-compile_statement-requires
@@ -65,45 +65,83 @@ compile_closed-returns-clause-lowered t c =
     lowers_closed c.args.closing (statements_in c.args.body.now) r inside behind last c.len-open.result c.in_ok-push.ensures.items refl refl
     c.in_ok-compile_body.ensures.lowered long c.truncate.ensures.items refl refl (puts_as c.instruction.ensures closed)) c.put.ensures.put
 
-pub compile_condition-loop-left-preserved-in-Continue-branch-3 : goal.compile_condition-loop-left-preserved-in-Continue-branch-3
-compile_condition-loop-left-preserved-in-Continue-branch-3 t c =
-    let at = c.in-Some.at in
-    let ends = c.loop-left.ends.items in
-    let here = at_left c.loop-left.left at c.args.condition.now ends c.in-Some.is c.loop-left.invariant.chain in
-    let runs : IsRunnableStatement true (condition_of at.now) = subst (λ (o : Option (Bor IfCondNode)). LeftRuns o) c.in-Some.is c.loop-left.invariant.runs in
-    let bound : left_deep c.loop-left.left ≡ condition_deep at.now + 1 = ap (λ (o : Option (Bor IfCondNode)). left_deep o) c.in-Some.is in
+pub compile_condition-returns-clause-lowered : goal.compile_condition-returns-clause-lowered
+compile_condition-returns-clause-lowered t c = remains_told c.in_ok-compile_chain.ensures.lowered c.tell_breaks.ensures.told c.tell_breaks.ensures.same
+
+pub compile_chain-loop-end-init : goal.compile_chain-loop-end-init
+compile_chain-loop-end-init t c =
+    let first = c.args.first.now.node.value in
+    let code = c.args.code.now in
+    let round = c.args.round.now in
     record {
-      chain = chain_stops c.elif-left.result c.is_none.result c.args.condition.now at.now c.deref-then-is_none.result.now ends (places_in c.in_ok-end.end)
-          c.keep.new.places.items c.is_none.ensures c.if-is_none.true c.deref-then-is_none.ensures.value c.in_ok-keep.ensures here
-          c.in_ok-end.ensures.lowered c.in_ok-compile_body.ensures.lowered;
-      runs = left_runs c.elif-left.result at.now c.deref.result.now c.deref.ensures.value c.elif-left.ensures.alone runs;
-      deep = omega (
-        arith,
-        left_smaller c.elif-left.result at.now c.deref.result.now c.deref.ensures.value c.elif-left.ensures.smaller,
-        c.loop-left.invariant.deep,
-        bound,
-      );
+      chain = subst (λ (ends : List ℕ). RemainsAt first first ends code code round round) (sym c.requires.none) (chain_begins first code round);
+      runs = c.requires.runs;
+      deep = omega arith;
     }
 
-pub compile_condition-loop-left-preserved : goal.compile_condition-loop-left-preserved
-compile_condition-loop-left-preserved t c =
-    let at = c.in-Some.at in
-    let ends = c.loop-left.ends.items in
-    let here = at_left c.loop-left.left at c.args.condition.now ends c.in-Some.is c.loop-left.invariant.chain in
-    let runs : IsRunnableStatement true (condition_of at.now) = subst (λ (o : Option (Bor IfCondNode)). LeftRuns o) c.in-Some.is c.loop-left.invariant.runs in
-    let bound : left_deep c.loop-left.left ≡ condition_deep at.now + 1 = ap (λ (o : Option (Bor IfCondNode)). left_deep o) c.in-Some.is in
+pub compile_chain-compile_branch-requires : goal.compile_chain-compile_branch-requires
+compile_chain-compile_branch-requires t c =
+    let same = ap (λ (x : IfCondNode). condition_deep x) c.deref.ensures in (
+      omega (arith, same, c.loop-end.invariant.deep, c.decreases),
+      subst (λ (x : IfCondNode). IsRunnableStatement true (condition_of x)) (sym c.deref.ensures) c.loop-end.invariant.runs,
+    )
+
+pub compile_chain-compile_body-requires : goal.compile_chain-compile_body-requires
+compile_chain-compile_body-requires t c =
+    let at = c.loop-end.at.now.node.value in
+    let other = c.deref-then-len-ne1.ensures.value ∙ ap (λ (x : IfCondNode). x.false_body.items) c.deref-in-loop-end.ensures in
+    let same = ap (λ (ss : List Stmt). body_deep ss) other in (
+      omega (arith, same, c.loop-end.invariant.deep, c.decreases),
+      subst (λ (ss : List Stmt). AreRunnableStatements true (statements_in ss)) (sym other) c.loop-end.invariant.runs.2,
+    )
+
+pub compile_chain-compile_body-requires-in_default : goal.compile_chain-compile_body-requires-in_default
+compile_chain-compile_body-requires-in_default t c =
+    let at = c.loop-end.at.now.node.value in
+    let other = c.deref-in_default.ensures.value ∙ ap (λ (x : IfCondNode). x.false_body.items) c.deref-in-loop-end.ensures in
+    let same = ap (λ (ss : List Stmt). body_deep ss) other in (
+      omega (arith, same, c.loop-end.invariant.deep, c.decreases),
+      subst (λ (ss : List Stmt). AreRunnableStatements true (statements_in ss)) (sym other) c.loop-end.invariant.runs.2,
+    )
+
+pub compile_chain-returns-then-len-ne1-clause-lowered : goal.compile_chain-returns-then-len-ne1-clause-lowered
+compile_chain-returns-then-len-ne1-clause-lowered t c = on_ok_weaker c.compile_body.result (λ last.
+    chain_ends c.args.first.now.node.value c.loop-end.at.now.node.value c.deref.result.now c.deref-then-len-ne1.result.now c.loop-end.ends.items
+    (places_in c.in_ok-end.end) c.keep.new.places.items c.deref.ensures
+    (c.deref-then-len-ne1.ensures.value ∙ ap (λ (x : IfCondNode). x.false_body.items) c.deref-in-loop-end.ensures) c.in_ok-keep.ensures
+    c.loop-end.invariant.chain c.in_ok-end.ensures.lowered last) c.compile_body.ensures.lowered
+
+pub compile_chain-returns-in_default-clause-lowered : goal.compile_chain-returns-in_default-clause-lowered
+compile_chain-returns-in_default-clause-lowered t c = on_ok_weaker c.compile_body-in_default.result (λ last.
+    chain_ends c.args.first.now.node.value c.loop-end.at.now.node.value c.deref.result.now c.deref-in_default.result.now c.loop-end.ends.items
+    (places_in c.in_ok-end.end) c.keep.new.places.items c.deref.ensures
+    (c.deref-in_default.ensures.value ∙ ap (λ (x : IfCondNode). x.false_body.items) c.deref-in-loop-end.ensures) c.in_ok-keep.ensures
+    c.loop-end.invariant.chain c.in_ok-end.ensures.lowered last) c.compile_body-in_default.ensures.lowered
+
+pub compile_chain-loop-end-preserved : goal.compile_chain-loop-end-preserved
+compile_chain-loop-end-preserved t c =
+    let at = c.loop-end.at.now.node.value in
+    let later = c.in-IfCond.n.node.value in
+    let shared = ap (λ (x : IfCondNode). vec_len x.false_body) c.deref-in-loop-end.ensures in
+    let one : length at.false_body.items ≡ 1 = omega (arith, shared, c.len.ensures, c.if-len-ne1.false, at.false_body.ok.0) in
+    let read : c.index.result.now ≡ get_or at.false_body.items 0 c.index.result.now =
+    c.index.ensures ∙ ap (λ (x : IfCondNode). get_or x.false_body.items 0 c.index.result.now) c.deref-in-loop-end.ensures in
+    let tree = elif_tree at.false_body.items c.index.result.now c.in-IfCond.n later one read c.in-IfCond.is refl in
     record {
-      chain = chain_on c.elif-left.result c.is_none.result c.args.condition.now at.now c.deref.result.now ends (places_in c.in_ok-end.end)
-          c.keep.new.places.items c.is_none.ensures c.if-is_none.false c.deref.ensures.value c.elif-left.ensures.alone c.in_ok-keep.ensures here
-          c.in_ok-end.ensures.lowered;
-      runs = left_runs c.elif-left.result at.now c.deref.result.now c.deref.ensures.value c.elif-left.ensures.alone runs;
-      deep = omega (
-        arith,
-        left_smaller c.elif-left.result at.now c.deref.result.now c.deref.ensures.value c.elif-left.ensures.smaller,
-        c.loop-left.invariant.deep,
-        bound,
-      );
+      chain = chain_next c.args.first.now.node.value at c.deref.result.now later c.loop-end.ends.items (places_in c.in_ok-end.end) c.keep.new.places.items
+          c.deref.ensures tree c.in_ok-keep.ensures c.loop-end.invariant.chain c.in_ok-end.ensures.lowered;
+      runs = later_runs at later c.loop-end.invariant.runs tree;
+      deep = omega (arith, elif_smaller at.false_body.items c.index.result.now c.in-IfCond.n later one read c.in-IfCond.is refl, c.loop-end.invariant.deep);
     }
+
+pub compile_chain-loop-end-smaller : goal.compile_chain-loop-end-smaller
+compile_chain-loop-end-smaller t c =
+    let at = c.loop-end.at.now.node.value in
+    let shared = ap (λ (x : IfCondNode). vec_len x.false_body) c.deref-in-loop-end.ensures in
+    let one : length at.false_body.items ≡ 1 = omega (arith, shared, c.len.ensures, c.if-len-ne1.false, at.false_body.ok.0) in
+    let read : c.index.result.now ≡ get_or at.false_body.items 0 c.index.result.now =
+    c.index.ensures ∙ ap (λ (x : IfCondNode). get_or x.false_body.items 0 c.index.result.now) c.deref-in-loop-end.ensures in
+    omega (arith, elif_smaller at.false_body.items c.index.result.now c.in-IfCond.n c.in-IfCond.n.node.value one read c.in-IfCond.is refl)
 
 pub compile_loop_end-returns-clause-lowered : goal.compile_loop_end-returns-clause-lowered
 compile_loop_end-returns-clause-lowered t c =
@@ -129,15 +167,14 @@ pub compile_statement-compile_condition-requires : goal.compile_statement-compil
 compile_statement-compile_condition-requires t c =
     let s = c.args.statement.now in
     let n = c.in-IfCond.n in
-    let node = c.deref-in-IfCond.result.now in
-    let tree = condition_is s n node c.in-IfCond.is c.deref-in-IfCond.ensures in (
-      omega (arith, condition_within s n node c.in-IfCond.is c.deref-in-IfCond.ensures, c.decreases),
+    let tree = condition_is s n n.node.value c.in-IfCond.is refl in (
+      omega (arith, condition_within s n n.node.value c.in-IfCond.is refl, c.decreases),
       subst (λ (x : Statement). IsRunnableStatement true x) tree c.requires,
     )
 
 pub compile_statement-returns-in-IfCond-clause-lowered : goal.compile_statement-returns-in-IfCond-clause-lowered
 compile_statement-returns-in-IfCond-clause-lowered t c =
-    let tree = condition_is c.args.statement.now c.in-IfCond.n c.deref-in-IfCond.result.now c.in-IfCond.is c.deref-in-IfCond.ensures in
+    let tree = condition_is c.args.statement.now c.in-IfCond.n c.in-IfCond.n.node.value c.in-IfCond.is refl in
     rw tree c.compile_condition.ensures.lowered
 
 pub compile_statement-compile_loop-requires : goal.compile_statement-compile_loop-requires

@@ -1,9 +1,10 @@
 -- What is left of a body; a chain of `elif` goes on to smaller conditions. Bodies are smaller than their statement.
-use Rattle.std.proofs.Common.{◌+◌, ◌*◌, ◌≤◌, max}
+use Rattle.std.proofs.Common.{◌+◌, ◌*◌, ◌≤◌, max, true}
 use Rattle.template_tree_statements.specs.declared.statements.Stmt.{size-Stmt}
-use Rattle.template_compiler_statement_codegen.specs.Listed.{body_deep, condition_deep}
+use Rattle.template_walk.specs.Runnable.{IsRunnableStatement}
+use Rattle.template_compiler_statement_codegen.specs.Listed.{body_deep, condition_deep, condition_of}
 use Rattle.template_compiler_statement_codegen.proofs.Bodies.{RemainsFrom}
-use Rattle.template_compiler_statement_codegen.proofs.Elifs.{LeftRuns, RemainsOf, left_deep}
+use Rattle.template_compiler_statement_codegen.proofs.Elifs.{RemainsAt}
 use Rattle.template_compiler_statement_codegen.proofs.statements.+statement.Given as goal
 
 abbrev pub decreases-compile_body : goal.decreases-compile_body
@@ -31,7 +32,10 @@ abbrev pub decreases-compile_loop_end : goal.decreases-compile_loop_end
 decreases-compile_loop_end l = 8 * body_deep l.otherwise.now + 3
 
 abbrev pub decreases-compile_condition : goal.decreases-compile_condition
-decreases-compile_condition l = 8 * condition_deep l.condition.now + 4
+decreases-compile_condition l = 8 * condition_deep l.first.now.node.value + 5
+
+abbrev pub decreases-compile_chain : goal.decreases-compile_chain
+decreases-compile_chain l = 8 * condition_deep l.first.now.node.value + 4
 
 abbrev pub decreases-compile_branch : goal.decreases-compile_branch
 decreases-compile_branch l = 8 * condition_deep l.condition.now + 3
@@ -40,12 +44,12 @@ abbrev pub invariant-compile_body-loop-statement : goal.invariant-compile_body-l
 invariant-compile_body-loop-statement l = RemainsFrom l.body l.statement-index l.initial.code l.code l.initial.round l.round
 
 -- what is left of a chain
-abbrev pub decreases-compile_condition-loop-left : goal.decreases-compile_condition-loop-left
-decreases-compile_condition-loop-left l = left_deep l.left
+abbrev pub decreases-compile_chain-loop-end : goal.decreases-compile_chain-loop-end
+decreases-compile_chain-loop-end l = condition_deep l.at.node.value
 
-abbrev pub invariant-compile_condition-loop-left : goal.invariant-compile_condition-loop-left
-invariant-compile_condition-loop-left l = record {
-  chain : RemainsOf l.fn.condition l.left l.ends.items l.initial.code l.code l.initial.round l.round;
-  runs : LeftRuns l.left;
-  deep : left_deep l.left ≤ condition_deep l.fn.condition + 1;
+abbrev pub invariant-compile_chain-loop-end : goal.invariant-compile_chain-loop-end
+invariant-compile_chain-loop-end l = record {
+  chain : RemainsAt l.fn.first.node.value l.at.node.value l.ends.items l.initial.code l.code l.initial.round l.round;
+  runs : IsRunnableStatement true (condition_of l.at.node.value);
+  deep : condition_deep l.at.node.value ≤ condition_deep l.fn.first.node.value;
 }
