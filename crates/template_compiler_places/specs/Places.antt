@@ -25,3 +25,14 @@ pub record IsBetween (start end : List ℕ) (span : Span) : Type 0 where
   pub end_line : span.end_line ≡ min (line_behind end) 65535
   pub end_col : span.end_col ≡ min (column_behind end) 65535
   pub end_offset : span.end_offset ≡ min (length end) (2 ^ 32 - 1)
+
+-- that one span
+abbrev pub span_between : List ℕ → List ℕ → Span
+span_between start end = record {
+  start_line = min (line_behind start) 65535;
+  start_col = min (column_behind start) 65535;
+  start_offset = min (length start) (2 ^ 32 - 1);
+  end_line = min (line_behind end) 65535;
+  end_col = min (column_behind end) 65535;
+  end_offset = min (length end) (2 ^ 32 - 1);
+}

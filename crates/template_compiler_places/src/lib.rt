@@ -5,4 +5,4 @@ mod place;
 mod stretch;
 
 pub use place::Place;
-pub use stretch::Stretch;
+pub use stretch::{Stretch, span_in};

@@ -1,9 +1,12 @@
 //! A stretch of a source whose places are told without a look at its bytes.
 ghost use Rattle.std.specs.Prelude.{◌≡◌, ◌+◌, ◌-◌, ◌≤◌, ◌<◌, ℕ, List, length, take, slice_index};
 ghost use Rattle.template_compiler_places.specs.Bytes.{ArePlain};
+ghost use Rattle.template_compiler_places.specs.Places.{span_between};
+ghost use Rattle.template_compiler_places.specs.Stretches.{BeginsBy};
 
 use crate::place::{Place, is_plain};
 use memchr::memchr;
+use template_tree::Span;
 
 // How many bytes a stretch has at most, so that few are searched again where it ends before them.
 const REACH: usize = 256;
@@ -82,6 +85,21 @@ impl Stretch {
             offset: at.min(u32::MAX as usize) as u32,
         }
     }
+}
+
+/// The span between two places of a text, from the stretch that reaches the first or stands before it; and the stretch
+/// that reaches the second.
+#[inline(always)]
+pub fn span_in(text: &str, stretch: Stretch, begin: usize, end: usize) -> (Span, Stretch)
+    requires begins { BeginsBy text.now begin stretch }
+    requires ordered { begin ≤ end }
+    requires within { end ≤ length text.now }
+    ensures span { result.0 ≡ span_between (take begin text.now) (take end text.now) }
+    ensures begins { BeginsBy text.now end result.1 }
+{
+    let starts = stretch.reaching(text, begin);
+    let ends = starts.reaching(text, end);
+    (starts.place(begin).to(ends.place(end)), ends)
 }
 
 // The first bytes, as many as the limit at most.

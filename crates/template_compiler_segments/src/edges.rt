@@ -2,7 +2,7 @@
 ghost use Rattle.std.specs.Prelude.{◌≡◌, ◌+◌, ◌≤◌, length};
 ghost use Rattle.template_compiler_syntax.specs.Syntax.{start_text as start_of};
 ghost use Rattle.template_compiler_segments.specs.Places.{sign_at, sign_width};
-ghost use Rattle.template_compiler_segments.specs.Segments.{start_sign as sign_of_start};
+ghost use Rattle.template_compiler_segments.specs.Segments.{comment_sign as sign_of_comment, start_sign as sign_of_start};
 
 use crate::places::rest_from;
 use template_compiler_syntax::{StartMarker, SyntaxConfig};
@@ -62,5 +62,18 @@ pub fn start_sign(bytes: &[u8], syntax: &SyntaxConfig, kind: StartMarker, place:
             Sign::at(bytes, place + syntax.start_text(kind).len())
         }
         StartMarker::LineStatement | StartMarker::LineComment => Sign::Plain,
+    }
+}
+
+/// The sign directly before a comment's end at the place, where what is inside begins at the other: the start's own
+/// sign is none of its end.
+pub fn comment_sign(bytes: &[u8], inside: usize, end: usize) -> Sign
+    requires { end ≤ length bytes.now }
+    ensures { result ≡ sign_of_comment bytes.now inside end }
+{
+    if inside < end {
+        Sign::at(bytes, end - 1)
+    } else {
+        Sign::Plain
     }
 }

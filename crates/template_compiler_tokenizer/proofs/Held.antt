@@ -4,7 +4,7 @@ use Rattle.std.proofs.lemmas.List.{map-append}
 use Rattle.template_values_errors.specs.declared.ErrorKind.{ErrorKind}
 use Rattle.template_tree.specs.declared.span.Span.{Span}
 use Rattle.template_compiler_syntax.specs.Syntax.{Syntax}
-use Rattle.template_compiler_places.specs.Places.{IsBetween}
+use Rattle.template_compiler_places.specs.Places.{span_between}
 use Rattle.template_compiler_places.specs.Stretches.{BeginsBy}
 use Rattle.template_compiler_tokens.specs.Left.{IsRefused}
 use Rattle.template_compiler_tokens.specs.View.{token_of}
@@ -12,7 +12,7 @@ use Rattle.template_compiler_tokens.specs.declared.token.Token.{Token}
 use Rattle.template_compiler_tokenizer.specs.Held.{spanned_of, StandsIn, left_of, HoldsRead, IsFurther}
 use Rattle.template_compiler_tokenizer.specs.Left.{Placed, placed, left_at, tokens_in}
 use Rattle.template_compiler_tokenizer.specs.Reads.{IsStage, IsRefusedKind, ReadsPiece}
-use Rattle.template_compiler_tokenizer.specs.Spans.{Spanned, spanned, span_between, spans_in, words_in}
+use Rattle.template_compiler_tokenizer.specs.Spans.{Spanned, spanned, spans_in, words_in}
 use Rattle.template_compiler_tokenizer.specs.Tokenizer.{TokenizerView, placed_at, view_of, IsStanding}
 use Rattle.template_compiler_places.specs.declared.stretch.Stretch.{Stretch}
 use Rattle.template_compiler_segments.specs.declared.starts.StartFinder.{StartFinder}
@@ -21,15 +21,6 @@ use Rattle.template_compiler_tokenizer.specs.declared.tokenizer.State.TheVariant
 use Rattle.template_compiler_tokenizer.specs.declared.all.Standing.{Standing}
 use Rattle.template_compiler_tokenizer.specs.declared.inside.Piece.{Piece}
 use Rattle.template_compiler_tokenizer.specs.declared.stage.Stage.{Stage}
-
-abbrev span_of : ℕ → ℕ → ℕ → ℕ → ℕ → ℕ → Span
-span_of a b c d e f = record { start_line = a; start_col = b; start_offset = c; end_line = d; end_col = e; end_offset = f }
-
-same_span : {a b c d e f a' b' c' d' e' f' : ℕ} → a ≡ a' → b ≡ b' → c ≡ c' → d ≡ d' → e ≡ e' → f ≡ f' → span_of a b c d e f ≡ span_of a' b' c' d' e' f'
-same_span p q r s t u = cc
-
-pub span_is : (start end : List ℕ) (span : Span) → IsBetween start end span → span ≡ span_between start end
-span_is start end span h = same_span h.start_line h.start_col h.start_offset h.end_line h.end_col h.end_offset
 
 pub pushed : (old held : List (Token × Span)) (t : Token × Span) (span : Span) → held ≡ old ++ t ∷ [] → t.1 ≡ span →
     spanned_of held ≡ spanned_of old ++ spanned (token_of t.0) span ∷ []

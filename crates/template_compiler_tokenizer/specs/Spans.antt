@@ -1,5 +1,5 @@
 -- The spans of tokens.
-use Rattle.std.specs.Prelude.{◌≡◌, ℕ, ◌-◌, ◌^◌, min, List, [], ◌∷◌, length, take, Option, None, Some, Result, Ok, Err}
+use Rattle.std.specs.Prelude.{◌≡◌, ℕ, List, [], ◌∷◌, take, Option, None, Some, Result, Ok, Err}
 use Rattle.std.specs.Borrow.{Bor}
 use Rattle.template_values_errors.specs.declared.ErrorKind.{ErrorKind}
 use Rattle.template_tree.specs.declared.span.Span.{Span}
@@ -7,23 +7,12 @@ use Rattle.template_compiler_syntax.specs.Syntax.{Syntax}
 use Rattle.template_compiler_tokens.specs.Token as token
 use Rattle.template_compiler_tokens.specs.View.{token_of}
 use Rattle.template_compiler_tokens.specs.declared.token.Token.{Token}
-use Rattle.template_compiler_places.specs.Places.{line_behind, column_behind}
+use Rattle.template_compiler_places.specs.Places.{span_between}
 use Rattle.template_compiler_segments.specs.declared.edges.Edge.TheVariants.{Nothing}
 use Rattle.template_compiler_segments.specs.Segments.{HasPieces, Piece}
 use Rattle.template_compiler_segments.specs.Stripping.{stripped}
 use Rattle.template_compiler_segments.specs.Flat.{template_text}
 use Rattle.template_compiler_tokenizer.specs.Left.{Placed, placed_of}
-
--- the span that starts behind the one text and ends behind the other
-abbrev pub span_between : List ℕ → List ℕ → Span
-span_between start end = record {
-  start_line = min (line_behind start) 65535;
-  start_col = min (column_behind start) 65535;
-  start_offset = min (length start) (2 ^ 32 - 1);
-  end_line = min (line_behind end) 65535;
-  end_col = min (column_behind end) 65535;
-  end_offset = min (length end) (2 ^ 32 - 1);
-}
 
 -- a token and its span
 pub record Spanned : Type 0 where

@@ -1,7 +1,7 @@
 // Data, and what begins behind it.
 ghost use Rattle.std.specs.Prelude.{◌≡◌, ◌≤◌, ◌↔◌, Some, IsTrue, length, codes};
 ghost use Rattle.std.specs.Str.{IsCharBoundary};
-ghost use Rattle.template_compiler_segments.specs.Segments.{IsNextStart, HasNoStart, HoldsInside, only, comment_sign as sign_of_comment};
+ghost use Rattle.template_compiler_segments.specs.Segments.{IsNextStart, HasNoStart, HoldsInside, only};
 ghost use Rattle.template_compiler_segments.specs.Known.{Knows};
 ghost use Rattle.template_compiler_syntax.specs.Syntax.{IsUsable};
 ghost use Rattle.template_compiler_tokenizer.specs.Left.{data_tokens};
@@ -14,8 +14,8 @@ use crate::starts::inside_from;
 use crate::words::{find_raw_end, only_word};
 use std::alloc::Global;
 use template_compiler_segments::{
-    Edge, Sign, StartFinder, data_start, data_text, find_line_end, find_text, is_first_on_line,
-    newline_len, start_sign,
+    Edge, Sign, StartFinder, comment_sign, data_start, data_text, find_line_end, find_text,
+    is_first_on_line, newline_len, start_sign,
 };
 use template_compiler_syntax::{StartMarker, SyntaxConfig};
 use template_compiler_tokens::Token;
@@ -257,18 +257,6 @@ fn enter_comment<'source>(
             Ok(Step::Passes(Edge::Beside(StartMarker::Comment, last), end + text.len()))
         }
         None => Err(ErrorKind::SyntaxError),
-    }
-}
-
-// The sign directly before a comment's end, unless it is the start's own.
-fn comment_sign(bytes: &[u8], inside: usize, end: usize) -> Sign
-    requires { end ≤ length bytes.now }
-    ensures { result ≡ sign_of_comment bytes.now inside end }
-{
-    if inside < end {
-        Sign::at(bytes, end - 1)
-    } else {
-        Sign::Plain
     }
 }
 

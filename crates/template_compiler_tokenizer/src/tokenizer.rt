@@ -1,7 +1,4 @@
 //! The tokenizer.
-ghost use Rattle.std.specs.Prelude.{◌≡◌, ◌≤◌, length, take};
-ghost use Rattle.template_compiler_places.specs.Stretches.{BeginsBy};
-ghost use Rattle.template_compiler_tokenizer.specs.Spans.{span_between};
 
 use crate::all::{Standing, read_all};
 use crate::inside::Piece;
@@ -10,7 +7,7 @@ use crate::stage::Stage;
 use crate::text::template_text;
 use std::alloc::Global;
 use std::marker::Model;
-use template_compiler_places::Stretch;
+use template_compiler_places::{Stretch, span_in};
 use template_compiler_segments::{Edge, StartFinder};
 use template_compiler_syntax::SyntaxConfig;
 use template_compiler_tokens::Token;
@@ -187,18 +184,4 @@ impl<'source> Tokenizer<'source> {
             }
         }
     }
-}
-
-// The span between two places of a text, and the stretch that the second one stands in.
-#[inline(always)]
-pub(crate) fn span_in(text: &str, stretch: Stretch, begin: usize, end: usize) -> (Span, Stretch)
-    requires begins { BeginsBy text.now begin stretch }
-    requires ordered { begin ≤ end }
-    requires within { end ≤ length text.now }
-    ensures span { result.0 ≡ span_between (take begin text.now) (take end text.now) }
-    ensures begins { BeginsBy text.now end result.1 }
-{
-    let starts = stretch.reaching(text, begin);
-    let ends = starts.reaching(text, end);
-    (starts.place(begin).to(ends.place(end)), ends)
 }

@@ -1,6 +1,6 @@
 use Rattle.std.proofs.Common.{take}
-use Rattle.template_compiler_tokenizer.proofs.Held.{span_is}
-use Rattle.template_compiler_tokenizer.proofs.tokenizer.span_in.Goals as goal
+use Rattle.template_compiler_places.proofs.Spans.{span_is}
+use Rattle.template_compiler_places.proofs.stretch.span_in.Goals as goal
 
 pub returns-clause-span : goal.returns-clause-span
 returns-clause-span c =
