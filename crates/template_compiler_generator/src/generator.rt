@@ -264,7 +264,7 @@ impl<'source> CodeGenerator<'source> {
             Some(Block::Choice(_)) => unreachable!(),
             None => unreachable!(),
         };
-        self.add(Instruction::Jump(asks))?;
+        self.add(Leap::Always.to(asks))?;
         self.tell(Jump {
             place: asks,
             leap: Leap::Iterate,
