@@ -1,8 +1,12 @@
-//! What instructions cost of a fuel, and what was consumed of it.
+//! What instructions cost of a fuel, and what was consumed of it; and how an include tells the fault that ended it.
 #![tactic(auto)]
 
 ghost use Rattle.std.specs.Prelude.{◌≡◌, ◌≤◌, ◌+◌, ◌∷◌, [], ℕ, IfErr, OnOk, OnErr, option_map};
 ghost use Rattle.template_machine_going.specs.Paying.{Paid, IsSpent};
+
+mod wrapping;
+
+pub use wrapping::included;
 
 use template_values_errors::{Error, ErrorKind};
 

@@ -1,10 +1,9 @@
-//! What an include chooses, and how it tells the errors of what it runs.
+//! What an include chooses.
 ghost use Rattle.std.specs.Prelude.{◌≡◌, ◌∷◌, [], ◌⊎◌, Ok, Err, IfOk, IfErr, option_map};
 ghost use Rattle.template_code.specs.View.{code_of};
 ghost use Rattle.template_values_errors.specs.Memory.{NoMemory};
 ghost use Rattle.template_machine_operations.specs.Answers.{answered};
 ghost use Rattle.template_machine_loop.specs.Programs.{standing_of, first_of, chosen_by, chosen, include_in};
-ghost use Rattle.template_machine_loop.specs.Including.{IsIncluded};
 
 use crate::templates::{Compiled, Templates};
 use std::alloc::Global;
@@ -91,15 +90,4 @@ pub(crate) fn chosen<'env, T: Templates>(
 {
     let choices = choices_in(alloc, value, &NoRecords)?;
     chosen_among(templates, ignore_missing, &choices)
-}
-
-// The error of an include whose template ended with an error: a fault is wrapped; a want, and code that is lost,
-// are told as they are.
-pub(crate) fn included(alloc: Global, error: Error) -> Error
-    ensures { IsIncluded error result }
-{
-    match error.kind() {
-        ErrorKind::OutOfMemory | ErrorKind::WriteFailure | ErrorKind::BadStream => error,
-        _ => Error::with_cause(alloc, ErrorKind::BadInclude, error),
-    }
 }

@@ -1,9 +1,12 @@
-//! How renders and expressions come out, and the laws that lead there from a run of their code; and the loop that runs it.
+//! How renders and expressions come out, and the laws that lead there from a run of their code; and what runs it.
 #![tactic(auto)]
 
 ghost use Rattle.template_machine_renders.specs.Laws.{EndsRender, ExpressionsEvaluate, StopsRender};
 
-pub use template_machine_loop::{Compiled, Rules, Templates, run_code, run_expression};
+mod running;
+
+pub use running::{run_code, run_expression};
+pub use template_machine_loop::{Compiled, Rules, Templates};
 
 /// A run of a template's code that came to its end is the template's render: its text, its price and its world.
 pub fn ends_render()
