@@ -16,6 +16,7 @@ use std::alloc::Global;
 use std::collections::btree_map::Values;
 use std::collections::{BTreeMap, BTreeSet};
 use template_compiled::CompiledTemplate;
+use template_environment_histories::put_under;
 use template_values_errors::{Error, ErrorKind};
 
 /// Compiled templates, each under its own name.
@@ -59,10 +60,8 @@ impl<'source> CompiledTemplates<'source> {
         let name = String::from_str(alloc, template.name()).map_err(|_refused| Error::new(
             ErrorKind::OutOfMemory,
         ))?;
-        match self.by_name.insert(name, template) {
-            Ok(_replaced) => Ok(()),
-            Err(_refused) => Err(Error::new(ErrorKind::OutOfMemory)),
-        }
+        put_under(&mut self.by_name, name, template)?;
+        Ok(())
     }
 
     /// No template stands under the name any more. Takes a look-up among the names.

@@ -12,15 +12,15 @@ pub invariant_of-self : goal.invariant_of-self
 invariant_of-self c =
     let own : c.args.template.name ≡ string_bytes c.in_ok-name.name = search rules in
     record {
-      named = holds_inserted (λ name t. t.name ≡ name) c.insert.result c.in_ok-name.name c.args.template c.args.self.now.by_name c.insert.new.self
-          c.insert.ensures.updates c.insert.ensures.err (λ name yes. own ∙ (bytes_eq-Decides (string_bytes c.in_ok-name.name) name).0 yes) c.args.self.now.named;
-      running = holds_inserted (λ name t. statements_run false (tree_in t.source) ≡ true) c.insert.result c.in_ok-name.name c.args.template c.args.self.now.by_name
-          c.insert.new.self c.insert.ensures.updates c.insert.ensures.err
+      named = holds_inserted (λ name t. t.name ≡ name) c.put_under.result c.in_ok-name.name c.args.template c.args.self.now.by_name c.put_under.new.standing
+          c.put_under.ensures.stands c.put_under.ensures.unchanged (λ name yes. own ∙ (bytes_eq-Decides (string_bytes c.in_ok-name.name) name).0 yes) c.args.self.now.named;
+      running = holds_inserted (λ name t. statements_run false (tree_in t.source) ≡ true) c.put_under.result c.in_ok-name.name c.args.template c.args.self.now.by_name
+          c.put_under.new.standing c.put_under.ensures.stands c.put_under.ensures.unchanged
           (λ name yes. (Decides-statements_run false (tree_in c.args.template.source)).1 c.requires.has_tree.1) c.args.self.now.running;
     }
 
-pub returns-in-Ok-clause-stands : goal.returns-in-Ok-clause-stands
-returns-in-Ok-clause-stands c =
+pub returns-clause-stands : goal.returns-clause-stands
+returns-clause-stands c =
     let own : string_bytes c.in_ok-name.name ≡ c.args.template.name = search rules in λ name.
-    btree_map_updates_text (string_bytes c.in_ok-name.name) c.args.self.now.by_name c.insert.new.self (Some c.args.template) c.in-Ok.ensures.updates name
+    btree_map_updates_text (string_bytes c.in_ok-name.name) c.args.self.now.by_name c.put_under.new.standing (Some c.args.template) c.in_ok-put_under.ensures.stands name
     ∙ ap (λ (bs : List ℕ). cond (bytes_eq bs name) (Some c.args.template) (get_by_text c.args.self.now.by_name name)) own
