@@ -1,10 +1,9 @@
 // What a syntax is made of.
 ghost use Rattle.std.specs.Prelude.{◌≡◌, ◌↔◌, IfOk, IsTrue};
-ghost use Rattle.std.specs.List.{list_all};
-ghost use Rattle.template_compiler_syntax.specs.Syntax.{IsSet};
 
 use std::alloc::{AllocError, Global};
 use std::borrow::CowStr;
+use template_compiler_starts::are_apart;
 
 /// What a kind of segment begins and ends with.
 #[derive(Clone, Drop)]
@@ -96,31 +95,6 @@ impl Settings {
         let comment = self.comments.start.as_str();
         let line_statement = self.prefixes.line_statement.as_str();
         let line_comment = self.prefixes.line_comment.as_str();
-        let pairs = [
-            differ(variable, block),
-            differ(variable, comment),
-            differ(variable, line_statement),
-            differ(variable, line_comment),
-            differ(block, comment),
-            differ(block, line_statement),
-            differ(block, line_comment),
-            differ(comment, line_statement),
-            differ(comment, line_comment),
-            differ(line_statement, line_comment),
-        ];
-        all_hold(&pairs)
+        are_apart(variable, block, comment, line_statement, line_comment)
     }
-}
-
-fn all_hold(tests: &[bool]) -> bool
-    ensures { result ≡ list_all (λ test. test) tests.now }
-{
-    tests.iter().all(|test| *test)
-}
-
-// Two starts are not the same; an empty one is none.
-fn differ(first: &str, second: &str) -> bool
-    ensures { IsTrue result ↔ (IsSet first.now → first.now ≡ second.now → ⊥) }
-{
-    first.is_empty() || first != second
 }
