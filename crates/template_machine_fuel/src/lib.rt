@@ -6,9 +6,8 @@ ghost use Rattle.template_machine_going.specs.Paying.{Paid, IsSpent};
 
 mod wrapping;
 
-pub use wrapping::included;
-
 use template_values_errors::{Error, ErrorKind};
+pub use wrapping::included;
 
 /// Takes the price of an instruction of what is left of a fuel, if one is set. A fuel n lets n - 1 steps run, and a fuel
 /// of 0 none; what costs nothing always runs.
