@@ -1,9 +1,11 @@
 -- A source's tree, by what is read of its tokens.
-use Rattle.std.proofs.Common.{◌≡◌, Bool, true, false, if◌then◌else◌, List, [], ◌∷◌, ℕ, inl, inr, Result, Ok, Err, refl, sym, ap, subst, ◌∙◌}
+use Rattle.std.proofs.Common.{◌≡◌, true, false, if◌then◌else◌, List, [], ◌∷◌, ℕ, inl, inr, Ok, Err, refl, sym, ap, subst, ◌∙◌}
 use Rattle.template_values_errors.specs.declared.ErrorKind.{ErrorKind}
 use Rattle.template_tree.specs.Tree.{Expression, Statement, template, Statements}
 use Rattle.template_tree_statements.specs.View.{statement_of}
-use Rattle.template_tree_statements.specs.declared.statements.Stmt.{Stmt}
+use Rattle.template_tree.specs.declared.span.Spanned.{Spanned}
+use Rattle.template_tree_statements.specs.declared.statements.Template.{Template as TemplateNode}
+use Rattle.template_tree_statements.specs.declared.statements.Stmt.{Template as Whole}
 use Rattle.template_compiler_stream.specs.Refusals.{fault_of}
 use Rattle.template_compiler_stream.specs.declared.refusal.Refusal.{Refusal}
 use Rattle.template_compiler_stream.specs.declared.refusal.Refusal.TheVariants as refusals
@@ -21,7 +23,7 @@ use Rattle.template_compiler_source_tokens.proofs.Spelling.{one_spelled}
 use Rattle.template_compiler_syntax.specs.Syntax.{Syntax, IsUsable}
 use Rattle.template_compiler_segments.specs.Flat.{IsTokens}
 use Rattle.template_compiler_segments.proofs.Theorems.{one_tokens}
-use Rattle.template_compiler_statements.specs.Grammar.{Around, nothing_around, IsTemplate}
+use Rattle.template_compiler_statements.specs.Grammar.{Around, nothing_around}
 use Rattle.template_compiler_statements.specs.Reader.{statements_at, template_behind, whole, template_of}
 use Rattle.template_compiler_statements.specs.Trees.{are_distinct, blocks_among}
 use Rattle.template_compiler_stream.specs.Tags.{is_done}
@@ -91,9 +93,9 @@ faulty_expression source tokens f h e = record {
 }
 
 -- what is answered of a source, by what is read of its tokens
-pub found_whole : (x : Syntax) (source : List ℕ) (tokens left : List Token) (tree : Stmt) → IsTokens x source left → tokens ≡ left →
-    ParsedTemplate (template_of tokens) (Ok tree) → IsSource x source (statement_of tree)
-found_whole x source tokens left tree h e (body, is, read) =
+pub found_whole : (x : Syntax) (source : List ℕ) (tokens left : List Token) (node : Spanned TemplateNode) → IsTokens x source left → tokens ≡ left →
+    ParsedTemplate (template_of tokens) (Ok node) → IsSource x source (statement_of (Whole node))
+found_whole x source tokens left node h e (body, is, read) =
     subst (λ t. IsSource x source t) (sym is) (found_source x source tokens body (subst (λ ts. IsTokens x source ts) (sym e) h) read)
 
 pub refused_whole : (x : Syntax) (source : List ℕ) (tokens left : List Token) (e : Refusal) (kinds : List ErrorKind) → IsUsable x →

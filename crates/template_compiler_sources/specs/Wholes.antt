@@ -1,11 +1,13 @@
 -- What the reading of all tokens answers.
 use Rattle.std.specs.Prelude.{◌≡◌, List, [], ◌∷◌, Result, Ok, Err}
 use Rattle.std.specs.Global.{Vec}
-use Rattle.template_tree.specs.Tree.{Expression, Statement, template, Statements}
+use Rattle.template_tree.specs.Tree.{Expression, template, Statements}
 use Rattle.template_tree.specs.View.{expression_of}
 use Rattle.template_tree_statements.specs.View.{statement_of}
 use Rattle.template_tree.specs.declared.expressions.Expr.{Expr}
-use Rattle.template_tree_statements.specs.declared.statements.Stmt.{Stmt}
+use Rattle.template_tree.specs.declared.span.Spanned.{Spanned}
+use Rattle.template_tree_statements.specs.declared.statements.Template.{Template as TemplateNode}
+use Rattle.template_tree_statements.specs.declared.statements.Stmt.{Stmt, Template as Whole}
 use Rattle.template_compiler_tokens.specs.Token.{Token, TokenFault}
 use Rattle.template_compiler_reading.specs.Steps.{Read, fault}
 use Rattle.template_compiler_expressions.specs.Reader.{expression_at}
@@ -20,8 +22,8 @@ ParsedWhole r (Ok body) = r ≡ Ok (statements_in body.items)
 ParsedWhole r (Err (refusals.Token f)) = r ≡ Err (fault_of f)
 ParsedWhole r (Err refusals.OutOfMemory) = Unit {0}
 
-abbrev pub ParsedTemplate : Result Statements TokenFault → Result Stmt Refusal → Type 0
-ParsedTemplate r (Ok tree) = (body : Statements) × (statement_of tree ≡ template body) × (r ≡ Ok body)
+abbrev pub ParsedTemplate : Result Statements TokenFault → Result (Spanned TemplateNode) Refusal → Type 0
+ParsedTemplate r (Ok whole) = (body : Statements) × (statement_of (Whole whole) ≡ template body) × (r ≡ Ok body)
 ParsedTemplate r (Err (refusals.Token f)) = r ≡ Err (fault_of f)
 ParsedTemplate r (Err refusals.OutOfMemory) = Unit {0}
 

@@ -40,10 +40,10 @@ pub fn parse<'source>(
     let tokenizer = Tokenizer::new(alloc, source, filename, syntax);
     match read_tokens(alloc, tokenizer) {
         Ok(mut tokens) => match whole_template(alloc, &mut tokens) {
-            Ok(tree) => Ok(tree),
-            Err(refusal) => Err(error_of(refusal)),
+            Ok(template) => return Ok(Stmt::Template(template)),
+            Err(refusal) => return Err(error_of(refusal)),
         },
-        Err(refusal) => Err(error_of(refusal)),
+        Err(refusal) => return Err(error_of(refusal)),
     }
 }
 
@@ -51,11 +51,11 @@ pub fn parse<'source>(
 fn whole_template<'source>(
     alloc: Global,
     tokens: &mut TokenStream<'source>,
-) -> Result<Stmt<'source>, Refusal>
+) -> Result<Spanned<Template<'source>>, Refusal>
     ensures { ParsedTemplate (template_of tokens.old) result }
 {
     let start = tokens.span();
     let children = read_template(alloc, tokens)?;
     let span = tokens.expand_span(start);
-    Ok(Stmt::Template(Spanned::new(Template { children }, span)))
+    Ok(Spanned::new(Template { children }, span))
 }
