@@ -2,7 +2,10 @@
 use crate::forms::{
     ABSENT, Form, UNKNOWN, binary_word, comparison_word, deeper, open, quoted, unary_word, word,
 };
-use template_tree::{Call, CallArg, Compare, Expr, Filter, GetAttr, IfExpr, Map, Slice, Test};
+use template_tree::{
+    BinOp, Call, CallArg, Compare, CompareOp, Expr, Filter, GetAttr, GetItem, IfExpr, Map, Slice,
+    Test, UnaryOp,
+};
 use template_values_core::{Content, Value};
 use template_values_errors::Error;
 
@@ -19,16 +22,10 @@ fn node(expr: &Expr, out: &mut Form, left: u32) -> Result<(), Error> {
     match expr {
         Expr::Var(n) => out.push_str(n.node.id),
         Expr::Const(n) => constant(&n.node.value, out),
-        Expr::UnaryOp(n) => single(unary_word(n.node.op), &n.node.expr, out, left),
-        Expr::BinOp(n) => pair(
-            binary_word(n.node.op),
-            &n.node.left,
-            &n.node.right,
-            out,
-            left,
-        ),
+        Expr::UnaryOp(n) => unary(&n.node, out, left),
+        Expr::BinOp(n) => binary(&n.node, out, left),
         Expr::GetAttr(n) => attribute(&n.node, out, left),
-        Expr::GetItem(n) => pair("item", &n.node.expr, &n.node.subscript_expr, out, left),
+        Expr::GetItem(n) => item(&n.node, out, left),
         Expr::Call(n) => call(&n.node, out, left),
         _ => rarer(expr, out, left),
     }
@@ -101,6 +98,27 @@ pub(crate) fn pair(
 }
 
 #[cycle(expressions)]
+fn unary(unary: &UnaryOp, out: &mut Form, left: u32) -> Result<(), Error> {
+    single(unary_word(unary.op), &unary.expr, out, left)
+}
+
+#[cycle(expressions)]
+fn binary(binary: &BinOp, out: &mut Form, left: u32) -> Result<(), Error> {
+    pair(
+        binary_word(binary.op),
+        &binary.left,
+        &binary.right,
+        out,
+        left,
+    )
+}
+
+#[cycle(expressions)]
+fn item(item: &GetItem, out: &mut Form, left: u32) -> Result<(), Error> {
+    pair("item", &item.expr, &item.subscript_expr, out, left)
+}
+
+#[cycle(expressions)]
 fn slice(slice: &Slice, out: &mut Form, left: u32) -> Result<(), Error> {
     open("slice", out)?;
     part(&slice.expr, out, left)?;
@@ -114,10 +132,17 @@ fn slice(slice: &Slice, out: &mut Form, left: u32) -> Result<(), Error> {
 fn chain(compare: &Compare, out: &mut Form, left: u32) -> Result<(), Error> {
     open("chain", out)?;
     part(&compare.expr, out, left)?;
-    for link in &compare.ops {
-        behind(comparison_word(link.op), &link.expr, out, left)?;
-    }
+    links(compare.ops.as_slice(), out, left)?;
     out.push(')')
+}
+
+#[cycle(expressions)]
+fn links(links: &[CompareOp], out: &mut Form, left: u32) -> Result<(), Error> {
+    for link in links {
+        out.push(' ')?;
+        single(comparison_word(link.op), &link.expr, out, left)?;
+    }
+    Ok(())
 }
 
 #[cycle(expressions)]
@@ -178,8 +203,8 @@ fn argument(arg: &CallArg, out: &mut Form, left: u32) -> Result<(), Error> {
     match arg {
         CallArg::Pos(expr) => part(expr, out, left),
         CallArg::Kwarg(name, expr) => named(name, expr, out, left),
-        CallArg::PosSplat(expr) => behind("splat", expr, out, left),
-        CallArg::KwargSplat(expr) => behind("kwsplat", expr, out, left),
+        CallArg::PosSplat(expr) => spread("splat", expr, out, left),
+        CallArg::KwargSplat(expr) => spread("kwsplat", expr, out, left),
     }
 }
 
@@ -191,9 +216,8 @@ fn named(name: &str, expr: &Expr, out: &mut Form, left: u32) -> Result<(), Error
     out.push(')')
 }
 
-// A head with one part, behind what stands there.
 #[cycle(expressions)]
-fn behind(head: &str, expr: &Expr, out: &mut Form, left: u32) -> Result<(), Error> {
+fn spread(head: &str, expr: &Expr, out: &mut Form, left: u32) -> Result<(), Error> {
     out.push(' ')?;
     single(head, expr, out, left)
 }
@@ -210,10 +234,16 @@ fn group(head: &str, items: &[Expr], out: &mut Form, left: u32) -> Result<(), Er
 #[cycle(expressions)]
 fn map(map: &Map, out: &mut Form, left: u32) -> Result<(), Error> {
     open("map", out)?;
-    for (key, value) in map.keys.iter().zip(map.values.iter()) {
+    entries(map.keys.as_slice(), map.values.as_slice(), out, left)?;
+    out.push(')')
+}
+
+#[cycle(expressions)]
+fn entries(keys: &[Expr], values: &[Expr], out: &mut Form, left: u32) -> Result<(), Error> {
+    for (key, value) in keys.iter().zip(values.iter()) {
         entry(key, value, out, left)?;
     }
-    out.push(')')
+    Ok(())
 }
 
 // Two parts without a head, behind what stands there.

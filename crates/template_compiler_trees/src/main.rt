@@ -153,10 +153,6 @@ fn about_template(
     out: &mut Form,
 ) -> Result<(), Error> {
     let mut parser = Parser::new(alloc, source, NAME, syntax);
-    about_parsed(&mut parser, asked, out)
-}
-
-fn about_parsed(parser: &mut Parser<'_>, asked: Asked, out: &mut Form) -> Result<(), Error> {
     about_read(&parser.parse(), asked, out)
 }
 
@@ -189,14 +185,6 @@ fn about_expression(
     out: &mut Form,
 ) -> Result<(), Error> {
     let mut parser = Parser::new(alloc, source, NAME, SyntaxConfig::new());
-    about_parsed_expr(&mut parser, ask, out)
-}
-
-fn about_parsed_expr(
-    parser: &mut Parser<'_>,
-    ask: Option<&str>,
-    out: &mut Form,
-) -> Result<(), Error> {
     about_read_expr(&parser.parse_standalone_expr(), ask, out)
 }
 

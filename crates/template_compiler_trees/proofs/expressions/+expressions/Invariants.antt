@@ -22,11 +22,23 @@ decreases-single l = 10 * l.left + 2
 abbrev pub decreases-pair : goal.decreases-pair
 decreases-pair l = 10 * l.left + 2
 
+abbrev pub decreases-unary : goal.decreases-unary
+decreases-unary l = 10 * l.left + 3
+
+abbrev pub decreases-binary : goal.decreases-binary
+decreases-binary l = 10 * l.left + 3
+
+abbrev pub decreases-item : goal.decreases-item
+decreases-item l = 10 * l.left + 3
+
 abbrev pub decreases-slice : goal.decreases-slice
 decreases-slice l = 10 * l.left + 3
 
 abbrev pub decreases-chain : goal.decreases-chain
 decreases-chain l = 10 * l.left + 4
+
+abbrev pub decreases-links : goal.decreases-links
+decreases-links l = 10 * l.left + 3
 
 abbrev pub decreases-choice : goal.decreases-choice
 decreases-choice l = 10 * l.left + 3
@@ -52,14 +64,17 @@ decreases-argument l = 10 * l.left + 4
 abbrev pub decreases-named : goal.decreases-named
 decreases-named l = 10 * l.left + 2
 
-abbrev pub decreases-behind : goal.decreases-behind
-decreases-behind l = 10 * l.left + 3
+abbrev pub decreases-spread : goal.decreases-spread
+decreases-spread l = 10 * l.left + 3
 
 abbrev pub decreases-group : goal.decreases-group
 decreases-group l = 10 * l.left + 2
 
 abbrev pub decreases-map : goal.decreases-map
 decreases-map l = 10 * l.left + 4
+
+abbrev pub decreases-entries : goal.decreases-entries
+decreases-entries l = 10 * l.left + 3
 
 abbrev pub decreases-entry : goal.decreases-entry
 decreases-entry l = 10 * l.left + 2
