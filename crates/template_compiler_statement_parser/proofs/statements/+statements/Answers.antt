@@ -71,7 +71,7 @@ pub with_block-returns : goal.with_block-returns
 unfolding here here_by
 with_block-returns g t c =
     body_made (here c.args.left) (around_of c.args.around) (codes "endwith") with_block (with_whole (here c.args.left) (around_of c.args.around) c.args.tokens.now) _ _ c.in_ok-head.ensures _ _ c.in_ok-body.ensures ∙
-    ap (λ s. Ok (s, c.ended_body-body.new.tokens)) (sym c.in_ok-with_block.ensures)
+    ap (λ s. Ok (s, c.ended_body.new.tokens)) (sym c.in_ok-with_block.ensures)
 
 pub with_block-returns-in_err-head : goal.with_block-returns-in_err-head
 with_block-returns-in_err-head g t c = head_fails _ (with_whole (here c.args.left) (around_of c.args.around) c.args.tokens.now) _ c.in_err-head.ensures
@@ -85,7 +85,7 @@ pub auto_escape-returns : goal.auto_escape-returns
 unfolding here here_by
 auto_escape-returns g t c =
     body_made (here c.args.left) (around_of c.args.around) (codes "endautoescape") auto_escape (autoescape_whole (here c.args.left) (around_of c.args.around) c.args.tokens.now) _ _ c.in_ok-head.ensures _ _ c.in_ok-body.ensures ∙
-    ap (λ s. Ok (s, c.ended_body-body.new.tokens)) (sym c.auto_escape.ensures)
+    ap (λ s. Ok (s, c.ended_body.new.tokens)) (sym c.auto_escape.ensures)
 
 pub auto_escape-returns-in_err-head : goal.auto_escape-returns-in_err-head
 auto_escape-returns-in_err-head g t c = head_fails _ (autoescape_whole (here c.args.left) (around_of c.args.around) c.args.tokens.now) _ c.in_err-head.ensures
@@ -99,7 +99,7 @@ pub filter_block-returns : goal.filter_block-returns
 unfolding here here_by
 filter_block-returns g t c =
     body_made (here c.args.left) (around_of c.args.around) (codes "endfilter") filtered_body (filter_whole (here c.args.left) (around_of c.args.around) c.args.tokens.now) _ _ c.in_ok-head.ensures _ _ c.in_ok-body.ensures ∙
-    ap (λ s. Ok (s, c.ended_body-body.new.tokens)) (sym c.filter_block.ensures)
+    ap (λ s. Ok (s, c.ended_body.new.tokens)) (sym c.filter_block.ensures)
 
 pub filter_block-returns-in_err-head : goal.filter_block-returns-in_err-head
 filter_block-returns-in_err-head g t c = head_fails _ (filter_whole (here c.args.left) (around_of c.args.around) c.args.tokens.now) _ c.in_err-head.ensures
@@ -114,7 +114,7 @@ unfolding here here_by
 macro_block-returns g t c =
     let body = rw c.within_macro.ensures at c.in_ok-body.ensures in
     body_made (here c.args.left) macro_around (codes "endmacro") (λ h. macro h.1 h.0.0 h.0.1) (macro_whole (here c.args.left) c.args.tokens.now) _ _ c.in_ok-head.ensures _ _ body ∙
-    ap (λ s. Ok (s, c.ended_body-body.new.tokens)) (sym c.in_ok-macro_block.ensures)
+    ap (λ s. Ok (s, c.ended_body.new.tokens)) (sym c.in_ok-macro_block.ensures)
 
 pub macro_block-returns-in_err-head : goal.macro_block-returns-in_err-head
 macro_block-returns-in_err-head g t c = head_fails _ (macro_whole (here c.args.left) c.args.tokens.now) _ c.in_err-head.ensures
@@ -130,7 +130,7 @@ unfolding here here_by
 call_block-returns g t c =
     let body = rw c.within_macro.ensures at c.in_ok-body.ensures in
     body_made (here c.args.left) macro_around (codes "endcall") (λ h. call_block h.1 h.2 h.0.0 h.0.1) (call_whole (here c.args.left) c.args.tokens.now) _ _ c.in_ok-head.ensures _ _ body ∙
-    ap (λ s. Ok (s, c.ended_body-body.new.tokens)) (sym c.in_ok-call_block.ensures)
+    ap (λ s. Ok (s, c.ended_body.new.tokens)) (sym c.in_ok-call_block.ensures)
 
 pub call_block-returns-in_err-head : goal.call_block-returns-in_err-head
 call_block-returns-in_err-head g t c = head_fails _ (call_whole (here c.args.left) c.args.tokens.now) _ c.in_err-head.ensures
@@ -154,7 +154,7 @@ set-returns-in-Block g t c =
 pub set_block-returns : goal.set_block-returns
 unfolding here here_by
 set_block-returns g t c =
-    set_body_made (here c.args.left) (around_of c.args.around) (set_block_of c.args.head) _ _ _ c.in_ok-body.ensures ∙ ap (λ s. Ok (s, c.ended_body-body.new.tokens)) (sym c.set_block.ensures)
+    set_body_made (here c.args.left) (around_of c.args.around) (set_block_of c.args.head) _ _ _ c.in_ok-body.ensures ∙ ap (λ s. Ok (s, c.ended_body.new.tokens)) (sym c.set_block.ensures)
 
 pub set_block-returns-in_err-body : goal.set_block-returns-in_err-body
 unfolding here here_by
@@ -182,7 +182,7 @@ unfolding here here_by
 for_loop-returns g t c =
     let body = rw c.within_loop.ensures at c.in_ok-body.ensures in
     for_made (here c.args.left) (around_of c.args.around) _ _ _ _ _ _ _ c.in_ok-head.ensures body c.in_ok-else_body.ensures ∙
-    ap (λ s. Ok (s, c.otherwise-else_body.new.tokens)) (sym c.for_loop.ensures)
+    ap (λ s. Ok (s, c.otherwise.new.tokens)) (sym c.for_loop.ensures)
 
 pub for_loop-returns-in_err-head : goal.for_loop-returns-in_err-head
 for_loop-returns-in_err-head g t c = head_fails (for_rest (here c.args.left) (around_of c.args.around)) (for_whole (here c.args.left) (around_of c.args.around) c.args.tokens.now) _ c.in_err-head.ensures
