@@ -4,6 +4,7 @@ use Rattle.template_compiler_tokens.specs.Token.{Token, Symbol, bad_syntax, iden
 use Rattle.template_compiler_reading.specs.Steps.{fault, and_then}
 use Rattle.template_compiler_stream.specs.Left.{passed}
 use Rattle.template_compiler_stream.specs.Signs.{begins_symbol, next_word}
+use Rattle.template_compiler_stream.specs.Skips.{SkipsSign}
 use Rattle.template_compiler_statements.specs.Words.{is_reserved}
 use Rattle.template_compiler_statements.specs.Reader.{Here, tag_end, word_by}
 use Rattle.template_compiler_statement_heads.specs.Heads.{block_head, declared_head, macro_head}
@@ -23,6 +24,20 @@ no_block m [] h = refl
 no_block m (identifier k ∷ ts) h = cc
 no_block m (t ∷ ts) h = refl
 
+pub block_in_macro : (in_macro : Bool) (n : List ℕ) (ts : List Token) → Some n ≡ next_word ts → in_macro ≡ true → block_head in_macro ts ≡ Err bad_syntax
+block_in_macro m n ts h e =
+    block_here m n ts h ∙
+    ap (λ m. if m then Err bad_syntax else and_then (word_by (codes "required") (passed ts)) (λ b us. tag_end (n, b) us)) e
+
+pub block_outside : (in_macro : Bool) (n : List ℕ) (b : Bool) (ts us vs : List Token) → Some n ≡ next_word ts → in_macro ≡ false →
+    us ≡ passed ts → word_by (codes "required") us ≡ Ok (b, vs) → block_head in_macro ts ≡ tag_end (n, b) vs
+unfolding and_then
+block_outside m n b ts us vs h e k l =
+    block_here m n ts h ∙
+    ap (λ m. if m then Err bad_syntax else and_then (word_by (codes "required") (passed ts)) (λ b us. tag_end (n, b) us)) e ∙
+    ap (λ us. and_then (word_by (codes "required") us) (λ b us. tag_end (n, b) us)) (sym k) ∙
+    ap (λ m. and_then m (λ b us. tag_end (n, b) us)) l
+
 macro_word : (r : Here) (n : List ℕ) (ts us : List Token) → ts ≡ symbol paren_open ∷ us →
     macro_head r (identifier n ∷ ts) ≡ (if is_reserved n then Err bad_syntax else declared_head r n us)
 unfolding macro_head
@@ -34,6 +49,16 @@ macro_here r n [] us h e = cc
 macro_here r n (identifier m ∷ ts) us h e =
     let same : m ≡ n = cc in macro_word r m ts us e ∙ ap (λ m. if is_reserved m then Err bad_syntax else declared_head r m us) same
 macro_here r n (t ∷ ts) us h e = cc
+
+pub macro_reserved : (r : Here) (n : List ℕ) (ts us vs : List Token) → Some n ≡ next_word ts → vs ≡ passed ts → vs ≡ symbol paren_open ∷ us →
+    is_reserved n ≡ true → macro_head r ts ≡ Err bad_syntax
+macro_reserved r n ts us vs h k e f =
+    macro_here r n ts us h (sym k ∙ e) ∙ ap (λ b. if b then Err bad_syntax else declared_head r n us) f
+
+pub macro_free : (r : Here) (n : List ℕ) (ts us vs : List Token) → Some n ≡ next_word ts → vs ≡ passed ts → vs ≡ symbol paren_open ∷ us →
+    is_reserved n ≡ false → macro_head r ts ≡ declared_head r n us
+macro_free r n ts us vs h k e f =
+    macro_here r n ts us h (sym k ∙ e) ∙ ap (λ b. if b then Err bad_syntax else declared_head r n us) f
 
 macro_no_paren : (r : Here) (n : List ℕ) (ts : List Token) → begins_symbol paren_open ts ≡ false → macro_head r (identifier n ∷ ts) ≡ Err (fault ts)
 unfolding macro_head
@@ -52,3 +77,8 @@ unfolding macro_head
 no_macro r [] h = refl
 no_macro r (identifier m ∷ ts) h = cc
 no_macro r (t ∷ ts) h = refl
+
+-- a sign that stood next
+pub skipped : (s : Symbol) (old new : List Token) (b : Bool) → b ≡ true → SkipsSign s old new b → old ≡ symbol s ∷ new
+skipped s old new true e h = h
+skipped s old new false e h = cc

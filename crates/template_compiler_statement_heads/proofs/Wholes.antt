@@ -109,18 +109,18 @@ set_body_whole : (r : Here) (p : Around) (t : Expression) (ts : List Token) →
 unfolding set_body
 set_body_whole r p t ts = through (r.filters absent ts) _ _ _ (λ f us. tag_moved f (t, f) us _ _ (λ vs. refl))
 
+over_again : (r : Here) (p : Around) (m : Read (Expression × Optional)) →
+    and_then m (λ h us. body_by r p (codes "endset") (set_block h.0 h.1) us) ≡ and_then (and_then m (λ h us. Ok (set_over h, us))) (set_rest r p)
+unfolding and_then
+over_again r p (Ok x) = refl
+over_again r p (Err f) = refl
+
 set_cases : (r : Here) (p : Around) (t : Expression) (ts : List Token) (b : Bool) →
     (if b then set_targets r t ts else set_body r p t ts) ≡
     and_then (if b then and_then (set_targets r t ts) (λ s us. Ok (set_whole s, us)) else and_then (set_block_head r t ts) (λ h us. Ok (set_over h, us)))
     (set_rest r p)
 set_cases r p t ts true = values_again r p (set_targets r t ts)
 set_cases r p t ts false = set_body_whole r p t ts ∙ over_again r p (set_block_head r t ts)
-  where
-    over_again : (r : Here) (p : Around) (m : Read (Expression × Optional)) →
-        and_then m (λ h us. body_by r p (codes "endset") (set_block h.0 h.1) us) ≡ and_then (and_then m (λ h us. Ok (set_over h, us))) (set_rest r p)
-    unfolding and_then
-    over_again r p (Ok x) = refl
-    over_again r p (Err f) = refl
 
 pub set_whole_by : (r : Here) (p : Around) (ts : List Token) → set_by r p ts ≡ and_then (set_head r ts) (set_rest r p)
 unfolding set_by set_behind

@@ -1,7 +1,8 @@
-use Rattle.std.proofs.Common.{◌≡◌, ◌-◌, Ok, codes, refl, sym, ap, ◌∙◌, subst, arith}
+use Rattle.std.proofs.Common.{rules, ◌≡◌, ◌-◌, Ok, codes, refl, sym, ap, ◌∙◌, subst, arith}
 use Rattle.template_tree.specs.Tree.{with_block, auto_escape, macro, call_block}
 use Rattle.template_compiler_statements.specs.Grammar.{macro_around}
-use Rattle.template_compiler_statements.specs.Reader.{here, here_by, statement_step, statements_by, statements_at, branch_step, filtered_body}
+use Rattle.template_compiler_statements.specs.Reader.{autoescape_by, block_by, branch_by, branch_step, call_by, filter_block_by, filtered_body, for_by, here, here_by, macro_by, statement_step, statements_at, statements_by, with_by}
+use Rattle.template_compiler_stream.specs.Refusals.{Refused}
 use Rattle.template_compiler_statement_laws.proofs.Sound.{next_statement_takes, next_branch_takes}
 use Rattle.template_compiler_statement_parts.proofs.Rounds.{rounds_end, rounds_go, rounds_refused}
 use Rattle.template_compiler_statement_makers.specs.Surroundings.{around_of}
@@ -71,75 +72,100 @@ pub with_block-returns : goal.with_block-returns
 unfolding here here_by
 with_block-returns g t c =
     body_made (here c.args.left) (around_of c.args.around) (codes "endwith") with_block (with_whole (here c.args.left) (around_of c.args.around) c.args.tokens.now) _ _ c.in_ok-head.ensures _ _ c.in_ok-body.ensures ∙
-    ap (λ s. Ok (s, c.ended_body-body.new.tokens)) (sym c.in_ok-with_block.ensures)
+    ap (λ s. Ok (s, c.ended_body.new.tokens)) (sym c.in_ok-with_block.ensures)
 
 pub with_block-returns-in_err-head : goal.with_block-returns-in_err-head
-with_block-returns-in_err-head g t c = head_fails _ (with_whole (here c.args.left) (around_of c.args.around) c.args.tokens.now) _ c.in_err-head.ensures
+with_block-returns-in_err-head g t c =
+    let refused : Refused (with_by (here c.args.left) (around_of c.args.around) c.args.tokens.now) c.in_err-head.field-0.0 =
+        head_fails _ (with_whole (here c.args.left) (around_of c.args.around) c.args.tokens.now) _ c.in_err-head.ensures in
+    search rules
 
 pub with_block-returns-in_err-body : goal.with_block-returns-in_err-body
 unfolding here here_by
 with_block-returns-in_err-body g t c =
-    body_fails (here c.args.left) (around_of c.args.around) (codes "endwith") with_block (with_whole (here c.args.left) (around_of c.args.around) c.args.tokens.now) _ _ c.in_ok-head.ensures _ c.in_err-body.ensures
+    let refused : Refused (with_by (here c.args.left) (around_of c.args.around) c.args.tokens.now) c.in_err-body.field-0.0 =
+        body_fails (here c.args.left) (around_of c.args.around) (codes "endwith") with_block (with_whole (here c.args.left) (around_of c.args.around) c.args.tokens.now) _ _ c.in_ok-head.ensures _ c.in_err-body.ensures in
+    search rules
 
 pub auto_escape-returns : goal.auto_escape-returns
 unfolding here here_by
 auto_escape-returns g t c =
     body_made (here c.args.left) (around_of c.args.around) (codes "endautoescape") auto_escape (autoescape_whole (here c.args.left) (around_of c.args.around) c.args.tokens.now) _ _ c.in_ok-head.ensures _ _ c.in_ok-body.ensures ∙
-    ap (λ s. Ok (s, c.ended_body-body.new.tokens)) (sym c.auto_escape.ensures)
+    ap (λ s. Ok (s, c.ended_body.new.tokens)) (sym c.auto_escape.ensures)
 
 pub auto_escape-returns-in_err-head : goal.auto_escape-returns-in_err-head
-auto_escape-returns-in_err-head g t c = head_fails _ (autoescape_whole (here c.args.left) (around_of c.args.around) c.args.tokens.now) _ c.in_err-head.ensures
+auto_escape-returns-in_err-head g t c =
+    let refused : Refused (autoescape_by (here c.args.left) (around_of c.args.around) c.args.tokens.now) c.in_err-head.field-0.0 =
+        head_fails _ (autoescape_whole (here c.args.left) (around_of c.args.around) c.args.tokens.now) _ c.in_err-head.ensures in
+    search rules
 
 pub auto_escape-returns-in_err-body : goal.auto_escape-returns-in_err-body
 unfolding here here_by
 auto_escape-returns-in_err-body g t c =
-    body_fails (here c.args.left) (around_of c.args.around) (codes "endautoescape") auto_escape (autoescape_whole (here c.args.left) (around_of c.args.around) c.args.tokens.now) _ _ c.in_ok-head.ensures _ c.in_err-body.ensures
+    let refused : Refused (autoescape_by (here c.args.left) (around_of c.args.around) c.args.tokens.now) c.in_err-body.field-0.0 =
+        body_fails (here c.args.left) (around_of c.args.around) (codes "endautoescape") auto_escape (autoescape_whole (here c.args.left) (around_of c.args.around) c.args.tokens.now) _ _ c.in_ok-head.ensures _ c.in_err-body.ensures in
+    search rules
 
 pub filter_block-returns : goal.filter_block-returns
 unfolding here here_by
 filter_block-returns g t c =
     body_made (here c.args.left) (around_of c.args.around) (codes "endfilter") filtered_body (filter_whole (here c.args.left) (around_of c.args.around) c.args.tokens.now) _ _ c.in_ok-head.ensures _ _ c.in_ok-body.ensures ∙
-    ap (λ s. Ok (s, c.ended_body-body.new.tokens)) (sym c.filter_block.ensures)
+    ap (λ s. Ok (s, c.ended_body.new.tokens)) (sym c.filter_block.ensures)
 
 pub filter_block-returns-in_err-head : goal.filter_block-returns-in_err-head
-filter_block-returns-in_err-head g t c = head_fails _ (filter_whole (here c.args.left) (around_of c.args.around) c.args.tokens.now) _ c.in_err-head.ensures
+filter_block-returns-in_err-head g t c =
+    let refused : Refused (filter_block_by (here c.args.left) (around_of c.args.around) c.args.tokens.now) c.in_err-head.field-0.0 =
+        head_fails _ (filter_whole (here c.args.left) (around_of c.args.around) c.args.tokens.now) _ c.in_err-head.ensures in
+    search rules
 
 pub filter_block-returns-in_err-body : goal.filter_block-returns-in_err-body
 unfolding here here_by
 filter_block-returns-in_err-body g t c =
-    body_fails (here c.args.left) (around_of c.args.around) (codes "endfilter") filtered_body (filter_whole (here c.args.left) (around_of c.args.around) c.args.tokens.now) _ _ c.in_ok-head.ensures _ c.in_err-body.ensures
+    let refused : Refused (filter_block_by (here c.args.left) (around_of c.args.around) c.args.tokens.now) c.in_err-body.field-0.0 =
+        body_fails (here c.args.left) (around_of c.args.around) (codes "endfilter") filtered_body (filter_whole (here c.args.left) (around_of c.args.around) c.args.tokens.now) _ _ c.in_ok-head.ensures _ c.in_err-body.ensures in
+    search rules
 
 pub macro_block-returns : goal.macro_block-returns
 unfolding here here_by
 macro_block-returns g t c =
     let body = rw c.within_macro.ensures at c.in_ok-body.ensures in
     body_made (here c.args.left) macro_around (codes "endmacro") (λ h. macro h.1 h.0.0 h.0.1) (macro_whole (here c.args.left) c.args.tokens.now) _ _ c.in_ok-head.ensures _ _ body ∙
-    ap (λ s. Ok (s, c.ended_body-body.new.tokens)) (sym c.in_ok-macro_block.ensures)
+    ap (λ s. Ok (s, c.ended_body.new.tokens)) (sym c.in_ok-macro_block.ensures)
 
 pub macro_block-returns-in_err-head : goal.macro_block-returns-in_err-head
-macro_block-returns-in_err-head g t c = head_fails _ (macro_whole (here c.args.left) c.args.tokens.now) _ c.in_err-head.ensures
+macro_block-returns-in_err-head g t c =
+    let refused : Refused (macro_by (here c.args.left) c.args.tokens.now) c.in_err-head.field-0.0 =
+        head_fails _ (macro_whole (here c.args.left) c.args.tokens.now) _ c.in_err-head.ensures in
+    search rules
 
 pub macro_block-returns-in_err-body : goal.macro_block-returns-in_err-body
 unfolding here here_by
 macro_block-returns-in_err-body g t c =
     let body = rw c.within_macro.ensures at c.in_err-body.ensures in
-    body_fails (here c.args.left) macro_around (codes "endmacro") (λ h. macro h.1 h.0.0 h.0.1) (macro_whole (here c.args.left) c.args.tokens.now) _ _ c.in_ok-head.ensures _ body
+    let refused : Refused (macro_by (here c.args.left) c.args.tokens.now) c.in_err-body.field-0.0 =
+        body_fails (here c.args.left) macro_around (codes "endmacro") (λ h. macro h.1 h.0.0 h.0.1) (macro_whole (here c.args.left) c.args.tokens.now) _ _ c.in_ok-head.ensures _ body in
+    search rules
 
 pub call_block-returns : goal.call_block-returns
 unfolding here here_by
 call_block-returns g t c =
     let body = rw c.within_macro.ensures at c.in_ok-body.ensures in
     body_made (here c.args.left) macro_around (codes "endcall") (λ h. call_block h.1 h.2 h.0.0 h.0.1) (call_whole (here c.args.left) c.args.tokens.now) _ _ c.in_ok-head.ensures _ _ body ∙
-    ap (λ s. Ok (s, c.ended_body-body.new.tokens)) (sym c.in_ok-call_block.ensures)
+    ap (λ s. Ok (s, c.ended_body.new.tokens)) (sym c.in_ok-call_block.ensures)
 
 pub call_block-returns-in_err-head : goal.call_block-returns-in_err-head
-call_block-returns-in_err-head g t c = head_fails _ (call_whole (here c.args.left) c.args.tokens.now) _ c.in_err-head.ensures
+call_block-returns-in_err-head g t c =
+    let refused : Refused (call_by (here c.args.left) c.args.tokens.now) c.in_err-head.field-0.0 =
+        head_fails _ (call_whole (here c.args.left) c.args.tokens.now) _ c.in_err-head.ensures in
+    search rules
 
 pub call_block-returns-in_err-body : goal.call_block-returns-in_err-body
 unfolding here here_by
 call_block-returns-in_err-body g t c =
     let body = rw c.within_macro.ensures at c.in_err-body.ensures in
-    body_fails (here c.args.left) macro_around (codes "endcall") (λ h. call_block h.1 h.2 h.0.0 h.0.1) (call_whole (here c.args.left) c.args.tokens.now) _ _ c.in_ok-head.ensures _ body
+    let refused : Refused (call_by (here c.args.left) c.args.tokens.now) c.in_err-body.field-0.0 =
+        body_fails (here c.args.left) macro_around (codes "endcall") (λ h. call_block h.1 h.2 h.0.0 h.0.1) (call_whole (here c.args.left) c.args.tokens.now) _ _ c.in_ok-head.ensures _ body in
+    search rules
 
 pub set-returns-in-Values : goal.set-returns-in-Values
 set-returns-in-Values g t c =
@@ -154,11 +180,14 @@ set-returns-in-Block g t c =
 pub set_block-returns : goal.set_block-returns
 unfolding here here_by
 set_block-returns g t c =
-    set_body_made (here c.args.left) (around_of c.args.around) (set_block_of c.args.head) _ _ _ c.in_ok-body.ensures ∙ ap (λ s. Ok (s, c.ended_body-body.new.tokens)) (sym c.set_block.ensures)
+    set_body_made (here c.args.left) (around_of c.args.around) (set_block_of c.args.head) _ _ _ c.in_ok-body.ensures ∙ ap (λ s. Ok (s, c.ended_body.new.tokens)) (sym c.set_block.ensures)
 
 pub set_block-returns-in_err-body : goal.set_block-returns-in_err-body
 unfolding here here_by
-set_block-returns-in_err-body g t c = set_body_fails (here c.args.left) (around_of c.args.around) (set_block_of c.args.head) _ _ c.in_err-body.ensures
+set_block-returns-in_err-body g t c =
+    let refused : Refused (set_rest (here c.args.left) (around_of c.args.around) (set_over (set_block_of c.args.head)) c.args.tokens.now) c.in_err-body.field-0.0 =
+        set_body_fails (here c.args.left) (around_of c.args.around) (set_block_of c.args.head) _ _ c.in_err-body.ensures in
+    search rules
 
 pub block-returns : goal.block-returns
 unfolding here here_by
@@ -169,34 +198,47 @@ block-returns g t c =
     c.read_block_end.ensures
 
 pub block-returns-in_err-head : goal.block-returns-in_err-head
-block-returns-in_err-head g t c = head_fails (block_rest (here c.args.left) (around_of c.args.around)) (block_whole (here c.args.left) (around_of c.args.around) c.args.tokens.now) _ c.in_err-head.ensures
+block-returns-in_err-head g t c =
+    let refused : Refused (block_by (here c.args.left) (around_of c.args.around) c.args.tokens.now) c.in_err-head.field-0.0 =
+        head_fails (block_rest (here c.args.left) (around_of c.args.around)) (block_whole (here c.args.left) (around_of c.args.around) c.args.tokens.now) _ c.in_err-head.ensures in
+    search rules
 
 pub block-returns-in_err-body : goal.block-returns-in_err-body
 unfolding here here_by
 block-returns-in_err-body g t c =
     let body = rw c.within_block.ensures at c.in_err-body.ensures in
-    behind_fails (block_rest (here c.args.left) (around_of c.args.around)) (block_whole (here c.args.left) (around_of c.args.around) c.args.tokens.now) _ _ c.in_ok-head.ensures _ (head_fails _ refl _ body)
+    let refused : Refused (block_by (here c.args.left) (around_of c.args.around) c.args.tokens.now) c.in_err-body.field-0.0 =
+        behind_fails (block_rest (here c.args.left) (around_of c.args.around)) (block_whole (here c.args.left) (around_of c.args.around) c.args.tokens.now) _ _ c.in_ok-head.ensures _ (head_fails _ refl _ body) in
+    search rules
 
 pub for_loop-returns : goal.for_loop-returns
 unfolding here here_by
 for_loop-returns g t c =
     let body = rw c.within_loop.ensures at c.in_ok-body.ensures in
     for_made (here c.args.left) (around_of c.args.around) _ _ _ _ _ _ _ c.in_ok-head.ensures body c.in_ok-else_body.ensures ∙
-    ap (λ s. Ok (s, c.otherwise-else_body.new.tokens)) (sym c.for_loop.ensures)
+    ap (λ s. Ok (s, c.otherwise.new.tokens)) (sym c.for_loop.ensures)
 
 pub for_loop-returns-in_err-head : goal.for_loop-returns-in_err-head
-for_loop-returns-in_err-head g t c = head_fails (for_rest (here c.args.left) (around_of c.args.around)) (for_whole (here c.args.left) (around_of c.args.around) c.args.tokens.now) _ c.in_err-head.ensures
+for_loop-returns-in_err-head g t c =
+    let refused : Refused (for_by (here c.args.left) (around_of c.args.around) c.args.tokens.now) c.in_err-head.field-0.0 =
+        head_fails (for_rest (here c.args.left) (around_of c.args.around)) (for_whole (here c.args.left) (around_of c.args.around) c.args.tokens.now) _ c.in_err-head.ensures in
+    search rules
 
 pub for_loop-returns-in_err-body : goal.for_loop-returns-in_err-body
 unfolding here here_by
 for_loop-returns-in_err-body g t c =
-    let body = rw c.within_loop.ensures at c.in_err-body.ensures in for_body_fails (here c.args.left) (around_of c.args.around) _ _ _ c.in_ok-head.ensures _ body
+    let body = rw c.within_loop.ensures at c.in_err-body.ensures in
+    let refused : Refused (for_by (here c.args.left) (around_of c.args.around) c.args.tokens.now) c.in_err-body.field-0.0 =
+        for_body_fails (here c.args.left) (around_of c.args.around) _ _ _ c.in_ok-head.ensures _ body in
+    search rules
 
 pub for_loop-returns-in_err-else_body : goal.for_loop-returns-in_err-else_body
 unfolding here here_by
 for_loop-returns-in_err-else_body g t c =
     let body = rw c.within_loop.ensures at c.in_ok-body.ensures in
-    for_else_fails (here c.args.left) (around_of c.args.around) _ _ _ _ _ c.in_ok-head.ensures body _ c.in_err-else_body.ensures
+    let refused : Refused (for_by (here c.args.left) (around_of c.args.around) c.args.tokens.now) c.in_err-else_body.field-0.0 =
+        for_else_fails (here c.args.left) (around_of c.args.around) _ _ _ _ _ c.in_ok-head.ensures body _ c.in_err-else_body.ensures in
+    search rules
 
 pub read_branch-returns : goal.read_branch-returns
 unfolding here here_by
@@ -205,9 +247,14 @@ read_branch-returns g t c =
     ap (λ b. Ok (b, c.body.new.tokens)) (sym c.branch.ensures)
 
 pub read_branch-returns-in_err-head : goal.read_branch-returns-in_err-head
-read_branch-returns-in_err-head g t c = head_fails _ (branch_whole (here c.args.left) (around_of c.args.around) c.args.tokens.now) _ c.in_err-head.ensures
+read_branch-returns-in_err-head g t c =
+    let refused : Refused (branch_by (here c.args.left) (around_of c.args.around) c.args.tokens.now) c.in_err-head.field-0.0 =
+        head_fails _ (branch_whole (here c.args.left) (around_of c.args.around) c.args.tokens.now) _ c.in_err-head.ensures in
+    search rules
 
 pub read_branch-returns-in_err-body : goal.read_branch-returns-in_err-body
 unfolding here here_by
 read_branch-returns-in_err-body g t c =
-    behind_fails _ (branch_whole (here c.args.left) (around_of c.args.around) c.args.tokens.now) _ _ c.in_ok-head.ensures _ (head_fails _ refl _ c.in_err-body.ensures)
+    let refused : Refused (branch_by (here c.args.left) (around_of c.args.around) c.args.tokens.now) c.in_err-body.field-0.0 =
+        behind_fails _ (branch_whole (here c.args.left) (around_of c.args.around) c.args.tokens.now) _ _ c.in_ok-head.ensures _ (head_fails _ refl _ c.in_err-body.ensures) in
+    search rules
