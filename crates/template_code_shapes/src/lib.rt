@@ -4,14 +4,13 @@
 
 ghost use Rattle.template_code_shapes.specs.Laws.{CertifiedIsGood, GoodEndsWell, GoodGoesOn};
 
-mod checked;
 mod notes;
 mod outline;
 mod verified;
 mod ways;
 
-pub use checked::Checked;
-pub use verified::verify;
+pub use notes::Stop;
+pub use verified::kind_of;
 
 /// Which of the two kinds a stream is.
 #[derive(Clone, Copy, Debug, PartialEq, Eq)]

@@ -1,6 +1,6 @@
-//! Streams of instructions that can be run.
+//! What kind of stream instructions are.
 
-ghost use Rattle.std.specs.Prelude.{◌≡◌, ◌<◌, ◌⊎◌, ◌∷◌, [], suc, length, Some, None, IfOk, IfErr, IfSome, IsNone, IsSomeAnd, IsErrOf, option_map};
+ghost use Rattle.std.specs.Prelude.{◌≡◌, ◌<◌, suc, length, Some, None, IfOk, IfSome, IsNone, IsSomeAnd, IsErrOf, option_map};
 ghost use Rattle.template_code.specs.Listing.{code_in};
 ghost use Rattle.template_code_shapes.specs.Streams.{IsGood, end_of};
 ghost use Rattle.template_code_shapes.specs.Shapes.{Shape};
@@ -9,16 +9,13 @@ ghost use Rattle.template_code_shapes.specs.Outlines.{shape_of};
 ghost use Rattle.template_code_shapes.specs.Ways.{effect_in, jump_of};
 ghost use Rattle.template_code_shapes.specs.Passes.{StandsAt, IsBad, Noted, AgreesWith, home_of, effect_at};
 ghost use Rattle.template_code_shapes.specs.Noted.{noted_in, places_in};
-ghost use Rattle.template_code_shapes.specs.Checked.{kind_in, stream_in};
 
 use crate::StreamKind;
-use crate::checked::Checked;
 use crate::notes::{Notes, Stop};
 use crate::outline::Outline;
 use crate::ways::{Jump, Ways, ways_at};
 use std::alloc::Global;
 use template_code::{Instruction, Instructions};
-use template_values_errors::{Error, ErrorKind};
 
 // Notes the shape at an `Iterate`, to which later jumps lead back.
 fn note_home(
@@ -130,8 +127,15 @@ fn kind_at_end(hand: Option<Outline>) -> Option<StreamKind>
     }
 }
 
-// What kind of stream the instructions are, in one ascending pass.
-fn kind_of(alloc: Global, code: &Instructions<'_>) -> Result<StreamKind, Stop>
+/// What kind of stream the instructions are: a template's, where nothing is left at the end of a good stream, or an
+/// expression's, where one value is. What is good as both, since no way leads to its end, is told as a template's.
+/// Takes one pass over the instructions, at each as long as the shape there is deep, and memory for a shape at each
+/// target of a jump.
+///
+/// # Errors
+///
+/// [`Stop::Bad`] for all other streams, and [`Stop::Memory`].
+pub fn kind_of(alloc: Global, code: &Instructions<'_>) -> Result<StreamKind, Stop>
     ensures good { IfOk result (λ kind. IsGood kind (code_in code.now)) }
     ensures first { IfOk result (λ kind. IsGood StreamKind.Template (code_in code.now) → kind ≡ StreamKind.Template) }
     ensures bad { IsErrOf result Stop.Bad → IsBad (code_in code.now) }
@@ -147,34 +151,5 @@ fn kind_of(alloc: Global, code: &Instructions<'_>) -> Result<StreamKind, Stop>
     match kind_at_end(hand) {
         Some(kind) => Ok(kind),
         None => Err(Stop::Bad),
-    }
-}
-
-/// Accepts a stream in which each place has one shape however it is reached, each reached instruction
-/// is admissible with that shape, and at the end nothing is open and no operand is left, which is a
-/// template's, or one value, which is an expression's. What is good as both, since no way leads to its end, is told as
-/// a template's. Takes one pass over the instructions, at each as long as the shape there is deep, and memory for a
-/// shape at each target of a jump.
-///
-/// # Errors
-///
-/// With the instructions: [`ErrorKind::BadStream`] for all other streams, and
-/// [`ErrorKind::OutOfMemory`].
-pub fn verify<'source>(
-    alloc: Global,
-    instructions: Instructions<'source>,
-) -> Result<Checked<'source>, (Error, Instructions<'source>)>
-    ensures good { IfOk result (λ checked. IsGood (kind_in checked) (code_in instructions.entry)) }
-    ensures first { IfOk result (λ checked.
-        IsGood StreamKind.Template (code_in instructions.entry) → kind_in checked ≡ StreamKind.Template) }
-    ensures accepted { IfOk result (λ checked. stream_in checked ≡ instructions.entry) }
-    ensures bad { IfErr result (λ back. back.0 ≡ ErrorKind.BadStream ∷ [] → IsBad (code_in instructions.entry)) }
-    ensures refused { IfErr result (λ back. (back.0 ≡ ErrorKind.BadStream ∷ []) ⊎ (back.0 ≡ ErrorKind.OutOfMemory ∷ [])) }
-    ensures unchanged { IfErr result (λ back. back.1 ≡ instructions.entry) }
-{
-    match kind_of(alloc, &instructions) {
-        Ok(kind) => Ok(Checked { instructions, kind }),
-        Err(Stop::Bad) => Err((Error::new(ErrorKind::BadStream), instructions)),
-        Err(Stop::Memory) => Err((Error::new(ErrorKind::OutOfMemory), instructions)),
     }
 }
