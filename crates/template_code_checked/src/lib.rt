@@ -11,7 +11,6 @@ ghost use Rattle.template_code_checked.specs.Checked.{kind_in, stream_in};
 mod checked;
 
 pub use checked::Checked;
-
 use std::alloc::Global;
 use template_code::Instructions;
 use template_code_shapes::{Stop, kind_of};
