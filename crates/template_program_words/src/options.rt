@@ -1,5 +1,5 @@
 //! The words that the program takes.
-ghost use Rattle.std.specs.Prelude.{◌≡◌, IfOk, false};
+ghost use Rattle.std.specs.Prelude.{◌≡◌, IfOk, All, false, map};
 ghost use Rattle.clap.specs.Words.{app_of, rule_of};
 ghost use Rattle.clap.specs.declared.builder.command.Command.TheViews.{out-Command};
 ghost use Rattle.template_program_words.specs.CommandLine as line;
@@ -22,15 +22,22 @@ Status:
 pub(crate) fn program<'a>(alloc: Global) -> Result<Command<'a>, AllocError>
     ensures { IfOk result (λ command. app_of command ≡ line.program) }
 {
+    bare_program(alloc)?
+        .subcommand(render(alloc)?)?
+        .subcommand(names(alloc)?)
+}
+
+// The program without its commands.
+fn bare_program<'a>(alloc: Global) -> Result<Command<'a>, AllocError>
+    ensures { IfOk result (λ command. app_of command ≡ line.bare_program) }
+{
     Command::new(alloc, "template")
         .about("Renders a template over a JSON context, or prints the names that it can ask for")
         .version("0.1.0")
         .after_help(STATUSES)
-        .bin_name("template")?
         .no_binary_name(true)
         .subcommand_required(true)
-        .subcommand(render(alloc)?)?
-        .subcommand(names(alloc)?)
+        .bin_name("template")
 }
 
 /// `render [--context FILE] [-D NAME=TEXT]... [--fuel N] [--limit N] [--undefined MODE] [--main NAME] [FILE...]`
@@ -40,13 +47,22 @@ fn render<'a>(alloc: Global) -> Result<Command<'a>, AllocError>
 {
     Command::new(alloc, "render")
         .about("Renders the main template to standard output")
-        .arg(context(alloc))?
-        .arg(definition(alloc))?
-        .arg(fuel(alloc))?
-        .arg(limit(alloc))?
-        .arg(undefined(alloc))?
-        .arg(main(alloc))?
-        .arg(files(alloc))
+        .args(render_arguments(alloc)?)
+}
+
+fn render_arguments<'a>(alloc: Global) -> Result<Vec<Arg<'a>>, AllocError>
+    ensures rules { IfOk result (λ arguments. map rule_of arguments.items ≡ line.render_rules) }
+    ensures local { IfOk result (λ arguments. All (λ a. a.global ≡ false) arguments.items) }
+{
+    Ok(vec![in alloc;
+        context(alloc),
+        definition(alloc),
+        fuel(alloc),
+        limit(alloc),
+        undefined(alloc),
+        main(alloc),
+        files(alloc),
+    ]?)
 }
 
 /// `names [--main NAME] [FILE...]`

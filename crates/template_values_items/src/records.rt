@@ -7,7 +7,7 @@ ghost use Rattle.template_values_core.specs.Maps.{pairs_of, entry_under};
 ghost use Rattle.template_values_core.specs.Shape.{pairs_in};
 ghost use Rattle.template_values_records.specs.Views.{macro_seen};
 ghost use Rattle.template_values_operators.specs.Contains.{namespace_contains};
-ghost use Rattle.template_values_operators.specs.Records.{is_last, item_before, loop_attribute, loop_value, macro_attribute, macro_value, namespace_attribute, namespace_item};
+ghost use Rattle.template_values_operators.specs.Records.{is_last, item_before, loop_attribute, loop_count, loop_value, macro_attribute, macro_value, namespace_attribute, namespace_item};
 
 use std::alloc::Global;
 use template_values_core::{Entry, Value};
@@ -114,31 +114,28 @@ pub(crate) fn loop_attribute<R: Records>(
 fn loop_value(name: &str, items: &[Value], place: usize, depth: usize) -> Result<Value, Error>
     ensures { Gives result (Ok (loop_value name.now items.now place depth)) }
 {
-    let count = items.len();
-    if name == "index0" {
-        Ok(whole(place))
-    } else if name == "index" {
-        Ok(one_more(place))
-    } else if name == "length" {
-        Ok(whole(count))
-    } else if name == "revindex" {
-        Ok(whole(count.saturating_sub(place)))
-    } else if name == "revindex0" {
-        Ok(whole(count.saturating_sub(place).saturating_sub(1)))
-    } else if name == "first" {
-        Ok(Value::from_bool(place == 0))
-    } else if name == "last" {
-        Ok(Value::from_bool(is_last(place, count)))
-    } else if name == "depth" {
-        Ok(one_more(depth))
-    } else if name == "depth0" {
-        Ok(whole(depth))
-    } else if name == "previtem" {
-        copy_or_undefined(item_before(place, items))
-    } else if name == "nextitem" {
-        copy_or_undefined(item_after(place, items))
-    } else {
-        Ok(Value::undefined())
+    match name {
+        "previtem" => copy_or_undefined(item_before(place, items)),
+        "nextitem" => copy_or_undefined(item_after(place, items)),
+        _ => Ok(loop_count(name, items.len(), place, depth)),
+    }
+}
+
+/// What a loop counts under a name.
+fn loop_count(name: &str, count: usize, place: usize, depth: usize) -> Value
+    ensures { result ≡ loop_count name.now count place depth }
+{
+    match name {
+        "index0" => whole(place),
+        "index" => one_more(place),
+        "length" => whole(count),
+        "revindex" => whole(count.saturating_sub(place)),
+        "revindex0" => whole(count.saturating_sub(place).saturating_sub(1)),
+        "first" => Value::from_bool(place == 0),
+        "last" => Value::from_bool(is_last(place, count)),
+        "depth" => one_more(depth),
+        "depth0" => whole(depth),
+        _ => Value::undefined(),
     }
 }
 

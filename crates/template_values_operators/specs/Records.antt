@@ -27,21 +27,26 @@ item_before (suc place) items = slice_get items place
 abbrev pub is_last : ℕ → ℕ → Bool
 is_last place count = count == 0 || count == suc place
 
+-- what a loop counts under a name, where it has so many items and is at a place
+abbrev pub loop_count : List ℕ → ℕ → ℕ → ℕ → Val
+loop_count name count place depth =
+    if bytes_eq (codes "index0") name then int (pos place)
+    else (if bytes_eq (codes "index") name then int (pos (suc place))
+    else (if bytes_eq (codes "length") name then int (pos count)
+    else (if bytes_eq (codes "revindex") name then int (pos (count - place))
+    else (if bytes_eq (codes "revindex0") name then int (pos (count - place - 1))
+    else (if bytes_eq (codes "first") name then truth (place == 0)
+    else (if bytes_eq (codes "last") name then truth (is_last place count)
+    else (if bytes_eq (codes "depth") name then int (pos (suc depth))
+    else (if bytes_eq (codes "depth0") name then int (pos depth)
+    else undefined))))))))
+
 -- what a loop has under a name where it is at a place, which is behind the last item once all were asked for
 abbrev pub loop_value : List ℕ → List Val → ℕ → ℕ → Val
 loop_value name items place depth =
-    if bytes_eq name (codes "index0") then int (pos place)
-    else (if bytes_eq name (codes "index") then int (pos (suc place))
-    else (if bytes_eq name (codes "length") then int (pos (length items))
-    else (if bytes_eq name (codes "revindex") then int (pos (length items - place))
-    else (if bytes_eq name (codes "revindex0") then int (pos (length items - place - 1))
-    else (if bytes_eq name (codes "first") then truth (place == 0)
-    else (if bytes_eq name (codes "last") then truth (is_last place (length items))
-    else (if bytes_eq name (codes "depth") then int (pos (suc depth))
-    else (if bytes_eq name (codes "depth0") then int (pos depth)
-    else (if bytes_eq name (codes "previtem") then unwrap_or (item_before place items) undefined
-    else (if bytes_eq name (codes "nextitem") then unwrap_or (slice_get items (suc place)) undefined
-    else undefined))))))))))
+    if bytes_eq (codes "previtem") name then unwrap_or (item_before place items) undefined
+    else (if bytes_eq (codes "nextitem") name then unwrap_or (slice_get items (suc place)) undefined
+    else loop_count name (length items) place depth)
 
 -- before its first item is asked for a loop has nothing
 abbrev pub loop_value_at : Option ℕ → List ℕ → LoopSeen → Val
