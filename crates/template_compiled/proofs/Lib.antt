@@ -2,3 +2,4 @@ pub mod Trees
 pub mod Plain
 pub mod Accepting
 pub mod Alone
+pub mod Boxes

@@ -1,5 +1,5 @@
 //! Compiled templates.
-ghost use Rattle.std.specs.Prelude.{◌≡◌, ◌↔◌, ℕ, List, IsTrue, IfOk, IfErr, OnOk, OnErr};
+ghost use Rattle.std.specs.Prelude.{◌≡◌, ◌↔◌, ◌⊎◌, ◌<◌, ◌^◌, ℕ, List, length, Ok, Err, IsTrue, IfOk, IfErr, OnOk, OnErr};
 ghost use Rattle.std.specs.BTreeSet.{contains_text};
 ghost use Rattle.std.specs.Cow.{cow_str_bytes};
 ghost use Rattle.template_values_errors.specs.Memory.{NoMemory};
@@ -7,7 +7,7 @@ ghost use Rattle.template_tree.specs.Tree.{Statements, template};
 ghost use Rattle.template_tree_statements.specs.View.{statement_of};
 ghost use Rattle.template_code.specs.Listing.{code_in};
 ghost use Rattle.template_compiler_syntax.specs.Syntax.{IsUsable};
-ghost use Rattle.template_compiler_sources.specs.Source.{IsSource};
+ghost use Rattle.template_compiler_sources.specs.Source.{IsSource, RefusesSource};
 ghost use Rattle.template_machine_escape.specs.Rule.{IsEscapeOf};
 ghost use Rattle.template_compiled.specs.Compiled.{IsFaithful, code_for, escaped_as};
 ghost use Rattle.template_names.specs.Names.{IsTold};
@@ -88,12 +88,13 @@ impl<'source> CompiledTemplate<'source> {
     {
         usable(&config.syntax_config);
         plain_text();
-        let tree = parse(alloc, source, name, config.syntax_config.clone()?)?;
-        if !is_runnable(&tree) {
+        let boxed = read(alloc, name, source, &config.syntax_config)?;
+        let tree = &*boxed;
+        if !is_runnable(tree) {
             return Err(Error::new(ErrorKind::SyntaxError));
         }
         let mut instructions = Instructions::new(alloc, name, source);
-        compile_template(alloc, &mut instructions, &tree)?;
+        compile_template(alloc, &mut instructions, tree)?;
         Ok(CompiledTemplate {
             instructions,
             config: config.clone()?,
@@ -201,6 +202,14 @@ impl<'source> CompiledTemplate<'source> {
         )
     }
 
+    // The same in a box, from where it is lent.
+    fn boxed_tree(&self, alloc: Global) -> Result<Box<Stmt<'_>>, Error>
+        ensures tree { IfOk result (λ tree. statement_of tree.value ≡ template (tree_in self.now.source)) }
+        ensures refused { IfErr result NoMemory }
+    {
+        boxed(alloc, self.tree(alloc))
+    }
+
     /// Adds the names that the template uses to a set of names. Reads the source once more, in time linear in its
     /// length, and takes a look-up for each place of use.
     ///
@@ -212,7 +221,7 @@ impl<'source> CompiledTemplate<'source> {
         ensures partial { OnErr result (AddsSome (uses self.now) names.old names.new) }
         ensures refused { IfErr result NoMemory }
     {
-        let tree = self.tree(alloc)?;
+        let tree = self.boxed_tree(alloc)?;
         add_undeclared(alloc, names, &tree)?;
         Ok(())
     }
@@ -229,7 +238,7 @@ impl<'source> CompiledTemplate<'source> {
             ↔ IsTold nested text (tree_in self.now.source)) }
         ensures refused { IfErr result NoMemory }
     {
-        let tree = self.tree(alloc)?;
+        let tree = self.boxed_tree(alloc)?;
         Ok(find_undeclared(alloc, &tree, nested)?)
     }
 
@@ -239,6 +248,31 @@ impl<'source> CompiledTemplate<'source> {
         ensures faithful { IsFaithful self.now }
     {
         &self.instructions
+    }
+}
+
+// The tree of a source, in a box.
+fn read<'source>(
+    alloc: Global,
+    name: &'source str,
+    source: &'source str,
+    syntax: &SyntaxConfig,
+) -> Result<Box<Stmt<'source>>, Error>
+    ensures found { IfOk result (λ tree. IsSource syntax.now source.now (statement_of tree.value)) }
+    ensures fits { IfOk result (λ _. length source.now < 2 ^ 32) }
+    ensures refused { IfErr result (RefusesSource syntax.now source.now) }
+{
+    boxed(alloc, parse(alloc, source, name, syntax.clone()?))
+}
+
+// What was read, in a box, or why it was not.
+fn boxed<T: Drop>(alloc: Global, read: Result<T, Error>) -> Result<Box<T>, Error>
+    ensures boxed { IfOk result (λ b. read ≡ Ok b.value) }
+    ensures refused { IfErr result (λ kinds. (read ≡ Err kinds) ⊎ NoMemory kinds) }
+{
+    match read {
+        Ok(value) => Ok(Box::new(alloc, value)?),
+        Err(error) => Err(error),
     }
 }
 
