@@ -4,8 +4,9 @@ top=collections.Counter()
 for f in glob.glob(sys.argv[1]+'/*.json'):
     d=json.load(open(f)); 
     if len(sys.argv)>2 and d['crate']!=sys.argv[2]: continue
-    pass
+    if not d["mods"]: continue
     ms=sorted((t,x) for x,t in d['mods'].items())
+    if not ms: continue
     prev=ms[0][0]
     for t,x in ms:
         n=x.replace('.oantt','').replace('Rattle-'+d['crate']+'-proofs.','')
