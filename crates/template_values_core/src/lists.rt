@@ -9,7 +9,7 @@ use crate::value::{Repr, Value, larger};
 use std::alloc::Global;
 use std::rc::Rc;
 use template_values_errors::{Error, ErrorKind};
-use template_values_model::DEPTH_LIMIT;
+use template_values_model::{DEPTH_LIMIT, is_too_deep};
 
 /// Items that are shared, and the depth of a container of them.
 struct SharedItems {
@@ -65,7 +65,7 @@ fn shared_items(alloc: Global, items: Vec<Value>) -> Result<SharedItems, Error>
     ensures deep { DEPTH_LIMIT < depth (list (vals_of items.items)) → result ≡ Err (ErrorKind.InvalidOperation ∷ []) }
 {
     let levels = deepest_of(items.as_slice()) + 1;
-    if DEPTH_LIMIT < levels {
+    if is_too_deep(levels) {
         return Err(Error::new(ErrorKind::InvalidOperation));
     }
     Ok(SharedItems {

@@ -13,10 +13,9 @@ ghost use Rattle.template_values_core.specs.Shape.{pairs_in};
 
 use crate::value::{Entry, Repr, Value, larger};
 use std::alloc::{AllocError, Global};
-use std::mem::swap;
 use std::rc::{Rc, RcStr};
 use template_values_errors::{Error, ErrorKind};
-use template_values_model::DEPTH_LIMIT;
+use template_values_model::{DEPTH_LIMIT, is_too_deep, replace_value};
 
 /// Entries that are shared, in the order of their keys, and the depth of a container of them.
 struct SharedEntries {
@@ -114,7 +113,7 @@ fn shared_entries(alloc: Global, entries: Vec<Entry>) -> Result<SharedEntries, E
 {
     let kept = sorted(entries)?;
     let levels = deepest_of(kept.as_slice()) + 1;
-    if DEPTH_LIMIT < levels {
+    if is_too_deep(levels) {
         return Err(Error::new(ErrorKind::InvalidOperation));
     }
     Ok(SharedEntries {
@@ -140,7 +139,7 @@ fn merge_equal_keys(entries: &mut Vec<Entry>)
     entries.dedup_by(|later, kept| {
         let is_equal = later.key == kept.key;
         if is_equal {
-            swap(&mut later.value, &mut kept.value);
+            replace_value(&mut kept.value, &mut later.value);
         }
         is_equal
     });
