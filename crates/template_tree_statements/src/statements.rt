@@ -237,43 +237,27 @@ impl<'source> Stmt<'source> {
 impl<'source> Drop for Stmt<'source> {
     #[cycle(stmt)]
     fn drop(self) {
-        let mut next = self.into_rest();
-        while let Some(statement) = next {
-            next = statement.into_rest();
+        let mut next = self.into_condition();
+        while let Some(condition) = next {
+            next = Stmt::following(condition);
         }
     }
 }
 
 impl<'source> Stmt<'source> {
-    ghost use Rattle.std.specs.Prelude.{◌<◌, IfSome};
-    ghost use Rattle.template_tree_statements.specs.declared.statements.Stmt.{size-Stmt};
+    ghost use Rattle.std.specs.Prelude.{◌<◌, ◌≤◌, IfSome};
+    ghost use Rattle.template_tree_statements.specs.declared.statements.Stmt.{IfCond as condition, size-Stmt};
 
-    // The last statement of a condition's `false_body`, such as an `elif`; all else that stands here is dropped. Most
-    // statements are texts.
+    // The condition that this statement is; another one is dropped. Most are texts.
     #[cycle(stmt)]
-    fn into_rest(self) -> Option<Stmt<'source>>
-        ensures { IfSome result (λ s. size-Stmt s < size-Stmt self.entry) }
+    fn into_condition(self) -> Option<Spanned<Box<IfCond<'source>>>>
+        ensures { IfSome result (λ n. size-Stmt (condition n) ≤ size-Stmt self.entry) }
     {
         match self {
+            Stmt::IfCond(n) => Some(n),
             Stmt::EmitRaw(_) => None,
-            statement => statement.into_rest_of_tag(),
-        }
-    }
-
-    // The same for those that are no texts.
-    #[cycle(stmt)]
-    #[inline(never)]
-    fn into_rest_of_tag(self) -> Option<Stmt<'source>>
-        ensures { IfSome result (λ s. size-Stmt s < size-Stmt self.entry) }
-    {
-        match self {
-            Stmt::IfCond(n) => {
-                let IfCond { mut false_body, .. } = Box::into_inner(n.node);
-                false_body.pop()
-            }
-            Stmt::Template(_) => None,
             Stmt::EmitExpr(_) => None,
-            Stmt::EmitRaw(_) => None,
+            Stmt::Template(_) => None,
             Stmt::ForLoop(_) => None,
             Stmt::WithBlock(_) => None,
             Stmt::Set(_) => None,
@@ -291,5 +275,14 @@ impl<'source> Stmt<'source> {
             Stmt::Break(_) => None,
             Stmt::Do(_) => None,
         }
+    }
+
+    // The condition that ends the `false_body` of this one, such as an `elif`; all else that stands here is dropped.
+    #[cycle(stmt)]
+    fn following(node: Spanned<Box<IfCond<'source>>>) -> Option<Spanned<Box<IfCond<'source>>>>
+        ensures { IfSome result (λ n. size-Stmt (condition n) < size-Stmt (condition node.entry)) }
+    {
+        let IfCond { mut false_body, .. } = Box::into_inner(node.node);
+        false_body.pop()?.into_condition()
     }
 }

@@ -1,16 +1,18 @@
 -- What is left to drop is smaller than what was passed.
-use Rattle.std.proofs.Common.{ℕ, ◌+◌, ◌<◌}
+use Rattle.std.proofs.Common.{ℕ, ◌+◌, ◌≤◌, Box, Global}
 use Rattle.std.specs.Prelude.{IfSome, Option, None, Some}
-use Rattle.template_tree_statements.specs.declared.statements.Stmt.{Stmt, size-Stmt}
+use Rattle.template_tree.specs.declared.span.Spanned.{Spanned}
+use Rattle.template_tree_statements.specs.declared.statements.IfCond.{IfCond}
+use Rattle.template_tree_statements.specs.declared.statements.Stmt.{IfCond as condition, size-Stmt}
 use Rattle.template_tree_statements.proofs.+stmt.Given as goal
 
--- the size of what is left, and one where something is left
-abbrev pub left_size : Option Stmt → ℕ
+-- the size of the condition that is left, and one where one is left
+abbrev pub left_size : Option (Spanned (Box IfCond Global)) → ℕ
 left_size None = 0
-left_size (Some s) = size-Stmt s + 1
+left_size (Some n) = size-Stmt (condition n) + 1
 
 abbrev pub invariant-statements::Stmt::drop-loop-next : goal.invariant-statements::Stmt::drop-loop-next
-invariant-statements::Stmt::drop-loop-next l = IfSome l.next (λ s. size-Stmt s < size-Stmt l.fn.self)
+invariant-statements::Stmt::drop-loop-next l = IfSome l.next (λ n. size-Stmt (condition n) ≤ size-Stmt l.fn.self)
 
 abbrev pub decreases-statements::Stmt::drop-loop-next : goal.decreases-statements::Stmt::drop-loop-next
 decreases-statements::Stmt::drop-loop-next l = left_size l.next
