@@ -2,7 +2,7 @@
 ghost use Rattle.std.specs.Prelude.{◌≡◌, ◌==◌, option_map};
 ghost use Rattle.template_compiler_stream.specs.Signs.{number_of, symbol_of, symbol_in};
 ghost use Rattle.template_compiler_stream.specs.Signs.{level_of, word_in, is_end, is_plain};
-ghost use Rattle.template_compiler_expressions.specs.Words.{factors, operator, comparison_operator, is_bare, is_no_argument};
+ghost use Rattle.template_compiler_expressions.specs.Words.{conjunction, disjunction, factors, terms, texts, operator, comparison_operator, is_bare, is_no_argument};
 ghost use Rattle.template_compiler_expressions.specs.Reader.{is_closing, is_bound_end};
 ghost use Rattle.template_compiler_tokens.specs.View.{token_of};
 
@@ -137,35 +137,10 @@ pub fn operator_of(level: Level, token: &Token) -> Option<BinOpKind>
 {
     match level {
         Level::Factors => factor_of(token),
-        Level::Texts => match token {
-            Token::Tilde => Some(BinOpKind::Concat),
-            _ => None,
-        },
-        Level::Terms => match token {
-            Token::Plus => Some(BinOpKind::Add),
-            Token::Minus => Some(BinOpKind::Sub),
-            _ => None,
-        },
-        Level::Conjunction => match token {
-            Token::Ident(name) => {
-                if *name == "and" {
-                    Some(BinOpKind::ScAnd)
-                } else {
-                    None
-                }
-            }
-            _ => None,
-        },
-        Level::Disjunction => match token {
-            Token::Ident(name) => {
-                if *name == "or" {
-                    Some(BinOpKind::ScOr)
-                } else {
-                    None
-                }
-            }
-            _ => None,
-        },
+        Level::Texts => text_sign_of(token),
+        Level::Terms => term_of(token),
+        Level::Conjunction => conjunction_of(token),
+        Level::Disjunction => disjunction_of(token),
     }
 }
 
@@ -177,6 +152,55 @@ fn factor_of(token: &Token) -> Option<BinOpKind>
         Token::Div => Some(BinOpKind::Div),
         Token::FloorDiv => Some(BinOpKind::FloorDiv),
         Token::Mod => Some(BinOpKind::Rem),
+        _ => None,
+    }
+}
+
+fn text_sign_of(token: &Token) -> Option<BinOpKind>
+    ensures { result ≡ operator texts (token_of token.now) }
+{
+    match token {
+        Token::Tilde => Some(BinOpKind::Concat),
+        _ => None,
+    }
+}
+
+fn term_of(token: &Token) -> Option<BinOpKind>
+    ensures { result ≡ operator terms (token_of token.now) }
+{
+    match token {
+        Token::Plus => Some(BinOpKind::Add),
+        Token::Minus => Some(BinOpKind::Sub),
+        _ => None,
+    }
+}
+
+fn conjunction_of(token: &Token) -> Option<BinOpKind>
+    ensures { result ≡ operator conjunction (token_of token.now) }
+{
+    match token {
+        Token::Ident(name) => {
+            if *name == "and" {
+                Some(BinOpKind::ScAnd)
+            } else {
+                None
+            }
+        }
+        _ => None,
+    }
+}
+
+fn disjunction_of(token: &Token) -> Option<BinOpKind>
+    ensures { result ≡ operator disjunction (token_of token.now) }
+{
+    match token {
+        Token::Ident(name) => {
+            if *name == "or" {
+                Some(BinOpKind::ScOr)
+            } else {
+                None
+            }
+        }
         _ => None,
     }
 }
