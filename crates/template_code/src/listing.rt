@@ -21,7 +21,6 @@ const BYTES_A_MARK: usize = 8;
 
 /// The instructions of a template, with its name and the source that they were compiled from, and where they come from.
 /// There are fewer than 2^32.
-#[derive(Drop)]
 pub struct Instructions<'source> {
     name: CowStr<'source>,
     source: CowStr<'source>,
@@ -29,6 +28,18 @@ pub struct Instructions<'source> {
     marks: Marks,
     ghost small: { length code.items < 2 ^ 32 },
     ghost placed: { All (λ m. m.start < length code.items) (marks_in marks) },
+}
+
+// By hand: a crate that drops them would else prove anew how each of their instructions is dropped.
+impl<'source> Drop for Instructions<'source> {
+    fn drop(self) {
+        let Instructions {
+            name: _,
+            source: _,
+            code: _,
+            marks: _,
+        } = self;
+    }
 }
 
 impl<'source> Instructions<'source> {

@@ -13,42 +13,32 @@ use template_values_json::context_from_json;
 const PAGE: &str =
     "{% include 'head.html' %}{% for item in items %}<p>{{ item }}</p>{% else %}<p>-</p>{% endfor %}";
 
+const PAGE_CONTEXT: &[u8] = b"{\"title\": \"Q & A\", \"items\": [1, \"<b>\", null]}";
+
 fn main(rt: HostRuntime) -> anyhow::Result<()> {
-    let alloc = rt.alloc();
     let mut ids = StateIds::new(0);
-    let mut environment = Environment::new(alloc, &mut ids)?;
+    let mut environment = Environment::new(rt.alloc(), &mut ids)?;
     environment.add_template("hello.txt", "Hello {{ name }}!")?;
     environment.add_template("head.html", "<h1>{{ title }}</h1>")?;
     environment.add_template("page.html", PAGE)?;
 
-    let context = hello_context(alloc)?;
+    print_hello(&rt, &environment, &mut ids)?;
+    print_page(&rt, &environment, &mut ids)?;
+    add_broken(&rt, &mut environment)?;
+    print_names(&rt, &environment)?;
+    print_exports(&rt, &environment, &mut ids)
+}
+
+// A render over a context from Rust values.
+fn print_hello(
+    rt: &HostRuntime,
+    environment: &Environment<'_>,
+    ids: &mut StateIds,
+) -> anyhow::Result<()> {
     let hello = environment
         .get_template("hello.txt")?
-        .render(&mut ids, context)?;
+        .render(ids, hello_context(rt.alloc())?)?;
     println!(rt; "{hello}")?;
-
-    let json = b"{\"title\": \"Q & A\", \"items\": [1, \"<b>\", null]}";
-    let context = context_from_json(alloc, json)?;
-    let page = environment
-        .get_template("page.html")?
-        .render(&mut ids, context)?;
-    println!(rt; "{page}")?;
-
-    match environment.add_template("broken.txt", "Hello {{ name") {
-        Ok(()) => println!(rt; "accepted")?,
-        Err(error) => println!(rt; "refused: {error}")?,
-    }
-    for template in environment.templates()? {
-        let name = template.name();
-        println!(rt; "stands: {name}")?;
-    }
-
-    let template = environment.template_from_str("{% set answer = 42 %}Hello again!")?;
-    let captured = template.render_captured(&mut ids, Value::undefined())?;
-    println!(rt; "{}", captured.output())?;
-    for name in captured.state().exports()? {
-        println!(rt; "exports: {name}")?;
-    }
     Ok(())
 }
 
@@ -56,4 +46,49 @@ fn main(rt: HostRuntime) -> anyhow::Result<()> {
 fn hello_context(alloc: Global) -> Result<Value, Error> {
     let name = Value::from_str(alloc, "World")?;
     Value::from_pairs(alloc, vec![in alloc; ("name", name)]?)
+}
+
+// A render over a context from JSON.
+fn print_page(
+    rt: &HostRuntime,
+    environment: &Environment<'_>,
+    ids: &mut StateIds,
+) -> anyhow::Result<()> {
+    let page = environment
+        .get_template("page.html")?
+        .render(ids, context_from_json(rt.alloc(), PAGE_CONTEXT)?)?;
+    println!(rt; "{page}")?;
+    Ok(())
+}
+
+// A source that is refused, and changes nothing.
+fn add_broken(rt: &HostRuntime, environment: &mut Environment<'_>) -> anyhow::Result<()> {
+    match environment.add_template("broken.txt", "Hello {{ name") {
+        Ok(()) => println!(rt; "accepted")?,
+        Err(error) => println!(rt; "refused: {error}")?,
+    }
+    Ok(())
+}
+
+fn print_names(rt: &HostRuntime, environment: &Environment<'_>) -> anyhow::Result<()> {
+    for template in environment.templates()? {
+        let name = template.name();
+        println!(rt; "stands: {name}")?;
+    }
+    Ok(())
+}
+
+// A source that does not stand, and what its render leaves.
+fn print_exports(
+    rt: &HostRuntime,
+    environment: &Environment<'_>,
+    ids: &mut StateIds,
+) -> anyhow::Result<()> {
+    let template = environment.template_from_str("{% set answer = 42 %}Hello again!")?;
+    let captured = template.render_captured(ids, Value::undefined())?;
+    println!(rt; "{}", captured.output())?;
+    for name in captured.state().exports()? {
+        println!(rt; "exports: {name}")?;
+    }
+    Ok(())
 }
