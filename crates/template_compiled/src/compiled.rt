@@ -35,11 +35,21 @@ use template_values_modes::AutoEscape;
 
 /// A template whose source was accepted: its code, and the escape of its name. A contract sees both, with the name,
 /// the source and what it was read under.
-#[derive(Drop)]
 pub struct CompiledTemplate<'source> {
     instructions: Instructions<'source>,
     config: TemplateConfig,
     initial_auto_escape: AutoEscape,
+}
+
+// By hand: a crate that drops one would else prove anew how each of its parts is dropped.
+impl<'source> Drop for CompiledTemplate<'source> {
+    fn drop(self) {
+        let CompiledTemplate {
+            instructions: _,
+            config: _,
+            initial_auto_escape: _,
+        } = self;
+    }
 }
 
 impl<'source> Model for CompiledTemplate<'source> {

@@ -28,9 +28,15 @@ use template_values_errors::{Error, ErrorKind};
 const NAME: &str = "<expression>";
 
 /// An expression whose source was accepted: its code. A contract sees the source.
-#[derive(Drop)]
 pub struct CompiledExpression<'source> {
     instructions: Instructions<'source>,
+}
+
+// By hand, as the drop of a compiled template.
+impl<'source> Drop for CompiledExpression<'source> {
+    fn drop(self) {
+        let CompiledExpression { instructions: _ } = self;
+    }
 }
 
 impl<'source> Model for CompiledExpression<'source> {

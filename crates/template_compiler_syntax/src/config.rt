@@ -11,9 +11,15 @@ use std::rc::Rc;
 
 /// A syntax whose segments can be told apart: no delimiter is empty, and no two of the starts and
 /// prefixes that are set are equal. The default syntax takes no memory; copies share the delimiters.
-#[derive(Drop)]
 pub struct SyntaxConfig {
     pub(crate) settings: Option<Rc<Settings>>,
+}
+
+// By hand: a crate that drops one would else prove anew how each of its settings is dropped.
+impl Drop for SyntaxConfig {
+    fn drop(self) {
+        let SyntaxConfig { settings: _ } = self;
+    }
 }
 
 impl Model for SyntaxConfig {
