@@ -145,10 +145,15 @@ impl<'source> CompiledTemplate<'source> {
         ensures same { IfOk result (λ t. t ≡ self.entry) }
         ensures refused { IfErr result NoMemory }
     {
+        let CompiledTemplate {
+            instructions,
+            config,
+            initial_auto_escape,
+        } = self;
         Ok(CompiledTemplate {
-            instructions: self.instructions.into_owned(alloc)?,
-            config: self.config,
-            initial_auto_escape: self.initial_auto_escape,
+            instructions: instructions.into_owned(alloc)?,
+            config,
+            initial_auto_escape,
         })
     }
 
@@ -156,10 +161,15 @@ impl<'source> CompiledTemplate<'source> {
     pub fn with_auto_escape(self, escape: AutoEscape) -> CompiledTemplate<'source>
         ensures { result ≡ escaped_as escape self.entry }
     {
+        let CompiledTemplate {
+            instructions,
+            config,
+            initial_auto_escape: _,
+        } = self;
         CompiledTemplate {
-            instructions: self.instructions,
+            instructions,
             config: TemplateConfig {
-                syntax_config: self.config.syntax_config,
+                syntax_config: config.syntax_config,
                 default_auto_escape: EscapeRule::Fixed(escape),
             },
             initial_auto_escape: escape,

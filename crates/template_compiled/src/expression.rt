@@ -103,8 +103,9 @@ impl<'source> CompiledExpression<'source> {
         ensures same { IfOk result (λ e. e ≡ self.entry) }
         ensures refused { IfErr result NoMemory }
     {
+        let CompiledExpression { instructions } = self;
         Ok(CompiledExpression {
-            instructions: self.instructions.into_owned(alloc)?,
+            instructions: instructions.into_owned(alloc)?,
         })
     }
 
