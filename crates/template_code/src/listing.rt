@@ -156,6 +156,7 @@ impl<'source> Instructions<'source> {
     {
         let place = self.code.len();
         if place >= u32::MAX as usize {
+            drop(instruction);
             return Err(Error::new(ErrorKind::TooLarge));
         }
         put(&mut self.code, instruction)?;
