@@ -167,12 +167,11 @@ impl<'source> Instructions<'source> {
     {
         let place = self.code.len();
         if place >= u32::MAX as usize {
+            drop(instruction);
             return Err(Error::new(ErrorKind::TooLarge));
         }
-        match self.code.push(instruction) {
-            Ok(()) => Ok(place as u32),
-            Err(_refused) => Err(Error::new(ErrorKind::OutOfMemory)),
-        }
+        put(&mut self.code, instruction)?;
+        Ok(place as u32)
     }
 
     /// The same for an instruction that comes from a line, the first of the source at 1.
@@ -253,11 +252,7 @@ impl<'source> Instructions<'source> {
         ensures same { IsSameTemplate self.old self.new }
         ensures places { places_in self.new ≡ places_in self.old }
     {
-        let index = index as usize;
-        if index >= self.code.len() {
-            return;
-        }
-        self.code[index] = instruction;
+        put_at(&mut self.code, index as usize, instruction);
     }
 
     /// Drops the instructions from a place on. Takes time linear in their number.
@@ -268,6 +263,28 @@ impl<'source> Instructions<'source> {
     {
         self.marks.truncate(len);
         self.code.truncate(len);
+    }
+}
+
+// Puts an item behind the others. Where memory is refused it is dropped here, so that no caller holds it.
+#[inline]
+fn put<T: Drop>(items: &mut Vec<T>, item: T) -> Result<(), Error>
+    ensures pushed { OnOk result (items.new.items ≡ items.old.items ++ item ∷ []) }
+    ensures refused { IfErr result NoMemory }
+    ensures unchanged { OnErr result (items.new.items ≡ items.old.items) }
+{
+    items.push(item)?;
+    Ok(())
+}
+
+// Puts an item in the place of the one that stands there. Where none stands, nothing changes.
+#[inline]
+fn put_at<T: Drop>(items: &mut Vec<T>, index: usize, item: T)
+    ensures replaced { items.new.items ≡ set items.old.items index item }
+    ensures len { length items.new.items ≡ length items.old.items }
+{
+    if index < items.len() {
+        items[index] = item;
     }
 }
 
@@ -311,7 +328,7 @@ fn owned_code<'owned>(
 {
     let mut copies = Vec::with_capacity(alloc, code.len())?;
     for instruction in code {
-        copies.push(instruction.into_owned(alloc)?)?;
+        put(&mut copies, instruction.into_owned(alloc)?)?;
     }
     Ok(copies)
 }

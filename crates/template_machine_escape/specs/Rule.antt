@@ -1,5 +1,6 @@
 -- Which escape a template's name stands for.
-use Rattle.std.specs.Prelude.{◌≡◌, ◌≢◌, ℕ, ◌<◌, ◌||◌, if◌then◌else◌, List, ◌∷◌, ◌++◌, ◌⊎◌, length, slice_index, codes}
+use Rattle.std.specs.Prelude.{◌≡◌, ◌≢◌, ℕ, ◌<◌, Bool, if◌then◌else◌, List, [], ◌∷◌, ◌++◌, ◌⊎◌, length, slice_index, codes}
+use Rattle.std.specs.List.{list_any}
 use Rattle.std.specs.Str.{bytes_eq}
 use Rattle.template_values_modes.specs.declared.AutoEscape.{AutoEscape}
 use Rattle.template_values_modes.specs.declared.AutoEscape.TheVariants.{None, Html, Json}
@@ -25,11 +26,13 @@ abbrev pub IsExtensionOf : List ℕ → List ℕ → Type 0
 IsExtensionOf stem extension =
     ((before : List ℕ) × (stem ≡ before ++ 46 ∷ extension) × LacksDots extension) ⊎ ((extension ≡ stem) × LacksDots stem)
 
+abbrev pub is_one_of : List ℕ → List (List ℕ) → Bool
+is_one_of text words = list_any (λ word. bytes_eq word text) words
+
 abbrev pub rule_of_extension : List ℕ → AutoEscape
 rule_of_extension e =
-    if bytes_eq e (codes "html") || bytes_eq e (codes "htm") || bytes_eq e (codes "xml") then Html
-    else (if bytes_eq e (codes "json") || bytes_eq e (codes "json5") || bytes_eq e (codes "js")
-    || bytes_eq e (codes "yaml") || bytes_eq e (codes "yml") then Json
+    if is_one_of e (codes "html" ∷ codes "htm" ∷ codes "xml" ∷ []) then Html
+    else (if is_one_of e (codes "json" ∷ codes "json5" ∷ codes "js" ∷ codes "yaml" ∷ codes "yml" ∷ []) then Json
     else None)
 
 -- the escape of a name

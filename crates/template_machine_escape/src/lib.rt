@@ -94,22 +94,23 @@ fn stem(name: &str) -> &str
 }
 
 // What follows the last dot, or the whole where there is none.
-fn extension(stem: &str) -> &[u8]
+fn extension(stem: &str) -> &str
     ensures { IsExtensionOf stem.now result.now }
 {
-    let bytes = stem.as_bytes();
     match stem.rfind('.') {
-        Some(dot) => bytes.split_at(dot + 1).1,
-        None => bytes,
+        Some(dot) => stem.split_at(dot + 1).1,
+        None => stem,
     }
 }
 
-fn rule_by_extension(extension: &[u8]) -> AutoEscape
+fn rule_by_extension(extension: &str) -> AutoEscape
     ensures { result ≡ rule_of_extension extension.now }
 {
-    match extension {
-        b"html" | b"htm" | b"xml" => AutoEscape::Html,
-        b"json" | b"json5" | b"js" | b"yaml" | b"yml" => AutoEscape::Json,
-        _ => AutoEscape::None,
+    if ["html", "htm", "xml"].contains(&extension) {
+        return AutoEscape::Html;
     }
+    if ["json", "json5", "js", "yaml", "yml"].contains(&extension) {
+        return AutoEscape::Json;
+    }
+    AutoEscape::None
 }

@@ -1,10 +1,14 @@
 -- The command line, in the words in which `clap` describes one: `names [--main NAME] [FILE...]` and
 -- `render [--context FILE] [-D NAME=TEXT]... [--fuel N] [--limit N] [--undefined MODE] [--main NAME] [FILE...]`.
-use Rattle.std.specs.Prelude.{Some, codes, pos, true}
+use Rattle.std.specs.Prelude.{ℕ, List, [], ◌∷◌, Some, codes, pos, true}
 use Rattle.clap.specs.Lexer.{usize_max}
 use Rattle.clap.specs.Words.{App, Rule, new_app, new_rule, with_rule, with_subcommand}
 use Rattle.clap.specs.declared.builder.action.ArgAction.TheVariants.{Append}
 use Rattle.clap.specs.declared.builder.value_parser.ValueParser.TheVariants.{Signed, Unsigned}
+
+-- an argument with a value
+abbrev pub taking_value : List ℕ → Rule
+taking_value id = record (new_rule id) { value_names = 1 }
 
 -- `--context FILE`, once at most
 abbrev pub context_option : Rule
@@ -47,9 +51,17 @@ files_argument = record (new_rule (codes "files")) {
   action = Some Append;
 }
 
+-- an app that takes these arguments too, in this order
+abbrev pub with_rules : App → List Rule → App
+with_rules app [] = app
+with_rules app (rule ∷ rules) = with_rules (with_rule app rule) rules
+
+abbrev pub render_rules : List Rule
+render_rules =
+    context_option ∷ definition_option ∷ fuel_option ∷ limit_option ∷ undefined_option ∷ main_option ∷ files_argument ∷ []
+
 abbrev pub render_command : App
-render_command = with_rule (with_rule (with_rule (with_rule (with_rule (with_rule (with_rule (new_app (codes "render"))
-    context_option) definition_option) fuel_option) limit_option) undefined_option) main_option) files_argument
+render_command = with_rules (new_app (codes "render")) render_rules
 
 abbrev pub names_command : App
 names_command = with_rule (with_rule (new_app (codes "names")) main_option) files_argument

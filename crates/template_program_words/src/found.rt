@@ -2,8 +2,9 @@
 ghost use Rattle.std.specs.Prelude.{◌≡◌, [], Some, codes, map, IfErr, IfOk};
 ghost use Rattle.clap.specs.Words.{first_of, found_of, rows_of, subcommand_rows_of};
 ghost use Rattle.template_program_words.specs.Modes.{mode_of};
-ghost use Rattle.template_program_words.specs.Reading.{Defines, ReadsWords, ReadsNames, ReadsRender, values_of};
+ghost use Rattle.template_program_words.specs.Reading.{Defines, ReadsWords, values_of};
 ghost use Rattle.template_program_words.specs.Refusals.{RefusesWords, RefusesDefinitions, RefusesMode, RefusesRender};
+ghost use Rattle.template_program_words.specs.declared.faults.WordsFault.TheVariants.{Memory};
 
 use crate::definitions::{Definition, split_definition};
 use crate::faults::{WordsFault, unknown_mode};
@@ -22,23 +23,23 @@ pub(crate) fn words_in<'a>(alloc: Global, matches: &ArgMatches<'a>) -> Result<Wo
     ensures refuses { IfErr result (RefusesWords [] (subcommand_rows_of matches.now)) }
 {
     if let Some(render) = matches.subcommand_matches("render") {
-        return Ok(Words::Render(render_words(alloc, render)?));
+        return render_words(alloc, render);
     }
     if let Some(names) = matches.subcommand_matches("names") {
-        return Ok(Words::Names(names_words(alloc, names)?));
+        return names_words(alloc, names);
     }
 
     // `clap` requires a command and knows these two.
     Err(WordsFault::Usage(String::new(alloc)))
 }
 
-fn render_words<'a>(alloc: Global, matches: &ArgMatches<'a>) -> Result<RenderWords<'a>, WordsFault>
-    ensures reads { IfOk result (ReadsRender (rows_of (found_of matches.now))) }
+fn render_words<'a>(alloc: Global, matches: &ArgMatches<'a>) -> Result<Words<'a>, WordsFault>
+    ensures reads { IfOk result (ReadsWords (Some (codes "render", rows_of (found_of matches.now)))) }
     ensures refuses { IfErr result (RefusesRender (rows_of (found_of matches.now))) }
 {
     let undefined = undefined_in(alloc, matches)?;
     let definitions = values(alloc, matches, "definition")?;
-    Ok(RenderWords {
+    Ok(Words::Render(RenderWords {
         context: matches.get_str("context"),
         definitions: definitions_in(alloc, definitions.as_slice())?,
         fuel: matches.get_one::<u64>("fuel"),
@@ -46,7 +47,7 @@ fn render_words<'a>(alloc: Global, matches: &ArgMatches<'a>) -> Result<RenderWor
         undefined,
         main: matches.get_str("main"),
         files: values(alloc, matches, "files")?,
-    })
+    }))
 }
 
 fn undefined_in(alloc: Global, matches: &ArgMatches<'_>) -> Result<UndefinedBehavior, WordsFault>
@@ -62,13 +63,14 @@ fn undefined_in(alloc: Global, matches: &ArgMatches<'_>) -> Result<UndefinedBeha
     }
 }
 
-fn names_words<'a>(alloc: Global, matches: &ArgMatches<'a>) -> Result<NamesWords<'a>, AllocError>
-    ensures { IfOk result (ReadsNames (rows_of (found_of matches.now))) }
+fn names_words<'a>(alloc: Global, matches: &ArgMatches<'a>) -> Result<Words<'a>, WordsFault>
+    ensures reads { IfOk result (ReadsWords (Some (codes "names", rows_of (found_of matches.now)))) }
+    ensures refuses { IfErr result (λ fault. fault ≡ Memory) }
 {
-    Ok(NamesWords {
+    Ok(Words::Names(NamesWords {
         main: matches.get_str("main"),
         files: values(alloc, matches, "files")?,
-    })
+    }))
 }
 
 /// All values of `id`.

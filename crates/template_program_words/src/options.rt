@@ -1,5 +1,5 @@
 //! The words that the program takes.
-ghost use Rattle.std.specs.Prelude.{◌≡◌, IfOk, false};
+ghost use Rattle.std.specs.Prelude.{◌≡◌, IfOk, All, false, map};
 ghost use Rattle.clap.specs.Words.{app_of, rule_of};
 ghost use Rattle.clap.specs.declared.builder.command.Command.TheViews.{out-Command};
 ghost use Rattle.template_program_words.specs.CommandLine as line;
@@ -22,15 +22,22 @@ Status:
 pub(crate) fn program<'a>(alloc: Global) -> Result<Command<'a>, AllocError>
     ensures { IfOk result (λ command. app_of command ≡ line.program) }
 {
+    bare_program(alloc)?
+        .subcommand(render(alloc)?)?
+        .subcommand(names(alloc)?)
+}
+
+// The program without its commands.
+fn bare_program<'a>(alloc: Global) -> Result<Command<'a>, AllocError>
+    ensures { IfOk result (λ command. app_of command ≡ line.bare_program) }
+{
     Command::new(alloc, "template")
         .about("Renders a template over a JSON context, or prints the names that it can ask for")
         .version("0.1.0")
         .after_help(STATUSES)
-        .bin_name("template")?
         .no_binary_name(true)
         .subcommand_required(true)
-        .subcommand(render(alloc)?)?
-        .subcommand(names(alloc)?)
+        .bin_name("template")
 }
 
 /// `render [--context FILE] [-D NAME=TEXT]... [--fuel N] [--limit N] [--undefined MODE] [--main NAME] [FILE...]`
@@ -40,13 +47,22 @@ fn render<'a>(alloc: Global) -> Result<Command<'a>, AllocError>
 {
     Command::new(alloc, "render")
         .about("Renders the main template to standard output")
-        .arg(context(alloc))?
-        .arg(definition(alloc))?
-        .arg(fuel(alloc))?
-        .arg(limit(alloc))?
-        .arg(undefined(alloc))?
-        .arg(main(alloc))?
-        .arg(files(alloc))
+        .args(render_arguments(alloc)?)
+}
+
+fn render_arguments<'a>(alloc: Global) -> Result<Vec<Arg<'a>>, AllocError>
+    ensures rules { IfOk result (λ arguments. map rule_of arguments.items ≡ line.render_rules) }
+    ensures local { IfOk result (λ arguments. All (λ a. a.global ≡ false) arguments.items) }
+{
+    Ok(vec![in alloc;
+        context(alloc),
+        definition(alloc),
+        fuel(alloc),
+        limit(alloc),
+        undefined(alloc),
+        main(alloc),
+        files(alloc),
+    ]?)
 }
 
 /// `names [--main NAME] [FILE...]`
@@ -60,84 +76,78 @@ fn names<'a>(alloc: Global) -> Result<Command<'a>, AllocError>
         .arg(files(alloc))
 }
 
+// An argument with a value, of this name in help.
+fn taking<'a>(alloc: Global, id: &'a str, value: &'a str, help: &'a str) -> Arg<'a>
+    ensures rule { rule_of result ≡ line.taking_value id.entry.now }
+    ensures local { result.global ≡ false }
+{
+    Arg::new(alloc, id).value_name(value).help(help)
+}
+
 fn context<'a>(alloc: Global) -> Arg<'a>
     ensures rule { rule_of result ≡ line.context_option }
     ensures local { result.global ≡ false }
 {
-    Arg::new(alloc, "context")
-        .long("context")
-        .value_name("FILE")
-        .help("The context: a file that holds a JSON object; an empty one if not given")
+    let help = "The context: a file that holds a JSON object; an empty one if not given";
+    taking(alloc, "context", "FILE", help).long("context")
 }
 
 fn definition<'a>(alloc: Global) -> Arg<'a>
     ensures rule { rule_of result ≡ line.definition_option }
     ensures local { result.global ≡ false }
 {
-    Arg::new(alloc, "definition")
+    let help =
+        "Sets a text over the context, split at the first `=`; may be repeated, the last of a name wins";
+    taking(alloc, "definition", "NAME=TEXT", help)
         .short('D')
-        .value_name("NAME=TEXT")
         .action(ArgAction::Append)
-        .help(
-            "Sets a text over the context, split at the first `=`; may be repeated, the last of a name wins",
-        )
 }
 
 fn fuel<'a>(alloc: Global) -> Arg<'a>
     ensures rule { rule_of result ≡ line.fuel_option }
     ensures local { result.global ≡ false }
 {
-    Arg::new(alloc, "fuel")
+    let help =
+        "Stops the render at its N-th step of the price list, which is not run: N - 1 steps are";
+    taking(alloc, "fuel", "N", help)
         .long("fuel")
-        .value_name("N")
         .value_parser(value_parser!(u64))
-        .help(
-            "Stops the render at its N-th step of the price list, which is not run: N - 1 steps are",
-        )
 }
 
 fn limit<'a>(alloc: Global) -> Arg<'a>
     ensures rule { rule_of result ≡ line.limit_option }
     ensures local { result.global ≡ false }
 {
-    Arg::new(alloc, "limit")
+    let help = "How deep the render may be; 500 if not given";
+    taking(alloc, "limit", "N", help)
         .long("limit")
-        .value_name("N")
         .value_parser(value_parser!(u16))
-        .help("How deep the render may be; 500 if not given")
 }
 
 fn undefined<'a>(alloc: Global) -> Arg<'a>
     ensures rule { rule_of result ≡ line.undefined_option }
     ensures local { result.global ≡ false }
 {
-    Arg::new(alloc, "undefined")
-        .long("undefined")
-        .value_name("MODE")
-        .help(
-            "What may be done with undefined values: lenient (if not given), chainable, semistrict or strict",
-        )
+    let help =
+        "What may be done with undefined values: lenient (if not given), chainable, semistrict or strict";
+    taking(alloc, "undefined", "MODE", help).long("undefined")
 }
 
 fn main<'a>(alloc: Global) -> Arg<'a>
     ensures rule { rule_of result ≡ line.main_option }
     ensures local { result.global ≡ false }
 {
-    Arg::new(alloc, "main")
-        .long("main")
-        .value_name("NAME")
-        .help("The name of the main template, in place of the first")
+    let help = "The name of the main template, in place of the first";
+    taking(alloc, "main", "NAME", help).long("main")
 }
 
 fn files<'a>(alloc: Global) -> Arg<'a>
     ensures rule { rule_of result ≡ line.files_argument }
     ensures local { result.global ≡ false }
 {
-    Arg::new(alloc, "files")
-        .value_name("FILE")
+    let help =
+        "The templates; a later one of the same path replaces; standard input, as <stdin>, where none is given";
+    taking(alloc, "files", "FILE", help)
         .num_args(0..)
         .action(ArgAction::Append)
-        .help(
-            "The templates; a later one of the same path replaces; standard input, as <stdin>, where none is given",
-        )
 }

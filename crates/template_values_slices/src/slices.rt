@@ -104,7 +104,6 @@ fn bound(value: &Value) -> Result<Option<i128>, Error>
     }
 }
 
-#[tactic(auto, using(crate::proofs::Steps::picked_next, crate::proofs::Shallow::sliced_tells))]
 fn slice_items(
     alloc: Global,
     items: &[Value],

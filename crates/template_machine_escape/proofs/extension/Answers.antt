@@ -1,5 +1,5 @@
 -- The last dot, or none, is what `rfind` gives.
-use Rattle.std.proofs.Common.{◌≡◌, ◌≢◌, ◌∙◌, ℕ, ◌+◌, ◌<◌, List, ◌∷◌, ◌++◌, length, get_or, take, drop, sym, inl, inr, arith, add-one, lit<, length-drop}
+use Rattle.std.proofs.Common.{◌≡◌, ◌≢◌, ◌∙◌, ℕ, ◌+◌, ◌<◌, List, ◌∷◌, ◌++◌, length, get_or, take, drop, sym, refl, inl, inr, arith, add-one, lit<, length-drop}
 use Rattle.std.proofs.Math.Seq.{split_at}
 use Rattle.std.proofs.lemmas.List.{get_or-drop}
 use Rattle.std.proofs.lemmas.Str.Pattern.{rfind_char}
@@ -16,12 +16,15 @@ behind_last s k lt is later =
     λ i h at. later (k + 1 + i) (omega arith) (omega (arith, length-drop (k + 1) s)) (sym (get_or-drop (k + 1) s i 0) ∙ at) in
     inl (take k s, split, lacks)
 
+pub split_at-requires : goal.split_at-requires
+split_at-requires c = c.in-Some.ensures.cases.1.1.after
+
 pub returns-in-Some : goal.returns-in-Some
 returns-in-Some c =
     let found = rfind_char 46 c.args.stem.now (Some c.in-Some.dot) c.in-Some.ensures.cases (lit< tt) in
-    rw (c.split_at.ensures.back, c.as_bytes-bytes.ensures.value) (behind_last c.args.stem.now c.in-Some.dot found.0 found.1 found.2)
+    rw c.split_at.ensures.back (behind_last c.args.stem.now c.in-Some.dot found.0 found.1 found.2)
 
 pub returns-in-None : goal.returns-in-None
 returns-in-None c =
     let found = rfind_char 46 c.args.stem.now None c.in-None.ensures.cases (lit< tt) in
-    inr (c.as_bytes-bytes.ensures.value, found)
+    inr (refl, found)

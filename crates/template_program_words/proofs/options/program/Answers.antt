@@ -1,30 +1,10 @@
-use Rattle.std.proofs.Common.{◌≡◌, ◌∙◌, ap, codes, true, rules}
 use Rattle.std.proofs.lemmas.Result.{IfOk-weaker}
-use Rattle.clap.specs.Words.{App, app_of, new_app}
-use Rattle.template_program_words.specs.CommandLine.{bare_program}
 use Rattle.template_program_words.proofs.Shapes.{app_of-subcommand}
 use Rattle.template_program_words.proofs.options.program.Goals as goal
 
-abbrev telling : App → App
-telling a = record a { top = record (a.top) { has_version = true } }
-
-abbrev nameless : App → App
-nameless a = record a { top = record (a.top) { no_binary_name = true } }
-
-abbrev wanting : App → App
-wanting a = record a { top = record (a.top) { subcommand_required = true } }
-
 pub returns : goal.returns
 returns c =
-    let described : app_of c.about.result ≡ new_app (codes "template") = search rules in
-    let versioned : app_of c.version.result ≡ telling (app_of c.about.result) = search rules in
-    let ended : app_of c.after_help.result ≡ app_of c.version.result = search rules in
-    let named : app_of c.in_ok-bin_name.field-0 ≡ app_of c.after_help.result = search rules in
-    let without_name : app_of c.no_binary_name.result ≡ nameless (app_of c.in_ok-bin_name.field-0) = search rules in
-    let with_command : app_of c.subcommand_required.result ≡ wanting (app_of c.no_binary_name.result) = search rules in
-    let bare : app_of c.subcommand_required.result ≡ bare_program =
-    with_command ∙ ap wanting (without_name ∙ ap nameless (named ∙ ended ∙ versioned ∙ ap telling described)) in
     IfOk-weaker c.subcommand-2.result _ _ (λ command adds.
     app_of-subcommand _ _ _ _ _ adds
-    (app_of-subcommand _ _ _ _ _ c.in_ok-subcommand.ensures bare c.in_ok-render.ensures.app c.in_ok-render.ensures.local)
+    (app_of-subcommand _ _ _ _ _ c.in_ok-subcommand.ensures c.in_ok-bare_program.ensures c.in_ok-render.ensures.app c.in_ok-render.ensures.local)
     c.in_ok-names.ensures.app c.in_ok-names.ensures.local) c.subcommand-2.ensures
