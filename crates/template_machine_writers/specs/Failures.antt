@@ -1,7 +1,7 @@
 -- What counts as a failure of a sink, and the kind of error that its fault becomes.
 use Rattle.std.specs.Prelude.{ℕ, List, length, ◌==◌, ◌&&◌, not, if◌then◌else◌, Result, Ok, Err}
-use Rattle.template_machine_output.specs.declared.SinkFault.{SinkFault}
-use Rattle.template_machine_output.specs.declared.SinkFault.TheVariants.{Memory, Device}
+use Rattle.template_machine_writers.specs.declared.fault.SinkFault.{SinkFault}
+use Rattle.template_machine_writers.specs.declared.fault.SinkFault.TheVariants.{Memory, Device}
 use Rattle.template_values_errors.specs.declared.ErrorKind.{ErrorKind}
 use Rattle.template_values_errors.specs.declared.ErrorKind.TheVariants.{OutOfMemory, WriteFailure}
 

@@ -3,8 +3,8 @@ use Rattle.std.specs.Prelude.{◌≡◌, ◌≢◌, ℕ, List, [], ◌∷◌, �
 use Rattle.std.specs.IoError.{error_kind}
 use Rattle.std.specs.declared.io.Error.{Error}
 use Rattle.std.specs.declared.io.ErrorKind.TheVariants.{OutOfMemory}
-use Rattle.template_machine_output.specs.declared.SinkFault.{SinkFault}
-use Rattle.template_machine_output.specs.declared.SinkFault.TheVariants.{Memory, Device}
+use Rattle.template_machine_writers.specs.declared.fault.SinkFault.{SinkFault}
+use Rattle.template_machine_writers.specs.declared.fault.SinkFault.TheVariants.{Memory, Device}
 
 -- one write was made, which answered so
 abbrev pub AnswersOnce : Option (List (Result ℕ Error)) → Option (List (Result ℕ Error)) → (Result ℕ Error → Type 0) → Type 0
