@@ -1,2 +1,2 @@
-pub mod Literals
+pub mod Pairs
 pub mod Settling

@@ -1,43 +1,19 @@
 //! What containers of literals are.
-ghost use Rattle.std.specs.Prelude.{◌≡◌, IfOk, IfErr, option_map};
+ghost use Rattle.std.specs.Prelude.{◌≡◌, IfOk, IfErr};
 ghost use Rattle.template_values_errors.specs.Memory.{NoMemory};
 ghost use Rattle.template_values_core.specs.Shape.{pairs_in};
 ghost use Rattle.template_tree.specs.Tree.{list_literal, tuple_literal, map_literal};
-ghost use Rattle.template_tree.specs.View.{expression_of, expressions_in};
-ghost use Rattle.template_walk.specs.Constants.{constant_of, literal_of, literals_of};
+ghost use Rattle.template_tree.specs.View.{expressions_in};
+ghost use Rattle.template_walk.specs.Constants.{constant_of};
 ghost use Rattle.template_walk.specs.Containers.{pairs_with};
 
 use crate::operators::settled;
 use std::alloc::Global;
+use template_compiler_literals::literals;
 use template_tree::Expr;
 use template_values_core::{Entry, Value};
 use template_values_errors::Error;
 use template_values_operations::{make_list, make_map, make_tuple};
-
-// The value of a literal.
-fn literal<'a, 'source>(expr: &'a Expr<'source>) -> Option<&'a Value>
-    ensures { option_map (λ value. value.now) result ≡ literal_of (expression_of expr.now) }
-{
-    match expr {
-        Expr::Const(n) => Some(&n.node.value),
-        _ => None,
-    }
-}
-
-// The values of expressions, where each one is a literal.
-fn literals<'source>(alloc: Global, exprs: &[Expr<'source>]) -> Result<Option<Vec<Value>>, Error>
-    ensures literals { IfOk result (λ o. option_map (λ values. values.items) o ≡ literals_of (expressions_in exprs.now)) }
-    ensures refused { IfErr result NoMemory }
-{
-    let mut values = Vec::new(alloc);
-    for expr in exprs {
-        match literal(expr) {
-            Some(value) => values.push(value.copy()?)?,
-            None => return Ok(None),
-        }
-    }
-    Ok(Some(values))
-}
 
 // The keys with the values at their places.
 fn entries_with(alloc: Global, keys: &[Value], values: &[Value]) -> Result<Vec<Entry>, Error>

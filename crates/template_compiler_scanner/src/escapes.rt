@@ -10,6 +10,7 @@ ghost use Rattle.template_compiler_scanner.specs.Scans.{Unescaped, TakesEscape, 
 use crate::bytes::byte_at;
 use memchr::memchr;
 use std::alloc::{AllocError, Global};
+use template_compiler_bytes::is_low_surrogate;
 use template_values_errors::ErrorKind;
 
 // The character that a letter behind a backslash stands for.
@@ -75,7 +76,7 @@ fn low_surrogate(text: &[u8]) -> Option<u32>
         Some(low) => low,
         None => return None,
     };
-    if 0xdc00 <= low && low < 0xe000 {
+    if is_low_surrogate(low) {
         Some(low)
     } else {
         None

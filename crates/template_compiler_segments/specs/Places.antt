@@ -53,9 +53,13 @@ less_final c s = if slice_index s (length s - 1) == c then take (length s - 1) s
 abbrev pub less_final_newline : List ℕ → List ℕ
 less_final_newline s = less_final 13 (less_final 10 s)
 
+-- the sign that a byte is
+abbrev pub sign_of : ℕ → Sign
+sign_of b = if b == 45 then Minus else if b == 43 then Plus else Plain
+
 -- the sign that stands at a place
 abbrev pub sign_at : List ℕ → ℕ → Sign
-sign_at s i = if slice_index s i == 45 then Minus else if slice_index s i == 43 then Plus else Plain
+sign_at s i = sign_of (slice_index s i)
 
 abbrev pub sign_width : Sign → ℕ
 sign_width Plain = 0

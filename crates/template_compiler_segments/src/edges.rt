@@ -1,10 +1,11 @@
 //! What stands beside data: the ends of segments, and their signs.
 ghost use Rattle.std.specs.Prelude.{◌≡◌, ◌+◌, ◌≤◌, length};
 ghost use Rattle.template_compiler_syntax.specs.Syntax.{start_text as start_of};
-ghost use Rattle.template_compiler_segments.specs.Places.{sign_at, sign_width};
+ghost use Rattle.template_compiler_segments.specs.Places.{sign_of, sign_at, sign_width};
 ghost use Rattle.template_compiler_segments.specs.Segments.{comment_sign as sign_of_comment, start_sign as sign_of_start};
 
 use crate::places::rest_from;
+use template_compiler_bytes::last_between;
 use template_compiler_syntax::{StartMarker, SyntaxConfig};
 
 /// The sign at an end of a segment.
@@ -40,6 +41,17 @@ impl Sign {
         }
     }
 
+    // The sign that a byte is.
+    fn of(byte: u8) -> Sign
+        ensures { result ≡ sign_of byte }
+    {
+        match byte {
+            b'-' => Sign::Minus,
+            b'+' => Sign::Plus,
+            _ => Sign::Plain,
+        }
+    }
+
     /// How many bytes it takes.
     pub fn width(self) -> usize
         ensures { result ≡ sign_width self }
@@ -71,9 +83,8 @@ pub fn comment_sign(bytes: &[u8], inside: usize, end: usize) -> Sign
     requires { end ≤ length bytes.now }
     ensures { result ≡ sign_of_comment bytes.now inside end }
 {
-    if inside < end {
-        Sign::at(bytes, end - 1)
-    } else {
-        Sign::Plain
+    match last_between(bytes, inside, end) {
+        Some(byte) => Sign::of(byte),
+        None => Sign::Plain,
     }
 }

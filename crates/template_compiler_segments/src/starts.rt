@@ -9,6 +9,7 @@ ghost use Rattle.template_compiler_segments.specs.Known.{IsKnown, IsSought, IsNe
 
 use crate::places::{find_text, is_first_on_line, rest_from};
 use memchr::memchr;
+use template_compiler_bytes::goes_before;
 use template_compiler_syntax::{StartMarker, SyntaxConfig};
 
 /// What is known of the start markers of one kind from a place on.
@@ -147,11 +148,9 @@ fn stays_nearest(
 ) -> bool
     ensures { IsTrue result ↔ StaysNearest syntax.now nearest_place nearest_kind place kind }
 {
-    if nearest_place == place {
-        start_len(syntax, kind) <= start_len(syntax, nearest_kind)
-    } else {
-        nearest_place < place
-    }
+    let nearest_len = start_len(syntax, nearest_kind);
+    let len = start_len(syntax, kind);
+    goes_before(nearest_place, nearest_len, place, len)
 }
 
 fn start_len(syntax: &SyntaxConfig, kind: StartMarker) -> usize

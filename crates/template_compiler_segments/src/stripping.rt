@@ -6,6 +6,7 @@ ghost use Rattle.template_compiler_segments.specs.Stripping.{stripped_from, stri
 
 use crate::edges::{Edge, Sign};
 use crate::places::{blanks_from, is_first_on_line, newline_len};
+use template_compiler_bytes::behind_white_space;
 use template_compiler_syntax::{StartMarker, SyntaxConfig};
 
 /// The data between two places of a source, less the white space that what stands beside it takes.
@@ -58,7 +59,7 @@ fn without_start<'source>(text: &'source str, syntax: &SyntaxConfig, left: Edge)
     ensures tail { result.now ≡ drop (length text.now - length result.now) text.now }
 {
     match left {
-        Edge::Beside(_, Sign::Minus) => text.trim_start(),
+        Edge::Beside(_, Sign::Minus) => behind_white_space(text),
         Edge::Beside(StartMarker::Block | StartMarker::Comment, Sign::Plain) => {
             if syntax.trim_blocks() {
                 without_newline(text)

@@ -4,10 +4,10 @@ pub use Rattle.template_values_errors.specs.Names as ErrorNames
 pub use Rattle.template_values_model.specs.Val
 pub use Rattle.template_values_model.specs.Lookup
 pub use Rattle.template_machine_escape.specs.Rule
-pub use Rattle.template_machine_output.specs.Failures
+pub use Rattle.template_machine_writers.specs.Failures
 pub use Rattle.template_machine_output.specs.Wrapper
 pub use Rattle.template_machine_output.specs.Writes
-pub use Rattle.template_machine_output.specs.Answered
+pub use Rattle.template_machine_writers.specs.Answered
 pub use Rattle.template_process.specs.Process
 pub use Rattle.template_process.specs.Trace
 pub use Rattle.template_process.specs.Fuel

@@ -1,4 +1,2 @@
-pub mod Answered
-pub mod Failures
 pub mod Wrapper
 pub mod Writes

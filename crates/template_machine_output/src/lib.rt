@@ -3,33 +3,14 @@
 
 ghost use Rattle.std.specs.Prelude.{◌≡◌, ℕ, ◌+◌, ◌<◌, ◌≤◌, ◌↔◌, ◌∷◌, [], ◌++◌, List, Option, length, take, drop, IfOk, OnOk, OnErr, IsErrOf, IsOkUnless, IsUtf8, Ok, Some, None, string_bytes, string_capacity, string_len};
 ghost use Rattle.std.specs.Io.KnownBytes.{Appends};
-ghost use Rattle.template_machine_output.specs.Failures.{failures_in, kind_of_fault};
 ghost use Rattle.template_machine_output.specs.Writes.{AppendsBeginning};
+ghost use Rattle.template_machine_writers.specs.Failures.{failures_in};
 
 mod wrapper;
 
-use template_values_errors::{Error, ErrorKind};
-pub use wrapper::{WriteWrapper, Writer};
-
-/// Why a sink took no more.
-#[derive(Clone, Copy, Debug, PartialEq, Eq)]
-pub enum SinkFault {
-    /// A growth was refused.
-    Memory,
-    /// What stands behind the sink failed.
-    Device,
-}
-
-impl From<SinkFault> for Error {
-    ghost from_gives = { λ fault error. error ≡ kind_of_fault fault ∷ [] };
-
-    fn from(fault: SinkFault) -> Error {
-        Error::new(match fault {
-            SinkFault::Memory => ErrorKind::OutOfMemory,
-            SinkFault::Device => ErrorKind::WriteFailure,
-        })
-    }
-}
+use template_machine_writers::rest_after;
+pub use template_machine_writers::{SinkFault, Writer};
+pub use wrapper::WriteWrapper;
 
 /// What takes rendered bytes. A sink names the bytes that it has taken, or tells none, and counts
 /// its failures.
@@ -106,14 +87,6 @@ impl Sink for NullWriter {
     }
 
     ghost takes_text = { λ bytes utf8. tt };
-}
-
-// What follows the first `count` bytes.
-fn rest_after(bytes: &[u8], count: usize) -> &[u8]
-    requires { count ≤ length bytes.now }
-    ensures { result.now ≡ drop count bytes.now }
-{
-    bytes.split_at(count).1
 }
 
 /// Puts a whole text into a sink, by as many calls of [`Sink::put`] as it needs: one, and one more for

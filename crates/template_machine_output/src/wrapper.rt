@@ -1,49 +1,16 @@
 // A sink over a writer.
-ghost use Rattle.std.specs.Prelude.{◌≡◌, ◌≢◌, ℕ, ◌+◌, ◌≤◌, ◌∷◌, [], List, Option, Result, Err, None, length, IfOk, OnSome, IfNone, IsErrOf, IsSomeAnd};
-ghost use Rattle.std.specs.Io.{WritesAtMost};
+ghost use Rattle.std.specs.Prelude.{◌≡◌, ◌≢◌, ◌+◌, ◌≤◌, ◌∷◌, [], Err, None, length, IfOk, OnSome, IfNone, IsErrOf, IsSomeAnd};
 ghost use Rattle.std.specs.Io.KnownBytes.{WriteAppends};
 ghost use Rattle.std.specs.IoError.{error_kind};
-ghost use Rattle.std.specs.declared.io.Error.{Error as IoError};
 ghost use Rattle.std.specs.declared.io.ErrorKind.{ErrorKind as IoKind};
-ghost use Rattle.template_machine_output.specs.Answered.{AnswersOnce, PassesOn};
-ghost use Rattle.template_machine_output.specs.Failures.{failures_in};
 ghost use Rattle.template_machine_output.specs.Wrapper.{failure_count};
+ghost use Rattle.template_machine_writers.specs.Answered.{AnswersOnce, PassesOn};
+ghost use Rattle.template_machine_writers.specs.Failures.{failures_in};
 
 use super::{Sink, SinkFault};
 use std::io;
+use template_machine_writers::{Writer, write_once};
 use template_values_errors::{Error, ErrorKind};
-
-/// A writer that may tell, beside the bytes that it holds, what it answered to each write. Every
-/// [`io::Write`] is one, and tells none of its answers: so what is proved over all writers holds
-/// whatever they answer.
-pub trait Writer {
-    // The bytes that the writer holds, where they are known.
-    ghost contents: { Self → Option (List ℕ) };
-
-    // What it answered to the writes so far, where it tells.
-    ghost answers: { Self → Option (List (Result ℕ IoError)) };
-
-    /// Writes a beginning of `bytes`, once; how many bytes were taken.
-    ///
-    /// # Errors
-    ///
-    /// Those of the writer.
-    fn write_piece(&mut self, bytes: &[u8]) -> io::Result<usize>
-        ensures bound { WritesAtMost result bytes.now }
-        ensures bytes { WriteAppends (contents self.old) (contents self.new) result bytes.now }
-        ensures told { AnswersOnce (answers self.old) (answers self.new) (λ answer. answer ≡ result) };
-}
-
-impl<W: io::Write> Writer for W {
-    ghost contents = { λ writer. W.contents writer };
-
-    ghost answers = { λ _. None };
-
-    #[inline(always)]
-    fn write_piece(&mut self, bytes: &[u8]) -> io::Result<usize> {
-        self.write(bytes)
-    }
-}
 
 /// A sink over a writer, whose last error it keeps. It takes and tells what the writer takes and
 /// tells.
@@ -113,34 +80,8 @@ impl<W: Writer> Sink for WriteWrapper<W> {
         if self.failed == u64::MAX {
             return Err(SinkFault::Memory);
         }
-        match self.w.write_piece(bytes) {
-            Ok(count) => {
-                if count == 0 && !bytes.is_empty() {
-                    self.failed += 1;
-                }
-                Ok(count)
-            }
-            Err(error) => Err(keep_error(&mut self.failed, &mut self.err, error)),
-        }
+        write_once(&mut self.w, &mut self.failed, &mut self.err, bytes)
     }
 
     ghost takes_text = { λ bytes utf8. tt };
-}
-
-// Keeps an error of a writer and counts it, but for want of memory; tells what fault it is.
-#[cold]
-#[inline(never)]
-fn keep_error(failed: &mut u64, err: &mut Option<io::Error>, error: io::Error) -> SinkFault
-    requires { failed.old ≢ u64.MAX }
-    ensures counted { (bytes : List ℕ) → failed.new ≡ failed.old + failures_in (Err result) bytes }
-    ensures passed { PassesOn (Err result) err.old err.new (Err error) }
-    ensures error { result ≡ SinkFault.Device → IsSomeAnd err.new (λ kept. error_kind kept ≢ IoKind.OutOfMemory) }
-    ensures no_error { result ≢ SinkFault.Device → err.new ≡ err.old }
-{
-    if error.kind() == io::ErrorKind::OutOfMemory {
-        return SinkFault::Memory;
-    }
-    *failed += 1;
-    *err = Some(error);
-    SinkFault::Device
 }

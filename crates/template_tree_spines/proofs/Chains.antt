@@ -1,18 +1,14 @@
 -- Facts of left chains.
-use Rattle.std.proofs.Common.{◌≡◌, List, [], ◌∷◌, ◌++◌, map, reverse, Option, Some, Bor, Box, Global, refl, sym, ◌∙◌, append_assoc}
+use Rattle.std.proofs.Common.{◌≡◌, List, [], ◌∷◌, ◌++◌, map, reverse, Some, Bor, Box, Global, refl, sym, ◌∙◌, append_assoc}
 use Rattle.std.proofs.lemmas.List.{reverse-append}
 use denote.Hole.Carrier.{out}
 use Rattle.template_tree.specs.Tree.{Expression}
-use Rattle.template_tree_spines.specs.Spine.{left_of, spine_of}
+use Rattle.template_tree_spines.specs.Spine.{spine_of}
 use Rattle.template_tree.specs.View.{expression_of, chain_of}
 use Rattle.template_tree.specs.declared.span.Spanned.{Spanned}
 use Rattle.template_tree.specs.declared.expressions.Filter.{Filter as FilterNode}
 use Rattle.template_tree.specs.declared.expressions.Expr.{Expr, Filter}
 use Rattle.template_tree.specs.declared.expressions.Compare.{Compare, Compare' as compared, out-Compare}
-
-pub chain_left : (c : Compare) → ◌≡◌ {A = Option Expression} (Some (expression_of (out-Compare c).expr)) (left_of (chain_of c))
-unfolding out-Compare out
-chain_left (compared expr shape ops) = refl
 
 pub chain_spine : (c : Compare) → spine_of (chain_of c) ≡ spine_of (expression_of (out-Compare c).expr) ++ chain_of c ∷ []
 unfolding out-Compare out

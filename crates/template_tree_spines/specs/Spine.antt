@@ -1,22 +1,7 @@
 -- The left chain of an expression, which may be as long as the source, and one law for what goes along it.
 use Rattle.std.specs.Prelude.{List, [], ◌∷◌, ◌++◌, Option, None, Some}
 use Rattle.template_tree.specs.Tree.{Expression, variable, constant, slice, unary, binary, chain, conditional, filtered, tested, attribute, item, call, list_literal, tuple_literal, map_literal, Optional, absent, given}
-
-abbrev pub optional : Optional → Option Expression
-optional absent = None
-optional (given e) = Some e
-
--- the part that begins where the expression begins, and takes no level of nesting
-abbrev pub left_of : Expression → Option Expression
-left_of (slice e start stop step) = Some e
-left_of (binary op left right) = Some left
-left_of (chain e links) = Some e
-left_of (filtered name value args) = optional value
-left_of (tested name e args) = Some e
-left_of (attribute e name) = Some e
-left_of (item e key) = Some e
-left_of (call e args) = Some e
-left_of _ = None
+pub use Rattle.template_tree_left_parts.specs.Left.{optional, left_of}
 
 -- the expression, its left part, that one's left part and so on, the last one first
 abbrev mutual

@@ -3,4 +3,5 @@
 
 mod spines;
 
-pub use spines::{left, spine};
+pub use spines::spine;
+pub use template_tree_left_parts::left;

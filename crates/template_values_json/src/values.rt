@@ -13,7 +13,8 @@ ghost use Rattle.template_values_json.specs.Entries.{SayData};
 use serde_json::{Map, Value as Json};
 use std::alloc::Global;
 use template_values_core::{Entry, Value};
-use template_values_errors::{Error, ErrorKind};
+use template_values_errors::Error;
+use template_values_json_leaves::value_of_leaf;
 
 /// The value that the JSON stands for, moving its texts.
 #[cycle(values)]
@@ -24,15 +25,9 @@ pub(crate) fn value_from(alloc: Global, json: Json) -> Result<Value, Error>
     ensures refused { IfErr result NoMemory }
 {
     match json {
-        Json::Null => Ok(Value::none()),
-        Json::Bool(value) => Ok(Value::from_bool(value)),
-        Json::Number(number) => match number.as_i128() {
-            Some(number) => Ok(Value::from_int(number)),
-            None => Err(Error::new(ErrorKind::NoFloats)),
-        },
-        Json::String(text) => Value::from_text(text),
         Json::Array(items) => Value::from_list(alloc, values_from(alloc, items)?),
         Json::Object(members) => Value::from_map(alloc, entries_from(alloc, members)?),
+        leaf => value_of_leaf(leaf),
     }
 }
 

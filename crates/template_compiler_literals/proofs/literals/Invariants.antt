@@ -1,0 +1,11 @@
+-- The literals so far, and those that are left.
+use Rattle.std.proofs.Common.{◌≡◌, drop}
+use Rattle.template_tree.specs.View.{expressions_in}
+use Rattle.template_walk.specs.Constants.{literals_of}
+use Rattle.template_compiler_literals.proofs.Joined.{joined}
+use Rattle.template_compiler_literals.proofs.literals.Given as goal
+
+abbrev pub invariant-loop-expr : goal.invariant-loop-expr
+invariant-loop-expr l = record {
+  literals : joined l.values.items (literals_of (expressions_in (drop l.expr-index l.exprs))) ≡ literals_of (expressions_in l.exprs);
+}
