@@ -4,7 +4,7 @@ use Rattle.template_code.specs.Listing.{code_in}
 use Rattle.template_code_shapes.specs.Outlines.{shape_of}
 use Rattle.template_code_shapes.specs.Passes.{StandsAt}
 use Rattle.template_code_shapes.specs.Noted.{noted_in, places_in}
-use Rattle.template_code_shapes.proofs.verified.kind_of.Given as goal
+use Rattle.template_code_shapes.proofs.pass.shape_at_end.Given as goal
 
 abbrev pub invariant-loop-place : goal.invariant-loop-place
 invariant-loop-place l = record {

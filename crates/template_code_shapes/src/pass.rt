@@ -1,24 +1,17 @@
-//! Streams of instructions that can be run.
+//! One pass over a stream of instructions.
 
-ghost use Rattle.std.specs.Prelude.{◌≡◌, ◌<◌, ◌⊎◌, ◌∷◌, [], suc, length, Some, None, IfOk, IfErr, IfSome, IsNone, IsSomeAnd, IsErrOf, option_map};
+ghost use Rattle.std.specs.Prelude.{◌≡◌, ◌<◌, suc, length, Some, None, IfOk, IfSome, IsErrOf, option_map};
 ghost use Rattle.template_code.specs.Listing.{code_in};
-ghost use Rattle.template_code_shapes.specs.Streams.{IsGood, end_of};
-ghost use Rattle.template_code_shapes.specs.Shapes.{Shape};
-ghost use Rattle.template_code_shapes.specs.declared.StreamKind.{StreamKind};
 ghost use Rattle.template_code_shapes.specs.Outlines.{shape_of};
 ghost use Rattle.template_code_shapes.specs.Ways.{effect_in, jump_of};
-ghost use Rattle.template_code_shapes.specs.Passes.{StandsAt, IsBad, Noted, AgreesWith, home_of, effect_at};
+ghost use Rattle.template_code_shapes.specs.Passes.{StandsAt, PassEnds, IsBad, Noted, AgreesWith, home_of, effect_at};
 ghost use Rattle.template_code_shapes.specs.Noted.{noted_in, places_in};
-ghost use Rattle.template_code_shapes.specs.Checked.{kind_in, stream_in};
 
-use crate::StreamKind;
-use crate::checked::Checked;
 use crate::notes::{Notes, Stop};
 use crate::outline::Outline;
 use crate::ways::{Jump, Ways, ways_at};
 use std::alloc::Global;
 use template_code::{Instruction, Instructions};
-use template_values_errors::{Error, ErrorKind};
 
 // Notes the shape at an `Iterate`, to which later jumps lead back.
 fn note_home(
@@ -118,22 +111,14 @@ fn go_on(
     }
 }
 
-// What kind of stream ends with a shape; where none reaches the end, a template's.
-fn kind_at_end(hand: Option<Outline>) -> Option<StreamKind>
-    ensures kind { IfSome result (λ kind. (s : Shape) → option_map shape_of hand ≡ Some s → s ≡ end_of kind) }
-    ensures expression { IfSome result (λ kind. kind ≡ StreamKind.Expression → option_map shape_of hand ≡ Some (end_of kind)) }
-    ensures none { IsNone result → IsSomeAnd (option_map shape_of hand) (λ s. (kind : StreamKind) → s ≡ end_of kind → ⊥) }
-{
-    match hand {
-        Some(shape) => shape.end_kind(),
-        None => Some(StreamKind::Template),
-    }
-}
-
-// What kind of stream the instructions are, in one ascending pass.
-fn kind_of(alloc: Global, code: &Instructions<'_>) -> Result<StreamKind, Stop>
-    ensures good { IfOk result (λ kind. IsGood kind (code_in code.now)) }
-    ensures first { IfOk result (λ kind. IsGood StreamKind.Template (code_in code.now) → kind ≡ StreamKind.Template) }
+/// The shape at the end of the instructions, after one ascending pass over them; none where no way leads there. Takes at
+/// each instruction as long as the shape there is deep, and memory for a shape at each target of a jump.
+///
+/// # Errors
+///
+/// [`Stop::Bad`] for a stream that is good of neither kind, as far as its end does not tell, and [`Stop::Memory`].
+pub fn shape_at_end(alloc: Global, code: &Instructions<'_>) -> Result<Option<Outline>, Stop>
+    ensures ends { IfOk result (λ hand. PassEnds (code_in code.now) (option_map shape_of hand)) }
     ensures bad { IsErrOf result Stop.Bad → IsBad (code_in code.now) }
 {
     let mut notes = match Notes::blank(alloc, code.len() + 1) {
@@ -144,37 +129,5 @@ fn kind_of(alloc: Global, code: &Instructions<'_>) -> Result<StreamKind, Stop>
     for place in 0..code.len() as u32 {
         hand = go_on(code, &mut notes, place, hand)?;
     }
-    match kind_at_end(hand) {
-        Some(kind) => Ok(kind),
-        None => Err(Stop::Bad),
-    }
-}
-
-/// Accepts a stream in which each place has one shape however it is reached, each reached instruction
-/// is admissible with that shape, and at the end nothing is open and no operand is left, which is a
-/// template's, or one value, which is an expression's. What is good as both, since no way leads to its end, is told as
-/// a template's. Takes one pass over the instructions, at each as long as the shape there is deep, and memory for a
-/// shape at each target of a jump.
-///
-/// # Errors
-///
-/// With the instructions: [`ErrorKind::BadStream`] for all other streams, and
-/// [`ErrorKind::OutOfMemory`].
-pub fn verify<'source>(
-    alloc: Global,
-    instructions: Instructions<'source>,
-) -> Result<Checked<'source>, (Error, Instructions<'source>)>
-    ensures good { IfOk result (λ checked. IsGood (kind_in checked) (code_in instructions.entry)) }
-    ensures first { IfOk result (λ checked.
-        IsGood StreamKind.Template (code_in instructions.entry) → kind_in checked ≡ StreamKind.Template) }
-    ensures accepted { IfOk result (λ checked. stream_in checked ≡ instructions.entry) }
-    ensures bad { IfErr result (λ back. back.0 ≡ ErrorKind.BadStream ∷ [] → IsBad (code_in instructions.entry)) }
-    ensures refused { IfErr result (λ back. (back.0 ≡ ErrorKind.BadStream ∷ []) ⊎ (back.0 ≡ ErrorKind.OutOfMemory ∷ [])) }
-    ensures unchanged { IfErr result (λ back. back.1 ≡ instructions.entry) }
-{
-    match kind_of(alloc, &instructions) {
-        Ok(kind) => Ok(Checked { instructions, kind }),
-        Err(Stop::Bad) => Err((Error::new(ErrorKind::BadStream), instructions)),
-        Err(Stop::Memory) => Err((Error::new(ErrorKind::OutOfMemory), instructions)),
-    }
+    Ok(hand)
 }

@@ -6,7 +6,7 @@ use Rattle.template_code_shapes.specs.Outlines.{shape_of}
 use Rattle.template_code_shapes.specs.Passes.{StandsAt}
 use Rattle.template_code_shapes.specs.Noted.{noted_in}
 use Rattle.template_code_shapes.proofs.Visiting.{passes_joined}
-use Rattle.template_code_shapes.proofs.verified.go_on.Goals as goal
+use Rattle.template_code_shapes.proofs.pass.go_on.Goals as goal
 
 pub returns-in-None-clause-stands : goal.returns-in-None-clause-stands
 returns-in-None-clause-stands c =

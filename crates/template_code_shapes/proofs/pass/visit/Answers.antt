@@ -4,7 +4,7 @@ use Rattle.template_code_shapes.specs.Outlines.{shape_of}
 use Rattle.template_code_shapes.specs.Noted.{noted_in, places_in}
 use Rattle.template_code_shapes.proofs.Standing.{homed}
 use Rattle.template_code_shapes.proofs.Visiting.{jumps_within, follows, clashes_at_jump, falls_joined, clashes_behind}
-use Rattle.template_code_shapes.proofs.verified.visit.Goals as goal
+use Rattle.template_code_shapes.proofs.pass.visit.Goals as goal
 
 pub note_jump-requires : goal.note_jump-requires
 note_jump-requires c =
