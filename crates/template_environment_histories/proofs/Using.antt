@@ -1,4 +1,4 @@
--- Which of the templates that stand uses a name.
+-- Which of those that stand uses a name.
 use Rattle.std.proofs.Common.{Result, Ok, Err, OnErr, ◌≡◌, ℕ, zero, suc, Bool, true, false, ◌||◌, List, [], ◌∷◌, ◌++◌, map, Some, inl, inr, ◌⊎◌, ◌↔◌, IsTrue, refl, sym, ap, subst, ◌∙◌, string_bytes}
 use Rattle.std.specs.Borrow.{Bor}
 use Rattle.std.specs.List.{list_any, slice_get}
@@ -7,11 +7,9 @@ use Rattle.std.specs.Prelude.{String}
 use Rattle.std.specs.declared.alloc.Global.{Global}
 use Rattle.std.specs.String.{string_cmp, string_cmp_total}
 use Rattle.std.specs.BTreeMap as tree
+use Rattle.std.specs.BTreeMap.{BTreeMap}
 use Rattle.std.proofs.lemmas.Map.Entries.{place_from_lookup, btree_map_get_place}
-use Rattle.template_compiled.specs.Compiled.{Compiled}
-use Rattle.template_compiled.specs.Names.{uses}
-use Rattle.template_compiled_templates.specs.Standing.{IsUsedByOne}
-use Rattle.template_compiled_templates.specs.declared.templates.CompiledTemplates.{CompiledTemplates}
+use Rattle.template_environment_histories.specs.Using.{IsUsedByOne}
 
 or_false : (b : Bool) → (b || false) ≡ b
 or_false true = refl
@@ -53,28 +51,28 @@ at_place test (y ∷ ys) zero x at is =
     let same : y ≡ x = cc in (either (test y) (list_any test ys)).1 (inl (subst (λ z. IsTrue (test z)) (sym same) is))
 at_place test (y ∷ ys) (suc i) x at is = (either (test y) (list_any test ys)).1 (inr (at_place test ys i x at is))
 
--- the templates are their map's entries
-used_by_one : (templates : CompiledTemplates) → tree.IsOrdered string_cmp templates.by_name → (name : List ℕ)
-    → IsTrue (list_any (λ e. uses e.1 name) templates.by_name.entries) ↔ IsUsedByOne templates name
-used_by_one templates ordered name = (
+-- those that stand are their map's entries
+used_by_one : {T : Type 0} (uses : T → List ℕ → Bool) (standing : BTreeMap (String Global) T) → tree.IsOrdered string_cmp standing → (name : List ℕ)
+    → IsTrue (list_any (λ e. uses e.1 name) standing.entries) ↔ IsUsedByOne uses standing name
+used_by_one uses standing ordered name = (
   λ used.
-      let p = place_of (λ e. uses e.1 name) templates.by_name.entries used in
-      let found = btree_map_get_place string_cmp_total templates.by_name p.0 p.1.0 p.1.1 ordered p.2 in
+      let p = place_of (λ e. uses e.1 name) standing.entries used in
+      let found = btree_map_get_place string_cmp_total standing p.0 p.1.0 p.1.1 ordered p.2 in
       (string_bytes p.1.0, p.1.1, found, p.3),
   λ used.
-      let place = place_from_lookup _ templates.by_name.entries used.1 used.2 in
-      at_place (λ e. uses e.1 name) templates.by_name.entries place.0 (place.1, used.1) place.2 used.3,
+      let place = place_from_lookup _ standing.entries used.1 used.2 in
+      at_place (λ e. uses e.1 name) standing.entries place.0 (place.1, used.1) place.2 used.3,
 )
 
-pub all_used : (templates : CompiledTemplates) (yielded : List (Bor (String Global) × Bor Compiled)) (name : List ℕ) (old new : Bool)
-    → tree.IsOrdered string_cmp templates.by_name → map deref_pair yielded ≡ templates.by_name.entries → new ≡ (old || list_any (λ e. uses e.1.now name) yielded)
-    → IsTrue new ↔ (IsTrue old ⊎ IsUsedByOne templates name)
-all_used templates yielded name old new ordered all is =
-    let test : String Global × Compiled → Bool = λ e. uses e.1 name in
-    let whole : new ≡ (old || list_any test templates.by_name.entries) =
+pub all_used : {T : Type 0} (uses : T → List ℕ → Bool) (standing : BTreeMap (String Global) T) (yielded : List (Bor (String Global) × Bor T)) (name : List ℕ) (old new : Bool)
+    → tree.IsOrdered string_cmp standing → map deref_pair yielded ≡ standing.entries → new ≡ (old || list_any (λ e. uses e.1.now name) yielded)
+    → IsTrue new ↔ (IsTrue old ⊎ IsUsedByOne uses standing name)
+all_used {T} uses standing yielded name old new ordered all is =
+    let test : String Global × T → Bool = λ e. uses e.1 name in
+    let whole : new ≡ (old || list_any test standing.entries) =
     is ∙ ap (λ b. old || b) (sym (any_map test deref_pair yielded) ∙ ap (λ es. list_any test es) all) in
-    let one = used_by_one templates ordered name in
-    let both = either old (list_any test templates.by_name.entries) in (
+    let one = used_by_one uses standing ordered name in
+    let both = either old (list_any test standing.entries) in (
       λ h. elim (both.0 (subst IsTrue whole h)) [ inl a ↦ inl a | inr u ↦ inr (one.0 u) ],
       λ h. subst IsTrue (sym whole) (both.1 (elim h [ inl a ↦ inl a | inr u ↦ inr (one.1 u) ])),
     )
@@ -90,15 +88,15 @@ any_next : {X : Type 0} (test : X → Bool) (xs : List X) (x : X) (ys : List X) 
 any_next test [] x ys is = (either (test x) (list_any test ys)).1 (inl is)
 any_next test (y ∷ xs) x ys is = (either (test y) (list_any test (xs ++ x ∷ ys))).1 (inr (any_next test xs x ys is))
 
--- a name of the templates so far and of the next one is of one that stands
-pub some_used : (templates : CompiledTemplates) (yielded : List (Bor (String Global) × Bor Compiled)) (next : String Global × Compiled)
-    (rest : List (String Global × Compiled)) (name : List ℕ) (old before : Bool) → tree.IsOrdered string_cmp templates.by_name
-    → templates.by_name.entries ≡ map deref_pair yielded ++ next ∷ rest → before ≡ (old || list_any (λ e. uses e.1.now name) yielded)
-    → IsTrue (before || uses next.1 name) → IsTrue old ⊎ IsUsedByOne templates name
-some_used templates yielded next rest name old before ordered all is h =
-    let test : String Global × Compiled → Bool = λ e. uses e.1 name in
-    let one = (used_by_one templates ordered name).0 in
-    let among : IsTrue (list_any test (map deref_pair yielded ++ next ∷ rest)) → IsUsedByOne templates name =
+-- a name of those so far and of the next one is of one that stands
+pub some_used : {T : Type 0} (uses : T → List ℕ → Bool) (standing : BTreeMap (String Global) T) (yielded : List (Bor (String Global) × Bor T)) (next : String Global × T)
+    (rest : List (String Global × T)) (name : List ℕ) (old before : Bool) → tree.IsOrdered string_cmp standing
+    → standing.entries ≡ map deref_pair yielded ++ next ∷ rest → before ≡ (old || list_any (λ e. uses e.1.now name) yielded)
+    → IsTrue (before || uses next.1 name) → IsTrue old ⊎ IsUsedByOne uses standing name
+some_used {T} uses standing yielded next rest name old before ordered all is h =
+    let test : String Global × T → Bool = λ e. uses e.1 name in
+    let one = (used_by_one uses standing ordered name).0 in
+    let among : IsTrue (list_any test (map deref_pair yielded ++ next ∷ rest)) → IsUsedByOne uses standing name =
     λ some. one (subst (λ es. IsTrue (list_any test es)) (sym all) some) in
     elim ((either before (test next)).0 h) [
       | inl before_it ↦ elim ((either old (list_any (λ e. uses e.1.now name) yielded)).0 (subst IsTrue is before_it)) [
