@@ -5,7 +5,8 @@ use Rattle.std.proofs.lemmas.Bool.{and_parts}
 use Rattle.std.proofs.lemmas.Bool.{eqb-true, ltb-true, ltb-false, leb-true}
 use Rattle.template_code.specs.Code.{Code, emit_raw, emit, store_local, lookup, load_const, get_attr, get_item, slice, build_map, build_list, build_tuple, unpack_list, operate, negate, invert, compare_and_preserve, swap, dup_top, discard_top, jump, jump_if_false, jump_if_false_or_pop, jump_if_true_or_pop, push_with, pop_frame, push_loop, iterate, push_did_not_iterate, pop_loop_frame, push_auto_escape, pop_auto_escape, include, unsupported, unsupported_free}
 use Rattle.template_code_shapes.specs.Shapes.{Form, Opened, with_frame, loop_frame, recursive_frame, Shape, taken, lowered, below_values, given, opened, loop_opened, frame_closed, loop_closed, floor_of, innermost_loop}
-use Rattle.template_code_shapes.specs.Effects.{Effect, falling, is_iterate, is_iterate_past, is_behind, may_jump, jumping, may_iterate, effect_of}
+use Rattle.template_code_references.specs.Loops.{is_iterate_past}
+use Rattle.template_code_shapes.specs.Effects.{Effect, falling, is_iterate, is_behind, may_jump, jumping, may_iterate, effect_of}
 use Rattle.template_code_shapes.specs.Passes.{EachLoop}
 
 pub each_more : (P Q : ℕ → Type 0) → ((n : ℕ) → P n → Q n) → (frames : List Opened) → EachLoop P frames → EachLoop Q frames

@@ -1,6 +1,7 @@
 -- What an instruction makes of the shape of a run, and where it leads.
 use Rattle.std.specs.Prelude.{ℕ, ◌*◌, ◌==◌, ◌&&◌, Bool, true, false, suc, nat_lt, nat_le, if◌then◌else◌, List, length, Option, None, Some, is_some, option_map, option_and_then, slice_get}
 use Rattle.template_code.specs.Code.{Code, emit_raw, emit, store_local, lookup, load_const, get_attr, get_item, slice, build_map, build_list, build_tuple, unpack_list, operate, negate, invert, compare_and_preserve, swap, dup_top, discard_top, jump, jump_if_false, jump_if_false_or_pop, jump_if_true_or_pop, push_with, pop_frame, push_loop, iterate, push_did_not_iterate, pop_loop_frame, push_auto_escape, pop_auto_escape, include, unsupported, unsupported_free}
+use Rattle.template_code_references.specs.Loops.{is_iterate_past}
 use Rattle.template_code_shapes.specs.Shapes.{with_frame, Shape, taken, given, opened, loop_opened, frame_closed, loop_closed, with_escape, escape_closed, innermost_loop}
 
 -- with which shape the run goes on behind an instruction, and where and with which it goes on by a jump
@@ -18,10 +19,6 @@ traded n m s = option_map (λ below. falling (given m below)) (taken n s)
 abbrev pub is_iterate : Option Code → Bool
 is_iterate (Some (iterate to)) = true
 is_iterate _ = false
-
-abbrev pub is_iterate_past : ℕ → Option Code → Bool
-is_iterate_past place (Some (iterate to)) = nat_lt place to
-is_iterate_past place _ = false
 
 -- the place is the one behind a loop's `PushLoop`
 abbrev pub is_behind : ℕ → Option ℕ → Bool

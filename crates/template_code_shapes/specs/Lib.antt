@@ -6,4 +6,5 @@ pub mod Outlines
 pub mod Ways
 pub mod Passes
 pub mod Noted
-pub mod Checked
+-- what contracts here cite of a crate below
+pub use Rattle.template_code_references.specs.Loops

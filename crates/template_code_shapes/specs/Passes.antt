@@ -1,5 +1,5 @@
 -- What one ascending pass over a stream knows: a table of shapes, and the shapes that are noted of it.
-use Rattle.std.specs.Prelude.{◌≡◌, ℕ, suc, ◌<◌, ◌⊎◌, true, List, [], ◌∷◌, Option, None, Some, IsSome, IsSomeAnd, option_and_then, if◌then◌else◌, slice_get}
+use Rattle.std.specs.Prelude.{◌≡◌, ℕ, suc, ◌<◌, ◌⊎◌, true, List, [], ◌∷◌, length, Option, None, Some, IsSome, IsSomeAnd, option_and_then, if◌then◌else◌, slice_get}
 use Rattle.template_code.specs.Code.{Code}
 use Rattle.template_code_shapes.specs.declared.StreamKind.{StreamKind}
 use Rattle.template_code_shapes.specs.Shapes.{Opened, with_frame, loop_frame, recursive_frame, Shape, start}
@@ -35,6 +35,10 @@ pub record StandsAt (code : List Code) (notes : ℕ → Option Shape) (hand : Op
   pub noted : (q : ℕ) (s : Shape) → notes q ≡ Some s → table q ≡ Some s
   pub ahead : (q : ℕ) (s : Shape) → place < q → table q ≡ Some s → notes q ≡ Some s
   pub back : (q : ℕ) (s : Shape) → q < place → is_iterate (slice_get code q) ≡ true → table q ≡ Some s → notes q ≡ Some s
+
+-- all instructions were passed over, and this shape, or none, is in hand at their end
+abbrev pub PassEnds : List Code → Option Shape → Type 0
+PassEnds code hand = (notes : ℕ → Option Shape) × StandsAt code notes hand (length code)
 
 -- the stream is good of neither kind
 abbrev pub IsBad : List Code → Type 0

@@ -4,14 +4,14 @@
 
 ghost use Rattle.template_code_shapes.specs.Laws.{CertifiedIsGood, GoodEndsWell, GoodGoesOn};
 
-mod checked;
 mod notes;
 mod outline;
-mod verified;
+mod pass;
 mod ways;
 
-pub use checked::Checked;
-pub use verified::verify;
+pub use notes::Stop;
+pub use outline::Outline;
+pub use pass::shape_at_end;
 
 /// Which of the two kinds a stream is.
 #[derive(Clone, Copy, Debug, PartialEq, Eq)]

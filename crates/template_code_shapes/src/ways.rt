@@ -11,6 +11,7 @@ ghost use Rattle.template_code_shapes.specs.Ways.{effect_in, IsScope};
 use crate::outline::{Opened, Outline};
 use std::alloc::AllocError;
 use template_code::{Instruction, Instructions};
+use template_code_references::iterates_past;
 use template_values_errors::{Error, ErrorKind};
 
 /// A jump, with its shape.
@@ -63,10 +64,7 @@ pub fn may_jump_to(code: &Instructions, place: u32, shape: &Outline, to: u32) ->
             if to as u64 != push as u64 + 1 {
                 return false;
             }
-            match code.get(to) {
-                Some(Instruction::Iterate(past)) => place < *past,
-                _ => false,
-            }
+            iterates_past(code, to, place)
         }
         None => false,
     }

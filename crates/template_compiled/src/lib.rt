@@ -4,6 +4,7 @@
 mod compiled;
 mod config;
 mod expression;
+mod naming;
 
 pub use compiled::{CompiledTemplate, one_tree, plain_text};
 pub use config::TemplateConfig;

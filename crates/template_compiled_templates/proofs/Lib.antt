@@ -1,3 +1,2 @@
 pub mod Updates
-pub mod Using
 pub mod Listing

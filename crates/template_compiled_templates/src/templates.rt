@@ -16,7 +16,7 @@ use std::alloc::Global;
 use std::collections::btree_map::Values;
 use std::collections::{BTreeMap, BTreeSet};
 use template_compiled::CompiledTemplate;
-use template_environment_histories::put_under;
+use template_environment_histories::{add_names_of_all, put_under};
 use template_values_errors::{Error, ErrorKind};
 
 /// Compiled templates, each under its own name.
@@ -100,10 +100,7 @@ impl<'source> CompiledTemplates<'source> {
             → IsTrue (contains_text names.old name) ⊎ IsUsedByOne self.now name) }
         ensures refused { IfErr result NoMemory }
     {
-        for (_name, template) in &self.by_name {
-            template.add_undeclared(alloc, names)?;
-        }
-        Ok(())
+        add_names_of_all(alloc, &self.by_name, names)
     }
 
     /// All that stand, by order of their names by bytes.

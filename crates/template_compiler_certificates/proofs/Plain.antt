@@ -6,7 +6,8 @@ use Rattle.std.proofs.lemmas.List.{replicate-append-replicate}
 use Rattle.template_code.specs.Code.{Code, iterate}
 use Rattle.template_code_shapes.specs.declared.outline.Floor.{Floor}
 use Rattle.template_code_shapes.specs.Shapes.{Form, single_form, Shape, floor_of, below_values, lowered, taken, given, with_escape, escape_closed, innermost_loop}
-use Rattle.template_code_shapes.specs.Effects.{Effect, falling, traded, is_behind, is_iterate_past, may_jump, jumping, may_iterate}
+use Rattle.template_code_references.specs.Loops.{is_iterate_past}
+use Rattle.template_code_shapes.specs.Effects.{Effect, falling, traded, is_behind, may_jump, jumping, may_iterate}
 
 abbrev pub ground : Floor
 ground = record { operands = 0; escapes = 0; captures = 0 }

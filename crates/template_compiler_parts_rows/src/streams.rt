@@ -7,7 +7,7 @@ use std::borrow::CowStr;
 use template_code::{
     CaptureMode, Instruction, Instructions, LOOP_FLAG_RECURSIVE, LOOP_FLAG_WITH_LOOP_VAR,
 };
-use template_code_shapes::{Checked, verify};
+use template_code_checked::{Checked, verify};
 use template_values_core::Value;
 use template_values_errors::{Error, ErrorKind};
 

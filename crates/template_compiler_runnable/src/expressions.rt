@@ -4,6 +4,7 @@ ghost use Rattle.template_tree.specs.View.{expression_of, expressions_in, links_
 ghost use Rattle.template_walk.specs.Runnable.{IsRunnable, is_kept_back};
 ghost use Rattle.template_compiler_runnable.specs.Running.{runs, runs_beside, runs_if_given, all_run, chain_runs, links_run};
 
+use template_compiler_constructs::has_walk;
 use template_tree::{CompareOp, Expr};
 use template_tree_spines::left;
 
@@ -65,9 +66,9 @@ fn others_run(expr: &Expr<'_>) -> bool
         }
         Expr::GetAttr(_) => true,
         Expr::GetItem(n) => expression_runs(&n.node.subscript_expr),
-        Expr::Filter(_) => false,
-        Expr::Test(_) => false,
-        Expr::Call(_) => false,
+        Expr::Filter(_) => has_walk(expr),
+        Expr::Test(_) => has_walk(expr),
+        Expr::Call(_) => has_walk(expr),
         Expr::List(n) => items_run(&n.node.items),
         Expr::Tuple(n) => items_run(&n.node.items),
         Expr::Map(n) => {

@@ -3,7 +3,7 @@
 
 ghost use Rattle.std.specs.Prelude.{◌≡◌, IfOk, IfErr};
 ghost use Rattle.template_code.specs.Listing.{code_in};
-ghost use Rattle.template_code_shapes.specs.Checked.{kind_in, stream_in};
+ghost use Rattle.template_code_checked.specs.Checked.{kind_in, stream_in};
 ghost use Rattle.template_code_shapes.specs.Streams.{IsGood};
 ghost use Rattle.template_code_shapes.specs.declared.StreamKind.{StreamKind};
 ghost use Rattle.template_compiler_codegen.specs.Statements.{standalone_code, template_code};
@@ -17,7 +17,8 @@ ghost use Rattle.template_walk.specs.Runnable.{IsRunnable};
 
 use std::alloc::Global;
 use template_code::Instructions;
-use template_code_shapes::{Checked, StreamKind, certified_is_good, verify};
+use template_code_checked::{Checked, verify};
+use template_code_shapes::{StreamKind, certified_is_good};
 use template_compiler_certificates::{expressions_are_certified, templates_are_certified};
 use template_compiler_generator::CodeGenerator;
 use template_tree::Expr;

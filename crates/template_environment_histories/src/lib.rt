@@ -1,13 +1,15 @@
 //! The laws of histories: what stands under the names of an environment after any list of additions, refusals, removals
 //! and clearings. They hold of environments `E` and sources `S` of any kind, of which each change tells what the contract
-//! of its call tells. The functions do nothing: each stands for the law in its contract; save the one that puts what is
-//! given under a name.
+//! of its call tells. The functions do nothing: each stands for the law in its contract; save the ones that put what is
+//! given under a name, and that add the names which all use that stand.
 #![tactic(auto)]
 
 ghost use Rattle.template_environment_histories.specs.Laws.{AgreeingComeToTheSame, LastDecides, OnlyStandingMatters, RefusedMakeNoDifference, TouchesOrNot, UntouchedStays};
 
+mod naming;
 mod standing;
 
+pub use naming::{UsesNames, add_names_of_all};
 pub use standing::put_under;
 
 /// What stands under a name after any changes is what the last one that touches it says: the source that was added, or

@@ -45,9 +45,8 @@
 //! or its fault, unless it wants memory; [`every_evaluation_gives`] says that it is one of the two.
 #![tactic(auto)]
 
-pub use template_code_shapes::{
-    Checked, StreamKind, certified_is_good, good_ends_well, good_goes_on, verify,
-};
+pub use template_code_checked::{Checked, verify};
+pub use template_code_shapes::{StreamKind, certified_is_good, good_ends_well, good_goes_on};
 pub use template_environment::{Captured, Environment, Expression, State, Template};
 pub use template_machine_escape::{
     AutoEscapeRule, EscapeRule, NoRule, default_auto_escape_callback, one_escape, one_rule,

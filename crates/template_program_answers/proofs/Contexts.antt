@@ -5,9 +5,9 @@ use Rattle.template_values_errors.specs.Memory.{NoMemory}
 use Rattle.template_values_model.specs.Val.{Val}
 use Rattle.template_environment.specs.Isolation.{AgreesAt}
 use Rattle.template_program_context.specs.Context.{IsContextOf}
-use Rattle.template_program_run.specs.Answers.{HasContext, IsRefusedContext}
-use Rattle.template_program_run.specs.declared.request.Command.{Command}
-use Rattle.template_program_run.specs.declared.request.Command.TheVariants as asked
+use Rattle.template_program_context.specs.Asked.{HasContext, IsRefusedContext}
+use Rattle.template_program_context.specs.declared.command.Command.{Command}
+use Rattle.template_program_context.specs.declared.command.Command.TheVariants as asked
 
 some_is : {x y : ErrorKind} → Some x ≡ Some y → x ≡ y
 some_is at = cc

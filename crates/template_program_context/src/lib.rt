@@ -4,15 +4,40 @@
 ghost use Rattle.std.specs.Prelude.{◌≡◌, None, IfOk, IfErr, string_bytes, option_copied};
 ghost use Rattle.template_values_model.specs.Val.{text};
 ghost use Rattle.template_values_errors.specs.Memory.{NoMemory};
+ghost use Rattle.template_program_context.specs.Asked.{HasContext, IsRefusedContext};
 ghost use Rattle.template_program_context.specs.Context.{fault_of_json, text_pairs, IsContextOf};
 ghost use Rattle.template_program_context.specs.Entries.{SayJson, SayContext};
 ghost use Rattle.template_values_json.specs.Entries.{ArePlain};
 ghost use Rattle.template_values_json.specs.Json.{IsRefusal};
 
+mod command;
+
+pub use command::Command;
 use std::alloc::Global;
 use template_values_core::{Entry, Value};
 use template_values_errors::Error;
 use template_values_json::entries_from_json;
+
+/// The context that a command asks for: that of a render, as [`read_context`] reads it. Names are told without one, and
+/// none is read.
+///
+/// # Errors
+///
+/// Those of [`read_context`].
+pub fn context_for(
+    alloc: Global,
+    command: Command,
+    json: Option<&[u8]>,
+    definitions: &[(String, String)],
+) -> Result<Value, Error>
+    ensures has { IfOk result (HasContext command (option_copied json.entry) (text_pairs definitions.now)) }
+    ensures refused { IfErr result (IsRefusedContext command (option_copied json.entry)) }
+{
+    match command {
+        Command::Render => read_context(alloc, json, definitions),
+        Command::Names => Ok(Value::undefined()),
+    }
+}
 
 /// The context of a render: a map of the members of a JSON object, which is empty where there are no
 /// bytes, and over them a text for each definition of a name and its text. Arrays are lists, and

@@ -20,8 +20,8 @@ use Rattle.template_environment.specs.Sources.{tree_in}
 use Rattle.template_environment.specs.Isolated.{AgreeAmong}
 use Rattle.template_environment.specs.Standing.{setting_of}
 use Rattle.template_environment.specs.declared.registry.Registry.{Registry}
-use Rattle.template_program_context.specs.Context.{fault_of_json, IsContextOf, text_pairs}
-use Rattle.template_values_json.specs.Json.{IsRefusal}
+use Rattle.template_program_context.specs.Asked.{HasContext, IsRefusedContext}
+use Rattle.template_program_context.specs.Context.{IsContextOf, text_pairs}
 use Rattle.template_program_run.specs.Additions.{AllAreAccepted, IsRefusedAddition}
 use Rattle.template_program_run.specs.Environments.{IsMade}
 use Rattle.template_program_run.specs.History.{source_for, standing}
@@ -29,8 +29,8 @@ use Rattle.template_program_run.specs.Ids.{IsLastId}
 use Rattle.template_program_run.specs.Lines.{lines_of}
 use Rattle.template_program_outcomes.specs.declared.outcome.Outcome.{Outcome}
 use Rattle.template_program_outcomes.specs.declared.outcome.Outcome.TheVariants.{Done, Render, Context, Template}
-use Rattle.template_program_run.specs.declared.request.Command.{Command}
-use Rattle.template_program_run.specs.declared.request.Command.TheVariants as asked
+use Rattle.template_program_context.specs.declared.command.Command.{Command}
+use Rattle.template_program_context.specs.declared.command.Command.TheVariants as asked
 use Rattle.template_program_run.specs.declared.request.Request.{Request}
 
 -- nothing was written
@@ -40,16 +40,6 @@ IsUntouched before after failed fails = (after ≡ before) × (fails ≡ failed)
 -- the request's definitions
 abbrev pub definitions_of : Request → List (List ℕ × List ℕ)
 definitions_of request = text_pairs request.texts.items
-
--- the JSON is refused; it is read for a render alone
-abbrev pub IsRefusedContext : Command → Option (List ℕ) → List ErrorKind → Type 0
-IsRefusedContext asked.Render json kinds = IsRefusal (fault_of_json json) kinds
-IsRefusedContext asked.Names json kinds = ⊥
-
--- the JSON is not refused, and a render has this context
-abbrev pub HasContext : Command → Option (List ℕ) → List (List ℕ × List ℕ) → Val → Type 0
-HasContext asked.Render json definitions context = (fault_of_json json ≡ None) × IsContextOf json definitions context
-HasContext asked.Names json definitions context = Unit {0}
 
 -- an outcome of a render: done, or an error
 abbrev pub IsOutcomeOf : Outcome → Result (Unit {0}) (List ErrorKind) → Type 0

@@ -2,8 +2,8 @@
 use Rattle.std.specs.Prelude.{◌≡◌, ℕ, ◌+◌, ◌-◌, ◌^◌, ◌==◌, if◌then◌else◌}
 use Rattle.template_program_outcomes.specs.declared.outcome.Outcome.{Outcome}
 use Rattle.template_program_outcomes.specs.declared.outcome.Outcome.TheVariants.{Context, Template}
-use Rattle.template_program_run.specs.declared.request.Command.{Command}
-use Rattle.template_program_run.specs.declared.request.Command.TheVariants as asked
+use Rattle.template_program_context.specs.declared.command.Command.{Command}
+use Rattle.template_program_context.specs.declared.command.Command.TheVariants as asked
 
 -- the id that is never given
 abbrev pub last_id : ℕ

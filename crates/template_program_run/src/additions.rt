@@ -10,6 +10,7 @@ ghost use Rattle.template_program_run.specs.Ids.{IsLastId, behind_one};
 use crate::request::Request;
 use std::alloc::Global;
 use template_environment::Environment;
+use template_environment_settings::set_bounds;
 use template_machine_ids::StateIds;
 use template_values_errors::{Error, ErrorKind};
 
@@ -52,8 +53,11 @@ fn set_up<'source>(
     ensures refused { IfErr result (λ kinds. IsLastId ids.old × (kinds ≡ ErrorKind.InvalidOperation ∷ [])) }
 {
     let mut environment = Environment::new(alloc, ids)?;
-    environment.set_fuel(request.fuel);
-    environment.set_recursion_limit(request.limit);
-    environment.set_undefined_behavior(request.undefined);
+    set_bounds(
+        &mut environment,
+        request.fuel,
+        request.limit,
+        request.undefined,
+    );
     Ok(environment)
 }

@@ -7,6 +7,7 @@ mod names;
 mod request;
 mod running;
 
-pub use request::{Command, Request};
+pub use request::Request;
 pub use running::run;
+pub use template_program_context::Command;
 pub use template_program_outcomes::Outcome;

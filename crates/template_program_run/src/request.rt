@@ -1,15 +1,7 @@
 //! What is asked of the program.
 
+use template_program_context::Command;
 use template_values_modes::UndefinedBehavior;
-
-/// What is to be written.
-#[derive(Clone, Copy, Debug, PartialEq, Eq)]
-pub enum Command {
-    /// The text of the main template.
-    Render,
-    /// The names of a context that can matter to it, one a line.
-    Names,
-}
 
 /// What is asked of the program.
 #[derive(Debug, Drop)]

@@ -6,19 +6,20 @@ ghost use Rattle.template_environment.specs.Compiled.{standing_of};
 ghost use Rattle.template_environment.specs.Plain.{IsPlain, text_kept};
 ghost use Rattle.template_environment.specs.Reading.{registry_of};
 ghost use Rattle.template_environment.specs.Views.{compiled_in, environment_of as place_of, name_of, source_of};
-ghost use Rattle.template_program_run.specs.Answers.{AnswersRequest, HasContext, IsRefusedContext, Rendered, TellsNames, definitions_of};
+ghost use Rattle.template_program_context.specs.Asked.{HasContext, IsRefusedContext};
+ghost use Rattle.template_program_run.specs.Answers.{AnswersRequest, Rendered, TellsNames, definitions_of};
 ghost use Rattle.template_program_run.specs.History.{source_for, standing};
 ghost use Rattle.template_program_run.specs.Ids.{behind_one, behind_request};
 ghost use Rattle.template_program_run.specs.Plain.{WritesOnDone, WritesOnRender};
 
 use crate::additions::environment_of;
 use crate::names::write_lines;
-use crate::request::{Command, Request};
+use crate::request::Request;
 use std::alloc::Global;
 use template_environment::{Environment, Template};
 use template_machine_ids::StateIds;
 use template_machine_output::Sink;
-use template_program_context::read_context;
+use template_program_context::{Command, context_for};
 use template_program_outcomes::Outcome;
 use template_values_core::Value;
 use template_values_errors::Error;
@@ -71,15 +72,12 @@ pub fn run<S: Sink>(
     }
 }
 
-// The context of a render. Names are told without one, and none is read.
+// The context that the request asks for.
 fn context_of(alloc: Global, request: &Request, context: Option<&[u8]>) -> Result<Value, Error>
     ensures has { IfOk result (HasContext request.now.command (option_copied context.entry) (definitions_of request.now)) }
     ensures refused { IfErr result (IsRefusedContext request.now.command (option_copied context.entry)) }
 {
-    match request.command {
-        Command::Render => read_context(alloc, context, &request.texts),
-        Command::Names => Ok(Value::undefined()),
-    }
+    context_for(alloc, request.command, context, &request.texts)
 }
 
 // Renders the main template.

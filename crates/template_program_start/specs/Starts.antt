@@ -14,7 +14,7 @@ use Rattle.template_program_words.specs.declared.words.Words.{Words}
 use Rattle.template_program_words.specs.declared.words.Words.TheVariants as asks
 use Rattle.template_program_run.specs.Answers.{AnswersRequest, definitions_of}
 use Rattle.template_program_outcomes.specs.declared.outcome.Outcome.{Outcome}
-use Rattle.template_program_run.specs.declared.request.Command.TheVariants as asked
+use Rattle.template_program_context.specs.declared.command.Command.TheVariants as asked
 use Rattle.template_program_run.specs.declared.request.Request.{Request}
 use Rattle.template_program_outcomes.specs.Flushes.{flushed}
 use Rattle.template_program_outcomes.specs.Status.{IsStatusOf}

@@ -6,6 +6,7 @@ use Rattle.template_tree.specs.declared.expressions.Map.{Map as MapNode}
 use Rattle.template_tree.specs.declared.expressions.Slice.{Slice as SliceNode}
 use Rattle.template_tree.specs.declared.expressions.Expr.{Expr, size-Expr, the_lemmas}
 use Rattle.template_tree.proofs.Rows.{expressions_row}
+use Rattle.template_compiler_constructs.specs.Constructs.{has_walk}
 use Rattle.template_compiler_runnable.specs.Running.{all_run, chain_runs, left_deep, left_runs, runs_beside, runs_if_given}
 use Rattle.template_compiler_runnable.proofs.Parts.{goes_left, left_within, chain_beside, map_beside, slice_beside, first_fails, then}
 use Rattle.template_compiler_runnable.proofs.expressions.+expression.Goals as goal
@@ -69,13 +70,16 @@ others_run-returns-else-not-items_run t c =
     values ∙ sym (then _ (map_beside c.args.expr.now c.in-Map.n c.in-Map.is) (sym keys ∙ c.if-not-items_run.false))
 
 pub others_run-returns-in-Filter : goal.others_run-returns-in-Filter
-others_run-returns-in-Filter t c = ap (λ (x : Expr). runs_beside (expression_of x)) (sym c.in-Filter.is)
+others_run-returns-in-Filter t c =
+    c.has_walk.ensures ∙ ap (λ (x : Expr). has_walk (expression_of x)) c.in-Filter.is ∙ ap (λ (x : Expr). runs_beside (expression_of x)) (sym c.in-Filter.is)
 
 pub others_run-returns-in-Test : goal.others_run-returns-in-Test
-others_run-returns-in-Test t c = ap (λ (x : Expr). runs_beside (expression_of x)) (sym c.in-Test.is)
+others_run-returns-in-Test t c =
+    c.has_walk-in-Test.ensures ∙ ap (λ (x : Expr). has_walk (expression_of x)) c.in-Test.is ∙ ap (λ (x : Expr). runs_beside (expression_of x)) (sym c.in-Test.is)
 
 pub others_run-returns-in-Call : goal.others_run-returns-in-Call
-others_run-returns-in-Call t c = ap (λ (x : Expr). runs_beside (expression_of x)) (sym c.in-Call.is)
+others_run-returns-in-Call t c =
+    c.has_walk-in-Call.ensures ∙ ap (λ (x : Expr). has_walk (expression_of x)) c.in-Call.is ∙ ap (λ (x : Expr). runs_beside (expression_of x)) (sym c.in-Call.is)
 
 pub others_run-returns-in-GetAttr : goal.others_run-returns-in-GetAttr
 others_run-returns-in-GetAttr t c = ap (λ (x : Expr). runs_beside (expression_of x)) (sym c.in-GetAttr.is)

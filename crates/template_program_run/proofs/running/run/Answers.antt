@@ -5,7 +5,7 @@ use Rattle.template_environment.specs.Reading.{registry_of}
 use Rattle.template_environment.specs.Views.{compiled_in, environment_of, source_of}
 use Rattle.template_program_context.specs.Context.{text_pairs}
 use Rattle.template_program_run.specs.Environments.{IsMade}
-use Rattle.template_program_run.specs.declared.request.Command.TheVariants as asked
+use Rattle.template_program_context.specs.declared.command.Command.TheVariants as asked
 use Rattle.template_program_run.proofs.Counting.{one_more, rendered_counts, told_counts}
 use Rattle.template_program_run.proofs.MainStands.{answers_done, rendered_does}
 use Rattle.template_program_run.proofs.running.run.Goals as goal
