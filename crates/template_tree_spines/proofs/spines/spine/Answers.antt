@@ -51,3 +51,19 @@ loop-passed-preserved-in-Some c = record {
   depth = search (rules, the_lemmas);
   here = search (rules, the_lemmas);
 }
+
+pub loop-passed-preserved-in-Slice : goal.loop-passed-preserved-in-Slice
+loop-passed-preserved-in-Slice c = record {
+  nodes = passed_more c.loop-passed.at.now c.deref.result.now.expr c.loop-passed.passed.items c.push.new.self.items _ _
+      refl c.in_ok-push.ensures.items (rw (c.in-Slice.is, c.deref.ensures) refl) c.loop-passed.invariant.nodes;
+  depth = search (rules, the_lemmas);
+  here = search (rules, the_lemmas);
+}
+
+pub loop-passed-preserved-in-BinOp : goal.loop-passed-preserved-in-BinOp
+loop-passed-preserved-in-BinOp c = record {
+  nodes = passed_more c.loop-passed.at.now c.deref-in-BinOp.result.now.left c.loop-passed.passed.items c.push.new.self.items _ _
+      refl c.in_ok-push.ensures.items (rw (c.in-BinOp.is, c.deref-in-BinOp.ensures) refl) c.loop-passed.invariant.nodes;
+  depth = search (rules, the_lemmas);
+  here = search (rules, the_lemmas);
+}
