@@ -11,17 +11,10 @@ use template_tree::Expr;
 pub fn is_reserved(name: &str) -> bool
     ensures { result ≡ is_reserved name.now }
 {
-    match name {
-        "true" => true,
-        "True" => true,
-        "false" => true,
-        "False" => true,
-        "none" => true,
-        "None" => true,
-        "loop" => true,
-        "self" => true,
-        _ => false,
-    }
+    [
+        "true", "True", "false", "False", "none", "None", "loop", "self",
+    ]
+    .contains(&name)
 }
 
 /// Reads a name that may be stored.

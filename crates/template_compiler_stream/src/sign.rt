@@ -256,16 +256,7 @@ pub fn ends_bound(token: &Token) -> bool
 fn is_no_word(name: &str) -> bool
     ensures { result ≡ is_no_argument name.now }
 {
-    match name {
-        "and" => true,
-        "or" => true,
-        "not" => true,
-        "in" => true,
-        "is" => true,
-        "else" => true,
-        "if" => true,
-        _ => false,
-    }
+    ["and", "or", "not", "in", "is", "else", "if"].contains(&name)
 }
 
 /// Whether the token begins the bare argument of a test.

@@ -6,6 +6,7 @@ ghost use Rattle.template_values_model.specs.Val.{int};
 ghost use Rattle.template_values_core.specs.Maps.{pairs_of, entry_under};
 ghost use Rattle.template_values_core.specs.Shape.{pairs_in};
 ghost use Rattle.template_values_records.specs.Views.{macro_seen};
+ghost use Rattle.template_values_items.specs.Loops.{loop_rest};
 ghost use Rattle.template_values_operators.specs.Contains.{namespace_contains};
 ghost use Rattle.template_values_operators.specs.Records.{is_last, item_before, loop_attribute, loop_value, macro_attribute, macro_value, namespace_attribute, namespace_item};
 
@@ -125,10 +126,19 @@ fn loop_value(name: &str, items: &[Value], place: usize, depth: usize) -> Result
         Ok(whole(count.saturating_sub(place)))
     } else if name == "revindex0" {
         Ok(whole(count.saturating_sub(place).saturating_sub(1)))
-    } else if name == "first" {
+    } else {
+        loop_rest(name, items, place, depth)
+    }
+}
+
+/// What a loop has under a name that tells no place and no number of items.
+fn loop_rest(name: &str, items: &[Value], place: usize, depth: usize) -> Result<Value, Error>
+    ensures { Gives result (Ok (loop_rest name.now items.now place depth)) }
+{
+    if name == "first" {
         Ok(Value::from_bool(place == 0))
     } else if name == "last" {
-        Ok(Value::from_bool(is_last(place, count)))
+        Ok(Value::from_bool(is_last(place, items.len())))
     } else if name == "depth" {
         Ok(one_more(depth))
     } else if name == "depth0" {
