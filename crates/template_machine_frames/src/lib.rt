@@ -3,7 +3,6 @@
 
 mod context;
 mod frame;
-mod growth;
 mod locals;
 mod names;
 
