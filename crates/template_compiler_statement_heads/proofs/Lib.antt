@@ -1,0 +1,6 @@
+pub mod Named
+pub mod Filters
+pub mod Calls
+pub mod Wholes
+pub mod Ended
+pub mod Branches
