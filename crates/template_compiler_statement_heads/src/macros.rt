@@ -73,7 +73,7 @@ fn read_declared<'source, R: ReadsExpressions>(
 /// # Errors
 ///
 /// The fault of the token that does not fit, or want of memory.
-#[tactic(auto, using(crate::proofs::Calls::call_here, crate::proofs::Calls::no_call, template_compiler_statement_parts::proofs::Again::tag_end_again), unfolding(template_compiler_reading::specs::Steps::and_then, template_compiler_statements::specs::Reader::here, template_compiler_statements::specs::Reader::here_by))]
+#[tactic(auto, using(template_compiler_statement_values::proofs::Calls::call_here, template_compiler_statement_values::proofs::Calls::no_call, template_compiler_statement_parts::proofs::Again::tag_end_again), unfolding(template_compiler_reading::specs::Steps::and_then, template_compiler_statements::specs::Reader::here, template_compiler_statements::specs::Reader::here_by))]
 pub fn read_call<'source, R: ReadsExpressions>(
     alloc: Global,
     tokens: &mut TokenStream<'source>,
