@@ -8,4 +8,4 @@ mod values;
 
 pub use loops::{read_break, read_continue};
 pub use templates::{read_extends, read_from, read_import, read_include};
-pub use values::{read_do, read_print, read_set};
+pub use values::{read_do, read_print};

@@ -1,7 +1,7 @@
 //! Makers of the nodes of statements with a body: each takes two allocations at most, and drops its parts where one is
 //! refused.
 ghost use Rattle.std.specs.Prelude.{◌≡◌, IfOk};
-ghost use Rattle.template_tree.specs.View.{expression_of, optional_in, expressions_in, arguments_in};
+ghost use Rattle.template_tree.specs.View.{expression_of, expressions_in, arguments_in};
 ghost use Rattle.template_tree_statements.specs.View.{statement_of, assignments_in};
 ghost use Rattle.template_tree_statements.specs.declared.statements.Stmt.TheVariants as statements;
 ghost use Rattle.template_compiler_statement_makers.specs.Listed.{statements_in};
@@ -9,23 +9,7 @@ ghost use Rattle.template_tree.specs.Tree as tree;
 
 use std::alloc::{AllocError, Global};
 use template_tree::{Call, Expr, Span, Spanned};
-use template_tree_statements::{
-    AutoEscape, Block, CallBlock, FilterBlock, ForLoop, IfCond, Macro, SetBlock, Stmt, WithBlock,
-};
-
-/// `{% for target in iter if filter_expr recursive %}body{% else %}else_body{% endfor %}`.
-#[tactic(auto, using(crate::proofs::Rows::statements_row))]
-pub fn for_loop<'source>(
-    alloc: Global,
-    node: ForLoop<'source>,
-    span: Span,
-) -> Result<Spanned<Box<ForLoop<'source>>>, AllocError>
-    ensures { IfOk result (λ n. statement_of (statements.ForLoop n) ≡
-        tree.for_loop (expression_of node.entry.target) (expression_of node.entry.iter) (optional_in node.entry.filter_expr)
-        node.entry.recursive (statements_in node.entry.body.items) (statements_in node.entry.else_body.items)) }
-{
-    Spanned::boxed(alloc, node, span)
-}
+use template_tree_statements::{Block, CallBlock, IfCond, Macro, Stmt, WithBlock};
 
 /// `{% if expr %}true_body{% else %}false_body{% endif %}`: a condition with its body gets what stands for the other case.
 #[tactic(auto, using(crate::proofs::Rows::statements_row))]
@@ -56,54 +40,6 @@ pub fn with_block<'source>(
         tree.with_block (assignments_in assignments.entry.items) (statements_in body.entry.items)) }
 {
     Spanned::boxed(alloc, WithBlock { assignments, body }, span)
-}
-
-/// `{% set target filter %}body{% endset %}`.
-#[tactic(auto, using(crate::proofs::Rows::statements_row))]
-pub fn set_block<'source>(
-    alloc: Global,
-    target: Expr<'source>,
-    filter: Option<Expr<'source>>,
-    body: Vec<Stmt<'source>>,
-    span: Span,
-) -> Result<Spanned<Box<SetBlock<'source>>>, AllocError>
-    ensures { IfOk result (λ n. statement_of (statements.SetBlock n) ≡
-        tree.set_block (expression_of target.entry) (optional_in filter.entry) (statements_in body.entry.items)) }
-{
-    let node = SetBlock {
-        target,
-        filter,
-        body,
-    };
-    Spanned::boxed(alloc, node, span)
-}
-
-/// `{% autoescape enabled %}body{% endautoescape %}`.
-#[tactic(auto, using(crate::proofs::Rows::statements_row))]
-pub fn auto_escape<'source>(
-    alloc: Global,
-    enabled: Expr<'source>,
-    body: Vec<Stmt<'source>>,
-    span: Span,
-) -> Result<Spanned<Box<AutoEscape<'source>>>, AllocError>
-    ensures { IfOk result (λ n. statement_of (statements.AutoEscape n) ≡
-        tree.auto_escape (expression_of enabled.entry) (statements_in body.entry.items)) }
-{
-    Spanned::boxed(alloc, AutoEscape { enabled, body }, span)
-}
-
-/// `{% filter filter %}body{% endfilter %}`.
-#[tactic(auto, using(crate::proofs::Rows::statements_row))]
-pub fn filter_block<'source>(
-    alloc: Global,
-    filter: Expr<'source>,
-    body: Vec<Stmt<'source>>,
-    span: Span,
-) -> Result<Spanned<Box<FilterBlock<'source>>>, AllocError>
-    ensures { IfOk result (λ n. statement_of (statements.FilterBlock n) ≡
-        tree.filter_block (expression_of filter.entry) (statements_in body.entry.items)) }
-{
-    Spanned::boxed(alloc, FilterBlock { filter, body }, span)
 }
 
 /// `{% block name required %}body{% endblock %}`.

@@ -1,5 +1,5 @@
 -- What is one level deeper is read with one level less.
-use Rattle.std.proofs.Common.{◌≡◌, ℕ, suc, List, refl, ap}
+use Rattle.std.proofs.Common.{◌≡◌, ℕ, suc, List, ap}
 use Rattle.template_compiler_tokens.specs.Token.{Token}
 use Rattle.template_compiler_statements.specs.Grammar.{Around}
 use Rattle.template_compiler_statements.specs.Reader.{here, deeper_body, statements_at}

@@ -1,4 +1,2 @@
-pub mod Lists
-pub mod Ended
 pub mod Next
 pub mod Less

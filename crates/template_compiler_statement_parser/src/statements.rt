@@ -1,31 +1,30 @@
 //! Statements and their bodies: what calls itself. A body is one nesting level deeper than its statement.
-ghost use Rattle.std.specs.Prelude.{◌≡◌, IfErr, IfOk};
+ghost use Rattle.std.specs.Prelude.{◌≡◌};
 ghost use Rattle.template_compiler_statement_parts.specs.Parsed.{ParsedAs, SteppedTo};
 ghost use Rattle.template_compiler_reading.specs.Steps.{all, and_then};
-ghost use Rattle.template_compiler_statement_parser.specs.Bodies.{ParsedBody, ParsedStatement, branch_in, branches_in, macro_behind};
+ghost use Rattle.template_compiler_statement_heads.specs.Branches.{branch_in, branches_in};
+ghost use Rattle.template_compiler_statement_heads.specs.Heads.{set_block_of, set_over, set_rest};
+ghost use Rattle.template_compiler_statement_parser.specs.Bodies.{ParsedBody, ParsedStatement};
 ghost use Rattle.template_compiler_statement_makers.specs.Surroundings.{around_of, opening_of};
 ghost use Rattle.template_compiler_stream.specs.Left.{passed};
-ghost use Rattle.template_compiler_stream.specs.declared.refusal.Refusal.TheVariants as refusals;
-ghost use Rattle.template_compiler_statements.specs.Reader.{autoescape_by, block_body, block_by, branch_by, branch_step, call_body, call_by, deeper_body, else_by, expect_tag, filter_block_by, filtered_body, for_body, for_by, for_in, here, if_by, macro_by, opened_by, opened_step, opening, set_behind, set_body, set_by, statement_step, statements_at, with_by};
-ghost use Rattle.template_compiler_statements.specs.Trees.{branched, is_block_body, no_branches};
-ghost use Rattle.template_compiler_statement_values.specs.Written.{parameters_of};
+ghost use Rattle.template_compiler_statements.specs.Reader.{autoescape_by, block_by, branch_by, branch_step, call_by, deeper_body, else_by, expect_tag, filter_block_by, for_by, here, if_by, macro_by, opened_by, opened_step, opening, set_by, statement_step, statements_at, with_by};
+ghost use Rattle.template_compiler_statements.specs.Trees.{no_branches};
 ghost use Rattle.template_tree_statements.specs.View.{statement_of};
 ghost use Rattle.template_tree_statements.specs.declared.statements.Stmt.TheVariants as statements;
-ghost use Rattle.template_tree.specs.View.{arguments_in, expression_of, optional_in};
 ghost use Rattle.template_compiler_statement_makers.specs.Listed.{statements_in};
 
-use std::alloc::{AllocError, Global};
+use std::alloc::Global;
+use template_compiler_statement_heads as heads;
+use template_compiler_statement_heads::{SetHead, ends};
 use template_compiler_statement_leaves as leaves;
-use template_compiler_statement_makers::{Around, Opening, is_blank, makers, opening_named};
+use template_compiler_statement_makers::{Around, Opening, makers, opening_named};
 use template_compiler_statement_parts as parts;
-use template_compiler_statement_values::{
-    Parameters, ReadsExpressions, read_assignments, read_deeper_parameters, read_loop_filter,
-    read_optional_parameters,
-};
-use template_compiler_stream::{Fault, Refusal, Sign, TokenStream, until};
-use template_tree::{Call, Expr, Span, Spanned};
+use template_compiler_statement_values::ReadsExpressions;
+use template_compiler_stream::{Fault, Refusal, TokenStream};
+use template_tree::{Span, Spanned};
 use template_tree_statements::{
-    AutoEscape, Block, CallBlock, EmitRaw, ForLoop, IfCond, Macro, SetBlock, Stmt, WithBlock,
+    AutoEscape, Block, CallBlock, EmitRaw, FilterBlock, ForLoop, IfCond, Macro, SetBlock, Stmt,
+    WithBlock,
 };
 
 // A body, one nesting level deeper.
@@ -154,7 +153,9 @@ fn opened<'source, R: ReadsExpressions>(
         Opening::AutoEscape => {
             return auto_escape::<R>(alloc, tokens, left, around, span).map(Stmt::AutoEscape);
         }
-        Opening::Filter => return filter_block::<R>(alloc, tokens, left, around, span),
+        Opening::Filter => return filter_block::<R>(alloc, tokens, left, around, span).map(
+            Stmt::FilterBlock,
+        ),
         Opening::Block => return block::<R>(alloc, tokens, left, around, span).map(Stmt::Block),
         Opening::Import => return leaves::read_import::<R>(alloc, tokens, left, span).map(
             Stmt::Import,
@@ -217,7 +218,6 @@ fn otherwise<'source, R: ReadsExpressions>(
 }
 
 #[cycle(statements)]
-#[tactic(auto, using(template_compiler_statement_parts::proofs::Again::word_again), unfolding(template_compiler_reading::specs::Steps::and_then, template_compiler_statements::specs::Reader::here, template_compiler_statements::specs::Reader::here_by, template_compiler_statements::specs::Reader::for_by))]
 fn for_loop<'source, R: ReadsExpressions>(
     alloc: Global,
     tokens: &mut TokenStream<'source>,
@@ -227,64 +227,10 @@ fn for_loop<'source, R: ReadsExpressions>(
 ) -> Result<Spanned<Box<ForLoop<'source>>>, Refusal>
     ensures { ParsedAs (λ n. statement_of (statements.ForLoop n)) (for_by (here left) (around_of around) tokens.old) tokens.new result }
 {
-    let target = parts::read_targets(alloc, tokens, left, false)?;
-    parts::expect_word(tokens, "in")?;
-    for_in::<R>(alloc, tokens, left, around, target, span)
-}
-
-// A loop, behind its `in`.
-#[cycle(statements)]
-#[tactic(auto, unfolding(template_compiler_reading::specs::Steps::and_then, template_compiler_statements::specs::Reader::here, template_compiler_statements::specs::Reader::here_by, template_compiler_statements::specs::Reader::for_in))]
-fn for_in<'source, R: ReadsExpressions>(
-    alloc: Global,
-    tokens: &mut TokenStream<'source>,
-    left: u32,
-    around: Around,
-    target: Expr<'source>,
-    span: Span,
-) -> Result<Spanned<Box<ForLoop<'source>>>, Refusal>
-    ensures { ParsedAs (λ n. statement_of (statements.ForLoop n))
-        (for_in (here left) (around_of around) (expression_of target.entry) tokens.old) tokens.new result }
-{
-    let iter = R::read_condition(alloc, tokens, left)?;
-    let filter = read_loop_filter::<R>(alloc, tokens, left)?;
-    let recursive = parts::read_flag(tokens, "recursive");
-    for_body::<R>(
-        alloc, tokens, left, around, target, iter, filter, recursive, span,
-    )
-}
-
-// A loop, from the end of its tag on.
-#[cycle(statements)]
-#[tactic(auto, using(template_compiler_statement_parts::proofs::Again::tag_end_again), unfolding(template_compiler_reading::specs::Steps::and_then, template_compiler_statements::specs::Reader::here, template_compiler_statements::specs::Reader::here_by, template_compiler_statements::specs::Reader::for_body))]
-fn for_body<'source, R: ReadsExpressions>(
-    alloc: Global,
-    tokens: &mut TokenStream<'source>,
-    left: u32,
-    around: Around,
-    target: Expr<'source>,
-    iter: Expr<'source>,
-    filter_expr: Option<Expr<'source>>,
-    recursive: bool,
-    span: Span,
-) -> Result<Spanned<Box<ForLoop<'source>>>, Refusal>
-    ensures { ParsedAs (λ n. statement_of (statements.ForLoop n))
-        (for_body (here left) (around_of around) (expression_of target.entry) (expression_of iter.entry)
-        (optional_in filter_expr.entry) recursive tokens.old)
-        tokens.new result }
-{
-    parts::expect_tag_end(tokens)?;
+    let head = heads::read_for::<R>(alloc, tokens, left, span)?;
     let body = body::<R>(alloc, tokens, left, around.within_loop())?;
     let else_body = otherwise::<R>(alloc, tokens, left, around, "endfor")?;
-    let node = ForLoop {
-        target,
-        iter,
-        filter_expr,
-        recursive,
-        body,
-        else_body,
-    };
-    Ok(makers::for_loop(alloc, node, tokens.expand_span(span))?)
+    Ok(ends::for_loop(head, body, else_body, tokens.expand_span(span)))
 }
 
 #[cycle(statements)]
@@ -302,13 +248,12 @@ fn if_condition<'source, R: ReadsExpressions>(
     let others = branches::<R>(alloc, tokens, left, around)?;
     let last = otherwise::<R>(alloc, tokens, left, around, "endif")?;
     let whole = tokens.expand_span(span);
-    let false_body = branched(alloc, others, last, whole)?;
+    let false_body = ends::branched(alloc, others, last, whole)?;
     Ok(makers::otherwise(first, false_body, whole))
 }
 
 // A condition with its body.
 #[cycle(statements)]
-#[tactic(auto, using(template_compiler_statement_parts::proofs::Again::tag_end_again), unfolding(template_compiler_reading::specs::Steps::and_then, template_compiler_statements::specs::Reader::here, template_compiler_statements::specs::Reader::here_by, template_compiler_statements::specs::Reader::branch_by))]
 fn read_branch<'source, R: ReadsExpressions>(
     alloc: Global,
     tokens: &mut TokenStream<'source>,
@@ -316,17 +261,11 @@ fn read_branch<'source, R: ReadsExpressions>(
     around: Around,
     span: Span,
 ) -> Result<Spanned<Box<IfCond<'source>>>, Refusal>
-    ensures { ParsedAs branch_in
-        (branch_by (here left) (around_of around) tokens.old) tokens.new result }
+    ensures { ParsedAs branch_in (branch_by (here left) (around_of around) tokens.old) tokens.new result }
 {
-    let expr = R::read_expression(alloc, tokens, left)?;
-    parts::expect_tag_end(tokens)?;
-    let node = IfCond {
-        expr,
-        true_body: body::<R>(alloc, tokens, left, around)?,
-        false_body: Vec::new(alloc),
-    };
-    Ok(Spanned::boxed(alloc, node, span)?)
+    let head = heads::read_branch::<R>(alloc, tokens, left, span)?;
+    let body = body::<R>(alloc, tokens, left, around)?;
+    Ok(ends::branch(head, body))
 }
 
 // The branches behind the first one.
@@ -351,7 +290,7 @@ fn branches<'source, R: ReadsExpressions>(
 }
 
 #[cycle(statements)]
-#[tactic(auto, using(crate::proofs::Next::branch_here, crate::proofs::Next::no_branch, crate::proofs::Lists::branches_push), unfolding(template_compiler_reading::specs::Steps::under))]
+#[tactic(auto, using(crate::proofs::Next::branch_here, crate::proofs::Next::no_branch, template_compiler_statement_heads::proofs::Branches::branches_push), unfolding(template_compiler_reading::specs::Steps::under))]
 fn next_branch<'source, R: ReadsExpressions>(
     alloc: Global,
     tokens: &mut TokenStream<'source>,
@@ -374,7 +313,6 @@ fn next_branch<'source, R: ReadsExpressions>(
 }
 
 #[cycle(statements)]
-#[tactic(auto, using(template_compiler_statement_parts::proofs::Again::tag_end_again, template_compiler_statement_parts::proofs::Again::tag_again), unfolding(template_compiler_reading::specs::Steps::and_then, template_compiler_statements::specs::Reader::here, template_compiler_statements::specs::Reader::here_by, template_compiler_statements::specs::Reader::with_by, template_compiler_statements::specs::Reader::body_by))]
 fn with_block<'source, R: ReadsExpressions>(
     alloc: Global,
     tokens: &mut TokenStream<'source>,
@@ -384,15 +322,12 @@ fn with_block<'source, R: ReadsExpressions>(
 ) -> Result<Spanned<Box<WithBlock<'source>>>, Refusal>
     ensures { ParsedAs (λ n. statement_of (statements.WithBlock n)) (with_by (here left) (around_of around) tokens.old) tokens.new result }
 {
-    let assignments = read_assignments::<R>(alloc, tokens, left)?;
-    parts::expect_tag_end(tokens)?;
-    let body = body::<R>(alloc, tokens, left, around)?;
-    parts::expect_tag(tokens, "endwith")?;
-    Ok(makers::with_block(alloc, assignments, body, tokens.expand_span(span))?)
+    let head = heads::read_with::<R>(alloc, tokens, left)?;
+    let body = ended_body::<R>(alloc, tokens, left, around, "endwith")?;
+    Ok(makers::with_block(alloc, head, body, tokens.expand_span(span))?)
 }
 
 #[cycle(statements)]
-#[tactic(auto, unfolding(template_compiler_reading::specs::Steps::and_then, template_compiler_statements::specs::Reader::here, template_compiler_statements::specs::Reader::here_by, template_compiler_statements::specs::Reader::set_by, template_compiler_statements::specs::Reader::set_behind))]
 fn set<'source, R: ReadsExpressions>(
     alloc: Global,
     tokens: &mut TokenStream<'source>,
@@ -402,37 +337,32 @@ fn set<'source, R: ReadsExpressions>(
 ) -> Result<Stmt<'source>, Refusal>
     ensures { ParsedStatement (set_by (here left) (around_of around) tokens.old) tokens.new result }
 {
-    let start = tokens.span();
-    let target = parts::read_target(alloc, tokens, left, true)?;
-    if parts::begins_values(tokens) {
-        return leaves::read_set::<R>(alloc, tokens, left, target, start, span).map(Stmt::Set);
+    match heads::read_set::<R>(alloc, tokens, left, span)? {
+        SetHead::Values(node) => return Ok(Stmt::Set(node)),
+        SetHead::Block(head) => {
+            return set_block::<R>(alloc, tokens, left, around, head, span).map(Stmt::SetBlock);
+        }
     }
-    set_block::<R>(alloc, tokens, left, around, target, span).map(Stmt::SetBlock)
 }
 
-// A set block, behind its target.
+// A set block, behind its head.
 #[cycle(statements)]
-#[tactic(auto, using(template_compiler_statement_parts::proofs::Again::tag_end_again, template_compiler_statement_parts::proofs::Again::tag_again), unfolding(template_compiler_reading::specs::Steps::and_then, template_compiler_statements::specs::Reader::here, template_compiler_statements::specs::Reader::here_by, template_compiler_statements::specs::Reader::set_body, template_compiler_statements::specs::Reader::body_by))]
 fn set_block<'source, R: ReadsExpressions>(
     alloc: Global,
     tokens: &mut TokenStream<'source>,
     left: u32,
     around: Around,
-    target: Expr<'source>,
+    head: Spanned<Box<SetBlock<'source>>>,
     span: Span,
 ) -> Result<Spanned<Box<SetBlock<'source>>>, Refusal>
     ensures { ParsedAs (λ n. statement_of (statements.SetBlock n))
-        (set_body (here left) (around_of around) (expression_of target.entry) tokens.old) tokens.new result }
+        (set_rest (here left) (around_of around) (set_over (set_block_of head.entry)) tokens.old) tokens.new result }
 {
-    let filter = R::read_filter_chain(alloc, tokens, left, None)?;
-    parts::expect_tag_end(tokens)?;
-    let body = body::<R>(alloc, tokens, left, around)?;
-    parts::expect_tag(tokens, "endset")?;
-    Ok(makers::set_block(alloc, target, filter, body, tokens.expand_span(span))?)
+    let body = ended_body::<R>(alloc, tokens, left, around, "endset")?;
+    Ok(ends::set_block(head, body, tokens.expand_span(span)))
 }
 
 #[cycle(statements)]
-#[tactic(auto, using(template_compiler_statement_parts::proofs::Again::tag_end_again, template_compiler_statement_parts::proofs::Again::tag_again), unfolding(template_compiler_reading::specs::Steps::and_then, template_compiler_statements::specs::Reader::here, template_compiler_statements::specs::Reader::here_by, template_compiler_statements::specs::Reader::autoescape_by, template_compiler_statements::specs::Reader::body_by))]
 fn auto_escape<'source, R: ReadsExpressions>(
     alloc: Global,
     tokens: &mut TokenStream<'source>,
@@ -440,37 +370,29 @@ fn auto_escape<'source, R: ReadsExpressions>(
     around: Around,
     span: Span,
 ) -> Result<Spanned<Box<AutoEscape<'source>>>, Refusal>
-    ensures { ParsedAs (λ n. statement_of (statements.AutoEscape n))
-        (autoescape_by (here left) (around_of around) tokens.old) tokens.new result }
+    ensures { ParsedAs (λ n. statement_of (statements.AutoEscape n)) (autoescape_by (here left) (around_of around) tokens.old) tokens.new result }
 {
-    let enabled = R::read_expression(alloc, tokens, left)?;
-    parts::expect_tag_end(tokens)?;
-    let body = body::<R>(alloc, tokens, left, around)?;
-    parts::expect_tag(tokens, "endautoescape")?;
-    Ok(makers::auto_escape(alloc, enabled, body, tokens.expand_span(span))?)
+    let head = heads::read_auto_escape::<R>(alloc, tokens, left, span)?;
+    let body = ended_body::<R>(alloc, tokens, left, around, "endautoescape")?;
+    Ok(ends::auto_escape(head, body, tokens.expand_span(span)))
 }
 
 #[cycle(statements)]
-#[tactic(auto, using(template_compiler_statement_parts::proofs::Again::tag_end_again, template_compiler_statement_parts::proofs::Again::tag_again), unfolding(template_compiler_reading::specs::Steps::and_then, template_compiler_statements::specs::Reader::here, template_compiler_statements::specs::Reader::here_by, template_compiler_statements::specs::Reader::filter_block_by, template_compiler_statements::specs::Reader::body_by))]
 fn filter_block<'source, R: ReadsExpressions>(
     alloc: Global,
     tokens: &mut TokenStream<'source>,
     left: u32,
     around: Around,
     span: Span,
-) -> Result<Stmt<'source>, Refusal>
-    ensures { ParsedStatement (filter_block_by (here left) (around_of around) tokens.old) tokens.new result }
+) -> Result<Spanned<Box<FilterBlock<'source>>>, Refusal>
+    ensures { ParsedAs (λ n. statement_of (statements.FilterBlock n)) (filter_block_by (here left) (around_of around) tokens.old) tokens.new result }
 {
-    let first = R::read_filter(alloc, tokens, left, None)?;
-    let filter = R::read_filter_chain(alloc, tokens, left, Some(first))?;
-    parts::expect_tag_end(tokens)?;
-    let body = body::<R>(alloc, tokens, left, around)?;
-    parts::expect_tag(tokens, "endfilter")?;
-    filtered_body(alloc, filter, body, tokens.expand_span(span))
+    let head = heads::read_filter_block::<R>(alloc, tokens, left, span)?;
+    let body = ended_body::<R>(alloc, tokens, left, around, "endfilter")?;
+    Ok(ends::filter_block(head, body, tokens.expand_span(span)))
 }
 
 #[cycle(statements)]
-#[tactic(auto, using(crate::proofs::Next::block_here, crate::proofs::Next::no_block), unfolding(template_compiler_reading::specs::Steps::and_then))]
 fn block<'source, R: ReadsExpressions>(
     alloc: Global,
     tokens: &mut TokenStream<'source>,
@@ -480,45 +402,12 @@ fn block<'source, R: ReadsExpressions>(
 ) -> Result<Spanned<Box<Block<'source>>>, Refusal>
     ensures { ParsedAs (λ n. statement_of (statements.Block n)) (block_by (here left) (around_of around) tokens.old) tokens.new result }
 {
-    match tokens.word() {
-        Some(name) => {
-            tokens.advance();
-            if around.in_macro {
-                return Err(Refusal::Token(Fault::Syntax));
-            }
-            let required = parts::read_flag(tokens, "required");
-            block_behind::<R>(alloc, tokens, left, around, name, required, span)
-        }
-        None => Err(Refusal::Token(tokens.fault())),
-    }
-}
-
-// A block, from the end of its tag on.
-#[cycle(statements)]
-#[tactic(auto, using(template_compiler_statement_parts::proofs::Again::tag_end_again, crate::proofs::Ended::block_end_again), unfolding(template_compiler_reading::specs::Steps::and_then, template_compiler_statements::specs::Reader::here, template_compiler_statements::specs::Reader::here_by, template_compiler_statements::specs::Reader::block_body))]
-fn block_behind<'source, R: ReadsExpressions>(
-    alloc: Global,
-    tokens: &mut TokenStream<'source>,
-    left: u32,
-    around: Around,
-    name: &'source str,
-    required: bool,
-    span: Span,
-) -> Result<Spanned<Box<Block<'source>>>, Refusal>
-    ensures { ParsedAs (λ n. statement_of (statements.Block n))
-        (block_body (here left) (around_of around) name.now required tokens.old) tokens.new result }
-{
-    parts::expect_tag_end(tokens)?;
+    let head = heads::read_block(tokens, around.in_macro)?;
     let body = body::<R>(alloc, tokens, left, around.within_block())?;
-    if !is_block_body(required, &body) {
-        return Err(Refusal::Token(Fault::Syntax));
-    }
-    parts::expect_block_end(tokens, name)?;
-    Ok(makers::block(alloc, name, required, body, tokens.expand_span(span))?)
+    ends::read_block_end(alloc, tokens, head, body, span)
 }
 
 #[cycle(statements)]
-#[tactic(auto, using(crate::proofs::Next::macro_here, crate::proofs::Next::no_paren, crate::proofs::Next::no_macro))]
 fn macro_block<'source, R: ReadsExpressions>(
     alloc: Global,
     tokens: &mut TokenStream<'source>,
@@ -527,48 +416,12 @@ fn macro_block<'source, R: ReadsExpressions>(
 ) -> Result<Spanned<Box<Macro<'source>>>, Refusal>
     ensures { ParsedAs (λ n. statement_of (statements.Macro n)) (macro_by (here left) tokens.old) tokens.new result }
 {
-    match tokens.word() {
-        Some(name) => {
-            tokens.advance();
-            if !tokens.skip(Sign::ParenOpen) {
-                return Err(Refusal::Token(tokens.fault()));
-            }
-            if parts::is_reserved(name) {
-                return Err(Refusal::Token(Fault::Syntax));
-            }
-            macro_behind::<R>(alloc, tokens, left, name, span)
-        }
-        None => Err(Refusal::Token(tokens.fault())),
-    }
-}
-
-// A macro, behind the `(` of its arguments.
-#[cycle(statements)]
-#[tactic(auto, using(template_compiler_statement_parts::proofs::Again::tag_end_again, template_compiler_statement_parts::proofs::Again::tag_again), unfolding(template_compiler_reading::specs::Steps::and_then, template_compiler_statements::specs::Reader::here, template_compiler_statements::specs::Reader::here_by, template_compiler_statements::specs::Reader::body_by))]
-fn macro_behind<'source, R: ReadsExpressions>(
-    alloc: Global,
-    tokens: &mut TokenStream<'source>,
-    left: u32,
-    name: &'source str,
-    span: Span,
-) -> Result<Spanned<Box<Macro<'source>>>, Refusal>
-    ensures { ParsedAs (λ n. statement_of (statements.Macro n)) (macro_behind (here left) name.now tokens.old) tokens.new result }
-{
-    let parameters = read_deeper_parameters::<R>(alloc, tokens, left)?;
-    parts::expect_tag_end(tokens)?;
-    let body = body::<R>(alloc, tokens, left, Around::within_macro())?;
-    parts::expect_tag(tokens, "endmacro")?;
-    let node = Macro {
-        name,
-        args: parameters.args,
-        defaults: parameters.defaults,
-        body,
-    };
-    Ok(makers::macro_declared(alloc, node, tokens.expand_span(span))?)
+    let head = heads::read_macro::<R>(alloc, tokens, left)?;
+    let body = ended_body::<R>(alloc, tokens, left, Around::within_macro(), "endmacro")?;
+    Ok(ends::macro_block(alloc, head, body, tokens.expand_span(span))?)
 }
 
 #[cycle(statements)]
-#[tactic(auto, using(template_compiler_statement_leaves::proofs::Calls::call_here, template_compiler_statement_leaves::proofs::Calls::no_call), unfolding(template_compiler_reading::specs::Steps::and_then, template_compiler_statements::specs::Reader::here, template_compiler_statements::specs::Reader::here_by, template_compiler_statements::specs::Reader::call_by))]
 fn call_block<'source, R: ReadsExpressions>(
     alloc: Global,
     tokens: &mut TokenStream<'source>,
@@ -577,84 +430,7 @@ fn call_block<'source, R: ReadsExpressions>(
 ) -> Result<Spanned<Box<CallBlock<'source>>>, Refusal>
     ensures { ParsedAs (λ n. statement_of (statements.CallBlock n)) (call_by (here left) tokens.old) tokens.new result }
 {
-    let parameters = read_optional_parameters::<R>(alloc, tokens, left)?;
-    let expr = R::read_expression(alloc, tokens, left)?;
-    match expr.into_call() {
-        Some(call) => call_behind::<R>(alloc, tokens, left, parameters, call, span),
-        None => Err(Refusal::Token(Fault::Syntax)),
-    }
-}
-
-// A call block, behind its call.
-#[cycle(statements)]
-#[tactic(auto, using(template_compiler_statement_parts::proofs::Again::tag_end_again, template_compiler_statement_parts::proofs::Again::tag_again), unfolding(template_compiler_reading::specs::Steps::and_then, template_compiler_statements::specs::Reader::here, template_compiler_statements::specs::Reader::here_by, template_compiler_statements::specs::Reader::call_body, template_compiler_statements::specs::Reader::body_by))]
-fn call_behind<'source, R: ReadsExpressions>(
-    alloc: Global,
-    tokens: &mut TokenStream<'source>,
-    left: u32,
-    parameters: Parameters<'source>,
-    call: Spanned<Box<Call<'source>>>,
-    span: Span,
-) -> Result<Spanned<Box<CallBlock<'source>>>, Refusal>
-    ensures { ParsedAs (λ n. statement_of (statements.CallBlock n))
-        (call_body (here left) (parameters_of parameters.entry) (expression_of call.entry.node.value.expr)
-        (arguments_in call.entry.node.value.args.items) tokens.old) tokens.new result }
-{
-    parts::expect_tag_end(tokens)?;
-    let body = body::<R>(alloc, tokens, left, Around::within_macro())?;
-    parts::expect_tag(tokens, "endcall")?;
-    let node = Macro {
-        name: "caller",
-        args: parameters.args,
-        defaults: parameters.defaults,
-        body,
-    };
-    Ok(makers::call_block(alloc, call, node, tokens.expand_span(span))?)
-}
-
-// A required block has a blank body. Linear.
-fn is_block_body<'source>(required: bool, body: &[Stmt<'source>]) -> bool
-    ensures { result ≡ is_block_body required (statements_in body.now) }
-{
-    if required { is_blank(body) } else { true }
-}
-
-// A filter block; the chain of its filters is never empty. It is refused for want of memory alone.
-fn filtered_body<'source>(
-    alloc: Global,
-    filter: Option<Expr<'source>>,
-    body: Vec<Stmt<'source>>,
-    span: Span,
-) -> Result<Stmt<'source>, Refusal>
-    ensures statement { IfOk result (λ s. statement_of s ≡ filtered_body (optional_in filter.entry) (statements_in body.entry.items)) }
-    ensures refusal { IfErr result (λ e. e ≡ refusals.OutOfMemory) }
-{
-    match filter {
-        Some(filter) => {
-            let node = makers::filter_block(alloc, filter, body, span)?;
-            return Ok(Stmt::FilterBlock(node));
-        }
-        None => return Ok(Stmt::EmitRaw(Spanned::new(EmitRaw { raw: "" }, span))),
-    }
-}
-
-// Each branch is the one statement of the body before it, up to the end of the whole.
-#[tactic(auto, using(crate::proofs::Lists::branched_last))]
-fn branched<'source>(
-    alloc: Global,
-    branches: Vec<Spanned<Box<IfCond<'source>>>>,
-    last: Vec<Stmt<'source>>,
-    whole: Span,
-) -> Result<Vec<Stmt<'source>>, AllocError>
-    ensures { IfOk result (λ v. statements_in v.items ≡ branched (branches_in branches.entry.items) (statements_in last.entry.items)) }
-{
-    let mut branches = branches;
-    let mut body = last;
-    while let Some(branch) = branches.pop() {
-        let span = until(branch.span, whole);
-        let node = makers::otherwise(branch, body, span);
-        body = Vec::new(alloc);
-        body.push(Stmt::IfCond(node))?;
-    }
-    Ok(body)
+    let head = heads::read_call::<R>(alloc, tokens, left)?;
+    let body = ended_body::<R>(alloc, tokens, left, Around::within_macro(), "endcall")?;
+    Ok(ends::call_block(alloc, head, body, tokens.expand_span(span))?)
 }

@@ -3,3 +3,4 @@ pub mod Lists
 pub mod Opened
 pub mod Standing
 pub mod Assigned
+pub mod Calls

@@ -5,7 +5,7 @@ use Rattle.template_compiler_reading.specs.Steps.{all}
 use Rattle.template_compiler_statements.specs.Reader.{here, statement_step, branch_step}
 use Rattle.template_compiler_statements.specs.Trees.{no_branches}
 use Rattle.template_compiler_statement_makers.specs.Surroundings.{around_of}
-use Rattle.template_compiler_statement_parser.specs.Bodies.{branches_in}
+use Rattle.template_compiler_statement_heads.specs.Branches.{branches_in}
 use Rattle.template_compiler_statement_parser.proofs.statements.+statements.Given as goal
 
 abbrev pub decreases-body : goal.decreases-body
@@ -29,14 +29,8 @@ decreases-branches g l = 16 * l.left + 5
 abbrev pub decreases-if_condition : goal.decreases-if_condition
 decreases-if_condition g l = 16 * l.left + 7
 
-abbrev pub decreases-for_body : goal.decreases-for_body
-decreases-for_body g l = 16 * l.left + 7
-
-abbrev pub decreases-for_in : goal.decreases-for_in
-decreases-for_in g l = 16 * l.left + 8
-
 abbrev pub decreases-for_loop : goal.decreases-for_loop
-decreases-for_loop g l = 16 * l.left + 9
+decreases-for_loop g l = 16 * l.left + 7
 
 abbrev pub decreases-with_block : goal.decreases-with_block
 decreases-with_block g l = 16 * l.left + 4
@@ -53,23 +47,14 @@ decreases-auto_escape g l = 16 * l.left + 4
 abbrev pub decreases-filter_block : goal.decreases-filter_block
 decreases-filter_block g l = 16 * l.left + 4
 
-abbrev pub decreases-block_behind : goal.decreases-block_behind
-decreases-block_behind g l = 16 * l.left + 4
-
 abbrev pub decreases-block : goal.decreases-block
 decreases-block g l = 16 * l.left + 5
-
-abbrev pub decreases-macro_behind : goal.decreases-macro_behind
-decreases-macro_behind g l = 16 * l.left + 4
 
 abbrev pub decreases-macro_block : goal.decreases-macro_block
 decreases-macro_block g l = 16 * l.left + 5
 
 abbrev pub decreases-call_block : goal.decreases-call_block
 decreases-call_block g l = 16 * l.left + 5
-
-abbrev pub decreases-call_behind : goal.decreases-call_behind
-decreases-call_behind g l = 16 * l.left + 4
 
 abbrev pub decreases-opened : goal.decreases-opened
 decreases-opened g l = 16 * l.left + 10

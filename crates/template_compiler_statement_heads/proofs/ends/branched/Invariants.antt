@@ -1,8 +1,8 @@
 use Rattle.std.proofs.Common.{◌≡◌, vec_len}
 use Rattle.template_compiler_statements.specs.Trees.{branched}
 use Rattle.template_compiler_statement_makers.specs.Listed.{statements_in}
-use Rattle.template_compiler_statement_parser.specs.Bodies.{branches_in}
-use Rattle.template_compiler_statement_parser.proofs.statements.branched.Given as goal
+use Rattle.template_compiler_statement_heads.specs.Branches.{branches_in}
+use Rattle.template_compiler_statement_heads.proofs.ends.branched.Given as goal
 
 abbrev pub invariant-loop-branch : goal.invariant-loop-branch
 invariant-loop-branch l =

@@ -7,7 +7,7 @@ use Rattle.template_compiler_statements.specs.Trees.{Branches, branches_more, an
 use Rattle.std.specs.Global.{Box}
 use Rattle.template_tree.specs.declared.span.Spanned.{Spanned}
 use Rattle.template_tree_statements.specs.declared.statements.IfCond.{IfCond}
-use Rattle.template_compiler_statement_parser.specs.Bodies.{branches_in}
+use Rattle.template_compiler_statement_heads.specs.Branches.{branches_in}
 
 pub branches_push : (xs : List (Spanned (Box IfCond))) (b : Spanned (Box IfCond)) →
     branches_in (xs ++ b ∷ []) ≡ and_branch (branches_in xs) (expression_of b.node.value.expr) (statements_in b.node.value.true_body.items)

@@ -1,0 +1,5 @@
+pub mod Named
+pub mod Filters
+pub mod Wholes
+pub mod Ended
+pub mod Branches

@@ -1,0 +1,140 @@
+//! The heads of blocks, of filter blocks, of `autoescape` and of conditions.
+ghost use Rattle.template_compiler_statement_heads.specs.Heads.{block_head, block_of, expression_head, filter_head, with_head};
+ghost use Rattle.template_compiler_statement_parts.specs.Parsed.{ParsedAs};
+ghost use Rattle.template_compiler_statements.specs.Reader.{here};
+ghost use Rattle.template_tree.specs.Tree.{given};
+ghost use Rattle.template_tree.specs.View.{expression_of};
+ghost use Rattle.template_tree_statements.specs.View.{assignments_in};
+
+use std::alloc::Global;
+use template_compiler_statement_parts::{expect_tag_end, read_flag};
+use template_compiler_statement_values::{ReadsExpressions, read_assignments};
+use template_compiler_stream::{Fault, Refusal, TokenStream};
+use template_tree::{Expr, Span, Spanned};
+use template_tree_statements::{AutoEscape, FilterBlock, IfCond};
+
+/// The head of a block.
+#[derive(Clone, Copy)]
+pub struct BlockHead<'source> {
+    pub name: &'source str,
+    pub required: bool,
+}
+
+/// Reads the head of an `autoescape`.
+///
+/// # Errors
+///
+/// The fault of the token that does not fit, or want of memory.
+#[tactic(auto, using(template_compiler_statement_parts::proofs::Again::tag_end_again), unfolding(template_compiler_reading::specs::Steps::and_then, template_compiler_statements::specs::Reader::here, template_compiler_statements::specs::Reader::here_by))]
+pub fn read_auto_escape<'source, R: ReadsExpressions>(
+    alloc: Global,
+    tokens: &mut TokenStream<'source>,
+    left: u32,
+    span: Span,
+) -> Result<Spanned<Box<AutoEscape<'source>>>, Refusal>
+    ensures { ParsedAs (λ n. expression_of n.node.value.enabled) (expression_head (here left) tokens.old) tokens.new result }
+{
+    let enabled = R::read_expression(alloc, tokens, left)?;
+    expect_tag_end(tokens)?;
+    let node = AutoEscape {
+        enabled,
+        body: Vec::new(alloc),
+    };
+    Ok(Spanned::boxed(alloc, node, span)?)
+}
+
+/// Reads the head of a condition, an `if` or an `elif`.
+///
+/// # Errors
+///
+/// The fault of the token that does not fit, or want of memory.
+#[tactic(auto, using(template_compiler_statement_parts::proofs::Again::tag_end_again), unfolding(template_compiler_reading::specs::Steps::and_then, template_compiler_statements::specs::Reader::here, template_compiler_statements::specs::Reader::here_by))]
+pub fn read_branch<'source, R: ReadsExpressions>(
+    alloc: Global,
+    tokens: &mut TokenStream<'source>,
+    left: u32,
+    span: Span,
+) -> Result<Spanned<Box<IfCond<'source>>>, Refusal>
+    ensures { ParsedAs (λ n. expression_of n.node.value.expr) (expression_head (here left) tokens.old) tokens.new result }
+{
+    let expr = R::read_expression(alloc, tokens, left)?;
+    expect_tag_end(tokens)?;
+    let node = IfCond {
+        expr,
+        true_body: Vec::new(alloc),
+        false_body: Vec::new(alloc),
+    };
+    Ok(Spanned::boxed(alloc, node, span)?)
+}
+
+/// Reads the head of a filter block. The chain of its filters is never empty.
+///
+/// # Errors
+///
+/// The fault of the token that does not fit, or want of memory.
+#[tactic(auto, using(template_compiler_statement_parts::proofs::Again::tag_end_again, crate::proofs::Filters::filters_given), unfolding(template_compiler_reading::specs::Steps::and_then, template_compiler_statements::specs::Reader::here, template_compiler_statements::specs::Reader::here_by))]
+pub fn read_filter_block<'source, R: ReadsExpressions>(
+    alloc: Global,
+    tokens: &mut TokenStream<'source>,
+    left: u32,
+    span: Span,
+) -> Result<Spanned<Box<FilterBlock<'source>>>, Refusal>
+    ensures { ParsedAs (λ n. given (expression_of n.node.value.filter)) (filter_head (here left) tokens.old) tokens.new result }
+{
+    let first = R::read_filter(alloc, tokens, left, None)?;
+    match R::read_filter_chain(alloc, tokens, left, Some(first))? {
+        Some(filter) => {
+            expect_tag_end(tokens)?;
+            let node = FilterBlock {
+                filter,
+                body: Vec::new(alloc),
+            };
+            Ok(Spanned::boxed(alloc, node, span)?)
+        }
+        None => Err(Refusal::Token(Fault::Syntax)),
+    }
+}
+
+/// Reads the targets of a `with` and their values, and the end of its tag.
+///
+/// # Errors
+///
+/// The fault of the token that does not fit, or want of memory.
+#[tactic(auto, using(template_compiler_statement_parts::proofs::Again::tag_end_again), unfolding(template_compiler_reading::specs::Steps::and_then))]
+pub fn read_with<'source, R: ReadsExpressions>(
+    alloc: Global,
+    tokens: &mut TokenStream<'source>,
+    left: u32,
+) -> Result<Vec<(Expr<'source>, Expr<'source>)>, Refusal>
+    ensures { ParsedAs (λ v. assignments_in v.items) (with_head (here left) tokens.old) tokens.new result }
+{
+    let assignments = read_assignments::<R>(alloc, tokens, left)?;
+    expect_tag_end(tokens)?;
+    Ok(assignments)
+}
+
+/// Reads the head of a block, which stands in no macro.
+///
+/// # Errors
+///
+/// The fault of the token that does not fit.
+#[tactic(auto, using(template_compiler_statement_parts::proofs::Again::tag_end_again, crate::proofs::Named::block_here, crate::proofs::Named::no_block), unfolding(template_compiler_reading::specs::Steps::and_then))]
+pub fn read_block<'source>(
+    tokens: &mut TokenStream<'source>,
+    in_macro: bool,
+) -> Result<BlockHead<'source>, Refusal>
+    ensures { ParsedAs block_of (block_head in_macro tokens.old) tokens.new result }
+{
+    match tokens.word() {
+        Some(name) => {
+            tokens.advance();
+            if in_macro {
+                return Err(Refusal::Token(Fault::Syntax));
+            }
+            let required = read_flag(tokens, "required");
+            expect_tag_end(tokens)?;
+            Ok(BlockHead { name, required })
+        }
+        None => Err(Refusal::Token(tokens.fault())),
+    }
+}
