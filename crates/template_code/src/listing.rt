@@ -21,6 +21,7 @@ const BYTES_A_MARK: usize = 8;
 
 /// The instructions of a template, with its name and the source that they were compiled from, and where they come from.
 /// There are fewer than 2^32.
+#[derive(Drop)]
 pub struct Instructions<'source> {
     name: CowStr<'source>,
     source: CowStr<'source>,
@@ -28,18 +29,6 @@ pub struct Instructions<'source> {
     marks: Marks,
     ghost small: { length code.items < 2 ^ 32 },
     ghost placed: { All (λ m. m.start < length code.items) (marks_in marks) },
-}
-
-// By hand: a crate that drops them would else prove anew how each of their instructions is dropped.
-impl<'source> Drop for Instructions<'source> {
-    fn drop(self) {
-        let Instructions {
-            name: _,
-            source: _,
-            code: _,
-            marks: _,
-        } = self;
-    }
 }
 
 impl<'source> Instructions<'source> {
@@ -167,11 +156,12 @@ impl<'source> Instructions<'source> {
     {
         let place = self.code.len();
         if place >= u32::MAX as usize {
-            drop(instruction);
             return Err(Error::new(ErrorKind::TooLarge));
         }
-        put(&mut self.code, instruction)?;
-        Ok(place as u32)
+        match self.code.push(instruction) {
+            Ok(()) => Ok(place as u32),
+            Err(_refused) => Err(Error::new(ErrorKind::OutOfMemory)),
+        }
     }
 
     /// The same for an instruction that comes from a line, the first of the source at 1.
@@ -266,17 +256,6 @@ impl<'source> Instructions<'source> {
     }
 }
 
-// Puts an item behind the others. Where memory is refused it is dropped here, so that no caller holds it.
-#[inline]
-fn put<T: Drop>(items: &mut Vec<T>, item: T) -> Result<(), Error>
-    ensures pushed { OnOk result (items.new.items ≡ items.old.items ++ item ∷ []) }
-    ensures refused { IfErr result NoMemory }
-    ensures unchanged { OnErr result (items.new.items ≡ items.old.items) }
-{
-    items.push(item)?;
-    Ok(())
-}
-
 // Puts an item in the place of the one that stands there. Where none stands, nothing changes.
 #[inline]
 fn put_at<T: Drop>(items: &mut Vec<T>, index: usize, item: T)
@@ -328,7 +307,7 @@ fn owned_code<'owned>(
 {
     let mut copies = Vec::with_capacity(alloc, code.len())?;
     for instruction in code {
-        put(&mut copies, instruction.into_owned(alloc)?)?;
+        copies.push(instruction.into_owned(alloc)?)?;
     }
     Ok(copies)
 }
