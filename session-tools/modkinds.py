@@ -2,7 +2,7 @@ import json,glob,sys,re,collections
 tot=collections.Counter(); per=collections.defaultdict(collections.Counter)
 for f in glob.glob(sys.argv[1]+'/*.json'):
     d=json.load(open(f))
-    if 'rt-copy' not in d['cwd'] and '/g2/' not in d['cwd']: continue
+    if '/work/base' not in d['cwd'] or not d['mods']: continue
     ms=sorted((t,x) for x,t in d['mods'].items())
     prev=ms[0][0]
     for t,x in ms:

@@ -3,7 +3,7 @@
 import sys,tempfile,os,subprocess,re,importlib.machinery,importlib.util
 from collections import Counter
 prog=os.path.abspath(sys.argv[1]); shape=sys.argv[2]; N=int(sys.argv[3]) if len(sys.argv)>3 else 25
-l=importlib.machinery.SourceFileLoader("instr","/work/hA/benchmarks/instructions"); s=importlib.util.spec_from_loader("instr",l); m=importlib.util.module_from_spec(s); l.exec_module(m)
+l=importlib.machinery.SourceFileLoader("instr","/work/main/benchmarks/instructions"); s=importlib.util.spec_from_loader("instr",l); m=importlib.util.module_from_spec(s); l.exec_module(m)
 T={"table":2,"hosts":2,"rounds":1,"records":1,"source":2}
 import json
 def run(folder,name,template,context):
