@@ -1,7 +1,7 @@
 -- The context that a command asks for.
 use Rattle.std.specs.Prelude.{◌≡◌, ℕ, List, Option, None}
 use Rattle.template_values_errors.specs.declared.ErrorKind.{ErrorKind}
-use Rattle.template_values_model.specs.Val.{Val}
+use Rattle.template_values_model.specs.Val.{Val, undefined}
 use Rattle.template_values_json.specs.Json.{IsRefusal}
 use Rattle.template_program_context.specs.Context.{fault_of_json, IsContextOf}
 use Rattle.template_program_context.specs.declared.command.Command.{Command}
@@ -12,7 +12,7 @@ abbrev pub IsRefusedContext : Command → Option (List ℕ) → List ErrorKind �
 IsRefusedContext asked.Render json kinds = IsRefusal (fault_of_json json) kinds
 IsRefusedContext asked.Names json kinds = ⊥
 
--- the JSON is not refused, and a render has this context
+-- the JSON is not refused, and a render has this context; names are told without one
 abbrev pub HasContext : Command → Option (List ℕ) → List (List ℕ × List ℕ) → Val → Type 0
 HasContext asked.Render json definitions context = (fault_of_json json ≡ None) × IsContextOf json definitions context
-HasContext asked.Names json definitions context = Unit {0}
+HasContext asked.Names json definitions context = context ≡ undefined
