@@ -206,10 +206,29 @@ impl<'source> Instructions<'source> {
         ensures unchanged { OnErr result (code_in self.new ≡ code_in self.old) }
         ensures unmarked { OnErr result (places_in self.new ≡ places_in self.old) }
     {
+        if span.end_offset == 0 {
+            return self.add_early(instruction, span);
+        }
+        self.add_marked(instruction, span.start_line, Some(span))
+    }
+
+    // The same for a span that ends before the first byte does, as the default one.
+    #[inline(never)]
+    fn add_early(&mut self, instruction: Instruction<'source>, span: Span) -> Result<u32, Error>
+        ensures place { IfOk result (λ place. place ≡ length (code_in self.old)) }
+        ensures added { OnOk result (code_in self.new ≡ code_in self.old ++ code_of instruction.entry ∷ []) }
+        ensures marked { OnOk result (places_in self.new ≡ places_in self.old ++ span_mark (length (code_in self.old)) span ∷ []) }
+        ensures same { IsSameTemplate self.old self.new }
+        ensures refused { IfErr result (TakesNoMore (code_in self.old)) }
+        ensures full { IsFull (code_in self.old) → IsErrAnd result (λ kinds. kinds ≡ ErrorKind.TooLarge ∷ []) }
+        ensures unchanged { OnErr result (code_in self.new ≡ code_in self.old) }
+        ensures unmarked { OnErr result (places_in self.new ≡ places_in self.old) }
+    {
         self.add_marked(instruction, span.start_line, told(span))
     }
 
     // Puts an instruction behind the others, with a mark of its own.
+    #[inline(always)]
     fn add_marked(
         &mut self,
         instruction: Instruction<'source>,
@@ -277,18 +296,8 @@ fn with_room<'source>(alloc: Global, count: usize) -> Vec<Instruction<'source>>
     }
 }
 
-// The span, unless it is the default one, as few are that end behind the first byte.
+// The span, unless it is the default one.
 fn told(span: Span) -> Option<Span>
-    ensures { result ≡ told_span span }
-{
-    match span.end_offset {
-        0 => told_at_start(span),
-        _ => Some(span),
-    }
-}
-
-#[inline(never)]
-fn told_at_start(span: Span) -> Option<Span>
     ensures { result ≡ told_span span }
 {
     if span == Span::default() {

@@ -250,6 +250,7 @@ impl<'source> Stmt<'source> {
 
     // The condition that this statement is; another one is dropped. Most are texts.
     #[cycle(stmt)]
+    #[inline(always)]
     fn into_condition(self) -> Option<Spanned<Box<IfCond<'source>>>>
         ensures { IfSome result (λ n. size-Stmt (condition n) ≤ size-Stmt self.entry) }
     {
