@@ -34,7 +34,7 @@ pub fn in_parens<'source>(
     tokens: &mut TokenStream<'source>,
     value: Expr<'source>,
 ) -> Result<Expr<'source>, Refusal>
-    ensures { Parsed (paren_end (expression_of value.entry) tokens.old) tokens.new result }
+    ensures { Parsed (paren_end (expression_of value.entry) tokens.old.left) tokens.new.left result }
 {
     if tokens.skip(Sign::ParenClose) {
         Ok(value)
@@ -49,7 +49,7 @@ pub fn in_brackets<'source>(
     tokens: &mut TokenStream<'source>,
     value: Expr<'source>,
 ) -> Result<Expr<'source>, Refusal>
-    ensures { Parsed (bracket_end (expression_of value.entry) tokens.old) tokens.new result }
+    ensures { Parsed (bracket_end (expression_of value.entry) tokens.old.left) tokens.new.left result }
 {
     if tokens.skip(Sign::BracketClose) {
         Ok(value)
@@ -64,7 +64,7 @@ pub fn in_braces<'source>(
     tokens: &mut TokenStream<'source>,
     value: Expr<'source>,
 ) -> Result<Expr<'source>, Refusal>
-    ensures { Parsed (brace_end (expression_of value.entry) tokens.old) tokens.new result }
+    ensures { Parsed (brace_end (expression_of value.entry) tokens.old.left) tokens.new.left result }
 {
     if tokens.skip(Sign::BraceClose) {
         Ok(value)
@@ -79,7 +79,7 @@ pub fn before_colon<'source>(
     tokens: &mut TokenStream<'source>,
     key: Expr<'source>,
 ) -> Result<Expr<'source>, Refusal>
-    ensures { Parsed (colon_end (expression_of key.entry) tokens.old) tokens.new result }
+    ensures { Parsed (colon_end (expression_of key.entry) tokens.old.left) tokens.new.left result }
 {
     if tokens.skip(Sign::Colon) {
         Ok(key)
@@ -91,7 +91,7 @@ pub fn before_colon<'source>(
 /// Passes the comma behind an item; a closing bracket may stand there too, and stays.
 #[tactic(auto, using(crate::proofs::Nothing::no_comma), unfolding(template_compiler_expressions::specs::Reader::separated))]
 pub fn separated(tokens: &mut TokenStream) -> Result<(), Refusal>
-    ensures { Separated (separated true tokens.old) tokens.new result }
+    ensures { Separated (separated true tokens.old.left) tokens.new.left result }
 {
     if tokens.skip(Sign::Comma) || tokens.closes() {
         Ok(())
@@ -106,8 +106,8 @@ pub fn in_order<'source>(
     tokens: &mut TokenStream<'source>,
     written: Written<'source>,
 ) -> Result<Vec<CallArg<'source>>, Refusal>
-    ensures { ParsedAs (λ v. arguments_in v.items) (and_then (paren_end (written_in written.entry) tokens.old) few_arguments) tokens.new
-        result }
+    ensures { ParsedAs (λ v. arguments_in v.items) (and_then (paren_end (written_in written.entry) tokens.old.left) few_arguments)
+        tokens.new.left result }
 {
     if tokens.skip(Sign::ParenClose) {
         few(written)

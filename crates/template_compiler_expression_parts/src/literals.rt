@@ -30,7 +30,7 @@ pub fn name<'source>(
     alloc: Global,
     tokens: &mut TokenStream<'source>,
 ) -> Result<CowStr<'source>, Refusal>
-    ensures { ParsedAs cow_str_bytes (name_of tokens.old) tokens.new result }
+    ensures { ParsedAs cow_str_bytes (name_of tokens.old.left) tokens.new.left result }
 {
     let first = match tokens.word() {
         Some(first) => first,
@@ -60,7 +60,7 @@ fn put_part(name: &mut String, part: &str) -> Result<(), AllocError>
 
 // The name with the parts behind it.
 fn parts(tokens: &mut TokenStream, name: String) -> Result<String, AllocError>
-    ensures { IfOk result (λ s. all dotted_step (string_bytes name) tokens.old ≡ Ok (string_bytes s, tokens.new)) }
+    ensures { IfOk result (λ s. all dotted_step (string_bytes name) tokens.old.left ≡ Ok (string_bytes s, tokens.new.left)) }
 {
     let mut name = name;
     loop {
@@ -82,7 +82,7 @@ pub fn literal<'source>(
     alloc: Global,
     tokens: &mut TokenStream<'source>,
 ) -> Result<Expr<'source>, Refusal>
-    ensures { Parsed (primary_by nothing_deeper tokens.old) tokens.new result }
+    ensures { Parsed (primary_by nothing_deeper tokens.old.left) tokens.new.left result }
 {
     if let Some(name) = tokens.word() {
         let span = tokens.span();
@@ -104,7 +104,7 @@ fn literal_from<'source>(
     token: Token<'source>,
     span: Span,
 ) -> Result<Expr<'source>, Refusal>
-    ensures { Parsed (primary_by nothing_deeper (token_of token.entry ∷ tokens.old)) tokens.new result }
+    ensures { Parsed (primary_by nothing_deeper (token_of token.entry ∷ tokens.old.left)) tokens.new.left result }
 {
     match token {
         Token::Ident(name) => Ok(word(alloc, name, span)?),
@@ -163,7 +163,8 @@ fn texts<'source>(
     first: String,
     span: Span,
 ) -> Result<Expr<'source>, Refusal>
-    ensures { Parsed (and_then (all text_step (string_bytes first) tokens.old) (λ t us. Ok (constant (text t), us))) tokens.new result }
+    ensures { Parsed (and_then (all text_step (string_bytes first) tokens.old.left) (λ t us. Ok (constant (text t), us)))
+        tokens.new.left result }
 {
     match Value::from_text(adjacent(tokens, first)?) {
         Ok(value) => Ok(Expr::constant(alloc, value, tokens.expand_span(span))?),
@@ -172,7 +173,7 @@ fn texts<'source>(
 }
 
 fn adjacent(tokens: &mut TokenStream, first: String) -> Result<String, AllocError>
-    ensures { IfOk result (λ s. all text_step (string_bytes first) tokens.old ≡ Ok (string_bytes s, tokens.new)) }
+    ensures { IfOk result (λ s. all text_step (string_bytes first) tokens.old.left ≡ Ok (string_bytes s, tokens.new.left)) }
 {
     let mut text = first;
     loop {
@@ -196,7 +197,7 @@ pub fn attribute<'source>(
     value: Expr<'source>,
     span: Span,
 ) -> Result<Expr<'source>, Refusal>
-    ensures { WentOn (dot_part (expression_of value.entry) tokens.old) tokens.new result }
+    ensures { WentOn (dot_part (expression_of value.entry) tokens.old.left) tokens.new.left result }
 {
     match tokens.take() {
         First::Token(token, place) => {

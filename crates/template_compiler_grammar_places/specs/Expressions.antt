@@ -4,7 +4,7 @@ use Rattle.std.specs.Prelude.{ℕ, List, ◌∷◌}
 use Rattle.template_tree.specs.declared.span.Span.{Span}
 use Rattle.template_tree.specs.Tree.{Expression, Optional, Expressions, Links, Arguments, Argument}
 use Rattle.template_tree_places.specs.Places.{Places, at, Parts, no_parts, parts_more, one, and_parts}
-use Rattle.template_tree_places.specs.Tokens.{stretch}
+use Rattle.template_compiler_token_places.specs.Tokens.{stretch}
 use Rattle.template_compiler_tokens.specs.Token.{Token, identifier, string, number, symbol, minus, bracket_open, brace_open, paren_open}
 use Rattle.template_compiler_expressions.specs.Words.{Level, word_not}
 use Rattle.template_compiler_expressions.specs.Trees.{Paired, Written}

@@ -3,7 +3,7 @@ use Rattle.std.specs.Prelude.{ℕ, Bool, List, ◌∷◌}
 use Rattle.template_tree.specs.declared.span.Span.{Span}
 use Rattle.template_tree.specs.Tree.{Expression, Optional, Expressions, Assignments, Imports}
 use Rattle.template_tree_places.specs.Places.{Places, at, Parts, no_parts, parts_more, one, and_parts}
-use Rattle.template_tree_places.specs.Tokens.{stretch}
+use Rattle.template_compiler_token_places.specs.Tokens.{stretch}
 use Rattle.template_compiler_tokens.specs.Token.{Token, identifier}
 use Rattle.template_compiler_expressions.specs.Grammar.{IsFilterChain, chain_end, chain_more}
 use Rattle.template_compiler_grammar_places.specs.Nodes.{and_place, PairedPlaces}

@@ -3,7 +3,7 @@ use Rattle.std.specs.Prelude.{ℕ, codes, List, [], ◌∷◌, ◌++◌}
 use Rattle.template_tree.specs.declared.span.Span.{Span}
 use Rattle.template_tree.specs.Tree.{Statement, Statements}
 use Rattle.template_tree_places.specs.Places.{Places, at, Parts, no_parts, parts_more, one, and_parts}
-use Rattle.template_tree_places.specs.Tokens.{stretch}
+use Rattle.template_compiler_token_places.specs.Tokens.{stretch}
 use Rattle.template_compiler_tokens.specs.Token.{Token, template_data, variable_start, identifier, symbol, paren_open}
 use Rattle.template_compiler_grammar_places.specs.Nodes.{and_place}
 use Rattle.template_compiler_grammar_places.specs.Expressions.{expression_places, binary_places, filter_places}

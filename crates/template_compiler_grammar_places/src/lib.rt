@@ -4,7 +4,7 @@
 #![tactic(auto)]
 
 ghost use Rattle.std.specs.Prelude.{◌≡◌, ℕ, List};
-ghost use Rattle.template_tree_places.specs.Tokens.{stretch};
+ghost use Rattle.template_compiler_token_places.specs.Tokens.{stretch};
 ghost use Rattle.template_compiler_grammar_places.specs.Statements.{statement_places};
 ghost use Rattle.template_compiler_statements.specs.Grammar.{Around, IsStatement};
 ghost use Rattle.template_compiler_tokens.specs.Token.{Token};

@@ -24,7 +24,7 @@ pub fn read_break<'source>(
     span: Span,
 ) -> Result<Spanned<Break>, Refusal>
     ensures { ParsedAs (λ n. statement_of (statements.Break n))
-        (if in_loop then tag_end break_loop tokens.old else Err bad_syntax) tokens.new result }
+        (if in_loop then tag_end break_loop tokens.old.left else Err bad_syntax) tokens.new.left result }
 {
     if !in_loop {
         return Err(Refusal::Token(Fault::Syntax));
@@ -45,7 +45,7 @@ pub fn read_continue<'source>(
     span: Span,
 ) -> Result<Spanned<Continue>, Refusal>
     ensures { ParsedAs (λ n. statement_of (statements.Continue n))
-        (if in_loop then tag_end continue_loop tokens.old else Err bad_syntax) tokens.new result }
+        (if in_loop then tag_end continue_loop tokens.old.left else Err bad_syntax) tokens.new.left result }
 {
     if !in_loop {
         return Err(Refusal::Token(Fault::Syntax));

@@ -26,7 +26,7 @@ pub fn read_import<'source, R: ReadsExpressions>(
     left: u32,
     span: Span,
 ) -> Result<Spanned<Box<Import<'source>>>, Refusal>
-    ensures { ParsedAs (λ n. statement_of (statements.Import n)) (import_statement_by (here left) tokens.old) tokens.new result }
+    ensures { ParsedAs (λ n. statement_of (statements.Import n)) (import_statement_by (here left) tokens.old.left) tokens.new.left result }
 {
     let expr = R::read_expression(alloc, tokens, left)?;
     expect_word(tokens, "as")?;
@@ -49,7 +49,7 @@ pub fn read_from<'source, R: ReadsExpressions>(
     left: u32,
     span: Span,
 ) -> Result<Spanned<Box<FromImport<'source>>>, Refusal>
-    ensures { ParsedAs (λ n. statement_of (statements.FromImport n)) (from_by (here left) tokens.old) tokens.new result }
+    ensures { ParsedAs (λ n. statement_of (statements.FromImport n)) (from_by (here left) tokens.old.left) tokens.new.left result }
 {
     let expr = R::read_expression(alloc, tokens, left)?;
     expect_word(tokens, "import")?;
@@ -72,7 +72,7 @@ pub fn read_extends<'source, R: ReadsExpressions>(
     left: u32,
     span: Span,
 ) -> Result<Spanned<Extends<'source>>, Refusal>
-    ensures { ParsedAs (λ n. statement_of (statements.Extends n)) (extends_by (here left) tokens.old) tokens.new result }
+    ensures { ParsedAs (λ n. statement_of (statements.Extends n)) (extends_by (here left) tokens.old.left) tokens.new.left result }
 {
     let name = R::read_expression(alloc, tokens, left)?;
     expect_tag_end(tokens)?;
@@ -91,7 +91,7 @@ pub fn read_include<'source, R: ReadsExpressions>(
     left: u32,
     span: Span,
 ) -> Result<Spanned<Box<Include<'source>>>, Refusal>
-    ensures { ParsedAs (λ n. statement_of (statements.Include n)) (include_by (here left) tokens.old) tokens.new result }
+    ensures { ParsedAs (λ n. statement_of (statements.Include n)) (include_by (here left) tokens.old.left) tokens.new.left result }
 {
     let name = R::read_expression(alloc, tokens, left)?;
     let ignore_missing = read_missing(tokens)?;

@@ -28,7 +28,7 @@ pub fn read_print<'source, R: ReadsExpressions>(
     span: Span,
 ) -> Result<Spanned<EmitExpr<'source>>, Refusal>
     ensures { ParsedAs (λ n. statement_of (statements.EmitExpr n))
-        (and_then (expression_at left tokens.old) (λ e us. print_end (print e) us)) tokens.new result }
+        (and_then (expression_at left tokens.old.left) (λ e us. print_end (print e) us)) tokens.new.left result }
 {
     let expr = R::read_expression(alloc, tokens, left)?;
     expect_print_end(tokens)?;
@@ -47,7 +47,7 @@ pub fn read_do<'source, R: ReadsExpressions>(
     left: u32,
     span: Span,
 ) -> Result<Spanned<Do<'source>>, Refusal>
-    ensures { ParsedAs (λ n. statement_of (statements.Do n)) (do_by (here left) tokens.old) tokens.new result }
+    ensures { ParsedAs (λ n. statement_of (statements.Do n)) (do_by (here left) tokens.old.left) tokens.new.left result }
 {
     let expr = R::read_expression(alloc, tokens, left)?;
     match expr.into_call() {

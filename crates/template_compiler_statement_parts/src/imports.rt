@@ -20,8 +20,8 @@ pub fn read_imports<'source>(
     alloc: Global,
     tokens: &mut TokenStream<'source>,
 ) -> Result<Vec<(Expr<'source>, Option<Expr<'source>>)>, Refusal>
-    ensures { ParsedAs (λ v. imports_in v.items) (and_then (import_by no_imports tokens.old) (all (more_step import_by)))
-        tokens.new result }
+    ensures { ParsedAs (λ v. imports_in v.items) (and_then (import_by no_imports tokens.old.left) (all (more_step import_by)))
+        tokens.new.left result }
 {
     let mut names = Vec::new(alloc);
     read_imported(tokens, &mut names)?;
@@ -34,7 +34,7 @@ fn read_imported<'source>(
     tokens: &mut TokenStream<'source>,
     names: &mut Vec<(Expr<'source>, Option<Expr<'source>>)>,
 ) -> Result<(), Refusal>
-    ensures { ParsedInto (import_by (imports_in names.old.items) tokens.old) (imports_in names.new.items) tokens.new result }
+    ensures { ParsedInto (import_by (imports_in names.old.items) tokens.old.left) (imports_in names.new.items) tokens.new.left result }
 {
     let name = read_stored(tokens)?;
     if tokens.skip_word("as") {
@@ -50,8 +50,8 @@ fn all_imported<'source>(
     tokens: &mut TokenStream<'source>,
     names: &mut Vec<(Expr<'source>, Option<Expr<'source>>)>,
 ) -> Result<(), Refusal>
-    ensures { ParsedInto (all (more_step import_by) (imports_in names.old.items) tokens.old)
-        (imports_in names.new.items) tokens.new result }
+    ensures { ParsedInto (all (more_step import_by) (imports_in names.old.items) tokens.old.left)
+        (imports_in names.new.items) tokens.new.left result }
 {
     loop {
         match next_imported(tokens, names) {
@@ -67,8 +67,8 @@ fn next_imported<'source>(
     tokens: &mut TokenStream<'source>,
     names: &mut Vec<(Expr<'source>, Option<Expr<'source>>)>,
 ) -> Result<bool, Refusal>
-    ensures { SteppedTo (more_step import_by (imports_in names.old.items) tokens.old)
-        (imports_in names.old.items) tokens.old (imports_in names.new.items) tokens.new result }
+    ensures { SteppedTo (more_step import_by (imports_in names.old.items) tokens.old.left)
+        (imports_in names.old.items) tokens.old.left (imports_in names.new.items) tokens.new.left result }
 {
     if tokens.skip(Sign::Comma) {
         read_imported(tokens, names)?;

@@ -24,7 +24,7 @@ pub fn is_reserved(name: &str) -> bool
 /// The fault of the token that stands there.
 #[tactic(auto, using(crate::proofs::Standing::stored_word, crate::proofs::Standing::stored_none))]
 pub fn read_stored<'source>(tokens: &mut TokenStream<'source>) -> Result<Expr<'source>, Refusal>
-    ensures { Parsed (stored_by tokens.old) tokens.new result }
+    ensures { Parsed (stored_by tokens.old.left) tokens.new.left result }
 {
     let span = tokens.span();
     match tokens.word() {

@@ -25,7 +25,7 @@ pub fn read_target<'source>(
     left: u32,
     dots: bool,
 ) -> Result<Expr<'source>, Refusal>
-    ensures { Parsed (target_by dots (inner_targets dots left) tokens.old) tokens.new result }
+    ensures { Parsed (target_by dots (inner_targets dots left) tokens.old.left) tokens.new.left result }
 {
     if tokens.skip(Sign::ParenOpen) {
         let targets = read_inner_targets(alloc, tokens, left, dots)?;
@@ -45,7 +45,7 @@ fn read_inner_targets<'source>(
     left: u32,
     dots: bool,
 ) -> Result<Expr<'source>, Refusal>
-    ensures { Parsed (inner_targets dots left tokens.old) tokens.new result }
+    ensures { Parsed (inner_targets dots left tokens.old.left) tokens.new.left result }
 {
     if left == 0 {
         Err(Refusal::Token(Fault::Syntax))
@@ -67,7 +67,7 @@ pub fn read_targets<'source>(
     left: u32,
     dots: bool,
 ) -> Result<Expr<'source>, Refusal>
-    ensures { Parsed (targets_by dots (inner_targets dots left) tokens.old) tokens.new result }
+    ensures { Parsed (targets_by dots (inner_targets dots left) tokens.old.left) tokens.new.left result }
 {
     let start = tokens.span();
     let first = read_target(alloc, tokens, left, dots)?;
@@ -89,7 +89,7 @@ pub fn read_more_targets<'source>(
     first: Expr<'source>,
     start: Span,
 ) -> Result<Expr<'source>, Refusal>
-    ensures { Parsed (more_targets_by dots (inner_targets dots left) (expression_of first.entry) tokens.old) tokens.new result }
+    ensures { Parsed (more_targets_by dots (inner_targets dots left) (expression_of first.entry) tokens.old.left) tokens.new.left result }
 {
     let mut targets = Vec::new(alloc);
     targets.push(first)?;
@@ -105,8 +105,8 @@ fn all_targets<'source>(
     dots: bool,
     targets: &mut Vec<Expr<'source>>,
 ) -> Result<(), Refusal>
-    ensures { ParsedInto (all (more_step (one_target_by dots (inner_targets dots left))) (expressions_in targets.old.items) tokens.old)
-        (expressions_in targets.new.items) tokens.new result }
+    ensures { ParsedInto (all (more_step (one_target_by dots (inner_targets dots left))) (expressions_in targets.old.items) tokens.old.left)
+        (expressions_in targets.new.items) tokens.new.left result }
 {
     loop {
         match next_target(alloc, tokens, left, dots, targets) {
@@ -126,8 +126,8 @@ fn next_target<'source>(
     dots: bool,
     targets: &mut Vec<Expr<'source>>,
 ) -> Result<bool, Refusal>
-    ensures { SteppedTo (more_step (one_target_by dots (inner_targets dots left)) (expressions_in targets.old.items) tokens.old)
-        (expressions_in targets.old.items) tokens.old (expressions_in targets.new.items) tokens.new result }
+    ensures { SteppedTo (more_step (one_target_by dots (inner_targets dots left)) (expressions_in targets.old.items) tokens.old.left)
+        (expressions_in targets.old.items) tokens.old.left (expressions_in targets.new.items) tokens.new.left result }
 {
     if tokens.skip(Sign::Comma) {
         let target = read_target(alloc, tokens, left, dots)?;
@@ -145,7 +145,7 @@ fn read_path_target<'source>(
     tokens: &mut TokenStream<'source>,
     dots: bool,
 ) -> Result<Expr<'source>, Refusal>
-    ensures { Parsed (and_then (stored_by tokens.old) (path_by dots)) tokens.new result }
+    ensures { Parsed (and_then (stored_by tokens.old.left) (path_by dots)) tokens.new.left result }
 {
     let name = read_stored(tokens)?;
     if dots {
@@ -160,7 +160,7 @@ fn read_path<'source>(
     tokens: &mut TokenStream<'source>,
     name: Expr<'source>,
 ) -> Result<Expr<'source>, Refusal>
-    ensures { Parsed (all path_step (expression_of name.entry) tokens.old) tokens.new result }
+    ensures { Parsed (all path_step (expression_of name.entry) tokens.old.left) tokens.new.left result }
 {
     let span = name.span();
     let mut target = name;
@@ -177,7 +177,7 @@ fn read_path<'source>(
 // A dot and a name, where both stand next: the name.
 #[tactic(auto, using(crate::proofs::Standing::no_part_word, crate::proofs::Standing::no_part_dot, crate::proofs::Standing::part_word))]
 fn next_part<'source>(tokens: &mut TokenStream<'source>) -> Option<&'source str>
-    ensures { PassesPart tokens.old tokens.new result }
+    ensures { PassesPart tokens.old.left tokens.new.left result }
 {
     match tokens.second_word() {
         Some(part) => {

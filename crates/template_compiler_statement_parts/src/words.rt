@@ -10,7 +10,7 @@ use template_compiler_stream::{Refusal, Sign, TokenStream};
 /// The word of the tag that stands next.
 #[tactic(auto, using(crate::proofs::Standing::next_tag_here, crate::proofs::Standing::next_tag_none))]
 pub fn tag_word<'source>(tokens: &TokenStream<'source>) -> Option<&'source str>
-    ensures { option_map (λ w. w.now) result ≡ next_tag tokens.now }
+    ensures { option_map (λ w. w.now) result ≡ next_tag tokens.now.left }
 {
     if tokens.starts_tag() {
         tokens.second_word()
@@ -22,7 +22,7 @@ pub fn tag_word<'source>(tokens: &TokenStream<'source>) -> Option<&'source str>
 /// Whether a tag of this word stands next.
 #[tactic(auto, using(crate::proofs::Standing::begins_tag_here, crate::proofs::Standing::begins_tag_none))]
 pub fn begins_tag<'source>(tokens: &TokenStream<'source>, word: &str) -> bool
-    ensures { result ≡ begins_tag word.now tokens.now }
+    ensures { result ≡ begins_tag word.now tokens.now.left }
 {
     match tag_word(tokens) {
         Some(next) => next == word,
@@ -33,7 +33,7 @@ pub fn begins_tag<'source>(tokens: &TokenStream<'source>, word: &str) -> bool
 /// Whether a comma or `=` stands next, as behind the first target of `set`.
 #[tactic(auto, using(crate::proofs::Standing::values_here, crate::proofs::Standing::values_none))]
 pub fn begins_values<'source>(tokens: &TokenStream<'source>) -> bool
-    ensures { result ≡ begins_values tokens.now }
+    ensures { result ≡ begins_values tokens.now.left }
 {
     match tokens.sign() {
         Some(sign) => match sign {
@@ -48,7 +48,7 @@ pub fn begins_values<'source>(tokens: &TokenStream<'source>) -> bool
 /// Passes the word where it stands next.
 #[tactic(auto, using(crate::proofs::Standing::flag_none), unfolding(template_compiler_statements::specs::Reader::word_by))]
 pub fn read_flag<'source>(tokens: &mut TokenStream<'source>, word: &str) -> bool
-    ensures { word_by word.now tokens.old ≡ Ok (result, tokens.new) }
+    ensures { word_by word.now tokens.old.left ≡ Ok (result, tokens.new.left) }
 {
     tokens.skip_word(word)
 }
@@ -60,7 +60,7 @@ pub fn read_flag<'source>(tokens: &mut TokenStream<'source>, word: &str) -> bool
 /// The fault of the token that stands in the place of `context`.
 #[tactic(auto, using(crate::proofs::Standing::context_none), unfolding(template_compiler_statements::specs::Reader::context_by))]
 pub fn pass_context<'source>(tokens: &mut TokenStream<'source>) -> Result<(), Refusal>
-    ensures { ParsedAs passing (context_by tt tokens.old) tokens.new result }
+    ensures { ParsedAs passing (context_by tt tokens.old.left) tokens.new.left result }
 {
     if tokens.skip_word("with") {
         expect_word(tokens, "context")
@@ -76,7 +76,7 @@ pub fn pass_context<'source>(tokens: &mut TokenStream<'source>) -> Result<(), Re
 /// The fault of the token that does not fit.
 #[tactic(auto, using(crate::proofs::Parts::missing_next), unfolding(crate::proofs::Opened::missing_read))]
 pub fn read_missing<'source>(tokens: &mut TokenStream<'source>) -> Result<bool, Refusal>
-    ensures { ParsedAs (λ b. b) (missing_by tokens.old) tokens.new result }
+    ensures { ParsedAs (λ b. b) (missing_by tokens.old.left) tokens.new.left result }
 {
     pass_context(tokens)?;
     if tokens.skip_word("ignore") {

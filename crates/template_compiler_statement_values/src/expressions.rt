@@ -17,7 +17,7 @@ pub trait ReadsExpressions {
         tokens: &mut TokenStream<'source>,
         left: u32,
     ) -> Result<Expr<'source>, Refusal>
-        ensures { ParsedAs expression_of (expression_at left tokens.old) tokens.new result };
+        ensures { ParsedAs expression_of (expression_at left tokens.old.left) tokens.new.left result };
 
     /// Reads an expression that is no if-expression, as behind the `in` of a loop: an `if` behind it stays.
     fn read_condition<'source>(
@@ -25,7 +25,7 @@ pub trait ReadsExpressions {
         tokens: &mut TokenStream<'source>,
         left: u32,
     ) -> Result<Expr<'source>, Refusal>
-        ensures { ParsedAs expression_of (condition_at left tokens.old) tokens.new result };
+        ensures { ParsedAs expression_of (condition_at left tokens.old.left) tokens.new.left result };
 
     /// Reads a filter's name and its arguments: the filter of the value, or of none, as the first one of a filter block.
     fn read_filter<'source>(
@@ -34,7 +34,7 @@ pub trait ReadsExpressions {
         left: u32,
         value: Option<Expr<'source>>,
     ) -> Result<Expr<'source>, Refusal>
-        ensures { ParsedAs expression_of (filter_at left (optional_in value.entry) tokens.old) tokens.new result };
+        ensures { ParsedAs expression_of (filter_at left (optional_in value.entry) tokens.old.left) tokens.new.left result };
 
     /// Reads the filters behind the value, or behind none, each after a `|`: the value itself where no `|` stands next.
     fn read_filter_chain<'source>(
@@ -43,5 +43,5 @@ pub trait ReadsExpressions {
         left: u32,
         value: Option<Expr<'source>>,
     ) -> Result<Option<Expr<'source>>, Refusal>
-        ensures { ParsedAs optional_in (filter_chain_at left (optional_in value.entry) tokens.old) tokens.new result };
+        ensures { ParsedAs optional_in (filter_chain_at left (optional_in value.entry) tokens.old.left) tokens.new.left result };
 }

@@ -40,7 +40,7 @@ pub fn read_optional_parameters<'source, R: ReadsExpressions>(
     tokens: &mut TokenStream<'source>,
     left: u32,
 ) -> Result<Parameters<'source>, Refusal>
-    ensures { ParsedAs parameters_of (optional_parameters_by (here left) tokens.old) tokens.new result }
+    ensures { ParsedAs parameters_of (optional_parameters_by (here left) tokens.old.left) tokens.new.left result }
 {
     if tokens.skip(Sign::ParenOpen) {
         read_deeper_parameters::<R>(alloc, tokens, left)
@@ -60,7 +60,7 @@ pub fn read_deeper_parameters<'source, R: ReadsExpressions>(
     tokens: &mut TokenStream<'source>,
     left: u32,
 ) -> Result<Parameters<'source>, Refusal>
-    ensures { ParsedAs parameters_of (deeper_parameters left tokens.old) tokens.new result }
+    ensures { ParsedAs parameters_of (deeper_parameters left tokens.old.left) tokens.new.left result }
 {
     if left == 0 {
         Err(Refusal::Token(Fault::Syntax))
@@ -75,7 +75,7 @@ fn read_parameters<'source, R: ReadsExpressions>(
     tokens: &mut TokenStream<'source>,
     left: u32,
 ) -> Result<Parameters<'source>, Refusal>
-    ensures { ParsedAs parameters_of (parameters_by (expression_at left) tokens.old) tokens.new result }
+    ensures { ParsedAs parameters_of (parameters_by (expression_at left) tokens.old.left) tokens.new.left result }
 {
     let mut parameters = no_parameters(alloc);
     if tokens.skip(Sign::ParenClose) {
@@ -94,8 +94,8 @@ fn read_parameter<'source, R: ReadsExpressions>(
     left: u32,
     parameters: &mut Parameters<'source>,
 ) -> Result<(), Refusal>
-    ensures { ParsedInto (parameter_by (expression_at left) (parameters_of parameters.old) tokens.old)
-        (parameters_of parameters.new) tokens.new result }
+    ensures { ParsedInto (parameter_by (expression_at left) (parameters_of parameters.old) tokens.old.left)
+        (parameters_of parameters.new) tokens.new.left result }
 {
     let name = read_stored(tokens)?;
     if tokens.skip(Sign::Assign) {
@@ -124,8 +124,8 @@ fn all_parameters<'source, R: ReadsExpressions>(
     left: u32,
     parameters: &mut Parameters<'source>,
 ) -> Result<(), Refusal>
-    ensures { ParsedInto (all (more_step (parameter_by (expression_at left))) (parameters_of parameters.old) tokens.old)
-        (parameters_of parameters.new) tokens.new result }
+    ensures { ParsedInto (all (more_step (parameter_by (expression_at left))) (parameters_of parameters.old) tokens.old.left)
+        (parameters_of parameters.new) tokens.new.left result }
 {
     loop {
         match next_parameter::<R>(alloc, tokens, left, parameters) {
@@ -143,8 +143,8 @@ fn next_parameter<'source, R: ReadsExpressions>(
     left: u32,
     parameters: &mut Parameters<'source>,
 ) -> Result<bool, Refusal>
-    ensures { SteppedTo (more_step (parameter_by (expression_at left)) (parameters_of parameters.old) tokens.old)
-        (parameters_of parameters.old) tokens.old (parameters_of parameters.new) tokens.new result }
+    ensures { SteppedTo (more_step (parameter_by (expression_at left)) (parameters_of parameters.old) tokens.old.left)
+        (parameters_of parameters.old) tokens.old.left (parameters_of parameters.new) tokens.new.left result }
 {
     if tokens.skip(Sign::Comma) {
         read_parameter::<R>(alloc, tokens, left, parameters)?;

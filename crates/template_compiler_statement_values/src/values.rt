@@ -25,7 +25,7 @@ pub fn read_values<'source, R: ReadsExpressions>(
     tokens: &mut TokenStream<'source>,
     left: u32,
 ) -> Result<Expr<'source>, Refusal>
-    ensures { Parsed (values_by (expression_at left) tokens.old) tokens.new result }
+    ensures { Parsed (values_by (expression_at left) tokens.old.left) tokens.new.left result }
 {
     let span = tokens.span();
     let mut values = Vec::new(alloc);
@@ -41,8 +41,8 @@ fn read_value<'source, R: ReadsExpressions>(
     left: u32,
     values: &mut Vec<Expr<'source>>,
 ) -> Result<(), Refusal>
-    ensures { ParsedInto (value_by (expression_at left) (expressions_in values.old.items) tokens.old)
-        (expressions_in values.new.items) tokens.new result }
+    ensures { ParsedInto (value_by (expression_at left) (expressions_in values.old.items) tokens.old.left)
+        (expressions_in values.new.items) tokens.new.left result }
 {
     let value = R::read_expression(alloc, tokens, left)?;
     values.push(value)?;
@@ -55,8 +55,8 @@ fn all_values<'source, R: ReadsExpressions>(
     left: u32,
     values: &mut Vec<Expr<'source>>,
 ) -> Result<(), Refusal>
-    ensures { ParsedInto (all (more_step (value_by (expression_at left))) (expressions_in values.old.items) tokens.old)
-        (expressions_in values.new.items) tokens.new result }
+    ensures { ParsedInto (all (more_step (value_by (expression_at left))) (expressions_in values.old.items) tokens.old.left)
+        (expressions_in values.new.items) tokens.new.left result }
 {
     loop {
         match next_value::<R>(alloc, tokens, left, values) {
@@ -74,8 +74,8 @@ fn next_value<'source, R: ReadsExpressions>(
     left: u32,
     values: &mut Vec<Expr<'source>>,
 ) -> Result<bool, Refusal>
-    ensures { SteppedTo (more_step (value_by (expression_at left)) (expressions_in values.old.items) tokens.old)
-        (expressions_in values.old.items) tokens.old (expressions_in values.new.items) tokens.new result }
+    ensures { SteppedTo (more_step (value_by (expression_at left)) (expressions_in values.old.items) tokens.old.left)
+        (expressions_in values.old.items) tokens.old.left (expressions_in values.new.items) tokens.new.left result }
 {
     if tokens.skip(Sign::Comma) {
         read_value::<R>(alloc, tokens, left, values)?;
@@ -114,7 +114,7 @@ pub fn read_assignments<'source, R: ReadsExpressions>(
     tokens: &mut TokenStream<'source>,
     left: u32,
 ) -> Result<Vec<(Expr<'source>, Expr<'source>)>, Refusal>
-    ensures { ParsedAs (λ v. assignments_in v.items) (assignments_by (here left) tokens.old) tokens.new result }
+    ensures { ParsedAs (λ v. assignments_in v.items) (assignments_by (here left) tokens.old.left) tokens.new.left result }
 {
     let mut pairs = Vec::new(alloc);
     if tokens.ends_tag() {
@@ -132,8 +132,8 @@ fn read_assignment<'source, R: ReadsExpressions>(
     left: u32,
     pairs: &mut Vec<(Expr<'source>, Expr<'source>)>,
 ) -> Result<(), Refusal>
-    ensures { ParsedInto (assignment_by (here left) (assignments_in pairs.old.items) tokens.old)
-        (assignments_in pairs.new.items) tokens.new result }
+    ensures { ParsedInto (assignment_by (here left) (assignments_in pairs.old.items) tokens.old.left)
+        (assignments_in pairs.new.items) tokens.new.left result }
 {
     let target = read_target(alloc, tokens, left, false)?;
     expect_assign(tokens)?;
@@ -148,8 +148,8 @@ fn all_assignments<'source, R: ReadsExpressions>(
     left: u32,
     pairs: &mut Vec<(Expr<'source>, Expr<'source>)>,
 ) -> Result<(), Refusal>
-    ensures { ParsedInto (all (more_step (assignment_by (here left))) (assignments_in pairs.old.items) tokens.old)
-        (assignments_in pairs.new.items) tokens.new result }
+    ensures { ParsedInto (all (more_step (assignment_by (here left))) (assignments_in pairs.old.items) tokens.old.left)
+        (assignments_in pairs.new.items) tokens.new.left result }
 {
     loop {
         match next_assignment::<R>(alloc, tokens, left, pairs) {
@@ -167,8 +167,8 @@ fn next_assignment<'source, R: ReadsExpressions>(
     left: u32,
     pairs: &mut Vec<(Expr<'source>, Expr<'source>)>,
 ) -> Result<bool, Refusal>
-    ensures { SteppedTo (more_step (assignment_by (here left)) (assignments_in pairs.old.items) tokens.old)
-        (assignments_in pairs.old.items) tokens.old (assignments_in pairs.new.items) tokens.new result }
+    ensures { SteppedTo (more_step (assignment_by (here left)) (assignments_in pairs.old.items) tokens.old.left)
+        (assignments_in pairs.old.items) tokens.old.left (assignments_in pairs.new.items) tokens.new.left result }
 {
     if tokens.skip(Sign::Comma) {
         read_assignment::<R>(alloc, tokens, left, pairs)?;
@@ -189,7 +189,7 @@ pub fn read_loop_filter<'source, R: ReadsExpressions>(
     tokens: &mut TokenStream<'source>,
     left: u32,
 ) -> Result<Option<Expr<'source>>, Refusal>
-    ensures { ParsedAs optional_in (loop_filter_by (expression_at left) tokens.old) tokens.new result }
+    ensures { ParsedAs optional_in (loop_filter_by (expression_at left) tokens.old.left) tokens.new.left result }
 {
     if tokens.skip_word("if") {
         let filter = R::read_expression(alloc, tokens, left)?;

@@ -60,6 +60,18 @@ pub passed_ended : (f : Option Fault) → ended f ≡ passed (ended f)
 passed_ended None = refl
 passed_ended (Some f) = refl
 
+pub passed_past : (xs : List (Token × Span)) (i : ℕ) (f : Option Fault) → length xs ≤ i → left_in xs i f ≡ passed (left_in xs i f)
+passed_past xs i f past = let none = none_next xs i f past in none ∙ passed_ended f ∙ ap passed (sym none)
+
+pub passed_here : (xs : List (Token × Span)) (i : ℕ) (f : Option Fault) → i < length xs → left_in xs (i + 1) f ≡ passed (left_in xs i f)
+passed_here xs i f within = go (slice_get_cases xs i).1
+  where
+    go : ((x : Token × Span) × (i < length xs) × (slice_get xs i ≡ Some x) × (get_or xs i x ≡ x)) ⊎
+        ((length xs ≤ i) × (slice_get xs i ≡ None)) → left_in xs (i + 1) f ≡ passed (left_in xs i f)
+    go (inl (x, inside, found, read)) =
+        sym (ap passed (held_next xs i x f inside) ∙ passed_token (get_or xs i x).0 (left_in xs (i + 1) f))
+    go (inr (none, found)) = absurd (omega (arith, none, within))
+
 behind_ended : (f : Option Fault) → behind (ended f) ≡ ended None
 behind_ended None = refl
 behind_ended (Some f) = refl

@@ -1,3 +1,4 @@
 pub mod Signs
 pub mod Left
+pub mod Spans
 pub mod Skips

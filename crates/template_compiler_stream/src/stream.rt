@@ -6,6 +6,8 @@ ghost use Rattle.template_compiler_expressions.specs.Words.{begins_bare};
 ghost use Rattle.template_compiler_expressions.specs.Reader.{begins_closing, begins_bound_end};
 ghost use Rattle.template_compiler_stream.specs.Refusals.{fault_of};
 ghost use Rattle.template_compiler_stream.specs.Left.{Peeks, Shows, ahead, behind, ended, passed};
+ghost use Rattle.template_compiler_stream.specs.Spans.{ShownAt, TakenAt};
+ghost use Rattle.template_compiler_token_places.specs.Tokens.{last_span, next_span, no_span, until};
 ghost use Rattle.template_compiler_stream.specs.Signs.{assigned_behind, begins_alone, begins_symbol, is_symbol, level_of, second_word, next_operator, next_comparison, next_symbol, next_word, symbol_of, word_in};
 ghost use Rattle.template_compiler_tokens.specs.View.{token_of};
 ghost use Rattle.template_compiler_stream.specs.Skips.{PutsText, SkipsDotted, SkipsKeyword, SkipsSign, SkipsText, SkipsWord};
@@ -45,7 +47,7 @@ pub enum Next<'stream, 'source> {
     Bad(Fault),
 }
 
-/// The tokens that are left. A contract sees them as a list.
+/// The tokens that are left. A contract sees them as a list, and beside it where all tokens stand.
 #[derive(Drop)]
 pub struct TokenStream<'source> {
     // All tokens in their order: those before the place were passed.
@@ -53,38 +55,39 @@ pub struct TokenStream<'source> {
     place: usize,
     // What stands behind the tokens where that is none.
     fault: Option<Fault>,
-    last: Span,
 }
 
 impl<'source> Model for TokenStream<'source> {
-    ghost use Rattle.std.specs.Prelude.{List};
-    ghost use Rattle.template_compiler_tokens.specs.Token as token;
-    ghost use Rattle.template_compiler_stream.specs.Left.{left_in};
+    ghost use Rattle.std.specs.Prelude.{◌≤◌, length};
+    ghost use Rattle.template_compiler_stream.specs.Spans.{PlacedTokens, tokens_from};
 
-    ghost Value = { List token.Token };
+    ghost Value = { PlacedTokens };
 
-    ghost view = { λ s. left_in s.tokens.items s.place s.fault };
+    ghost view = { λ s. tokens_from s.tokens.items s.place s.fault };
+
+    ghost invariant = { λ s. s.place ≤ length s.tokens.items };
 }
 
 impl<'source> TokenStream<'source> {
     /// A stream of tokens in their order, and of what stands behind them where that is no token. Takes no memory, and
     /// no time.
-    #[tactic(auto, unfolding(crate::specs::Left::left_in))]
+    #[tactic(auto, unfolding(crate::specs::Left::left_in, crate::specs::Spans::spans_of))]
     pub fn new(tokens: Vec<(Token<'source>, Span)>, fault: Option<Fault>) -> TokenStream<'source>
-        ensures { result ≡ map (λ t. token_of t.0) tokens.entry.items ++ ended fault }
+        ensures tokens { result.left ≡ map (λ t. token_of t.0) tokens.entry.items ++ ended fault }
+        ensures spans { result.spans ≡ map (λ t. t.1) tokens.entry.items }
     {
         TokenStream {
             tokens,
             place: 0,
             fault,
-            last: Span::default(),
         }
     }
 
     // The next token, to look at.
     #[inline(always)]
     pub(crate) fn peek(&self) -> Next<'_, 'source>
-        ensures { Shows self.now result }
+        ensures shown { Shows self.now.left result }
+        ensures span { ShownAt (next_span self.now.spans self.now.left) result }
     {
         match self.tokens.get(self.place) {
             Some((token, span)) => Next::Token(token, *span),
@@ -98,7 +101,7 @@ impl<'source> TokenStream<'source> {
     // The token behind the next one, to look at.
     #[inline(always)]
     fn peek_second(&self) -> Option<&Token<'source>>
-        ensures { Peeks (behind self.now) result }
+        ensures { Peeks (behind self.now.left) result }
     {
         match self.tokens.get(self.place.saturating_add(1)) {
             Some((token, _)) => Some(token),
@@ -108,7 +111,7 @@ impl<'source> TokenStream<'source> {
 
     /// The sign that stands next.
     pub fn sign(&self) -> Option<Sign>
-        ensures { option_map symbol_of result ≡ next_symbol self.now }
+        ensures { option_map symbol_of result ≡ next_symbol self.now.left }
     {
         match self.peek() {
             Next::Token(token, _) => sign_of(token),
@@ -119,7 +122,7 @@ impl<'source> TokenStream<'source> {
 
     /// The word that stands next.
     pub fn word(&self) -> Option<&'source str>
-        ensures { option_map (λ w. w.now) result ≡ next_word self.now }
+        ensures { option_map (λ w. w.now) result ≡ next_word self.now.left }
     {
         match self.peek() {
             Next::Token(token, _) => word_of(token),
@@ -129,37 +132,54 @@ impl<'source> TokenStream<'source> {
     }
 
     /// Where the next token stands, or where the last one stood.
-    pub fn span(&self) -> Span {
+    #[tactic(auto, using(crate::proofs::Spans::span_at_end, crate::proofs::Spans::span_at_fault))]
+    pub fn span(&self) -> Span
+        ensures { result ≡ next_span self.now.spans self.now.left }
+    {
         match self.peek() {
             Next::Token(_, span) => span,
-            Next::End => self.last,
-            Next::Bad(_) => self.last,
+            Next::End => self.last(),
+            Next::Bad(_) => self.last(),
         }
     }
 
+    // Where the token that was passed last stands.
+    fn last(&self) -> Span
+        ensures { result ≡ last_span self.now.spans self.now.left }
+    {
+        if self.place == 0 {
+            return no_span();
+        }
+        self.tokens[self.place - 1].1
+    }
+
     /// From where a span starts to where the token that was passed last ends.
-    pub fn expand_span(&self, start: Span) -> Span {
-        until(start, self.last)
+    pub fn expand_span(&self, start: Span) -> Span
+        ensures { result ≡ until start (last_span self.now.spans self.now.left) }
+    {
+        until(start, self.last())
     }
 
     /// From where a span starts to where the next token ends.
-    pub fn span_through_next(&self, start: Span) -> Span {
+    pub fn span_through_next(&self, start: Span) -> Span
+        ensures { result ≡ until start (next_span self.now.spans self.now.left) }
+    {
         until(start, self.span())
     }
 
     /// Passes the next token.
     pub fn advance(&mut self)
-        ensures { self.new ≡ passed self.old }
+        ensures passed { self.new.left ≡ passed self.old.left }
+        ensures spans { self.new.spans ≡ self.old.spans }
     {
-        if let Some((_, span)) = self.tokens.get(self.place) {
-            self.last = *span;
+        if self.place < self.tokens.len() {
             self.place += 1;
         }
     }
 
     /// Whether a closing bracket stands next.
     pub fn closes(&self) -> bool
-        ensures { result ≡ begins_closing self.now }
+        ensures { result ≡ begins_closing self.now.left }
     {
         match self.peek() {
             Next::Token(token, _) => closes(token),
@@ -170,7 +190,7 @@ impl<'source> TokenStream<'source> {
 
     /// Whether a bound of a slice is left out here.
     pub fn ends_bound(&self) -> bool
-        ensures { result ≡ begins_bound_end self.now }
+        ensures { result ≡ begins_bound_end self.now.left }
     {
         match self.peek() {
             Next::Token(token, _) => ends_bound(token),
@@ -181,7 +201,7 @@ impl<'source> TokenStream<'source> {
 
     /// Whether the bare argument of a test stands next.
     pub fn begins_argument(&self) -> bool
-        ensures { result ≡ begins_bare self.now }
+        ensures { result ≡ begins_bare self.now.left }
     {
         match self.peek() {
             Next::Token(token, _) => begins_argument(token),
@@ -192,7 +212,7 @@ impl<'source> TokenStream<'source> {
 
     /// Whether an operand that is alone stands next: a name or a number, with an end behind it.
     pub fn begins_alone(&self) -> bool
-        ensures { result ≡ begins_alone self.now }
+        ensures { result ≡ begins_alone self.now.left }
     {
         match self.peek() {
             Next::Token(first, _) => match self.peek_second() {
@@ -206,8 +226,9 @@ impl<'source> TokenStream<'source> {
 
     /// Passes the operator of the level, where one stands next.
     pub fn skip_operator(&mut self, level: Level) -> Option<BinOpKind>
-        ensures operator { result ≡ next_operator (level_of level) self.old }
-        ensures passed { self.new ≡ (if is_some result then passed self.old else self.old) }
+        ensures operator { result ≡ next_operator (level_of level) self.old.left }
+        ensures passed { self.new.left ≡ (if is_some result then passed self.old.left else self.old.left) }
+        ensures spans { self.new.spans ≡ self.old.spans }
     {
         let found = match self.peek() {
             Next::Token(token, _) => operator_of(level, token),
@@ -222,8 +243,9 @@ impl<'source> TokenStream<'source> {
 
     /// Passes a comparison of one token, where one stands next.
     pub fn skip_comparison(&mut self) -> Option<CompareOpKind>
-        ensures operator { result ≡ next_comparison self.old }
-        ensures passed { self.new ≡ (if is_some result then passed self.old else self.old) }
+        ensures operator { result ≡ next_comparison self.old.left }
+        ensures passed { self.new.left ≡ (if is_some result then passed self.old.left else self.old.left) }
+        ensures spans { self.new.spans ≡ self.old.spans }
     {
         let found = match self.peek() {
             Next::Token(token, _) => comparison_of(token),
@@ -238,7 +260,7 @@ impl<'source> TokenStream<'source> {
 
     /// Why the next token does not fit.
     pub fn fault(&self) -> Fault
-        ensures { fault_of result ≡ fault self.now }
+        ensures { fault_of result ≡ fault self.now.left }
     {
         match self.peek() {
             Next::Token(token, _) => fault_at(token),
@@ -249,11 +271,12 @@ impl<'source> TokenStream<'source> {
 
     /// Takes the next token.
     pub fn take(&mut self) -> First<'source>
-        ensures { self.old ≡ ahead result self.new }
+        ensures taken { self.old.left ≡ ahead result self.new.left }
+        ensures span { TakenAt (next_span self.old.spans self.old.left) result }
+        ensures spans { self.new.spans ≡ self.old.spans }
     {
         if self.place < self.tokens.len() {
-            let (token, span) = mem::replace(&mut self.tokens[self.place], passed_token());
-            self.last = span;
+            let (token, span) = take_from(&mut self.tokens[self.place]);
             self.place += 1;
             return First::Token(token, span);
         }
@@ -265,7 +288,8 @@ impl<'source> TokenStream<'source> {
 
     /// Passes the sign, where it stands next.
     pub fn skip(&mut self, sign: Sign) -> bool
-        ensures { SkipsSign (symbol_of sign) self.old self.new result }
+        ensures passed { SkipsSign (symbol_of sign) self.old.left self.new.left result }
+        ensures spans { self.new.spans ≡ self.old.spans }
     {
         match self.sign() {
             Some(next) => {
@@ -282,7 +306,8 @@ impl<'source> TokenStream<'source> {
 
     /// Passes the word, where it stands next.
     pub fn skip_word(&mut self, word: &str) -> bool
-        ensures { SkipsWord word.now self.old self.new result }
+        ensures passed { SkipsWord word.now self.old.left self.new.left result }
+        ensures spans { self.new.spans ≡ self.old.spans }
     {
         match self.word() {
             Some(next) => {
@@ -301,7 +326,7 @@ impl<'source> TokenStream<'source> {
 impl<'source> TokenStream<'source> {
     // Whether the sign stands next.
     fn begins(&self, sign: Sign) -> bool
-        ensures { result ≡ begins_symbol (symbol_of sign) self.now }
+        ensures { result ≡ begins_symbol (symbol_of sign) self.now.left }
     {
         match self.sign() {
             Some(next) => sign.is(next),
@@ -311,7 +336,7 @@ impl<'source> TokenStream<'source> {
 
     /// The word behind the next token.
     pub fn second_word(&self) -> Option<&'source str>
-        ensures { option_map (λ w. w.now) result ≡ second_word self.now }
+        ensures { option_map (λ w. w.now) result ≡ second_word self.now.left }
     {
         match self.peek() {
             Next::Token(_, _) => match self.peek_second() {
@@ -325,7 +350,7 @@ impl<'source> TokenStream<'source> {
 
     // Whether a `=` stands behind the next token.
     fn assigns(&self) -> bool
-        ensures { result ≡ assigned_behind self.now }
+        ensures { result ≡ assigned_behind self.now.left }
     {
         match self.peek() {
             Next::Token(_, _) => match self.peek_second() {
@@ -340,7 +365,8 @@ impl<'source> TokenStream<'source> {
     /// Passes a dot and the name behind it, where these two stand next: the name.
     #[tactic(auto, using(crate::proofs::Skips::dotted_here, crate::proofs::Skips::no_dot, crate::proofs::Skips::no_dotted_word))]
     pub fn skip_dotted(&mut self) -> Option<&'source str>
-        ensures { SkipsDotted self.old self.new result }
+        ensures passed { SkipsDotted self.old.left self.new.left result }
+        ensures spans { self.new.spans ≡ self.old.spans }
     {
         match self.second_word() {
             Some(part) => {
@@ -359,7 +385,8 @@ impl<'source> TokenStream<'source> {
     /// Passes a name and the `=` behind it, where these two stand next: the name.
     #[tactic(auto, using(crate::proofs::Skips::keyword_here, crate::proofs::Skips::not_assigned, crate::proofs::Skips::no_keyword_word))]
     pub fn skip_keyword(&mut self) -> Option<&'source str>
-        ensures { SkipsKeyword self.old self.new result }
+        ensures passed { SkipsKeyword self.old.left self.new.left result }
+        ensures spans { self.new.spans ≡ self.old.spans }
     {
         match self.word() {
             Some(name) => {
@@ -382,7 +409,8 @@ impl<'source> TokenStream<'source> {
     /// Want of memory: nothing is passed.
     #[tactic(auto, using(crate::proofs::Skips::text_put, crate::proofs::Skips::no_text), unfolding(template_compiler_expressions::specs::Reader::text_step))]
     pub fn skip_text(&mut self, text: &mut String) -> Result<bool, AllocError>
-        ensures { SkipsText (string_bytes text.old) self.old (string_bytes text.new) self.new result }
+        ensures passed { SkipsText (string_bytes text.old) self.old.left (string_bytes text.new) self.new.left result }
+        ensures spans { self.new.spans ≡ self.old.spans }
     {
         match self.peek() {
             Next::Token(token, _) => {
@@ -399,7 +427,9 @@ impl<'source> TokenStream<'source> {
 }
 
 /// From where the first span starts to where the second one ends.
-pub fn until(start: Span, end: Span) -> Span {
+pub fn until(start: Span, end: Span) -> Span
+    ensures { result ≡ until start end }
+{
     Span {
         end_line: end.end_line,
         end_col: end.end_col,
@@ -408,9 +438,28 @@ pub fn until(start: Span, end: Span) -> Span {
     }
 }
 
-// What a token that was taken leaves at its place.
-fn passed_token<'source>() -> (Token<'source>, Span) {
-    (Token::Plus, Span::default())
+// Takes a token, which leaves another one where it stands.
+fn take_from<'source>(held: &mut (Token<'source>, Span)) -> (Token<'source>, Span)
+    ensures taken { result ≡ held.old }
+    ensures span { held.new.1 ≡ held.old.1 }
+{
+    let span = held.1;
+    let token = mem::replace(&mut held.0, Token::Plus);
+    (token, span)
+}
+
+// The start of the first line.
+fn no_span() -> Span
+    ensures { result ≡ no_span }
+{
+    Span {
+        start_line: 0,
+        start_col: 0,
+        start_offset: 0,
+        end_line: 0,
+        end_col: 0,
+        end_offset: 0,
+    }
 }
 
 // Puts the text that a token is behind the text: whether it is one.

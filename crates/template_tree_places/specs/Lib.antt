@@ -1,4 +1,3 @@
 pub mod Places
-pub mod Tokens
 pub mod Expressions
 pub mod Statements

@@ -1,4 +1,4 @@
-//! Where tokens and the nodes of a tree stand: the second view of trees, beside the one that knows no places.
+//! Where the nodes of a tree stand: the second view of trees, beside the one that knows no places.
 //!
 //! Here are definitions that the grammar with places and the parser share, and laws.
 #![tactic(auto)]

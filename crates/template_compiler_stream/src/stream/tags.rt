@@ -9,7 +9,7 @@ use template_compiler_tokens::Token;
 impl<'source> TokenStream<'source> {
     /// Whether the start of a print stands next.
     pub fn starts_print(&self) -> bool
-        ensures { result ≡ begins_variable_start self.now }
+        ensures { result ≡ begins_variable_start self.now.left }
     {
         match self.peek() {
             Next::Token(token, _) => is_variable_start(token),
@@ -20,7 +20,7 @@ impl<'source> TokenStream<'source> {
 
     /// Whether the end of a print stands next.
     pub fn ends_print(&self) -> bool
-        ensures { result ≡ begins_variable_end self.now }
+        ensures { result ≡ begins_variable_end self.now.left }
     {
         match self.peek() {
             Next::Token(token, _) => is_variable_end(token),
@@ -31,7 +31,7 @@ impl<'source> TokenStream<'source> {
 
     /// Whether the start of a tag stands next.
     pub fn starts_tag(&self) -> bool
-        ensures { result ≡ begins_block_start self.now }
+        ensures { result ≡ begins_block_start self.now.left }
     {
         match self.peek() {
             Next::Token(token, _) => is_block_start(token),
@@ -42,7 +42,7 @@ impl<'source> TokenStream<'source> {
 
     /// Whether the end of a tag stands next.
     pub fn ends_tag(&self) -> bool
-        ensures { result ≡ begins_block_end self.now }
+        ensures { result ≡ begins_block_end self.now.left }
     {
         match self.peek() {
             Next::Token(token, _) => is_block_end(token),
@@ -53,7 +53,7 @@ impl<'source> TokenStream<'source> {
 
     /// The text between segments that stands next.
     pub fn text(&self) -> Option<&'source str>
-        ensures { option_map (λ w. w.now) result ≡ next_text self.now }
+        ensures { option_map (λ w. w.now) result ≡ next_text self.now.left }
     {
         match self.peek() {
             Next::Token(token, _) => text_of(token),
@@ -64,7 +64,7 @@ impl<'source> TokenStream<'source> {
 
     /// Whether no token is left.
     pub fn is_done(&self) -> bool
-        ensures { result ≡ is_done self.now }
+        ensures { result ≡ is_done self.now.left }
     {
         match self.peek() {
             Next::Token(_, _) => false,

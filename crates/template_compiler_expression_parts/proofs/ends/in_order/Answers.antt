@@ -3,5 +3,5 @@ use Rattle.template_compiler_expression_parts.proofs.ends.in_order.Goals as goal
 
 pub returns-then-skip : goal.returns-then-skip
 returns-then-skip c =
-    let here = rw c.if-skip.true at c.skip.ensures in
+    let here = rw c.if-skip.true at c.skip.ensures.passed in
     order_at _ _ _ _ _ here (c.few.ensures _)

@@ -6,15 +6,15 @@ use Rattle.template_compiler_expression_parts.proofs.literals.adjacent.Goals as 
 
 pub loop-text-preserved : goal.loop-text-preserved
 loop-text-preserved c =
-    let more = rw c.in-Ok-true.field-0-test at c.in-Ok-true.ensures in
+    let more = rw c.in-Ok-true.field-0-test at c.in-Ok-true.ensures.passed in
     rounds_go text_step text_takes _ _ _ _ _ _ c.loop-text.invariant more
 
 pub loop-text-smaller : goal.loop-text-smaller
 loop-text-smaller c =
-    let more = rw c.in-Ok-true.field-0-test at c.in-Ok-true.ensures in
+    let more = rw c.in-Ok-true.field-0-test at c.in-Ok-true.ensures.passed in
     text_takes _ _ _ _ more
 
 pub returns-in-Ok-false : goal.returns-in-Ok-false
 returns-in-Ok-false c =
-    let ended = rw c.in-Ok-false.field-0-test at c.in-Ok-false.ensures in
+    let ended = rw c.in-Ok-false.field-0-test at c.in-Ok-false.ensures.passed in
     rounds_end text_step _ _ _ _ _ _ c.loop-text.invariant ended

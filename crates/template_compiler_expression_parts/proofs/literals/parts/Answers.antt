@@ -6,8 +6,8 @@ use Rattle.template_compiler_expression_parts.proofs.literals.parts.Goals as goa
 
 pub loop-part-preserved : goal.loop-part-preserved
 loop-part-preserved c =
-    rounds_go dotted_step dotted_takes _ _ _ _ _ _ c.loop-part.invariant (dotted_goes _ _ _ _ _ c.in-Some.ensures c.in_ok-put_part-in-Some.ensures)
+    rounds_go dotted_step dotted_takes _ _ _ _ _ _ c.loop-part.invariant (dotted_goes _ _ _ _ _ c.in-Some.ensures.passed c.in_ok-put_part-in-Some.ensures)
 
 pub returns-in-None : goal.returns-in-None
 returns-in-None c =
-    rounds_end dotted_step _ _ (string_bytes c.loop-part.name) _ _ _ c.loop-part.invariant (dotted_none _ _ c.in-None.ensures.1, c.in-None.ensures.0, refl)
+    rounds_end dotted_step _ _ (string_bytes c.loop-part.name) _ _ _ c.loop-part.invariant (dotted_none _ _ c.in-None.ensures.passed.1, c.in-None.ensures.passed.0, refl)

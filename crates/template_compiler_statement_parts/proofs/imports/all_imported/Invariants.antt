@@ -6,7 +6,7 @@ use Rattle.template_compiler_statement_parts.proofs.imports.all_imported.Given a
 
 abbrev pub invariant-loop-refusal : goal.invariant-loop-refusal
 invariant-loop-refusal l =
-    all (more_step import_by) (imports_in l.names.items) l.tokens ≡ all (more_step import_by) (imports_in l.initial.names.items) l.initial.tokens
+    all (more_step import_by) (imports_in l.names.items) l.tokens.left ≡ all (more_step import_by) (imports_in l.initial.names.items) l.initial.tokens.left
 
 abbrev pub decreases-loop-refusal : goal.decreases-loop-refusal
-decreases-loop-refusal l = length l.tokens
+decreases-loop-refusal l = length l.tokens.left

@@ -7,4 +7,4 @@ returns-then-is_reserved c = stored_reserved _ _ c.in-Some.ensures (sym c.is_res
 
 pub returns-else-is_reserved : goal.returns-else-is_reserved
 returns-else-is_reserved c =
-    stored_free _ _ _ _ c.in-Some.ensures (sym c.is_reserved.ensures ∙ c.if-is_reserved.false) c.advance.ensures c.variable.ensures.tree
+    stored_free _ _ _ _ c.in-Some.ensures (sym c.is_reserved.ensures ∙ c.if-is_reserved.false) c.advance.ensures.passed c.variable.ensures.tree

@@ -29,5 +29,5 @@ all_targets-loop-refusal-smaller t c =
 
 pub read_inner_targets-returns-else-left-eq0 : goal.read_inner_targets-returns-else-left-eq0
 read_inner_targets-returns-else-left-eq0 t c =
-    subst (λ m. Parsed m c.read_targets.new.tokens c.read_targets.result)
-    (sym (inner_less c.args.dots c.args.left (c.args.left - 1) c.args.tokens.now (omega arith))) c.read_targets.ensures
+    subst (λ m. Parsed m c.read_targets.new.tokens.left c.read_targets.result)
+    (sym (inner_less c.args.dots c.args.left (c.args.left - 1) c.args.tokens.now.left (omega arith))) c.read_targets.ensures

@@ -24,8 +24,8 @@ decreases-next_target l = 8 * l.left + 3
 
 abbrev pub invariant-all_targets-loop-refusal : goal.invariant-all_targets-loop-refusal
 invariant-all_targets-loop-refusal l =
-    all (more_step (one_target_by l.dots (inner_targets l.dots l.left))) (expressions_in l.targets.items) l.tokens ≡
-    all (more_step (one_target_by l.dots (inner_targets l.dots l.left))) (expressions_in l.initial.targets.items) l.initial.tokens
+    all (more_step (one_target_by l.dots (inner_targets l.dots l.left))) (expressions_in l.targets.items) l.tokens.left ≡
+    all (more_step (one_target_by l.dots (inner_targets l.dots l.left))) (expressions_in l.initial.targets.items) l.initial.tokens.left
 
 abbrev pub decreases-all_targets-loop-refusal : goal.decreases-all_targets-loop-refusal
-decreases-all_targets-loop-refusal l = length l.tokens
+decreases-all_targets-loop-refusal l = length l.tokens.left

@@ -5,7 +5,7 @@ use Rattle.template_compiler_statements.specs.Reader.{path_step}
 use Rattle.template_compiler_statement_parts.proofs.targets.read_path.Given as goal
 
 abbrev pub invariant-loop-part : goal.invariant-loop-part
-invariant-loop-part l = all path_step (expression_of l.target) l.tokens ≡ all path_step (expression_of l.initial.target) l.initial.tokens
+invariant-loop-part l = all path_step (expression_of l.target) l.tokens.left ≡ all path_step (expression_of l.initial.target) l.initial.tokens.left
 
 abbrev pub decreases-loop-part : goal.decreases-loop-part
-decreases-loop-part l = length l.tokens
+decreases-loop-part l = length l.tokens.left

@@ -7,7 +7,7 @@ use Rattle.template_compiler_statement_values.proofs.parameters.all_parameters.G
 
 abbrev pub invariant-loop-refusal : goal.invariant-loop-refusal
 invariant-loop-refusal g l =
-    all (more_step (parameter_by (expression_at l.left))) (parameters_of l.parameters) l.tokens ≡ all (more_step (parameter_by (expression_at l.left))) (parameters_of l.initial.parameters) l.initial.tokens
+    all (more_step (parameter_by (expression_at l.left))) (parameters_of l.parameters) l.tokens.left ≡ all (more_step (parameter_by (expression_at l.left))) (parameters_of l.initial.parameters) l.initial.tokens.left
 
 abbrev pub decreases-loop-refusal : goal.decreases-loop-refusal
-decreases-loop-refusal g l = length l.tokens
+decreases-loop-refusal g l = length l.tokens.left

@@ -6,5 +6,5 @@ use Rattle.template_compiler_statement_values.proofs.parameters.read_deeper_para
 
 pub returns-else-left-eq0 : goal.returns-else-left-eq0
 returns-else-left-eq0 g c =
-    subst (λ m. ParsedAs parameters_of m c.read_parameters.new.tokens c.read_parameters.result)
-    (sym (parameters_less c.args.left (c.args.left - 1) c.args.tokens.now (omega arith))) c.read_parameters.ensures
+    subst (λ m. ParsedAs parameters_of m c.read_parameters.new.tokens.left c.read_parameters.result)
+    (sym (parameters_less c.args.left (c.args.left - 1) c.args.tokens.now.left (omega arith))) c.read_parameters.ensures

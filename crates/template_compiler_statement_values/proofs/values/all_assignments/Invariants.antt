@@ -6,7 +6,7 @@ use Rattle.template_compiler_statement_values.proofs.values.all_assignments.Give
 
 abbrev pub invariant-loop-refusal : goal.invariant-loop-refusal
 invariant-loop-refusal g l =
-    all (more_step (assignment_by (here l.left))) (assignments_in l.pairs.items) l.tokens ≡ all (more_step (assignment_by (here l.left))) (assignments_in l.initial.pairs.items) l.initial.tokens
+    all (more_step (assignment_by (here l.left))) (assignments_in l.pairs.items) l.tokens.left ≡ all (more_step (assignment_by (here l.left))) (assignments_in l.initial.pairs.items) l.initial.tokens.left
 
 abbrev pub decreases-loop-refusal : goal.decreases-loop-refusal
-decreases-loop-refusal g l = length l.tokens
+decreases-loop-refusal g l = length l.tokens.left

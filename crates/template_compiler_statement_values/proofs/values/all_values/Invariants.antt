@@ -7,7 +7,7 @@ use Rattle.template_compiler_statement_values.proofs.values.all_values.Given as 
 
 abbrev pub invariant-loop-refusal : goal.invariant-loop-refusal
 invariant-loop-refusal g l =
-    all (more_step (value_by (expression_at l.left))) (expressions_in l.values.items) l.tokens ≡ all (more_step (value_by (expression_at l.left))) (expressions_in l.initial.values.items) l.initial.tokens
+    all (more_step (value_by (expression_at l.left))) (expressions_in l.values.items) l.tokens.left ≡ all (more_step (value_by (expression_at l.left))) (expressions_in l.initial.values.items) l.initial.tokens.left
 
 abbrev pub decreases-loop-refusal : goal.decreases-loop-refusal
-decreases-loop-refusal g l = length l.tokens
+decreases-loop-refusal g l = length l.tokens.left

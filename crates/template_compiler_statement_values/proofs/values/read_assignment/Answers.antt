@@ -7,4 +7,4 @@ use Rattle.template_compiler_statement_values.proofs.values.read_assignment.Goal
 pub returns : goal.returns
 returns g c =
     assignment_is c.args.left (assignments_in c.args.pairs.now.items) _ _ _ _ _ _ c.in_ok-target.ensures c.in_ok-expect_assign.ensures c.in_ok-value.ensures
-    ∙ ap (λ gs. Ok (gs, c.read_expression.new.tokens)) (sym (ap assignments_in c.in_ok-push.ensures.items ∙ assignments_push _ _))
+    ∙ ap (λ gs. Ok (gs, c.read_expression.new.tokens.left)) (sym (ap assignments_in c.in_ok-push.ensures.items ∙ assignments_push _ _))

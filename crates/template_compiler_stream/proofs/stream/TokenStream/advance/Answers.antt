@@ -1,17 +1,18 @@
-use Rattle.std.proofs.Common.{◌+◌, sym, ◌∙◌, ap}
-use Rattle.template_compiler_stream.specs.Left.{left_in, passed}
-use Rattle.template_compiler_stream.proofs.Left.{next_some, next_none, passed_token, passed_ended}
+use Rattle.std.proofs.Common.{◌<◌, ◌≤◌, length, sym, ◌∙◌, ap, arith}
+use Rattle.template_compiler_stream.specs.Left.{passed}
+use Rattle.template_compiler_stream.proofs.Left.{passed_here, passed_past}
+use Rattle.template_compiler_stream.proofs.Spans.{left_at}
 use Rattle.template_compiler_stream.proofs.stream.TokenStream.advance.Goals as goal
 
-pub returns-in-Some : goal.returns-in-Some
-returns-in-Some c =
+pub returns-then-self-len-clause-passed : goal.returns-then-self-len-clause-passed
+returns-then-self-len-clause-passed c =
     let s = c.self.inside in
-    let found = c.in-Some.ensures.lookup in
-    let next = next_some s.tokens.items c.deref.result.now s.place c.in-Some.field-0.now s.fault c.deref.ensures.value found.3.0 found.1 in
-    sym (ap passed (sym c.self.view_is ∙ next) ∙ passed_token _ (left_in s.tokens.items (s.place + 1) s.fault))
+    let within : s.place < length s.tokens.items = omega (arith, c.len.ensures, c.if-self-len.true, s.tokens.ok.0) in
+    passed_here s.tokens.items s.place s.fault within ∙ ap passed (sym (left_at _ _ _ _ c.self.view_is))
 
-pub returns-in_default : goal.returns-in_default
-returns-in_default c =
+pub returns-else-self-len-clause-passed : goal.returns-else-self-len-clause-passed
+returns-else-self-len-clause-passed c =
     let s = c.self.inside in
-    let next = sym c.self.view_is ∙ next_none s.tokens.items c.deref.result.now s.place s.fault c.deref.ensures.value c.in_default.ensures.lookup.3 in
-    next ∙ passed_ended s.fault ∙ ap passed (sym next)
+    let past : length s.tokens.items ≤ s.place = omega (arith, c.len.ensures, c.if-self-len.false, s.tokens.ok.0) in
+    let here = left_at _ _ _ _ c.self.view_is in
+    here ∙ passed_past s.tokens.items s.place s.fault past ∙ ap passed (sym here)

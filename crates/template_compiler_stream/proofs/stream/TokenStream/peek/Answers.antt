@@ -1,24 +1,31 @@
-use Rattle.std.proofs.Common.{sym, ◌∙◌}
+use Rattle.std.proofs.Common.{◌∙◌}
 use Rattle.template_compiler_stream.proofs.Left.{next_some, next_end, next_nothing}
+use Rattle.template_compiler_stream.proofs.Spans.{left_at, next_at}
 use Rattle.template_compiler_stream.proofs.stream.TokenStream.peek.Goals as goal
 
-pub returns-in-Some : goal.returns-in-Some
-returns-in-Some c =
+pub returns-in-Some-clause-shown : goal.returns-in-Some-clause-shown
+returns-in-Some-clause-shown c =
     let s = c.self.inside in
     let found = c.in-Some.ensures.lookup in (
       _,
-      sym c.self.view_is ∙
+      left_at _ _ _ _ c.self.view_is ∙
           next_some s.tokens.items c.deref.result.now s.place c.in-Some.field-0.now s.fault c.deref.ensures.value found.3.0 found.1,
     )
 
-pub returns-in-Some-fault : goal.returns-in-Some-fault
-returns-in-Some-fault c =
+pub returns-in-Some-clause-span : goal.returns-in-Some-clause-span
+returns-in-Some-clause-span c =
     let s = c.self.inside in
-    sym c.self.view_is ∙
+    let found = c.in-Some.ensures.lookup in
+    next_at _ s.tokens.items c.deref.result.now s.place c.in-Some.field-0.now s.fault c.self.view_is c.deref.ensures.value found.3.0 found.1
+
+pub returns-in-Some-fault-clause-shown : goal.returns-in-Some-fault-clause-shown
+returns-in-Some-fault-clause-shown c =
+    let s = c.self.inside in
+    left_at _ _ _ _ c.self.view_is ∙
     next_end s.tokens.items c.deref.result.now s.place s.fault _ c.deref.ensures.value c.in-None.ensures.lookup.3 c.in-Some-fault.is
 
-pub returns-in-None-fault : goal.returns-in-None-fault
-returns-in-None-fault c =
+pub returns-in-None-fault-clause-shown : goal.returns-in-None-fault-clause-shown
+returns-in-None-fault-clause-shown c =
     let s = c.self.inside in
-    sym c.self.view_is ∙
+    left_at _ _ _ _ c.self.view_is ∙
     next_nothing s.tokens.items c.deref.result.now s.place s.fault c.deref.ensures.value c.in-None.ensures.lookup.3 c.in-None-fault.is
