@@ -27,7 +27,7 @@ pub(crate) fn expression<'source>(
     tokens: &mut TokenStream<'source>,
     left: u32,
 ) -> Result<Expr<'source>, Refusal>
-    ensures { Parsed (expression_by (deeper left) tokens.old) tokens.new result }
+    ensures { Parsed (expression_by (deeper left) tokens.old.left) tokens.new.left result }
 {
     let span = tokens.span();
     let value = binary(alloc, tokens, left, Level::Disjunction)?;
@@ -48,8 +48,8 @@ fn branches<'source>(
     value: Expr<'source>,
     span: Span,
 ) -> Result<Expr<'source>, Refusal>
-    ensures { Parsed (and_then (binary_by (deeper left) disjunction tokens.old)
-        (else_behind (deeper (suc left)) (expression_of value.entry))) tokens.new result }
+    ensures { Parsed (and_then (binary_by (deeper left) disjunction tokens.old.left)
+        (else_behind (deeper (suc left)) (expression_of value.entry))) tokens.new.left result }
 {
     let test = binary(alloc, tokens, left, Level::Disjunction)?;
     let other = if tokens.skip_word("else") {
@@ -69,7 +69,7 @@ pub(crate) fn binary<'source>(
     left: u32,
     level: Level,
 ) -> Result<Expr<'source>, Refusal>
-    ensures { Parsed (binary_by (deeper left) (level_of level) tokens.old) tokens.new result }
+    ensures { Parsed (binary_by (deeper left) (level_of level) tokens.old.left) tokens.new.left result }
 {
     if tokens.begins_alone() {
         return literal(alloc, tokens);
@@ -89,7 +89,7 @@ fn operands<'source>(
     span: Span,
 ) -> Result<Expr<'source>, Refusal>
     ensures { Parsed (all (operand_step (level_of level) (operand_by (deeper left) (level_of level))) (expression_of value.entry)
-        tokens.old) tokens.new result }
+        tokens.old.left) tokens.new.left result }
 {
     let mut value = value;
     loop {
@@ -111,8 +111,8 @@ fn next_operand<'source>(
     value: Expr<'source>,
     span: Span,
 ) -> Result<Behind<'source>, Refusal>
-    ensures { Stepped (operand_step (level_of level) (operand_by (deeper left) (level_of level)) (expression_of value.entry) tokens.old)
-        (expression_of value.entry) tokens.old tokens.new result }
+    ensures { Stepped (operand_step (level_of level) (operand_by (deeper left) (level_of level)) (expression_of value.entry)
+        tokens.old.left) (expression_of value.entry) tokens.old.left tokens.new.left result }
 {
     match tokens.skip_operator(level) {
         Some(op) => {
@@ -134,7 +134,7 @@ fn operand<'source>(
     left: u32,
     level: Level,
 ) -> Result<Expr<'source>, Refusal>
-    ensures { Parsed (operand_by (deeper left) (level_of level) tokens.old) tokens.new result }
+    ensures { Parsed (operand_by (deeper left) (level_of level) tokens.old.left) tokens.new.left result }
 {
     match level {
         Level::Factors => power(alloc, tokens, left),
@@ -152,7 +152,7 @@ fn negation<'source>(
     tokens: &mut TokenStream<'source>,
     left: u32,
 ) -> Result<Expr<'source>, Refusal>
-    ensures { Parsed (negation_by (deeper left) tokens.old) tokens.new result }
+    ensures { Parsed (negation_by (deeper left) tokens.old.left) tokens.new.left result }
 {
     let span = tokens.span();
     if tokens.skip_word("not") {
@@ -171,7 +171,7 @@ fn comparison<'source>(
     tokens: &mut TokenStream<'source>,
     left: u32,
 ) -> Result<Expr<'source>, Refusal>
-    ensures { Parsed (comparison_by (deeper left) tokens.old) tokens.new result }
+    ensures { Parsed (comparison_by (deeper left) tokens.old.left) tokens.new.left result }
 {
     let span = tokens.span();
     let value = binary(alloc, tokens, left, Level::Terms)?;
@@ -185,7 +185,7 @@ fn links<'source>(
     tokens: &mut TokenStream<'source>,
     left: u32,
 ) -> Result<Vec<CompareOp<'source>>, Refusal>
-    ensures { ParsedAs (λ v. links_in v.items) (all (link_step (terms_by (deeper left))) no_links tokens.old) tokens.new result }
+    ensures { ParsedAs (λ v. links_in v.items) (all (link_step (terms_by (deeper left))) no_links tokens.old.left) tokens.new.left result }
 {
     let mut links = Vec::new(alloc);
     loop {
@@ -205,8 +205,8 @@ fn next_link<'source>(
     left: u32,
     links: &mut Vec<CompareOp<'source>>,
 ) -> Result<bool, Refusal>
-    ensures { SteppedTo (link_step (terms_by (deeper left)) (links_in links.old.items) tokens.old) (links_in links.old.items) tokens.old
-        (links_in links.new.items) tokens.new result }
+    ensures { SteppedTo (link_step (terms_by (deeper left)) (links_in links.old.items) tokens.old.left) (links_in links.old.items)
+        tokens.old.left (links_in links.new.items) tokens.new.left result }
 {
     match tokens.skip_comparison() {
         Some(op) => put_link(alloc, tokens, left, op, links),
@@ -230,8 +230,8 @@ fn put_link<'source>(
     op: CompareOpKind,
     links: &mut Vec<CompareOp<'source>>,
 ) -> Result<bool, Refusal>
-    ensures { SteppedTo (link_behind (Some op) false (terms_by (deeper left)) (links_in links.old.items) tokens.old)
-        (links_in links.old.items) tokens.old (links_in links.new.items) tokens.new result }
+    ensures { SteppedTo (link_behind (Some op) false (terms_by (deeper left)) (links_in links.old.items) tokens.old.left)
+        (links_in links.old.items) tokens.old.left (links_in links.new.items) tokens.new.left result }
 {
     let right = match binary(alloc, tokens, left, Level::Terms) {
         Ok(right) => right,
@@ -250,8 +250,8 @@ fn next_not_in<'source>(
     left: u32,
     links: &mut Vec<CompareOp<'source>>,
 ) -> Result<bool, Refusal>
-    ensures { SteppedTo (not_in_link (terms_by (deeper left)) (links_in links.old.items) tokens.old) (links_in links.old.items)
-        tokens.old (links_in links.new.items) tokens.new result }
+    ensures { SteppedTo (not_in_link (terms_by (deeper left)) (links_in links.old.items) tokens.old.left) (links_in links.old.items)
+        tokens.old.left (links_in links.new.items) tokens.new.left result }
 {
     if tokens.skip_word("in") {
         put_link(alloc, tokens, left, CompareOpKind::NotIn, links)
@@ -267,7 +267,7 @@ fn power<'source>(
     tokens: &mut TokenStream<'source>,
     left: u32,
 ) -> Result<Expr<'source>, Refusal>
-    ensures { Parsed (power_by (deeper left) tokens.old) tokens.new result }
+    ensures { Parsed (power_by (deeper left) tokens.old.left) tokens.new.left result }
 {
     let span = tokens.span();
     let value = filtered(alloc, tokens, left)?;
@@ -293,7 +293,7 @@ fn filtered<'source>(
     tokens: &mut TokenStream<'source>,
     left: u32,
 ) -> Result<Expr<'source>, Refusal>
-    ensures { Parsed (filtered_by (deeper left) tokens.old) tokens.new result }
+    ensures { Parsed (filtered_by (deeper left) tokens.old.left) tokens.new.left result }
 {
     let span = tokens.span();
     let value = unary(alloc, tokens, left)?;
@@ -308,7 +308,7 @@ fn filters<'source>(
     value: Expr<'source>,
     span: Span,
 ) -> Result<Expr<'source>, Refusal>
-    ensures { Parsed (all (filter_step (deeper left)) (expression_of value.entry) tokens.old) tokens.new result }
+    ensures { Parsed (all (filter_step (deeper left)) (expression_of value.entry) tokens.old.left) tokens.new.left result }
 {
     let mut value = value;
     loop {
@@ -329,8 +329,8 @@ fn next_filter<'source>(
     value: Expr<'source>,
     span: Span,
 ) -> Result<Behind<'source>, Refusal>
-    ensures { Stepped (filter_step (deeper left) (expression_of value.entry) tokens.old) (expression_of value.entry) tokens.old
-        tokens.new result }
+    ensures { Stepped (filter_step (deeper left) (expression_of value.entry) tokens.old.left) (expression_of value.entry) tokens.old.left
+        tokens.new.left result }
 {
     if tokens.skip(Sign::Pipe) {
         Ok(Behind::Goes(piped(alloc, tokens, left, value, span)?))
@@ -351,8 +351,8 @@ fn piped<'source>(
     value: Expr<'source>,
     span: Span,
 ) -> Result<Expr<'source>, Refusal>
-    ensures { Parsed (and_then (filter_by (deeper left) (given (expression_of value.entry)) tokens.old) (parts_by (deeper left)))
-        tokens.new result }
+    ensures { Parsed (and_then (filter_by (deeper left) (given (expression_of value.entry)) tokens.old.left) (parts_by (deeper left)))
+        tokens.new.left result }
 {
     let filtered = filter(alloc, tokens, left, Some(value), span)?;
     parts(alloc, tokens, left, filtered, span)
@@ -368,7 +368,7 @@ pub(crate) fn filter<'source>(
     value: Option<Expr<'source>>,
     span: Span,
 ) -> Result<Expr<'source>, Refusal>
-    ensures { Parsed (filter_by (deeper left) (optional_in value.entry) tokens.old) tokens.new result }
+    ensures { Parsed (filter_by (deeper left) (optional_in value.entry) tokens.old.left) tokens.new.left result }
 {
     let name = name(alloc, tokens)?;
     let arguments = optional_arguments(alloc, tokens, left)?;
@@ -383,7 +383,7 @@ fn optional_arguments<'source>(
     tokens: &mut TokenStream<'source>,
     left: u32,
 ) -> Result<Vec<CallArg<'source>>, Refusal>
-    ensures { ParsedAs (λ v. arguments_in v.items) (optional_arguments_by (deeper left) tokens.old) tokens.new result }
+    ensures { ParsedAs (λ v. arguments_in v.items) (optional_arguments_by (deeper left) tokens.old.left) tokens.new.left result }
 {
     if tokens.skip(Sign::ParenOpen) {
         arguments(alloc, tokens, deeper(left)?)
@@ -402,7 +402,7 @@ fn asked<'source>(
     value: Expr<'source>,
     span: Span,
 ) -> Result<Expr<'source>, Refusal>
-    ensures { Parsed (is_by (deeper left) (expression_of value.entry) tokens.old) tokens.new result }
+    ensures { Parsed (is_by (deeper left) (expression_of value.entry) tokens.old.left) tokens.new.left result }
 {
     let negated = tokens.skip_word("not");
     test(alloc, tokens, left, negated, value, span)
@@ -419,7 +419,7 @@ fn test<'source>(
     value: Expr<'source>,
     span: Span,
 ) -> Result<Expr<'source>, Refusal>
-    ensures { Parsed (test_by (deeper left) negated (expression_of value.entry) tokens.old) tokens.new result }
+    ensures { Parsed (test_by (deeper left) negated (expression_of value.entry) tokens.old.left) tokens.new.left result }
 {
     let name = name(alloc, tokens)?;
     if tokens.begins_argument() {
@@ -441,8 +441,8 @@ fn bare_test<'source>(
     value: Expr<'source>,
     span: Span,
 ) -> Result<Expr<'source>, Refusal>
-    ensures { Parsed (test_arguments_by (deeper left) true negated (expression_of value.entry) (cow_str_bytes name.entry) tokens.old)
-        tokens.new result }
+    ensures { Parsed (test_arguments_by (deeper left) true negated (expression_of value.entry) (cow_str_bytes name.entry) tokens.old.left)
+        tokens.new.left result }
 {
     let argument = unary(alloc, tokens, left)?;
     let mut arguments = Vec::new(alloc);
@@ -469,8 +469,8 @@ fn plain_test<'source>(
     value: Expr<'source>,
     span: Span,
 ) -> Result<Expr<'source>, Refusal>
-    ensures { Parsed (test_arguments_by (deeper left) false negated (expression_of value.entry) (cow_str_bytes name.entry) tokens.old)
-        tokens.new result }
+    ensures { Parsed (test_arguments_by (deeper left) false negated (expression_of value.entry) (cow_str_bytes name.entry) tokens.old.left)
+        tokens.new.left result }
 {
     let arguments = optional_arguments(alloc, tokens, left)?;
     let test = tested(
@@ -492,7 +492,7 @@ fn unary<'source>(
     tokens: &mut TokenStream<'source>,
     left: u32,
 ) -> Result<Expr<'source>, Refusal>
-    ensures { Parsed (unary_by (deeper left) tokens.old) tokens.new result }
+    ensures { Parsed (unary_by (deeper left) tokens.old.left) tokens.new.left result }
 {
     let span = tokens.span();
     if tokens.skip(Sign::Minus) {
@@ -512,7 +512,7 @@ fn parts<'source>(
     value: Expr<'source>,
     span: Span,
 ) -> Result<Expr<'source>, Refusal>
-    ensures { Parsed (all (part_step (deeper left)) (expression_of value.entry) tokens.old) tokens.new result }
+    ensures { Parsed (all (part_step (deeper left)) (expression_of value.entry) tokens.old.left) tokens.new.left result }
 {
     let mut value = value;
     loop {
@@ -533,8 +533,8 @@ fn next_part<'source>(
     value: Expr<'source>,
     span: Span,
 ) -> Result<Behind<'source>, Refusal>
-    ensures { Stepped (part_step (deeper left) (expression_of value.entry) tokens.old) (expression_of value.entry) tokens.old tokens.new
-        result }
+    ensures { Stepped (part_step (deeper left) (expression_of value.entry) tokens.old.left) (expression_of value.entry) tokens.old.left
+        tokens.new.left result }
 {
     if tokens.skip(Sign::Dot) {
         Ok(Behind::Goes(attribute(alloc, tokens, value, span)?))
@@ -557,8 +557,8 @@ fn call<'source>(
     value: Expr<'source>,
     span: Span,
 ) -> Result<Expr<'source>, Refusal>
-    ensures { WentOn (under (arguments_by (expression_by (deeper left)) tokens.old)
-        (λ args us. goes (call (expression_of value.entry) args) us)) tokens.new result }
+    ensures { WentOn (under (arguments_by (expression_by (deeper left)) tokens.old.left)
+        (λ args us. goes (call (expression_of value.entry) args) us)) tokens.new.left result }
 {
     let arguments = arguments(alloc, tokens, left)?;
     Ok(Expr::call(alloc, value, arguments, tokens.expand_span(span))?)
@@ -574,7 +574,7 @@ fn subscript<'source>(
     value: Expr<'source>,
     span: Span,
 ) -> Result<Expr<'source>, Refusal>
-    ensures { Parsed (subscript_by (expression_by (deeper left)) (expression_of value.entry) tokens.old) tokens.new result }
+    ensures { Parsed (subscript_by (expression_by (deeper left)) (expression_of value.entry) tokens.old.left) tokens.new.left result }
 {
     let start = bound(alloc, tokens, left)?;
     if tokens.skip(Sign::Colon) {
@@ -598,8 +598,8 @@ fn slice<'source>(
     start: Option<Expr<'source>>,
     span: Span,
 ) -> Result<Expr<'source>, Refusal>
-    ensures { Parsed (slice_by (expression_by (deeper left)) (expression_of value.entry) (optional_in start.entry) tokens.old)
-        tokens.new result }
+    ensures { Parsed (slice_by (expression_by (deeper left)) (expression_of value.entry) (optional_in start.entry) tokens.old.left)
+        tokens.new.left result }
 {
     let stop = bound(alloc, tokens, left)?;
     let step = step(alloc, tokens, left)?;
@@ -615,7 +615,7 @@ fn bound<'source>(
     tokens: &mut TokenStream<'source>,
     left: u32,
 ) -> Result<Option<Expr<'source>>, Refusal>
-    ensures { ParsedOptional (bound_by (expression_by (deeper left)) tokens.old) tokens.new result }
+    ensures { ParsedOptional (bound_by (expression_by (deeper left)) tokens.old.left) tokens.new.left result }
 {
     if tokens.ends_bound() {
         Ok(None)
@@ -632,7 +632,7 @@ fn step<'source>(
     tokens: &mut TokenStream<'source>,
     left: u32,
 ) -> Result<Option<Expr<'source>>, Refusal>
-    ensures { ParsedOptional (step_by (expression_by (deeper left)) tokens.old) tokens.new result }
+    ensures { ParsedOptional (step_by (expression_by (deeper left)) tokens.old.left) tokens.new.left result }
 {
     if tokens.skip(Sign::Colon) {
         bound(alloc, tokens, left)
@@ -648,7 +648,7 @@ fn primary<'source>(
     tokens: &mut TokenStream<'source>,
     left: u32,
 ) -> Result<Expr<'source>, Refusal>
-    ensures { Parsed (primary_by (deeper left) tokens.old) tokens.new result }
+    ensures { Parsed (primary_by (deeper left) tokens.old.left) tokens.new.left result }
 {
     let span = tokens.span();
     if tokens.skip(Sign::ParenOpen) {
@@ -671,7 +671,7 @@ fn paren<'source>(
     left: u32,
     span: Span,
 ) -> Result<Expr<'source>, Refusal>
-    ensures { Parsed (paren_by (expression_by (deeper left)) tokens.old) tokens.new result }
+    ensures { Parsed (paren_by (expression_by (deeper left)) tokens.old.left) tokens.new.left result }
 {
     if tokens.skip(Sign::ParenClose) {
         return Ok(Expr::tuple(alloc, Vec::new(alloc), tokens.expand_span(span))?);
@@ -695,8 +695,8 @@ fn tuple<'source>(
     span: Span,
 ) -> Result<Expr<'source>, Refusal>
     ensures { Parsed (and_then (all (items_step (expression_by (deeper left)))
-        (expressions_more (expression_of first.entry) no_expressions) tokens.old) (λ es us. paren_end (tuple_literal es) us)) tokens.new
-        result }
+        (expressions_more (expression_of first.entry) no_expressions) tokens.old.left) (λ es us. paren_end (tuple_literal es) us))
+        tokens.new.left result }
 {
     let mut held = Vec::new(alloc);
     held.push(first)?;
@@ -714,7 +714,7 @@ fn list<'source>(
     left: u32,
     span: Span,
 ) -> Result<Expr<'source>, Refusal>
-    ensures { Parsed (list_by (expression_by (deeper left)) tokens.old) tokens.new result }
+    ensures { Parsed (list_by (expression_by (deeper left)) tokens.old.left) tokens.new.left result }
 {
     let held = items(alloc, tokens, left, Vec::new(alloc))?;
     let span = tokens.span_through_next(span);
@@ -730,7 +730,7 @@ fn items<'source>(
     held: Vec<Expr<'source>>,
 ) -> Result<Vec<Expr<'source>>, Refusal>
     ensures { ParsedAs (λ v. expressions_in v.items) (all (items_step (expression_by (deeper left))) (expressions_in held.entry.items)
-        tokens.old) tokens.new result }
+        tokens.old.left) tokens.new.left result }
 {
     let mut held = held;
     loop {
@@ -750,8 +750,8 @@ fn next_item<'source>(
     left: u32,
     held: &mut Vec<Expr<'source>>,
 ) -> Result<bool, Refusal>
-    ensures { SteppedTo (items_step (expression_by (deeper left)) (expressions_in held.old.items) tokens.old)
-        (expressions_in held.old.items) tokens.old (expressions_in held.new.items) tokens.new result }
+    ensures { SteppedTo (items_step (expression_by (deeper left)) (expressions_in held.old.items) tokens.old.left)
+        (expressions_in held.old.items) tokens.old.left (expressions_in held.new.items) tokens.new.left result }
 {
     if tokens.closes() {
         return Ok(false);
@@ -774,7 +774,7 @@ fn map<'source>(
     left: u32,
     span: Span,
 ) -> Result<Expr<'source>, Refusal>
-    ensures { Parsed (map_by (expression_by (deeper left)) tokens.old) tokens.new result }
+    ensures { Parsed (map_by (expression_by (deeper left)) tokens.old.left) tokens.new.left result }
 {
     let Pairs { keys, values } = pairs(alloc, tokens, left)?;
     let span = tokens.span_through_next(span);
@@ -788,7 +788,7 @@ fn pairs<'source>(
     tokens: &mut TokenStream<'source>,
     left: u32,
 ) -> Result<Pairs<'source>, Refusal>
-    ensures { ParsedAs paired_in (all (pairs_step (expression_by (deeper left))) nothing_paired tokens.old) tokens.new result }
+    ensures { ParsedAs paired_in (all (pairs_step (expression_by (deeper left))) nothing_paired tokens.old.left) tokens.new.left result }
 {
     let mut held = Pairs {
         keys: Vec::new(alloc),
@@ -811,8 +811,8 @@ fn next_pair<'source>(
     left: u32,
     held: &mut Pairs<'source>,
 ) -> Result<bool, Refusal>
-    ensures { SteppedTo (pairs_step (expression_by (deeper left)) (paired_in held.old) tokens.old) (paired_in held.old) tokens.old
-        (paired_in held.new) tokens.new result }
+    ensures { SteppedTo (pairs_step (expression_by (deeper left)) (paired_in held.old) tokens.old.left) (paired_in held.old) tokens.old.left
+        (paired_in held.new) tokens.new.left result }
 {
     if tokens.closes() {
         return Ok(false);
@@ -838,7 +838,7 @@ fn key<'source>(
     tokens: &mut TokenStream<'source>,
     left: u32,
 ) -> Result<Expr<'source>, Refusal>
-    ensures { Parsed (and_then (expression_by (deeper left) tokens.old) colon_end) tokens.new result }
+    ensures { Parsed (and_then (expression_by (deeper left) tokens.old.left) colon_end) tokens.new.left result }
 {
     let key = expression(alloc, tokens, left)?;
     before_colon(tokens, key)
@@ -852,7 +852,7 @@ fn arguments<'source>(
     tokens: &mut TokenStream<'source>,
     left: u32,
 ) -> Result<Vec<CallArg<'source>>, Refusal>
-    ensures { ParsedAs (λ v. arguments_in v.items) (arguments_by (expression_by (deeper left)) tokens.old) tokens.new result }
+    ensures { ParsedAs (λ v. arguments_in v.items) (arguments_by (expression_by (deeper left)) tokens.old.left) tokens.new.left result }
 {
     let held = written(alloc, tokens, left)?;
     in_order(tokens, held)
@@ -865,7 +865,8 @@ fn written<'source>(
     tokens: &mut TokenStream<'source>,
     left: u32,
 ) -> Result<Written<'source>, Refusal>
-    ensures { ParsedAs written_in (all (arguments_step (expression_by (deeper left))) nothing_written tokens.old) tokens.new result }
+    ensures { ParsedAs written_in (all (arguments_step (expression_by (deeper left))) nothing_written tokens.old.left)
+        tokens.new.left result }
 {
     let mut held = Written {
         by_place: Vec::new(alloc),
@@ -888,8 +889,8 @@ fn next_argument<'source>(
     left: u32,
     held: &mut Written<'source>,
 ) -> Result<bool, Refusal>
-    ensures { SteppedTo (arguments_step (expression_by (deeper left)) (written_in held.old) tokens.old) (written_in held.old) tokens.old
-        (written_in held.new) tokens.new result }
+    ensures { SteppedTo (arguments_step (expression_by (deeper left)) (written_in held.old) tokens.old.left) (written_in held.old)
+        tokens.old.left (written_in held.new) tokens.new.left result }
 {
     if tokens.closes() {
         return Ok(false);
@@ -910,7 +911,7 @@ fn argument<'source>(
     tokens: &mut TokenStream<'source>,
     left: u32,
 ) -> Result<CallArg<'source>, Refusal>
-    ensures { ParsedAs argument_of (argument_by (expression_by (deeper left)) tokens.old) tokens.new result }
+    ensures { ParsedAs argument_of (argument_by (expression_by (deeper left)) tokens.old.left) tokens.new.left result }
 {
     match tokens.skip_keyword() {
         Some(name) => Ok(CallArg::Kwarg(name, expression(alloc, tokens, left)?)),
@@ -925,7 +926,7 @@ fn unnamed<'source>(
     tokens: &mut TokenStream<'source>,
     left: u32,
 ) -> Result<CallArg<'source>, Refusal>
-    ensures { ParsedAs argument_of (unnamed_by (expression_by (deeper left)) tokens.old) tokens.new result }
+    ensures { ParsedAs argument_of (unnamed_by (expression_by (deeper left)) tokens.old.left) tokens.new.left result }
 {
     if tokens.skip(Sign::Mul) {
         Ok(CallArg::PosSplat(expression(alloc, tokens, left)?))

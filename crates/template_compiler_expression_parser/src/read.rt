@@ -20,7 +20,7 @@ pub fn read_expression<'source>(
     tokens: &mut TokenStream<'source>,
     left: u32,
 ) -> Result<Expr<'source>, Refusal>
-    ensures { Parsed (expression_at left tokens.old) tokens.new result }
+    ensures { Parsed (expression_at left tokens.old.left) tokens.new.left result }
 {
     expression(alloc, tokens, left)
 }
@@ -36,7 +36,7 @@ pub fn read_condition<'source>(
     tokens: &mut TokenStream<'source>,
     left: u32,
 ) -> Result<Expr<'source>, Refusal>
-    ensures { Parsed (condition_at left tokens.old) tokens.new result }
+    ensures { Parsed (condition_at left tokens.old.left) tokens.new.left result }
 {
     binary(alloc, tokens, left, Level::Disjunction)
 }
@@ -53,7 +53,7 @@ pub fn read_filter<'source>(
     left: u32,
     value: Option<Expr<'source>>,
 ) -> Result<Expr<'source>, Refusal>
-    ensures { Parsed (filter_at left (optional_in value.entry) tokens.old) tokens.new result }
+    ensures { Parsed (filter_at left (optional_in value.entry) tokens.old.left) tokens.new.left result }
 {
     let span = tokens.span();
     filter(alloc, tokens, left, value, span)
@@ -71,7 +71,7 @@ pub fn read_filter_chain<'source>(
     left: u32,
     value: Option<Expr<'source>>,
 ) -> Result<Option<Expr<'source>>, Refusal>
-    ensures { ParsedOptional (filter_chain_at left (optional_in value.entry) tokens.old) tokens.new result }
+    ensures { ParsedOptional (filter_chain_at left (optional_in value.entry) tokens.old.left) tokens.new.left result }
 {
     let mut value = value;
     while tokens.skip(Sign::Pipe) {

@@ -18,7 +18,7 @@ pub fn read_expression_tokens<'source>(
     alloc: Global,
     text: &'source str,
 ) -> Result<TokenStream<'source>, Refusal>
-    ensures tokens { IfOk result (λ stream. IsSpelled text.now stream) }
+    ensures tokens { IfOk result (λ stream. IsSpelled text.now stream.left) }
     ensures refused { IfErr result (λ refusal. refusal ≡ refusals.OutOfMemory) }
 {
     let mut tokens = Vec::new(alloc);

@@ -16,7 +16,7 @@ pub fn read_tokens<'source>(
     alloc: Global,
     tokenizer: Tokenizer<'source>,
 ) -> Result<TokenStream<'source>, Refusal>
-    ensures tokens { IfOk result (λ stream. stream ≡ tokenizer.entry.left) }
+    ensures tokens { IfOk result (λ stream. stream.left ≡ tokenizer.entry.left) }
     ensures refused { IfErr result (λ refusal. refusal ≡ refusals.OutOfMemory) }
 {
     let mut tokens = Vec::new(alloc);

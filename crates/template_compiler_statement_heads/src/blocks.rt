@@ -32,7 +32,7 @@ pub fn read_auto_escape<'source, R: ReadsExpressions>(
     left: u32,
     span: Span,
 ) -> Result<Spanned<Box<AutoEscape<'source>>>, Refusal>
-    ensures { ParsedAs (λ n. expression_of n.node.value.enabled) (expression_head (here left) tokens.old) tokens.new result }
+    ensures { ParsedAs (λ n. expression_of n.node.value.enabled) (expression_head (here left) tokens.old.left) tokens.new.left result }
 {
     let enabled = R::read_expression(alloc, tokens, left)?;
     expect_tag_end(tokens)?;
@@ -55,7 +55,7 @@ pub fn read_branch<'source, R: ReadsExpressions>(
     left: u32,
     span: Span,
 ) -> Result<Spanned<Box<IfCond<'source>>>, Refusal>
-    ensures { ParsedAs (λ n. expression_of n.node.value.expr) (expression_head (here left) tokens.old) tokens.new result }
+    ensures { ParsedAs (λ n. expression_of n.node.value.expr) (expression_head (here left) tokens.old.left) tokens.new.left result }
 {
     let expr = R::read_expression(alloc, tokens, left)?;
     expect_tag_end(tokens)?;
@@ -79,7 +79,7 @@ pub fn read_filter_block<'source, R: ReadsExpressions>(
     left: u32,
     span: Span,
 ) -> Result<Spanned<Box<FilterBlock<'source>>>, Refusal>
-    ensures { ParsedAs (λ n. given (expression_of n.node.value.filter)) (filter_head (here left) tokens.old) tokens.new result }
+    ensures { ParsedAs (λ n. given (expression_of n.node.value.filter)) (filter_head (here left) tokens.old.left) tokens.new.left result }
 {
     let first = R::read_filter(alloc, tokens, left, None)?;
     match R::read_filter_chain(alloc, tokens, left, Some(first))? {
@@ -106,7 +106,7 @@ pub fn read_with<'source, R: ReadsExpressions>(
     tokens: &mut TokenStream<'source>,
     left: u32,
 ) -> Result<Vec<(Expr<'source>, Expr<'source>)>, Refusal>
-    ensures { ParsedAs (λ v. assignments_in v.items) (with_head (here left) tokens.old) tokens.new result }
+    ensures { ParsedAs (λ v. assignments_in v.items) (with_head (here left) tokens.old.left) tokens.new.left result }
 {
     let assignments = read_assignments::<R>(alloc, tokens, left)?;
     expect_tag_end(tokens)?;
@@ -123,7 +123,7 @@ pub fn read_block<'source>(
     tokens: &mut TokenStream<'source>,
     in_macro: bool,
 ) -> Result<BlockHead<'source>, Refusal>
-    ensures { ParsedAs block_of (block_head in_macro tokens.old) tokens.new result }
+    ensures { ParsedAs block_of (block_head in_macro tokens.old.left) tokens.new.left result }
 {
     match tokens.word() {
         Some(name) => {

@@ -141,7 +141,7 @@ pub fn read_block_end<'source>(
     span: Span,
 ) -> Result<Spanned<Box<Block<'source>>>, Refusal>
     ensures { ParsedAs (λ n. statement_of (statements.Block n))
-        (ended_block (block_of head.entry) (statements_in body.entry.items) tokens.old) tokens.new result }
+        (ended_block (block_of head.entry) (statements_in body.entry.items) tokens.old.left) tokens.new.left result }
 {
     if !is_block_body(head.required, &body) {
         return Err(Refusal::Token(Fault::Syntax));

@@ -23,7 +23,7 @@ pub fn read_for<'source, R: ReadsExpressions>(
     left: u32,
     span: Span,
 ) -> Result<Spanned<Box<ForLoop<'source>>>, Refusal>
-    ensures { ParsedAs loop_head (for_head (here left) tokens.old) tokens.new result }
+    ensures { ParsedAs loop_head (for_head (here left) tokens.old.left) tokens.new.left result }
 {
     let target = read_targets(alloc, tokens, left, false)?;
     expect_word(tokens, "in")?;
@@ -39,7 +39,7 @@ fn read_in<'source, R: ReadsExpressions>(
     target: Expr<'source>,
     span: Span,
 ) -> Result<Spanned<Box<ForLoop<'source>>>, Refusal>
-    ensures { ParsedAs loop_head (in_head (here left) (expression_of target.entry) tokens.old) tokens.new result }
+    ensures { ParsedAs loop_head (in_head (here left) (expression_of target.entry) tokens.old.left) tokens.new.left result }
 {
     let iter = R::read_condition(alloc, tokens, left)?;
     let filter_expr = read_loop_filter::<R>(alloc, tokens, left)?;

@@ -36,7 +36,7 @@ pub fn read_macro<'source, R: ReadsExpressions>(
     tokens: &mut TokenStream<'source>,
     left: u32,
 ) -> Result<MacroHead<'source>, Refusal>
-    ensures { ParsedAs macro_of (macro_head (here left) tokens.old) tokens.new result }
+    ensures { ParsedAs macro_of (macro_head (here left) tokens.old.left) tokens.new.left result }
 {
     match tokens.word() {
         Some(name) => {
@@ -61,7 +61,7 @@ fn read_declared<'source, R: ReadsExpressions>(
     left: u32,
     name: &'source str,
 ) -> Result<MacroHead<'source>, Refusal>
-    ensures { ParsedAs macro_of (declared_head (here left) name.now tokens.old) tokens.new result }
+    ensures { ParsedAs macro_of (declared_head (here left) name.now tokens.old.left) tokens.new.left result }
 {
     let parameters = read_deeper_parameters::<R>(alloc, tokens, left)?;
     expect_tag_end(tokens)?;
@@ -79,7 +79,7 @@ pub fn read_call<'source, R: ReadsExpressions>(
     tokens: &mut TokenStream<'source>,
     left: u32,
 ) -> Result<CallHead<'source>, Refusal>
-    ensures { ParsedAs call_of (call_head (here left) tokens.old) tokens.new result }
+    ensures { ParsedAs call_of (call_head (here left) tokens.old.left) tokens.new.left result }
 {
     let parameters = read_optional_parameters::<R>(alloc, tokens, left)?;
     let expr = R::read_expression(alloc, tokens, left)?;

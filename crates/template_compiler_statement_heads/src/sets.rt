@@ -36,7 +36,7 @@ pub fn read_set<'source, R: ReadsExpressions>(
     left: u32,
     span: Span,
 ) -> Result<SetHead<'source>, Refusal>
-    ensures { ParsedAs set_head_of (set_head (here left) tokens.old) tokens.new result }
+    ensures { ParsedAs set_head_of (set_head (here left) tokens.old.left) tokens.new.left result }
 {
     let start = tokens.span();
     let target = read_target(alloc, tokens, left, true)?;
@@ -57,7 +57,7 @@ fn read_set_targets<'source, R: ReadsExpressions>(
     span: Span,
 ) -> Result<Spanned<Box<Set<'source>>>, Refusal>
     ensures { ParsedAs (λ n. statement_of (statements.Set n))
-        (set_targets (here left) (expression_of first.entry) tokens.old) tokens.new result }
+        (set_targets (here left) (expression_of first.entry) tokens.old.left) tokens.new.left result }
 {
     let target = read_more_targets(alloc, tokens, left, true, first, start)?;
     expect_assign(tokens)?;
@@ -73,7 +73,7 @@ fn read_set_value<'source, R: ReadsExpressions>(
     span: Span,
 ) -> Result<Spanned<Box<Set<'source>>>, Refusal>
     ensures { ParsedAs (λ n. statement_of (statements.Set n))
-        (set_values (here left) (expression_of target.entry) tokens.old) tokens.new result }
+        (set_values (here left) (expression_of target.entry) tokens.old.left) tokens.new.left result }
 {
     let value = read_values::<R>(alloc, tokens, left)?;
     expect_tag_end(tokens)?;
@@ -93,7 +93,7 @@ fn read_set_block<'source, R: ReadsExpressions>(
     target: Expr<'source>,
     span: Span,
 ) -> Result<Spanned<Box<SetBlock<'source>>>, Refusal>
-    ensures { ParsedAs set_block_of (set_block_head (here left) (expression_of target.entry) tokens.old) tokens.new result }
+    ensures { ParsedAs set_block_of (set_block_head (here left) (expression_of target.entry) tokens.old.left) tokens.new.left result }
 {
     let filter = R::read_filter_chain(alloc, tokens, left, None)?;
     expect_tag_end(tokens)?;

@@ -45,7 +45,7 @@ pub operands-loop-next-smaller : goal.operands-loop-next-smaller
 operands-loop-next-smaller t c =
     let more = rw c.in-Ok-Goes.field-0-is at c.in-Ok-Goes.ensures in
     operand_shrinks c.args.left (level_of c.args.level) (expression_of c.loop-next.value) (expression_of c.in-Ok-Goes.next)
-    c.loop-next.tokens c.next_operand.new.tokens more
+    c.loop-next.tokens.left c.next_operand.new.tokens.left more
 
 pub parts-returns-in-Ok-Stops : goal.parts-returns-in-Ok-Stops
 parts-returns-in-Ok-Stops t c =
@@ -64,7 +64,7 @@ parts-loop-next-preserved t c =
 pub parts-loop-next-smaller : goal.parts-loop-next-smaller
 parts-loop-next-smaller t c =
     let more = rw c.in-Ok-Goes.field-0-is at c.in-Ok-Goes.ensures in
-    part_shrinks c.args.left (expression_of c.loop-next.value) (expression_of c.in-Ok-Goes.next) c.loop-next.tokens c.next_part.new.tokens more
+    part_shrinks c.args.left (expression_of c.loop-next.value) (expression_of c.in-Ok-Goes.next) c.loop-next.tokens.left c.next_part.new.tokens.left more
 
 pub filters-returns-in-Ok-Stops : goal.filters-returns-in-Ok-Stops
 filters-returns-in-Ok-Stops t c =
@@ -83,7 +83,7 @@ filters-loop-next-preserved t c =
 pub filters-loop-next-smaller : goal.filters-loop-next-smaller
 filters-loop-next-smaller t c =
     let more = rw c.in-Ok-Goes.field-0-is at c.in-Ok-Goes.ensures in
-    filter_shrinks c.args.left (expression_of c.loop-next.value) (expression_of c.in-Ok-Goes.next) c.loop-next.tokens c.next_filter.new.tokens more
+    filter_shrinks c.args.left (expression_of c.loop-next.value) (expression_of c.in-Ok-Goes.next) c.loop-next.tokens.left c.next_filter.new.tokens.left more
 
 pub links-returns-in-Ok-false : goal.links-returns-in-Ok-false
 links-returns-in-Ok-false t c =

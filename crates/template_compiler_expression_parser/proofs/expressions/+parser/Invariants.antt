@@ -157,56 +157,56 @@ decreases-key l = 100 * l.left + 78
 
 abbrev pub invariant-operands-loop-next : goal.invariant-operands-loop-next
 invariant-operands-loop-next l =
-    all (operand_step (level_of l.level) (operand_by (deeper l.left) (level_of l.level))) (expression_of l.value) l.tokens ≡
-    all (operand_step (level_of l.level) (operand_by (deeper l.left) (level_of l.level))) (expression_of l.initial.value) l.initial.tokens
+    all (operand_step (level_of l.level) (operand_by (deeper l.left) (level_of l.level))) (expression_of l.value) l.tokens.left ≡
+    all (operand_step (level_of l.level) (operand_by (deeper l.left) (level_of l.level))) (expression_of l.initial.value) l.initial.tokens.left
 
 abbrev pub decreases-operands-loop-next : goal.decreases-operands-loop-next
-decreases-operands-loop-next l = length l.tokens
+decreases-operands-loop-next l = length l.tokens.left
 
 abbrev pub invariant-parts-loop-next : goal.invariant-parts-loop-next
 invariant-parts-loop-next l =
-    all (part_step (deeper l.left)) (expression_of l.value) l.tokens ≡
-    all (part_step (deeper l.left)) (expression_of l.initial.value) l.initial.tokens
+    all (part_step (deeper l.left)) (expression_of l.value) l.tokens.left ≡
+    all (part_step (deeper l.left)) (expression_of l.initial.value) l.initial.tokens.left
 
 abbrev pub decreases-parts-loop-next : goal.decreases-parts-loop-next
-decreases-parts-loop-next l = length l.tokens
+decreases-parts-loop-next l = length l.tokens.left
 
 abbrev pub invariant-filters-loop-next : goal.invariant-filters-loop-next
 invariant-filters-loop-next l =
-    all (filter_step (deeper l.left)) (expression_of l.value) l.tokens ≡
-    all (filter_step (deeper l.left)) (expression_of l.initial.value) l.initial.tokens
+    all (filter_step (deeper l.left)) (expression_of l.value) l.tokens.left ≡
+    all (filter_step (deeper l.left)) (expression_of l.initial.value) l.initial.tokens.left
 
 abbrev pub decreases-filters-loop-next : goal.decreases-filters-loop-next
-decreases-filters-loop-next l = length l.tokens
+decreases-filters-loop-next l = length l.tokens.left
 
 abbrev pub invariant-links-loop-links : goal.invariant-links-loop-links
 invariant-links-loop-links l =
-    all (link_step (terms_by (deeper l.left))) (links_in l.links.items) l.tokens ≡
-    all (link_step (terms_by (deeper l.left))) (no_links) l.initial.tokens
+    all (link_step (terms_by (deeper l.left))) (links_in l.links.items) l.tokens.left ≡
+    all (link_step (terms_by (deeper l.left))) (no_links) l.initial.tokens.left
 
 abbrev pub decreases-links-loop-links : goal.decreases-links-loop-links
-decreases-links-loop-links l = length l.tokens
+decreases-links-loop-links l = length l.tokens.left
 
 abbrev pub invariant-items-loop-held : goal.invariant-items-loop-held
 invariant-items-loop-held l =
-    all (items_step (expression_by (deeper l.left))) (expressions_in l.held.items) l.tokens ≡
-    all (items_step (expression_by (deeper l.left))) (expressions_in l.initial.held.items) l.initial.tokens
+    all (items_step (expression_by (deeper l.left))) (expressions_in l.held.items) l.tokens.left ≡
+    all (items_step (expression_by (deeper l.left))) (expressions_in l.initial.held.items) l.initial.tokens.left
 
 abbrev pub decreases-items-loop-held : goal.decreases-items-loop-held
-decreases-items-loop-held l = length l.tokens
+decreases-items-loop-held l = length l.tokens.left
 
 abbrev pub invariant-pairs-loop-held : goal.invariant-pairs-loop-held
 invariant-pairs-loop-held l =
-    all (pairs_step (expression_by (deeper l.left))) (paired_in l.held) l.tokens ≡
-    all (pairs_step (expression_by (deeper l.left))) (nothing_paired) l.initial.tokens
+    all (pairs_step (expression_by (deeper l.left))) (paired_in l.held) l.tokens.left ≡
+    all (pairs_step (expression_by (deeper l.left))) (nothing_paired) l.initial.tokens.left
 
 abbrev pub decreases-pairs-loop-held : goal.decreases-pairs-loop-held
-decreases-pairs-loop-held l = length l.tokens
+decreases-pairs-loop-held l = length l.tokens.left
 
 abbrev pub invariant-written-loop-held : goal.invariant-written-loop-held
 invariant-written-loop-held l =
-    all (arguments_step (expression_by (deeper l.left))) (written_in l.held) l.tokens ≡
-    all (arguments_step (expression_by (deeper l.left))) (nothing_written) l.initial.tokens
+    all (arguments_step (expression_by (deeper l.left))) (written_in l.held) l.tokens.left ≡
+    all (arguments_step (expression_by (deeper l.left))) (nothing_written) l.initial.tokens.left
 
 abbrev pub decreases-written-loop-held : goal.decreases-written-loop-held
-decreases-written-loop-held l = length l.tokens
+decreases-written-loop-held l = length l.tokens.left

@@ -6,7 +6,7 @@ use Rattle.template_compiler_expression_parser.proofs.read.read_filter_chain.Giv
 
 abbrev pub invariant-loop-alloc : goal.invariant-loop-alloc
 invariant-loop-alloc l =
-    all (chain_step (deeper l.left)) (optional_in l.value) l.tokens ≡ all (chain_step (deeper l.left)) (optional_in l.initial.value) l.initial.tokens
+    all (chain_step (deeper l.left)) (optional_in l.value) l.tokens.left ≡ all (chain_step (deeper l.left)) (optional_in l.initial.value) l.initial.tokens.left
 
 abbrev pub decreases-loop-alloc : goal.decreases-loop-alloc
-decreases-loop-alloc l = length l.tokens
+decreases-loop-alloc l = length l.tokens.left

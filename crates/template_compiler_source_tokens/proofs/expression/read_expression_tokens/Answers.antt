@@ -8,7 +8,7 @@ use Rattle.template_compiler_source_tokens.proofs.expression.read_expression_tok
 pub returns-then-is_empty-clause-tokens : goal.returns-then-is_empty-clause-tokens
 returns-then-is_empty-clause-tokens c =
     let none : length c.trim_ascii_start-behind_blanks.result.now ≡ 0 = search rules in
-    subst (λ l. IsSpelled c.args.text.now l) (sym c.new.ensures)
+    subst (λ l. IsSpelled c.args.text.now l) (sym c.new.ensures.tokens)
     (end_front c.args.text.now c.loop-rest.rest.now c.trim_ascii_start-behind_blanks.result.now c.loop-rest.tokens.items c.loop-rest.invariant.1
     c.trim_ascii_start-behind_blanks.ensures.value none)
 
@@ -26,6 +26,6 @@ loop-rest-preserved c = (
 pub returns-in-Some-clause-tokens : goal.returns-in-Some-clause-tokens
 returns-in-Some-clause-tokens c =
     let some : 0 < length c.trim_ascii_start-behind_blanks.result.now = search rules in
-    subst (λ l. IsSpelled c.args.text.now l) (sym c.new-in-Some.ensures)
+    subst (λ l. IsSpelled c.args.text.now l) (sym c.new-in-Some.ensures.tokens)
     (bad_front c.args.text.now c.loop-rest.rest.now c.trim_ascii_start-behind_blanks.result.now c.loop-rest.tokens.items c.in-Err.kind
     (fault_of c.in-Some.fault) c.loop-rest.invariant.1 c.trim_ascii_start-behind_blanks.ensures.value some c.in-Err.ensures.token c.in-Some.ensures)

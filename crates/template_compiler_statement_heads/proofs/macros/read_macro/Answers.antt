@@ -8,14 +8,14 @@ use Rattle.template_compiler_statement_heads.proofs.macros.read_macro.Goals as g
 
 pub returns-then-is_reserved : goal.returns-then-is_reserved
 returns-then-is_reserved g c =
-    let stood = skipped paren_open c.advance.new.self c.skip.new.self c.skip.result c.if-not-skip.false c.skip.ensures in
-    macro_reserved (here c.args.left) c.in-Some.name.now c.args.tokens.now c.skip.new.self c.advance.new.self c.in-Some.ensures c.advance.ensures stood
+    let stood = skipped paren_open c.advance.new.self.left c.skip.new.self.left c.skip.result c.if-not-skip.false c.skip.ensures.passed in
+    macro_reserved (here c.args.left) c.in-Some.name.now c.args.tokens.now.left c.skip.new.self.left c.advance.new.self.left c.in-Some.ensures c.advance.ensures.passed stood
     (sym c.is_reserved.ensures ∙ c.if-is_reserved.true)
 
 pub returns-else-is_reserved : goal.returns-else-is_reserved
 returns-else-is_reserved g c =
-    let stood = skipped paren_open c.advance.new.self c.skip.new.self c.skip.result c.if-not-skip.false c.skip.ensures in
-    subst (λ m. ParsedAs macro_of m c.read_declared.new.tokens c.read_declared.result)
-    (sym (macro_free (here c.args.left) c.in-Some.name.now c.args.tokens.now c.skip.new.self c.advance.new.self c.in-Some.ensures c.advance.ensures stood
+    let stood = skipped paren_open c.advance.new.self.left c.skip.new.self.left c.skip.result c.if-not-skip.false c.skip.ensures.passed in
+    subst (λ m. ParsedAs macro_of m c.read_declared.new.tokens.left c.read_declared.result)
+    (sym (macro_free (here c.args.left) c.in-Some.name.now c.args.tokens.now.left c.skip.new.self.left c.advance.new.self.left c.in-Some.ensures c.advance.ensures.passed stood
     (sym c.is_reserved.ensures ∙ c.if-is_reserved.false)))
     c.read_declared.ensures
