@@ -1,6 +1,6 @@
 -- Readings without their places: of one behind another, and of repetitions.
 use Rattle.std.proofs.Common.{◌≡◌, ℕ, zero, suc, Bool, true, false, if◌then◌else◌, List, ◌∷◌, length, Ok, Err, refl, sym, ◌∙◌, ap}
-use Rattle.template_compiler_tokens.specs.Token.{Token, symbol, colon, comma, bracket_close, paren_close, brace_close}
+use Rattle.template_compiler_tokens.specs.Token.{Token, TokenFault, symbol, colon, comma, bracket_close, paren_close, brace_close}
 use Rattle.template_compiler_reading.specs.Steps.{Read, fault, and_then, Step, goes, stops, fails, under, goes_on, many, all}
 use Rattle.template_compiler_expressions.specs.Reader.{paren_end, bracket_end, brace_end, colon_end, begins_closing, separated, unless_closing}
 use Rattle.template_compiler_placed_expressions.specs.Nodes.{Placed, bare, bare_step}
@@ -10,6 +10,10 @@ pub bare_reads : {A P : Type 0} {m : Read (Placed A P)} {n : Read A} {a : Placed
     bare m ≡ n → m ≡ Ok (a, ts) → n ≡ Ok (a.tree, ts)
 unfolding bare
 bare_reads e f = sym e ∙ ap bare f
+
+pub bare_fails : {A P : Type 0} {m : Read (Placed A P)} {n : Read A} {f : TokenFault} → bare m ≡ n → m ≡ Err f → n ≡ Err f
+unfolding bare
+bare_fails e g = sym e ∙ ap bare g
 
 pub then_bare : {A B P Q : Type 0} (m : Read (Placed A P)) {n : Read A} (go : Placed A P → List Token → Read (Placed B Q))
     (on : A → List Token → Read B) → bare m ≡ n → ((a : Placed A P) (ts : List Token) → bare (go a ts) ≡ on a.tree ts) →

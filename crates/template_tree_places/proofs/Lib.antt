@@ -1,1 +1,2 @@
 mod First
+mod Last
