@@ -1,1 +1,2 @@
 mod Wholes
+mod Last

@@ -22,44 +22,44 @@ abbrev mutual
   pub binary_places : {d : ℕ} {k : Level} {ts us : List Token} {e : Expression} → List Span → IsBinary d k ts e us → Places
   binary_places spans (operands {ts = ts} a more) = operands_places spans ts (operand_places spans a) more
 
-  operands_places : {d : ℕ} {k : Level} {ts us : List Token} {a e : Expression} → List Span → List Token → Places → IsOperands d k a ts e us → Places
+  pub operands_places : {d : ℕ} {k : Level} {ts us : List Token} {a e : Expression} → List Span → List Token → Places → IsOperands d k a ts e us → Places
   operands_places spans from a operands_end = a
   operands_places spans from a (operands_more {us = us} op b more) =
       operands_places spans from (at (stretch spans from us) (parts_more a (one (operand_places spans b)))) more
 
-  operand_places : {d : ℕ} {k : Level} {ts us : List Token} {e : Expression} → List Span → IsOperand d k ts e us → Places
+  pub operand_places : {d : ℕ} {k : Level} {ts us : List Token} {e : Expression} → List Span → IsOperand d k ts e us → Places
   operand_places spans (factor e) = power_places spans e
   operand_places spans (text_operand e) = binary_places spans e
   operand_places spans (term e) = binary_places spans e
   operand_places spans (conjunct e) = negation_places spans e
   operand_places spans (disjunct e) = binary_places spans e
 
-  negation_places : {d : ℕ} {ts us : List Token} {e : Expression} → List Span → IsNegation d ts e us → Places
+  pub negation_places : {d : ℕ} {ts us : List Token} {e : Expression} → List Span → IsNegation d ts e us → Places
   negation_places spans (negation {ts = ts} {us = us} e) = at (stretch spans (word_not ∷ ts) us) (one (negation_places spans e))
   negation_places spans (no_negation none e) = comparison_places spans e
 
-  comparison_places : {d : ℕ} {ts us : List Token} {e : Expression} → List Span → IsComparison d ts e us → Places
+  pub comparison_places : {d : ℕ} {ts us : List Token} {e : Expression} → List Span → IsComparison d ts e us → Places
   comparison_places spans (comparison {ts = ts} {vs = vs} {ls = ls} a links is) =
       compared_at (stretch spans ts vs) (binary_places spans a) ls (links_places spans no_parts links)
 
-  links_places : {d : ℕ} {ts us : List Token} {ls ms : Links} → List Span → Parts → IsLinks d ls ts ms us → Parts
+  pub links_places : {d : ℕ} {ts us : List Token} {ls ms : Links} → List Span → Parts → IsLinks d ls ts ms us → Parts
   links_places spans ps links_end = ps
   links_places spans ps (links_operator op b more) = links_places spans (and_place ps (binary_places spans b)) more
   links_places spans ps (links_not_in b more) = links_places spans (and_place ps (binary_places spans b)) more
 
-  power_places : {d : ℕ} {ts us : List Token} {e : Expression} → List Span → IsPower d ts e us → Places
+  pub power_places : {d : ℕ} {ts us : List Token} {e : Expression} → List Span → IsPower d ts e us → Places
   power_places spans (no_power e) = filtered_places spans e
   power_places spans (power {ts = ts} {vs = vs} a b) =
       at (stretch spans ts vs) (parts_more (filtered_places spans a) (one (power_places spans b)))
 
-  filtered_places : {d : ℕ} {ts us : List Token} {e : Expression} → List Span → IsFiltered d ts e us → Places
+  pub filtered_places : {d : ℕ} {ts us : List Token} {e : Expression} → List Span → IsFiltered d ts e us → Places
   filtered_places spans (filtered_value {ts = ts} a more) = filters_places spans ts (unary_places spans a) more
 
-  filters_places : {d : ℕ} {ts us : List Token} {a e : Expression} → List Span → List Token → Places → IsFilters d a ts e us → Places
+  pub filters_places : {d : ℕ} {ts us : List Token} {a e : Expression} → List Span → List Token → Places → IsFilters d a ts e us → Places
   filters_places spans from a filters_end = a
   filters_places spans from a (filters_more b more) = filters_places spans from (filter_parts_places spans from a b) more
 
-  filter_parts_places : {d : ℕ} {ts us : List Token} {a e : Expression} → List Span → List Token → Places → IsFilterParts d a ts e us → Places
+  pub filter_parts_places : {d : ℕ} {ts us : List Token} {a e : Expression} → List Span → List Token → Places → IsFilterParts d a ts e us → Places
   filter_parts_places spans from a (filter_parts b more) = parts_places spans from (filter_places spans from (one a) b) more
   filter_parts_places spans from a (is_test none e) = test_places spans from a e
   filter_parts_places spans from a (is_not_test e) = test_places spans from a e
@@ -69,48 +69,48 @@ abbrev mutual
       List Span → List Token → Parts → IsFilter d value ts e us → Places
   filter_places spans from value (filter {vs = vs} named args) = at (stretch spans from vs) (and_parts value (optional_places spans args))
 
-  test_places : {d : ℕ} {negated : _} {ts us : List Token} {a e : Expression} →
+  pub test_places : {d : ℕ} {negated : _} {ts us : List Token} {a e : Expression} →
       List Span → List Token → Places → IsTest d negated a ts e us → Places
   test_places spans from a (test {negated = negated} {vs = vs} named none args more) =
       parts_places spans from (negated_at negated (stretch spans from vs) (parts_more a (optional_places spans args))) more
   test_places spans from a (bare_test {negated = negated} {vs = vs} named bare b is) =
       negated_at negated (stretch spans from vs) (parts_more a (one (unary_places spans b)))
 
-  optional_places : {d : ℕ} {ts us : List Token} {args : Arguments} → List Span → IsOptionalArguments d ts args us → Parts
+  pub optional_places : {d : ℕ} {ts us : List Token} {args : Arguments} → List Span → IsOptionalArguments d ts args us → Parts
   optional_places spans (no_list none) = no_parts
   optional_places spans (a_list args) = argument_list_places spans args
 
-  unary_places : {d : ℕ} {ts us : List Token} {e : Expression} → List Span → IsUnary d ts e us → Places
+  pub unary_places : {d : ℕ} {ts us : List Token} {e : Expression} → List Span → IsUnary d ts e us → Places
   unary_places spans (minus_sign {ts = ts} {us = us} e) = at (stretch spans (symbol minus ∷ ts) us) (one (unary_places spans e))
   unary_places spans (primary {ts = ts} a more) = parts_places spans ts (primary_places spans a) more
 
-  parts_places : {d : ℕ} {ts us : List Token} {a e : Expression} → List Span → List Token → Places → IsParts d a ts e us → Places
+  pub parts_places : {d : ℕ} {ts us : List Token} {a e : Expression} → List Span → List Token → Places → IsParts d a ts e us → Places
   parts_places spans from a parts_end = a
   parts_places spans from a (parts_more b more) = parts_places spans from (part_places spans from a b) more
 
-  part_places : {d : ℕ} {ts us : List Token} {a e : Expression} → List Span → List Token → Places → IsPart d a ts e us → Places
+  pub part_places : {d : ℕ} {ts us : List Token} {a e : Expression} → List Span → List Token → Places → IsPart d a ts e us → Places
   part_places spans from a (attribute_part {ts = ts}) = at (stretch spans from ts) (one a)
   part_places spans from a (number_part {n = n} {ts = ts}) =
       at (stretch spans from ts) (parts_more a (one (at (stretch spans (number n ∷ ts) ts) no_parts)))
   part_places spans from a (subscript_part e) = subscript_places spans from a e
   part_places spans from a (call_part {us = us} args) = at (stretch spans from us) (parts_more a (argument_list_places spans args))
 
-  subscript_places : {d : ℕ} {ts us : List Token} {a e : Expression} → List Span → List Token → Places → IsSubscript d a ts e us → Places
+  pub subscript_places : {d : ℕ} {ts us : List Token} {a e : Expression} → List Span → List Token → Places → IsSubscript d a ts e us → Places
   subscript_places spans from a (item_subscript {us = us} key) =
       at (stretch spans from us) (parts_more a (one (expression_places spans key)))
   subscript_places spans from a (slice_subscript {ws = ws} start stop step) =
       at (stretch spans from ws) (parts_more a (and_parts (bound_places spans start)
       (and_parts (bound_places spans stop) (step_places spans step))))
 
-  bound_places : {d : ℕ} {ts us : List Token} {bound : Optional} → List Span → IsBound d ts bound us → Parts
+  pub bound_places : {d : ℕ} {ts us : List Token} {bound : Optional} → List Span → IsBound d ts bound us → Parts
   bound_places spans no_bound = no_parts
   bound_places spans (a_bound e) = one (expression_places spans e)
 
-  step_places : {d : ℕ} {ts us : List Token} {step : Optional} → List Span → IsStep d ts step us → Parts
+  pub step_places : {d : ℕ} {ts us : List Token} {step : Optional} → List Span → IsStep d ts step us → Parts
   step_places spans no_step = no_parts
   step_places spans (a_step e) = bound_places spans e
 
-  primary_places : {d : ℕ} {ts us : List Token} {e : Expression} → List Span → IsPrimary d ts e us → Places
+  pub primary_places : {d : ℕ} {ts us : List Token} {e : Expression} → List Span → IsPrimary d ts e us → Places
   primary_places spans (name_primary {n = n} {ts = ts} none) = at (stretch spans (identifier n ∷ ts) ts) no_parts
   primary_places spans (word_primary {n = n} {ts = ts} some) = at (stretch spans (identifier n ∷ ts) ts) no_parts
   primary_places spans (number_primary {n = n} {ts = ts}) = at (stretch spans (number n ∷ ts) ts) no_parts
@@ -122,31 +122,31 @@ abbrev mutual
       let places = pairs_places spans (no_parts, no_parts) p in at (stretch spans (symbol brace_open ∷ ts) us) (and_parts places.0 places.1)
 
   -- parentheses around one expression are no part of it
-  paren_places : {d : ℕ} {ts us : List Token} {e : Expression} → List Span → List Token → IsParen d ts e us → Places
+  pub paren_places : {d : ℕ} {ts us : List Token} {e : Expression} → List Span → List Token → IsParen d ts e us → Places
   paren_places spans from (empty_tuple {ts = ts}) = at (stretch spans from ts) no_parts
   paren_places spans from (in_parens e) = expression_places spans e
   paren_places spans from (tuple {vs = vs} a es) = at (stretch spans from vs) (items_places spans (one (expression_places spans a)) es)
 
-  items_places : {d : ℕ} {ts us : List Token} {es fs : Expressions} → List Span → Parts → IsItems d es ts fs us → Parts
+  pub items_places : {d : ℕ} {ts us : List Token} {es fs : Expressions} → List Span → Parts → IsItems d es ts fs us → Parts
   items_places spans ps items_end = ps
   items_places spans ps (items_last e is) = and_place ps (expression_places spans e)
   items_places spans ps (items_more e more) = items_places spans (and_place ps (expression_places spans e)) more
 
-  pairs_places : {d : ℕ} {ts us : List Token} {p q : Paired} → List Span → PairedPlaces → IsPairs d p ts q us → PairedPlaces
+  pub pairs_places : {d : ℕ} {ts us : List Token} {p q : Paired} → List Span → PairedPlaces → IsPairs d p ts q us → PairedPlaces
   pairs_places spans ps pairs_end = ps
   pairs_places spans ps (pairs_last k v is) = and_pair_place ps (expression_places spans k) (expression_places spans v)
   pairs_places spans ps (pairs_more k v more) =
       pairs_places spans (and_pair_place ps (expression_places spans k) (expression_places spans v)) more
 
-  argument_list_places : {d : ℕ} {ts us : List Token} {args : Arguments} → List Span → IsArgumentList d ts args us → Parts
+  pub argument_list_places : {d : ℕ} {ts us : List Token} {args : Arguments} → List Span → IsArgumentList d ts args us → Parts
   argument_list_places spans (argument_list w is few) = let places = arguments_places spans (no_parts, no_parts) w in and_parts places.0 places.1
 
-  arguments_places : {d : ℕ} {ts us : List Token} {w x : Written} → List Span → WrittenPlaces → IsArguments d w ts x us → WrittenPlaces
+  pub arguments_places : {d : ℕ} {ts us : List Token} {w x : Written} → List Span → WrittenPlaces → IsArguments d w ts x us → WrittenPlaces
   arguments_places spans ps arguments_end = ps
   arguments_places spans ps (arguments_last {a = a} e is) = and_written_place ps a (argument_places spans e)
   arguments_places spans ps (arguments_next {a = a} e more) = arguments_places spans (and_written_place ps a (argument_places spans e)) more
 
-  argument_places : {d : ℕ} {ts us : List Token} {a : Argument} → List Span → IsArgument d ts a us → Places
+  pub argument_places : {d : ℕ} {ts us : List Token} {a : Argument} → List Span → IsArgument d ts a us → Places
   argument_places spans (positional_argument e) = expression_places spans e
   argument_places spans (keyword_argument e) = expression_places spans e
   argument_places spans (spread_argument e) = expression_places spans e

@@ -39,7 +39,7 @@ abbrev mutual
   targets_places spans (targets {ts = ts} {vs = vs} first more is) =
       alone_or (stretch spans ts vs) (more_targets_places spans (one (target_places spans first)) more)
 
-  more_targets_places : {dots : Bool} {d : ℕ} {ts us : List Token} {es fs : Expressions} →
+  pub more_targets_places : {dots : Bool} {d : ℕ} {ts us : List Token} {es fs : Expressions} →
       List Span → Parts → IsMoreTargets dots d es ts fs us → Parts
   more_targets_places spans ps targets_end = ps
   more_targets_places spans ps (targets_next next more) = more_targets_places spans (and_place ps (target_places spans next)) more

@@ -75,14 +75,14 @@ abbrev mutual
   statement_places spans (break_statement {ts = ts} inside) = at (stretch spans (tag (codes "break") ts) ts) no_parts
   statement_places spans (continue_statement {ts = ts} inside) = at (stretch spans (tag (codes "continue") ts) ts) no_parts
 
-  branches_places : {d : ℕ} {p : Around} {ts us : List Token} {bs all : Branches} →
+  pub branches_places : {d : ℕ} {p : Around} {ts us : List Token} {bs all : Branches} →
       List Span → BranchPlaces → IsBranches d p bs ts all us → BranchPlaces
   branches_places spans ps branches_end = ps
   branches_places spans ps (branches_next {ts = ts} c body more) =
       branches_places spans
       (ps ++ (opens (codes "elif") ts, parts_more (expression_places spans c) (statements_places spans no_parts body)) ∷ []) more
 
-  else_places : {d : ℕ} {p : Around} {end : _} {ts us : List Token} {body : Statements} →
+  pub else_places : {d : ℕ} {p : Around} {end : _} {ts us : List Token} {body : Statements} →
       List Span → IsElse d p end ts body us → Parts
   else_places spans no_else = no_parts
   else_places spans (an_else body) = statements_places spans no_parts body

@@ -1,0 +1,5 @@
+pub mod Bare
+pub mod Erased
+mod Stops
+pub mod Complete
+mod Laws

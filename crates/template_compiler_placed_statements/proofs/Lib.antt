@@ -1,0 +1,4 @@
+mod Ends
+pub mod Erased
+pub mod Complete
+mod Laws
