@@ -81,8 +81,10 @@ module _ (spans : List Span) where
   unfolding primary_by
   word_literal n o e r ts = ap (λ v. Ok (node (word_tree v n) (stretch spans (identifier n ∷ ts) ts) no_parts, ts)) e
 
-  operator_goes : (k : Level) (t : Token) (op : BinOpKind) (read : List Token → Read Node) (start : Span) (a b : Node) (ts us : List Token) →
-      operator k t ≡ Some op → read ts ≡ Ok (b, us) → operand_step spans k read start a (t ∷ ts) ≡ goes (binary_node op a b (up_to spans start us)) us
+  operator_goes : (k : Level) (t : Token) (op : BinOpKind) (read : List Token → Read Node) (start : Span) (a b : Node)
+      (ts us : List Token) →
+      operator k t ≡ Some op → read ts ≡ Ok (b, us) → operand_step spans k read start a (t ∷ ts) ≡
+      goes (binary_node op a b (up_to spans start us)) us
   unfolding operand_step operand_behind
   operator_goes k t op read start a b ts us e f = ap (λ o. operand_behind spans o read start a ts) e ∙ under_goes _ f refl
 
@@ -107,7 +109,8 @@ module _ (spans : List Span) where
 
   test_goes : (r : Deeper) (negated : Bool) (start : Span) (a e : Node) (n : List ℕ) (args : PlacedArguments) (ts us vs ws : List Token) →
       name_of ts ≡ Ok (n, us) → begins_bare us ≡ false → optional_arguments_by spans r us ≡ Ok (args, vs) →
-      parts_by spans r start (tested_node negated n a args (up_to spans start vs)) vs ≡ Ok (e, ws) → test_by spans r negated start a ts ≡ Ok (e, ws)
+      parts_by spans r start (tested_node negated n a args (up_to spans start vs)) vs ≡ Ok (e, ws) →
+      test_by spans r negated start a ts ≡ Ok (e, ws)
   unfolding test_by test_arguments_by
   test_goes r negated start a e n args ts us vs ws x f g h =
       then_goes _ x (ap (λ t. test_arguments_by spans r t negated start a n us) f ∙ then_goes _ g h)
@@ -141,7 +144,11 @@ module _ (spans : List Span) where
   -- before `=` an identifier is read alone
   identifier_alone : (r : Deeper) (n : List ℕ) (vs : List Token) → is_word (codes "not") (identifier n) ≡ false →
       expression_by spans r (identifier n ∷ symbol assign ∷ vs) ≡
-      Ok (node (word_tree (literal_word n) n) (stretch spans (identifier n ∷ symbol assign ∷ vs) (symbol assign ∷ vs)) no_parts, symbol assign ∷ vs)
+      Ok (
+        node (word_tree (literal_word n) n) (stretch spans (identifier n ∷ symbol assign ∷ vs)
+            (symbol assign ∷ vs)) no_parts,
+        symbol assign ∷ vs,
+      )
   unfolding and_then under goes_on many all expression_by binary_by operand_by binary_of operand_step operand_behind if_behind comparison_by terms_by link_step link_behind power_by power_behind filtered_by filter_step parts_by part_step primary_by unary_by
   identifier_alone r n vs h =
       then_goes _ (then_goes _ (then_goes _ (no_negation_by spans r (identifier n ∷ symbol assign ∷ vs) h ∙ refl) refl) refl) refl
@@ -196,7 +203,8 @@ module _ (spans : List Span) where
 
     pub binary_read : {d : ℕ} {k : Level} {ts us : List Token} {e : Expression} → (read : IsBinary d k ts e us) → Behind (level_rank k) us →
         binary_by spans (deeper spans d) k ts ≡ Ok (placed e (binary_places spans read), us)
-    binary_read (operands {ts = ts} o t) h = then_goes _ (operand_read o (operands_front t h)) (all_of (operands_read ts (operand_places spans o) t h))
+    binary_read (operands {ts = ts} o t) h = then_goes _ (operand_read o (operands_front t h))
+        (all_of (operands_read ts (operand_places spans o) t h))
 
     operands_read : {d : ℕ} {k : Level} {ts us : List Token} {a e : Expression} (from : List Token) (places : Places) →
         (read : IsOperands d k a ts e us) → Behind (level_rank k) us →
@@ -207,7 +215,8 @@ module _ (spans : List Span) where
     operands_read from places (operands_more {d = d} {k = k} {t = t} {op = op} {ts = ts} {us = us} o p f) h =
         let l = shrinks.operand_shrinks p in
         loop_goes
-        (operator_goes k t op (operand_by spans (deeper spans d) k) (next_span spans from) _ _ ts us o (operand_read p (operands_front f h)))
+        (operator_goes k t op (operand_by spans (deeper spans d) k) (next_span spans from) _ _ ts us o
+        (operand_read p (operands_front f h)))
         (omega arith) (operands_read from _ f h)
 
     operand_read : {d : ℕ} {k : Level} {ts us : List Token} {e : Expression} → (read : IsOperand d k ts e us) → Behind (operand_rank k) us →
@@ -227,17 +236,21 @@ module _ (spans : List Span) where
         comparison_by spans (deeper spans d) ts ≡ Ok (placed e (comparison_places spans read), us)
     comparison_read (comparison {ts = ts} {vs = vs} {ls = ls} b t e) h =
         then_goes _ (binary_read b (links_front t h)) (then_goes _ (all_of (links_read no_parts t h))
-        (ap (λ x. Ok (placed x (compared_at (stretch spans ts vs) (binary_places spans b) ls (links_places spans no_parts t)), vs)) (sym e)))
+        (ap (λ x. Ok (placed x (compared_at (stretch spans ts vs) (binary_places spans b) ls (links_places spans no_parts t)), vs))
+        (sym e)))
 
     links_read : {d : ℕ} {ls ms : Links} {ts us : List Token} (places : Parts) → (read : IsLinks d ls ts ms us) → Behind 7 us →
-        Loops (link_step spans (terms_by spans (deeper spans d))) (placed ls places) ts (Ok (placed ms (links_places spans places read), us))
+        Loops (link_step spans (terms_by spans (deeper spans d))) (placed ls places) ts
+        (Ok (placed ms (links_places spans places read), us))
     links_read places (links_end {d = d} {ts = ts}) h = loop_stops (links_stop spans (terms_by spans (deeper spans d)) _ ts h)
     links_read places (links_operator {d = d} {t = t} {op = op} {ts = ts} {us = us} o p f) h =
         let l = shrinks.binary_shrinks p in
-        loop_goes (comparison_goes t op (terms_by spans (deeper spans d)) _ _ ts us o (binary_read p (links_front f h))) (omega arith) (links_read _ f h)
+        loop_goes (comparison_goes t op (terms_by spans (deeper spans d)) _ _ ts us o (binary_read p (links_front f h))) (omega arith)
+        (links_read _ f h)
     links_read places (links_not_in {d = d} {ts = ts} {us = us} p f) h =
         let l = shrinks.binary_shrinks p in
-        loop_goes (not_in_goes (terms_by spans (deeper spans d)) _ _ ts us (binary_read p (links_front f h))) (omega arith) (links_read _ f h)
+        loop_goes (not_in_goes (terms_by spans (deeper spans d)) _ _ ts us (binary_read p (links_front f h))) (omega arith)
+        (links_read _ f h)
 
     power_read : {d : ℕ} {ts us : List Token} {e : Expression} → (read : IsPower d ts e us) → Behind 3 us →
         power_by spans (deeper spans d) ts ≡ Ok (placed e (power_places spans read), us)
@@ -247,19 +260,22 @@ module _ (spans : List Span) where
 
     filtered_read : {d : ℕ} {ts us : List Token} {e : Expression} → (read : IsFiltered d ts e us) → Behind 2 us →
         filtered_by spans (deeper spans d) ts ≡ Ok (placed e (filtered_places spans read), us)
-    filtered_read (filtered_value {ts = ts} u f) h = then_goes _ (unary_read u (filters_front f h)) (all_of (filters_read ts (unary_places spans u) f h))
+    filtered_read (filtered_value {ts = ts} u f) h =
+        then_goes _ (unary_read u (filters_front f h)) (all_of (filters_read ts (unary_places spans u) f h))
 
     filters_read : {d : ℕ} {a e : Expression} {ts us : List Token} (from : List Token) (places : Places) →
         (read : IsFilters d a ts e us) → Behind 2 us →
         Loops (filter_step spans (deeper spans d) (next_span spans from)) (placed a places) ts
         (Ok (placed e (filters_places spans from places read), us))
-    filters_read from places (filters_end {d = d} {ts = ts}) h = loop_stops (filters_stop spans (deeper spans d) (next_span spans from) _ ts h)
+    filters_read from places (filters_end {d = d} {ts = ts}) h =
+        loop_stops (filters_stop spans (deeper spans d) (next_span spans from) _ ts h)
     filters_read from places (filters_more f t) h =
         loop_goes (filter_parts_read from places f (filters_front t h)) (shrinks.filter_parts_shrinks f) (filters_read from _ t h)
 
     filter_parts_read : {d : ℕ} {a e : Expression} {ts us : List Token} (from : List Token) (places : Places) →
         (read : IsFilterParts d a ts e us) → Behind 1 us →
-        filter_step spans (deeper spans d) (next_span spans from) (placed a places) ts ≡ goes (placed e (filter_parts_places spans from places read)) us
+        filter_step spans (deeper spans d) (next_span spans from) (placed a places) ts ≡
+        goes (placed e (filter_parts_places spans from places read)) us
     filter_parts_read from places (filter_parts f p) h =
         under_goes _ (then_goes _ (filter_read from (one places) f) (all_of (parts_read from _ p h))) refl
     filter_parts_read from places (is_test {d = d} {ts = ts} e t) h =
@@ -268,12 +284,14 @@ module _ (spans : List Span) where
 
     pub filter_read : {d : ℕ} {value : Optional} {e : Expression} {ts us : List Token} (from : List Token) (places : Parts) →
         (read : IsFilter d value ts e us) →
-        filter_by spans (deeper spans d) (next_span spans from) (placed value places) ts ≡ Ok (placed e (filter_places spans from places read), us)
+        filter_by spans (deeper spans d) (next_span spans from) (placed value places) ts ≡
+        Ok (placed e (filter_places spans from places read), us)
     filter_read from places (filter n l) = then_goes _ (name_read n) (then_goes _ (optional_arguments_read l) refl)
 
     test_read : {d : ℕ} {negated : Bool} {a e : Expression} {ts us : List Token} (from : List Token) (places : Places) →
         (read : IsTest d negated a ts e us) → Behind 1 us →
-        test_by spans (deeper spans d) negated (next_span spans from) (placed a places) ts ≡ Ok (placed e (test_places spans from places read), us)
+        test_by spans (deeper spans d) negated (next_span spans from) (placed a places) ts ≡
+        Ok (placed e (test_places spans from places read), us)
     test_read from places (test {d = d} {negated = g} {n = n} {ts = ts} {us = us} {vs = vs} {ws = ws} x f l p) h =
         test_goes (deeper spans d) g (next_span spans from) _ _ n _ ts us vs ws (name_read x) f (optional_arguments_read l)
         (all_of (parts_read from _ p h))
@@ -290,7 +308,8 @@ module _ (spans : List Span) where
         unary_by spans (deeper spans d) ts ≡ Ok (placed e (unary_places spans read), us)
     unary_read (minus_sign u) h = then_goes _ (unary_read u h) refl
     unary_read (primary {d = d} {ts = ts} a p) h =
-        primary_unary (deeper spans d) a ∙ then_goes _ (primary_read a (parts_front p h)) (all_of (parts_read ts (primary_places spans a) p h))
+        primary_unary (deeper spans d) a ∙ then_goes _ (primary_read a (parts_front p h))
+        (all_of (parts_read ts (primary_places spans a) p h))
 
     parts_read : {d : ℕ} {a e : Expression} {ts us : List Token} (from : List Token) (places : Places) →
         (read : IsParts d a ts e us) → Behind 1 us →
@@ -300,17 +319,20 @@ module _ (spans : List Span) where
     parts_read from places (parts_more a p) h = loop_goes (part_read from places a) (shrinks.part_shrinks a) (parts_read from _ p h)
 
     part_read : {d : ℕ} {a e : Expression} {ts us : List Token} (from : List Token) (places : Places) → (read : IsPart d a ts e us) →
-        part_step spans (deeper spans d) (next_span spans from) (placed a places) ts ≡ goes (placed e (part_places spans from places read)) us
+        part_step spans (deeper spans d) (next_span spans from) (placed a places) ts ≡
+        goes (placed e (part_places spans from places read)) us
     part_read from places attribute_part = refl
     part_read from places number_part = refl
     part_read from places (subscript_part s) = under_goes _ (subscript_read from places s) refl
     part_read from places (call_part l) = under_goes _ (argument_list_read l) refl
 
-    subscript_read : {d : ℕ} {a e : Expression} {ts us : List Token} (from : List Token) (places : Places) → (read : IsSubscript d a ts e us) →
+    subscript_read : {d : ℕ} {a e : Expression} {ts us : List Token} (from : List Token) (places : Places) →
+        (read : IsSubscript d a ts e us) →
         subscript_by spans (expression_by spans (deeper spans d)) (next_span spans from) (placed a places) ts ≡
         Ok (placed e (subscript_places spans from places read), us)
     subscript_read from places (item_subscript {d = d} {ts = ts} e) =
-        then_goes _ (bound_read_by spans (expression_by spans (deeper spans d)) ts (expression_opens e) ∙ then_goes _ (expression_read e (lit< tt)) refl) refl
+        then_goes _ (bound_read_by spans (expression_by spans (deeper spans d)) ts (expression_opens e) ∙
+        then_goes _ (expression_read e (lit< tt)) refl) refl
     subscript_read from places (slice_subscript b c s) =
         then_goes _ (bound_read b refl)
         (then_goes _ (bound_read c (step_front s refl)) (then_goes _ (step_read s refl) refl))
@@ -319,7 +341,8 @@ module _ (spans : List Span) where
         bound_by spans (expression_by spans (deeper spans d)) ts ≡ Ok (placed o (bound_places spans read), us)
     bound_read (no_bound {d = d} {ts = ts}) h = bound_left_out spans (expression_by spans (deeper spans d)) ts h
     bound_read (a_bound {d = d} {ts = ts} {us = us} e) h =
-        bound_read_by spans (expression_by spans (deeper spans d)) ts (expression_opens e) ∙ then_goes _ (expression_read e (bound_end_behind us h)) refl
+        bound_read_by spans (expression_by spans (deeper spans d)) ts (expression_opens e) ∙
+        then_goes _ (expression_read e (bound_end_behind us h)) refl
 
     step_read : {d : ℕ} {o : Optional} {ts us : List Token} → (read : IsStep d ts o us) → begins_closing us ≡ true →
         step_by spans (expression_by spans (deeper spans d)) ts ≡ Ok (placed o (step_places spans read), us)
@@ -348,8 +371,10 @@ module _ (spans : List Span) where
         paren_open_by spans (expression_by spans (deeper spans d)) (next_span spans from) ts (expression_opens e) ∙
         then_goes _ (expression_read e (lit< tt)) (then_goes _ (all_of (items_read (one (expression_places spans e)) i refl)) refl)
 
-    items_read : {d : ℕ} {es fs : Expressions} {ts us : List Token} (places : Parts) → (read : IsItems d es ts fs us) → begins_closing us ≡ true →
-        Loops (items_step spans (expression_by spans (deeper spans d))) (placed es places) ts (Ok (placed fs (items_places spans places read), us))
+    items_read : {d : ℕ} {es fs : Expressions} {ts us : List Token} (places : Parts) → (read : IsItems d es ts fs us) →
+        begins_closing us ≡ true →
+        Loops (items_step spans (expression_by spans (deeper spans d))) (placed es places) ts
+        (Ok (placed fs (items_places spans places read), us))
     items_read places (items_end {d = d} {ts = ts}) h = loop_stops (unless_closed _ ts h)
     items_read places (items_last {ts = ts} {us = us} e f) h =
         loop_goes
@@ -363,8 +388,10 @@ module _ (spans : List Span) where
         (unless_open _ ts (opener_closing ts (expression_opens e)) ∙ under_goes _ (expression_read e (lit< tt)) refl)
         (omega arith) (items_read _ i h)
 
-    pairs_read : {d : ℕ} {p q : Paired} {ts us : List Token} (places : PairedPlaces) → (read : IsPairs d p ts q us) → begins_closing us ≡ true →
-        Loops (pairs_step spans (expression_by spans (deeper spans d))) (placed p places) ts (Ok (placed q (pairs_places spans places read), us))
+    pairs_read : {d : ℕ} {p q : Paired} {ts us : List Token} (places : PairedPlaces) → (read : IsPairs d p ts q us) →
+        begins_closing us ≡ true →
+        Loops (pairs_step spans (expression_by spans (deeper spans d))) (placed p places) ts
+        (Ok (placed q (pairs_places spans places read), us))
     pairs_read places (pairs_end {ts = ts}) h = loop_stops (unless_closed _ ts h)
     pairs_read places (pairs_last {ts = ts} {vs = vs} k v f) h =
         let l = shrinks.expression_shrinks k in let m = shrinks.expression_shrinks v in
@@ -386,7 +413,8 @@ module _ (spans : List Span) where
     argument_list_read : {d : ℕ} {args : Arguments} {ts us : List Token} → (read : IsArgumentList d ts args us) →
         arguments_by spans (expression_by spans (deeper spans d)) ts ≡ Ok (placed args (argument_list_places spans read), us)
     argument_list_read (argument_list {w = w} {us = us} l e f) =
-        then_goes _ (all_of (arguments_read (no_parts, no_parts) l refl)) (then_goes _ refl (few_goes (placed w (arguments_places spans (no_parts, no_parts) l)) us e f))
+        then_goes _ (all_of (arguments_read (no_parts, no_parts) l refl))
+        (then_goes _ refl (few_goes (placed w (arguments_places spans (no_parts, no_parts) l)) us e f))
 
     arguments_read : {d : ℕ} {w x : Written} {ts us : List Token} (places : WrittenPlaces) → (read : IsArguments d w ts x us) →
         begins_closing us ≡ true →
@@ -424,7 +452,8 @@ module _ (spans : List Span) where
   unfolding condition_at
   condition_complete d ts us e x h = binary_read x h
 
-  pub filter_complete : (d : ℕ) (value : Optional) (places : Parts) (ts us : List Token) (e : Expression) → (read : IsFilter d value ts e us) →
+  pub filter_complete : (d : ℕ) (value : Optional) (places : Parts) (ts us : List Token) (e : Expression) →
+      (read : IsFilter d value ts e us) →
       filter_at spans d (placed value places) ts ≡ Ok (placed e (filter_places spans ts places read), us)
   unfolding filter_at
   filter_complete d value places ts us e x = filter_read ts places x
@@ -434,7 +463,8 @@ module _ (spans : List Span) where
   chain_stops r value (symbol pipe ∷ ts) h = absurd (omega arith)
   chain_stops r value _ h = refl
 
-  chain_read : {d : ℕ} {value all : Optional} {ts us : List Token} (places : Parts) → (read : IsFilterChain d value ts all us) → Behind 2 us →
+  chain_read : {d : ℕ} {value all : Optional} {ts us : List Token} (places : Parts) → (read : IsFilterChain d value ts all us) →
+      Behind 2 us →
       Loops (chain_step spans (deeper spans d)) (placed value places) ts (Ok (placed all (chain_places spans places read), us))
   unfolding chain_step
   chain_read places (chain_end {d = d} {ts = ts}) h = loop_stops (chain_stops (deeper spans d) _ ts h)

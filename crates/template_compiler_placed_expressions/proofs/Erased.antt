@@ -94,7 +94,8 @@ module _ (spans : List Span) (r : Deeper) (p : plain.Deeper) (h : DeeperErases r
   is_bare start a [] = refl
   is_bare start a (t ∷ ts) = if_bare _ _ (is_word (codes "not") t) (test_bare true start a ts) (test_bare false start a (t ∷ ts))
 
-  filter_step_bare : (start : Span) (a : Node) (ts : List Token) → bare_step (filter_step spans r start a ts) ≡ plain.filter_step p a.tree ts
+  filter_step_bare : (start : Span) (a : Node) (ts : List Token) →
+      bare_step (filter_step spans r start a ts) ≡ plain.filter_step p a.tree ts
   unfolding bare_step filter_step plain.filter_step
   filter_step_bare start a (symbol pipe ∷ ts) =
       under_bare _ _ _ (then_bare _ _ _ (filter_bare start (given_node a) ts) (λ b us. parts_bare start b us)) (λ e us. refl)
@@ -144,7 +145,8 @@ module _ (spans : List Span) (read : List Token → Read Node) (on : List Token 
   unfolding binary_of plain.binary_of
   binary_of_bare k ts =
       then_bare _ _ _ (h ts)
-      (λ a us. all_bare (operand_step spans k read (next_span spans ts)) (plain.operand_step k on) (operand_step_bare k (next_span spans ts)) a us)
+      (λ a us. all_bare (operand_step spans k read (next_span spans ts)) (plain.operand_step k on)
+      (operand_step_bare k (next_span spans ts)) a us)
 
   not_in_bare : (ls : PlacedLinks) (ts : List Token) → bare_step (not_in_link spans read ls ts) ≡ plain.not_in_link on ls.tree ts
   unfolding bare_step not_in_link plain.not_in_link
@@ -207,9 +209,11 @@ module _ (spans : List Span) (read : List Token → Read Node) (on : List Token 
   step_bare (symbol colon ∷ ts) = bound_bare ts
   step_bare _ = refl
 
-  slice_bare : (start : Span) (a : Node) (first : OptionalNode) → Erases (slice_by spans read start a first) (plain.slice_by on a.tree first.tree)
+  slice_bare : (start : Span) (a : Node) (first : OptionalNode) →
+      Erases (slice_by spans read start a first) (plain.slice_by on a.tree first.tree)
   unfolding slice_by plain.slice_by
-  slice_bare start a first ts = then_bare _ _ _ (bound_bare ts) (λ stop us. then_bare _ _ _ (step_bare us) (λ step vs. bracket_end_bare _ vs))
+  slice_bare start a first ts = then_bare _ _ _ (bound_bare ts)
+      (λ stop us. then_bare _ _ _ (step_bare us) (λ step vs. bracket_end_bare _ vs))
 
   subscript_behind_bare : (start : Span) (a : Node) (first : Optional) (places : Parts) →
       Erases (subscript_behind spans read start a (record { tree = first; places = places })) (plain.subscript_behind on a.tree first)
@@ -238,7 +242,8 @@ module _ (spans : List Span) (read : List Token → Read Node) (on : List Token 
   unfolding bare few_arguments plain.few_arguments
   few_bare w ts = if_bare _ _ (nat_le (argument_count (in_order w.tree)) 2000) refl refl
 
-  arguments_step_bare : (w : PlacedWritten) (ts : List Token) → bare_step (arguments_step spans read w ts) ≡ plain.arguments_step on w.tree ts
+  arguments_step_bare : (w : PlacedWritten) (ts : List Token) →
+      bare_step (arguments_step spans read w ts) ≡ plain.arguments_step on w.tree ts
   arguments_step_bare w ts = unless_bare _ ts (under_bare _ _ _ (argument_bare ts) (λ a us. separated_bare _ us))
 
   arguments_bare : (ts : List Token) → bare (arguments_by spans read ts) ≡ plain.arguments_by on ts
@@ -248,7 +253,8 @@ module _ (spans : List Span) (read : List Token → Read Node) (on : List Token 
       (λ w us. then_bare _ _ _ (paren_end_bare w us) (λ x vs. few_bare x vs))
 
 module _ (spans : List Span) (r : Deeper) (p : plain.Deeper) (h : DeeperErases r p) where
-  texts_bare : Erases (binary_of spans texts (binary_of spans factors (power_by spans r))) (plain.binary_of texts (plain.binary_of factors (plain.power_by p)))
+  texts_bare : Erases (binary_of spans texts (binary_of spans factors (power_by spans r)))
+      (plain.binary_of texts (plain.binary_of factors (plain.power_by p)))
   texts_bare = binary_of_bare spans _ _ (binary_of_bare spans _ _ (power_bare spans r p h) factors) texts
 
   terms_bare : Erases (terms_by spans r) (plain.terms_by p)

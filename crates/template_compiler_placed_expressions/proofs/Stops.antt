@@ -56,7 +56,8 @@ module _ (spans : List Span) where
   else_stops r start a c (t ∷ ts) h = rw (is_no_else t h)
 
   -- what is not the word `not`
-  pub no_negation_by : (r : Deeper) (ts : List Token) → begins_word (codes "not") ts ≡ false → negation_by spans r ts ≡ comparison_by spans r ts
+  pub no_negation_by : (r : Deeper) (ts : List Token) → begins_word (codes "not") ts ≡ false →
+      negation_by spans r ts ≡ comparison_by spans r ts
   unfolding negation_by
   no_negation_by r [] h = refl
   no_negation_by r (t ∷ ts) h = rw h
@@ -67,7 +68,8 @@ module _ (spans : List Span) where
   no_negated_test r start a [] h = refl
   no_negated_test r start a (t ∷ ts) h = rw h
 
-  pub no_arguments_by : (r : Deeper) (ts : List Token) → begins_paren ts ≡ false → optional_arguments_by spans r ts ≡ Ok (no_placed_arguments, ts)
+  pub no_arguments_by : (r : Deeper) (ts : List Token) → begins_paren ts ≡ false →
+      optional_arguments_by spans r ts ≡ Ok (no_placed_arguments, ts)
   unfolding optional_arguments_by
   no_arguments_by r (symbol paren_open ∷ ts) h = cc
   no_arguments_by r _ h = refl
@@ -79,7 +81,8 @@ module _ (spans : List Span) where
   paren_open_by read start _ h = refl
 
   -- bounds of slices
-  pub bound_left_out : (read : List Token → Read Node) (ts : List Token) → begins_bound_end ts ≡ true → bound_by spans read ts ≡ Ok (no_node, ts)
+  pub bound_left_out : (read : List Token → Read Node) (ts : List Token) → begins_bound_end ts ≡ true →
+      bound_by spans read ts ≡ Ok (no_node, ts)
   unfolding bound_by
   bound_left_out read ts h = rw h
 
@@ -88,7 +91,8 @@ module _ (spans : List Span) where
   unfolding bound_by
   bound_read_by read ts h = rw (opener_bound ts h)
 
-  pub step_left_out : (read : List Token → Read Node) (ts : List Token) → begins_closing ts ≡ true → step_by spans read ts ≡ Ok (no_node, ts)
+  pub step_left_out : (read : List Token → Read Node) (ts : List Token) → begins_closing ts ≡ true →
+      step_by spans read ts ≡ Ok (no_node, ts)
   unfolding step_by
   step_left_out read (symbol colon ∷ ts) h = cc
   step_left_out read _ h = refl

@@ -130,7 +130,8 @@ begins_assign _ = false
 abbrev EndsParameter : List Token → Type 0
 EndsParameter ts = (begins_assign ts ≡ false) × Behind 10 ts
 
-block_end_read : {A : Type 0} {n : List ℕ} {ts us : List Token} (a : A) → bytes_eq n n ≡ true → IsBlockEnd n ts us → block_end_by n a ts ≡ Ok (a, us)
+block_end_read : {A : Type 0} {n : List ℕ} {ts us : List Token} (a : A) → bytes_eq n n ≡ true → IsBlockEnd n ts us →
+    block_end_by n a ts ≡ Ok (a, us)
 unfolding block_end_by expect_word end_name_by tag_end and_then
 block_end_read a e plain_end = refl
 block_end_read a e named_end = rw e refl
@@ -170,7 +171,8 @@ bytes_same n = (bytes_eq-Decides n n).1 refl
 
 module _ (spans : List Span) where
   -- targets
-  stored_read : {e : Expression} {ts us : List Token} → (read : IsStored ts e us) → stored_by spans ts ≡ Ok (placed e (stored_places spans read), us)
+  stored_read : {e : Expression} {ts us : List Token} → (read : IsStored ts e us) →
+      stored_by spans ts ≡ Ok (placed e (stored_places spans read), us)
   unfolding stored_by
   stored_read (stored {n = n} {ts = ts} e) = rw e refl
 
@@ -179,7 +181,8 @@ module _ (spans : List Span) where
   path_stops start e (symbol dot ∷ ts) h = cc
   path_stops start e _ h = refl
 
-  path_read : {e f : Expression} {ts us : List Token} (from : List Token) (places : Places) → (read : IsPath e ts f us) → begins_dot us ≡ false →
+  path_read : {e f : Expression} {ts us : List Token} (from : List Token) (places : Places) → (read : IsPath e ts f us) →
+      begins_dot us ≡ false →
       Loops (path_step spans (next_span spans from)) (placed e places) ts (Ok (placed f (path_places spans from places read), us))
   unfolding path_step
   path_read from places (path_end {ts = ts}) h = loop_stops (path_stops (next_span spans from) _ ts h)
@@ -232,12 +235,16 @@ module _ (spans : List Span) where
   unfolding values_by
   values_read (values {d = d} {es = es} {ts = ts} {us = us} {vs = vs} v m e) h c =
       then_goes _ (value_read d _ es ts us no_parts v
-      (more_front Expressions Parts (IsValue d) (λ a b ts us ps x. value_places spans ps x) (value_by spans (expression_at spans d)) (Behind 10) (λ x. lit< tt) (value_read d) (λ a b ts us i. value_shrinks i) m h))
-      (then_goes _ (all_of (more_loop Expressions Parts (IsValue d) (λ a b ts us ps x. value_places spans ps x) (value_by spans (expression_at spans d)) (Behind 10) (λ x. lit< tt) (value_read d) (λ a b ts us i. value_shrinks i) (value_places spans no_parts v) m h c))
+      (more_front Expressions Parts (IsValue d) (λ a b ts us ps x. value_places spans ps x) (value_by spans (expression_at spans d))
+      (Behind 10) (λ x. lit< tt) (value_read d) (λ a b ts us i. value_shrinks i) m h))
+      (then_goes _ (all_of (more_loop Expressions Parts (IsValue d) (λ a b ts us ps x. value_places spans ps x)
+      (value_by spans (expression_at spans d)) (Behind 10) (λ x. lit< tt) (value_read d) (λ a b ts us i. value_shrinks i)
+      (value_places spans no_parts v) m h c))
       (ap (λ x. Ok (placed x (values_places spans (values v m e)), vs)) (sym e)))
 
   -- assignments
-  assignment_read : (d : ℕ) (gs hs : Assignments) (ts us : List Token) (places : Parts) → (read : IsAssignment d gs ts hs us) → Behind 10 us →
+  assignment_read : (d : ℕ) (gs hs : Assignments) (ts us : List Token) (places : Parts) → (read : IsAssignment d gs ts hs us) →
+      Behind 10 us →
       assignment_by spans (here spans d) (placed gs places) ts ≡ Ok (placed hs (assignment_places spans places read), us)
   unfolding assignment_by here here_by expect_assign
   assignment_read d gs hs ts us places (assignment {e = e} {us = ws} t x f) h =
@@ -258,8 +265,12 @@ module _ (spans : List Span) where
   assignments_read (some_assigned {d = d} {gs = gs} {ts = ts} {us = us} a m) =
       assignments_open (here spans d) a ∙
       then_goes _ (assignment_read d _ gs ts us no_parts a
-      (more_front Assignments Parts (IsAssignment d) (λ a b ts us ps x. assignment_places spans ps x) (assignment_by spans (here spans d)) (Behind 10) (λ x. lit< tt) (assignment_read d) (λ a b ts us i. assignment_shrinks i) m (lit< tt)))
-      (all_of (more_loop Assignments Parts (IsAssignment d) (λ a b ts us ps x. assignment_places spans ps x) (assignment_by spans (here spans d)) (Behind 10) (λ x. lit< tt) (assignment_read d) (λ a b ts us i. assignment_shrinks i) (assignment_places spans no_parts a) m (lit< tt) refl))
+      (more_front Assignments Parts (IsAssignment d) (λ a b ts us ps x. assignment_places spans ps x)
+      (assignment_by spans (here spans d)) (Behind 10) (λ x. lit< tt) (assignment_read d) (λ a b ts us i. assignment_shrinks i) m
+      (lit< tt)))
+      (all_of (more_loop Assignments Parts (IsAssignment d) (λ a b ts us ps x. assignment_places spans ps x)
+      (assignment_by spans (here spans d)) (Behind 10) (λ x. lit< tt) (assignment_read d) (λ a b ts us i. assignment_shrinks i)
+      (assignment_places spans no_parts a) m (lit< tt) refl))
 
   loop_filter_read : {d : ℕ} {f : Optional} {b : Bool} {ts us vs : List Token} → (read : IsLoopFilter d ts f us) →
       IsWord (codes "recursive") us b (block_end ∷ vs) →
@@ -267,7 +278,8 @@ module _ (spans : List Span) where
   unfolding loop_filter_by
   loop_filter_read no_loop_filter no_word = refl
   loop_filter_read no_loop_filter a_word = refl
-  loop_filter_read (a_loop_filter {d = d} {e = e} {ts = ts} {us = us} x) w = then_goes _ (expression_complete spans d ts us e x (word_front w)) refl
+  loop_filter_read (a_loop_filter {d = d} {e = e} {ts = ts} {us = us} x) w =
+      then_goes _ (expression_complete spans d ts us e x (word_front w)) refl
 
   -- imported names
   alias_left_out : (is : PlacedImports) (n : Node) (ts : List Token) → begins_as ts ≡ false →
@@ -285,16 +297,20 @@ module _ (spans : List Span) where
       then_goes _ (stored_read s) (then_goes _ (stored_read a)
       (ap (λ x. Ok (placed x (and_parts places (parts_more (stored_places spans s) (one (stored_places spans a)))), us)) (sym e)))
 
-  imports_read : {is js : Imports} {ts us vs : List Token} (places : Parts) → (m : IsMore IsImport is ts js us) → IsContext us (block_end ∷ vs) →
+  imports_read : {is js : Imports} {ts us vs : List Token} (places : Parts) → (m : IsMore IsImport is ts js us) →
+      IsContext us (block_end ∷ vs) →
       Loops (more_step (import_by spans)) (placed is places) ts
       (Ok (placed js (more_places (λ a b ts us ps x. import_places spans ps x) places m), us))
   imports_read places m c =
-      more_loop Imports Parts IsImport (λ a b ts us ps x. import_places spans ps x) (import_by spans) (λ ts. begins_as ts ≡ false) (λ x. refl) import_read (λ a b ts us i. import_shrinks i) places m
+      more_loop Imports Parts IsImport (λ a b ts us ps x. import_places spans ps x) (import_by spans) (λ ts. begins_as ts ≡ false)
+      (λ x. refl) import_read (λ a b ts us i. import_shrinks i) places m
       (context_no_alias c) (context_no_comma c)
 
-  imports_front : {is js : Imports} {ts us vs : List Token} → IsMore IsImport is ts js us → IsContext us (block_end ∷ vs) → begins_as ts ≡ false
+  imports_front : {is js : Imports} {ts us vs : List Token} → IsMore IsImport is ts js us → IsContext us (block_end ∷ vs) →
+      begins_as ts ≡ false
   imports_front m c =
-      more_front Imports Parts IsImport (λ a b ts us ps x. import_places spans ps x) (import_by spans) (λ ts. begins_as ts ≡ false) (λ x. refl) import_read (λ a b ts us i. import_shrinks i) m (context_no_alias c)
+      more_front Imports Parts IsImport (λ a b ts us ps x. import_places spans ps x) (import_by spans) (λ ts. begins_as ts ≡ false)
+      (λ x. refl) import_read (λ a b ts us i. import_shrinks i) m (context_no_alias c)
 
   -- parameters
   plain_left : (read : List Token → Read Node) (p : PlacedParameters) (a : Node) (ts : List Token) → begins_assign ts ≡ false →
@@ -303,7 +319,8 @@ module _ (spans : List Span) where
   plain_left read p a (symbol assign ∷ ts) h e = cc
   plain_left read p a _ h e = rw e refl
 
-  parameter_read : (d : ℕ) (p q : Parameters) (ts us : List Token) (places : PairedPlaces) → (read : IsParameter d p ts q us) → EndsParameter us →
+  parameter_read : (d : ℕ) (p q : Parameters) (ts us : List Token) (places : PairedPlaces) → (read : IsParameter d p ts q us) →
+      EndsParameter us →
       parameter_by spans (expression_at spans d) (placed p places) ts ≡ Ok (placed q (parameter_places spans places read), us)
   unfolding parameter_by default_by
   parameter_read d p q ts us places (plain_parameter s e f) h =
@@ -315,7 +332,8 @@ module _ (spans : List Span) where
 
   parameters_open : (read : List Token → Read Node) {d : ℕ} {p q : Parameters} {ts us : List Token} → IsParameter d p ts q us →
       parameters_by spans read ts ≡
-      and_then (parameter_by spans read no_placed_parameters ts) (λ p us. and_then (all (more_step (parameter_by spans read)) p us) paren_end)
+      and_then (parameter_by spans read no_placed_parameters ts)
+      (λ p us. and_then (all (more_step (parameter_by spans read)) p us) paren_end)
   unfolding parameters_by
   parameters_open read (plain_parameter (stored f) e g) = refl
   parameters_open read (default_parameter (stored f) x g) = refl
@@ -347,12 +365,17 @@ module _ (spans : List Span) where
   parameters_read (some_declared {d = d} {p = p} {ts = ts} {us = us} a m) =
       parameters_open (expression_at spans d) a ∙
       then_goes _ (parameter_read d no_parameters p ts us (no_parts, no_parts) a
-      (more_front Parameters PairedPlaces (IsParameter d) (λ a b ts us ps x. parameter_places spans ps x) (parameter_by spans (expression_at spans d)) EndsParameter (λ x. (refl, lit< tt)) (parameter_read d) (λ a b ts us i. parameter_shrinks i) m (refl, lit< tt)))
+      (more_front Parameters PairedPlaces (IsParameter d) (λ a b ts us ps x. parameter_places spans ps x)
+      (parameter_by spans (expression_at spans d)) EndsParameter (λ x. (refl, lit< tt)) (parameter_read d)
+      (λ a b ts us i. parameter_shrinks i) m (refl, lit< tt)))
       (then_goes _
-      (all_of (more_loop Parameters PairedPlaces (IsParameter d) (λ a b ts us ps x. parameter_places spans ps x) (parameter_by spans (expression_at spans d)) EndsParameter (λ x. (refl, lit< tt)) (parameter_read d) (λ a b ts us i. parameter_shrinks i) (parameter_places spans (no_parts, no_parts) a) m (refl, lit< tt) refl))
+      (all_of (more_loop Parameters PairedPlaces (IsParameter d) (λ a b ts us ps x. parameter_places spans ps x)
+      (parameter_by spans (expression_at spans d)) EndsParameter (λ x. (refl, lit< tt)) (parameter_read d)
+      (λ a b ts us i. parameter_shrinks i) (parameter_places spans (no_parts, no_parts) a) m (refl, lit< tt) refl))
       refl)
 
-  no_parameters_by : (r : Here) (ts : List Token) → begins_paren ts ≡ false → optional_parameters_by spans r ts ≡ Ok (no_placed_parameters, ts)
+  no_parameters_by : (r : Here) (ts : List Token) → begins_paren ts ≡ false →
+      optional_parameters_by spans r ts ≡ Ok (no_placed_parameters, ts)
   unfolding optional_parameters_by
   no_parameters_by r (symbol paren_open ∷ ts) h = cc
   no_parameters_by r _ h = refl
@@ -389,7 +412,8 @@ module _ (spans : List Span) where
   unfolding statement_step
   nothing_stopped r p ss = refl
 
-  else_front : {d : ℕ} {p : Around} {end : List ℕ} {body : Statements} {ts us : List Token} → IsEnd end → IsElse d p end ts body us → Stopped ts
+  else_front : {d : ℕ} {p : Around} {end : List ℕ} {body : Statements} {ts us : List Token} → IsEnd end → IsElse d p end ts body us →
+      Stopped ts
   else_front {end = end} k (no_else {ts = ts}) = tag_stopped end ts k.no_opening
   else_front k (an_else {ts = ts} b) = else_stopped ts
 
@@ -451,16 +475,19 @@ module _ (spans : List Span) where
     statements_read places (statements_next s b) h =
         let l = statement_shrinks s in loop_goes (statement_read s _) (omega arith) (statements_read _ b h)
 
-    else_read : {d : ℕ} {p : Around} {end : List ℕ} {body : Statements} {ts us : List Token} → IsEnd end → (read : IsElse d p end ts body us) →
+    else_read : {d : ℕ} {p : Around} {end : List ℕ} {body : Statements} {ts us : List Token} → IsEnd end →
+        (read : IsElse d p end ts body us) →
         else_by spans (here spans (suc d)) p end ts ≡ Ok (placed body (else_places spans read), us)
     else_read {end = end} k (no_else {d = d} {p = p} {ts = ts}) = no_else_read (here spans (suc d)) p end ts k
     else_read {end = end} k (an_else {ts = ts} {us = us} b) =
         then_goes _ (tag_read (codes "else") false ts refl)
         (then_goes _ (all_of (statements_read no_parts b (tag_stopped end us k.no_opening))) (tag_read end _ us k.is_same))
 
-    branches_read : {d : ℕ} {p q : Around} {bs cs : Branches} {end : List ℕ} {other : Statements} {ts us vs : List Token} (places : BranchPlaces) →
+    branches_read : {d : ℕ} {p q : Around} {bs cs : Branches} {end : List ℕ} {other : Statements} {ts us vs : List Token}
+        (places : BranchPlaces) →
         (read : IsBranches d p bs ts cs us) → IsEnd end → IsElse d q end us other vs →
-        Loops (branch_step spans (here spans (suc d)) p) (placed bs (starts places)) ts (Ok (placed cs (starts (branches_places spans places read)), us))
+        Loops (branch_step spans (here spans (suc d)) p) (placed bs (starts places)) ts
+        (Ok (placed cs (starts (branches_places spans places read)), us))
     branches_read places (branches_end {d = d} {p = p}) k o = loop_stops (no_branch (here spans (suc d)) p _ k o)
     branches_read places (branches_next {d = d} {p = p} {c = c} {body = body} {bs = ds} {ts = ts} {us = us} {vs = vs} e b bs) k o =
         let l = statements_within b in let m = expression_shrinks e in
@@ -471,7 +498,8 @@ module _ (spans : List Span) where
         (starts_more places (opens (codes "elif") ts) (parts_more (expression_places spans e) (statements_places spans no_parts b)))))
         (omega arith) (branches_read _ bs k o)
 
-    statement_read : {d : ℕ} {p : Around} {s : Statement} {ts us : List Token} → (read : IsStatement d p ts s us) → (ss : PlacedStatements) →
+    statement_read : {d : ℕ} {p : Around} {s : Statement} {ts us : List Token} → (read : IsStatement d p ts s us) →
+        (ss : PlacedStatements) →
         statement_step spans (here spans d) p ss ts ≡ goes (and_placed_statement ss (placed s (statement_places spans read))) us
     statement_read text_statement ss = refl
     statement_read (print_statement {d = d} {e = e} {ts = ts} {us = us} x) ss =
@@ -502,7 +530,8 @@ module _ (spans : List Span) where
     statement_read (with_statement {vs = vs} a b) ss =
         under_goes _
         (then_goes _ (assignments_read a) (then_goes _ refl
-        (then_goes _ (all_of (statements_read no_parts b (tag_stopped (codes "endwith") vs refl))) (then_goes _ (tag_read (codes "endwith") _ vs refl) refl)))) refl
+        (then_goes _ (all_of (statements_read no_parts b (tag_stopped (codes "endwith") vs refl)))
+        (then_goes _ (tag_read (codes "endwith") _ vs refl) refl)))) refl
     statement_read (set_statement {d = d} {p = p} {ts = ts} {us = xs} (targets {us = us} t m e) v) ss =
         under_goes _
         (then_goes _ (target_read t (more_targets_front m refl))
@@ -525,14 +554,16 @@ module _ (spans : List Span) where
     statement_read (filter_statement {d = d} {e = e} {f = f} {ts = ts} {us = us} {vs = vs} {ws = ws} x y b) ss =
         under_goes _
         (then_goes _ (filter_complete spans (suc d) absent no_parts ts us e x)
-        (then_goes _ (filter_chain_complete spans (suc d) (given e) (given f) (one (filter_places spans ts no_parts x)) us (block_end ∷ vs) y (lit< tt))
+        (then_goes _ (filter_chain_complete spans (suc d) (given e) (given f) (one (filter_places spans ts no_parts x)) us
+        (block_end ∷ vs) y (lit< tt))
         (then_goes _ refl (then_goes _ (all_of (statements_read no_parts b (tag_stopped (codes "endfilter") ws refl)))
         (then_goes _ (tag_read (codes "endfilter") _ ws refl) refl))))) refl
     statement_read (block_statement {d = d} {p = p} {n = n} {ts = ts} e w b f g) ss =
         under_goes _
         (block_opens (here spans (suc d)) p _ n ts e ∙
         (then_goes _ (required_read w) (then_goes _ refl
-        (then_goes _ (all_of (statements_read no_parts b (block_end_stopped g))) (rw f (then_goes _ (block_end_read _ (bytes_same n) g) refl)))))) refl
+        (then_goes _ (all_of (statements_read no_parts b (block_end_stopped g)))
+        (rw f (then_goes _ (block_end_read _ (bytes_same n) g) refl)))))) refl
     statement_read (import_statement {d = d} {e = e} {ts = ts} {us = us} x a c) ss =
         under_goes _
         (then_goes _ (expression_complete spans d ts (word (codes "as") ∷ us) e x (lit< tt))
@@ -541,11 +572,13 @@ module _ (spans : List Span) where
         under_goes _
         (then_goes _ (expression_complete spans d ts (word (codes "import") ∷ us) e x (lit< tt))
         (then_goes _ refl (then_goes _ (import_read no_imports is us vs no_parts i (imports_front m c))
-        (then_goes _ (all_of (imports_read (import_places spans no_parts i) m c)) (then_goes _ (context_read _ c) (then_goes _ refl refl)))))) refl
+        (then_goes _ (all_of (imports_read (import_places spans no_parts i) m c))
+        (then_goes _ (context_read _ c) (then_goes _ refl refl)))))) refl
     statement_read (extends_statement {d = d} {e = e} {ts = ts} {us = us} x) ss =
         under_goes _ (then_goes _ (expression_complete spans d ts (block_end ∷ us) e x (lit< tt)) (then_goes _ refl refl)) refl
     statement_read (include_statement {d = d} {e = e} {ts = ts} {us = us} x m) ss =
-        under_goes _ (then_goes _ (expression_complete spans d ts us e x (missing_front m)) (then_goes _ (missing_read m) (then_goes _ refl refl))) refl
+        under_goes _ (then_goes _ (expression_complete spans d ts us e x (missing_front m))
+        (then_goes _ (missing_read m) (then_goes _ refl refl))) refl
     statement_read (macro_statement {p = p} {n = n} {q = w} {body = body} {ts = ts} {us = us} {vs = vs} e q b f) ss =
         under_goes _
         (rw e
@@ -558,7 +591,8 @@ module _ (spans : List Span) where
           vs,
         )) (declared_in_row q) ∙
         ap (λ x. Ok (placed x (statement_places {p = p} spans (macro_statement e q b f)), vs)) (sym f))))))) refl
-    statement_read (call_statement {d = d} {p = p} {q = w} {c = c} {args = args} {body = body} {ts = ts} {us = us} {vs = vs} {ws = ws} q x b f) ss =
+    statement_read (call_statement {d = d} {p = p} {q = w} {c = c} {args = args} {body = body} {ts = ts} {us = us} {vs = vs} {ws =
+        ws} q x b f) ss =
         under_goes _
         (then_goes _ (optional_parameters_read q)
         (then_goes _ (expression_complete spans (suc d) us (block_end ∷ vs) (call c args) x (lit< tt))

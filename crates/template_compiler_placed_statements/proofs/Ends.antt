@@ -15,7 +15,8 @@ unfolding bare
 word_by_test true a ts us = refl
 word_by_test false a ts us = refl
 
-pub word_bare : {A P : Type 0} (name : List ℕ) (a : Placed A P) (ts : List Token) → bare (expect_word name a ts) ≡ expect_word name a.tree ts
+pub word_bare : {A P : Type 0} (name : List ℕ) (a : Placed A P) (ts : List Token) →
+    bare (expect_word name a ts) ≡ expect_word name a.tree ts
 unfolding bare expect_word
 word_bare name a [] = refl
 word_bare name a (t ∷ ts) = word_by_test (is_word name t) a (t ∷ ts) ts
@@ -54,19 +55,22 @@ module _ {A B Q : Type 0} (a : A) (make : A → List Token → Placed B Q) (b : 
   tag_made_by true ts us = tag_end_made us
   tag_made_by false ts us = refl
 
-  pub tag_made : (name : List ℕ) (ts : List Token) → bare (and_then (expect_tag name a ts) (λ x us. Ok (make x us, us))) ≡ expect_tag name b ts
+  pub tag_made : (name : List ℕ) (ts : List Token) →
+      bare (and_then (expect_tag name a ts) (λ x us. Ok (make x us, us))) ≡ expect_tag name b ts
   unfolding bare and_then expect_tag expect_word
   tag_made name (block_start ∷ []) = refl
   tag_made name (block_start ∷ t ∷ ts) = tag_made_by (is_word name t) (t ∷ ts) ts
   tag_made name _ = refl
 
   name_made_by : (test : Bool) (ts : List Token) →
-      bare (and_then (if test then tag_end a ts else Err bad_syntax) (λ x us. Ok (make x us, us))) ≡ (if test then tag_end b ts else Err bad_syntax)
+      bare (and_then (if test then tag_end a ts else Err bad_syntax) (λ x us. Ok (make x us, us))) ≡
+      (if test then tag_end b ts else Err bad_syntax)
   unfolding bare and_then
   name_made_by true ts = tag_end_made ts
   name_made_by false ts = refl
 
-  name_made : (name : List ℕ) (ts : List Token) → bare (and_then (end_name_by name a ts) (λ x us. Ok (make x us, us))) ≡ end_name_by name b ts
+  name_made : (name : List ℕ) (ts : List Token) → bare (and_then (end_name_by name a ts) (λ x us. Ok (make x us, us))) ≡
+      end_name_by name b ts
   unfolding end_name_by
   name_made name (identifier n ∷ ts) = name_made_by (bytes_eq n name) ts
   name_made name ts = tag_end_made ts
@@ -78,7 +82,8 @@ module _ {A B Q : Type 0} (a : A) (make : A → List Token → Placed B Q) (b : 
   block_made_by name true ts us = name_made name us
   block_made_by name false ts us = refl
 
-  pub block_made : (name : List ℕ) (ts : List Token) → bare (and_then (block_end_by name a ts) (λ x us. Ok (make x us, us))) ≡ block_end_by name b ts
+  pub block_made : (name : List ℕ) (ts : List Token) →
+      bare (and_then (block_end_by name a ts) (λ x us. Ok (make x us, us))) ≡ block_end_by name b ts
   unfolding bare and_then block_end_by expect_word
   block_made name (block_start ∷ []) = refl
   block_made name (block_start ∷ t ∷ ts) = block_made_by name (is_word (codes "endblock") t) (t ∷ ts) ts
@@ -100,7 +105,8 @@ module _ {A B Q : Type 0} (a : A) (make : A → List Token → Placed B Q) (b : 
   context_word_made (t ∷ ts) = context_made_by (is_word (codes "context") t) (t ∷ ts) ts
 
   context_test_made : (test : Bool) (ts us : List Token) →
-      bare (and_then (if test then expect_word (codes "context") a us else Ok (a, ts)) (λ x us. and_then (tag_end x us) (λ y vs. Ok (make y vs, vs)))) ≡
+      bare (and_then (if test then expect_word (codes "context") a us else Ok (a, ts))
+      (λ x us. and_then (tag_end x us) (λ y vs. Ok (make y vs, vs)))) ≡
       and_then (if test then expect_word (codes "context") b us else Ok (b, ts)) tag_end
   unfolding bare and_then
   context_test_made true ts us = context_word_made us
@@ -121,7 +127,8 @@ module _ {A P : Type 0} (item : Placed A P → List Token → Read (Placed A P))
   more_bare a _ = refl
 
 -- calls
-pub only_call_bare : {A P : Type 0} (go : Expression → Arguments → List Token → Read (Placed A P)) (on : Expression → Arguments → List Token → Read A) →
+pub only_call_bare : {A P : Type 0} (go : Expression → Arguments → List Token → Read (Placed A P))
+    (on : Expression → Arguments → List Token → Read A) →
     ((e : Expression) (args : Arguments) (ts : List Token) → bare (go e args ts) ≡ on e args ts) →
     (o : Option (Expression × Arguments)) (ts : List Token) → bare (only_call go o ts) ≡ only_call on o ts
 unfolding bare only_call

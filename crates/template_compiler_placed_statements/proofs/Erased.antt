@@ -91,7 +91,8 @@ module _ (spans : List Span) where
     unfolding bare values_by plain.values_by
     values_bare ts =
         then_bare _ _ _ (value_bare no_nodes ts) (λ es us. then_bare _ _ _
-        (all_bare (more_step (value_by spans read)) (more_step (plain.value_by on)) (more_bare (value_by spans read) (plain.value_by on) value_bare) es us)
+        (all_bare (more_step (value_by spans read)) (more_step (plain.value_by on))
+        (more_bare (value_by spans read) (plain.value_by on) value_bare) es us)
         (λ fs vs. refl))
 
     loop_filter_bare : (ts : List Token) → bare (loop_filter_by spans read ts) ≡ plain.loop_filter_by on ts
@@ -106,7 +107,8 @@ module _ (spans : List Span) where
     plain_bare p a true ts = refl
     plain_bare p a false ts = refl
 
-    default_bare : (p : PlacedParameters) (a : Node) (ts : List Token) → bare (default_by spans read p a ts) ≡ plain.default_by on p.tree a.tree ts
+    default_bare : (p : PlacedParameters) (a : Node) (ts : List Token) →
+        bare (default_by spans read p a ts) ≡ plain.default_by on p.tree a.tree ts
     unfolding bare default_by plain.default_by
     default_bare p a (symbol assign ∷ ts) = then_bare _ _ _ (h ts) (λ e us. refl)
     default_bare p a ts = plain_bare p a (is_nothing p.tree.1) ts
@@ -183,7 +185,8 @@ module _ (spans : List Span) (r : Here) (q : plain.Here) (h : HereErases r q) wh
       then_bare _ _ _ (h.expression ts) (λ c us. then_bare _ _ _ (tag_end_bare c us) (λ c vs.
       then_bare _ _ _ (h.body p vs) (λ body ws. refl)))
 
-  branch_step_bare : (p : Around) (bs : PlacedBranches) (ts : List Token) → bare_step (branch_step spans r p bs ts) ≡ plain.branch_step q p bs.tree ts
+  branch_step_bare : (p : Around) (bs : PlacedBranches) (ts : List Token) →
+      bare_step (branch_step spans r p bs ts) ≡ plain.branch_step q p bs.tree ts
   unfolding bare_step branch_step plain.branch_step
   branch_step_bare p bs (block_start ∷ t ∷ ts) =
       if_bare_step _ _ (is_word (codes "elif") t) (under_bare _ _ _ (branch_bare p ts) (λ b us. refl)) refl
@@ -207,7 +210,8 @@ module _ (spans : List Span) (r : Here) (q : plain.Here) (h : HereErases r q) wh
   set_values_bare start t ts =
       then_bare _ _ _ (values_bare spans _ _ h.expression ts) (λ e us. tag_end_made e _ _ (λ vs. refl) us)
 
-  set_body_bare : (p : Around) (start : Span) (t : Node) (ts : List Token) → bare (set_body spans r p start t ts) ≡ plain.set_body q p t.tree ts
+  set_body_bare : (p : Around) (start : Span) (t : Node) (ts : List Token) →
+      bare (set_body spans r p start t ts) ≡ plain.set_body q p t.tree ts
   unfolding set_body plain.set_body
   set_body_bare p start t ts =
       then_bare _ _ _ (h.filters no_node ts) (λ f us. then_bare _ _ _ (tag_end_bare f us) (λ f vs.
@@ -233,7 +237,8 @@ module _ (spans : List Span) (r : Here) (q : plain.Here) (h : HereErases r q) wh
       then_bare _ _ _ (h.expression ts) (λ e us. then_bare _ _ _ (tag_end_bare e us) (λ e vs.
       body_bare p (codes "endautoescape") start _ _ (λ body span. refl) vs))
 
-  filter_block_bare : (p : Around) (start : Span) (ts : List Token) → bare (filter_block_by spans r p start ts) ≡ plain.filter_block_by q p ts
+  filter_block_bare : (p : Around) (start : Span) (ts : List Token) →
+      bare (filter_block_by spans r p start ts) ≡ plain.filter_block_by q p ts
   unfolding filter_block_by plain.filter_block_by
   filter_block_bare p start ts =
       then_bare _ _ _ (h.filter no_node ts) (λ e us. then_bare _ _ _ (h.filters (given_node e) us) (λ f vs.
@@ -262,7 +267,8 @@ module _ (spans : List Span) (r : Here) (q : plain.Here) (h : HereErases r q) wh
   from_bare start ts =
       then_bare _ _ _ (h.expression ts) (λ e us. then_bare _ _ _ (word_bare (codes "import") e us) (λ e vs.
       then_bare _ _ _ (import_bare spans no_placed_imports vs) (λ is ws. then_bare _ _ _
-      (all_bare (more_step (import_by spans)) (more_step plain.import_by) (more_bare (import_by spans) plain.import_by (import_bare spans)) is ws)
+      (all_bare (more_step (import_by spans)) (more_step plain.import_by)
+      (more_bare (import_by spans) plain.import_by (import_bare spans)) is ws)
       (λ js xs. context_made js _ _ (λ zs. refl) xs))))
 
   extends_bare : (start : Span) (ts : List Token) → bare (extends_by spans r start ts) ≡ plain.extends_by q ts
@@ -304,7 +310,8 @@ module _ (spans : List Span) (r : Here) (q : plain.Here) (h : HereErases r q) wh
   unfolding bare in_loop plain.in_loop
   loop_bare p s start ts = if_bare _ _ p.loop (tag_end_made s _ _ (λ us. refl) ts) refl
 
-  opened_bare : (p : Around) (o : Opening) (start : Span) (ts : List Token) → bare (opened_by spans r p o start ts) ≡ plain.opened_by q p o ts
+  opened_bare : (p : Around) (o : Opening) (start : Span) (ts : List Token) →
+      bare (opened_by spans r p o start ts) ≡ plain.opened_by q p o ts
   unfolding opened_by plain.opened_by
   opened_bare p for_tag start ts = for_bare p start ts
   opened_bare p if_tag start ts = if_by_bare p start ts
@@ -334,7 +341,8 @@ module _ (spans : List Span) (r : Here) (q : plain.Here) (h : HereErases r q) wh
   unfolding print_by
   print_bare start ts = then_bare _ _ _ (h.expression ts) (λ e us. print_end_made e _ _ (λ vs. refl) us)
 
-  statement_step_bare : (p : Around) (ss : PlacedStatements) (ts : List Token) → bare_step (statement_step spans r p ss ts) ≡ plain.statement_step q p ss.tree ts
+  statement_step_bare : (p : Around) (ss : PlacedStatements) (ts : List Token) →
+      bare_step (statement_step spans r p ss ts) ≡ plain.statement_step q p ss.tree ts
   unfolding bare_step statement_step plain.statement_step
   statement_step_bare p ss (template_data s ∷ ts) = refl
   statement_step_bare p ss (variable_start ∷ ts) = under_bare _ _ _ (print_bare _ ts) (λ s us. refl)
@@ -385,12 +393,14 @@ module _ (spans : List Span) where
   distinct_bare start ss true = refl
   distinct_bare start ss false = refl
 
-  behind_bare : (start : Span) (ss : PlacedStatements) (ts : List Token) → bare_template (template_behind spans start ss ts) ≡ plain.template_behind ss.tree ts
+  behind_bare : (start : Span) (ss : PlacedStatements) (ts : List Token) →
+      bare_template (template_behind spans start ss ts) ≡ plain.template_behind ss.tree ts
   unfolding bare_template template_behind plain.template_behind
   behind_bare start ss [] = distinct_bare start ss (are_distinct (blocks_among ss.tree))
   behind_bare start ss (t ∷ ts) = refl
 
-  whole_bare : (start : Span) (m : Read PlacedStatements) (n : Read Statements) → bare m ≡ n → bare_template (whole spans start m) ≡ plain.whole n
+  whole_bare : (start : Span) (m : Read PlacedStatements) (n : Read Statements) → bare m ≡ n →
+      bare_template (whole spans start m) ≡ plain.whole n
   unfolding bare bare_template
   whole_bare start (Ok x) n e = behind_bare start x.0 x.1 ∙ ap plain.whole e
   whole_bare start (Err f) n e = ap plain.whole e

@@ -30,5 +30,6 @@ pub template_sound_placed : (spans : List Span) (ts : List Token) (t : PlacedTem
 template_sound_placed spans ts t read =
     let x = template_sound ts t.tree (read_bare spans ts t read) in (x, same_places (sym read ∙ template_complete spans ts t.tree x))
 
-pub one_place : (spans : List Span) (ts : List Token) (ss : Statements) → (x y : IsTemplate ts ss) → template_places spans x ≡ template_places spans y
+pub one_place : (spans : List Span) (ts : List Token) (ss : Statements) → (x y : IsTemplate ts ss) →
+    template_places spans x ≡ template_places spans y
 one_place spans ts ss x y = same_places (sym (template_complete spans ts ss x) ∙ template_complete spans ts ss y)
