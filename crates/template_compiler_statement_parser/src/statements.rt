@@ -36,7 +36,7 @@ fn body<'source, R: ReadsExpressions>(
     left: u32,
     around: Around,
 ) -> Result<Vec<Stmt<'source>>, Refusal>
-    ensures { ParsedBody (deeper_body left (around_of around) tokens.old) tokens.new result }
+    ensures { ParsedBody (deeper_body left (around_of around) tokens.old.left) tokens.new.left result }
 {
     if left == 0 {
         Err(Refusal::Token(Fault::Syntax))
@@ -58,7 +58,7 @@ pub fn read_statements<'source, R: ReadsExpressions>(
     left: u32,
     around: Around,
 ) -> Result<Vec<Stmt<'source>>, Refusal>
-    ensures { ParsedBody (statements_at left (around_of around) tokens.old) tokens.new result }
+    ensures { ParsedBody (statements_at left (around_of around) tokens.old.left) tokens.new.left result }
 {
     let mut statements = Vec::new(alloc);
     loop {
@@ -80,8 +80,8 @@ fn next_statement<'source, R: ReadsExpressions>(
     around: Around,
     statements: &mut Vec<Stmt<'source>>,
 ) -> Result<bool, Refusal>
-    ensures { SteppedTo (statement_step (here left) (around_of around) (statements_in statements.old.items) tokens.old)
-        (statements_in statements.old.items) tokens.old (statements_in statements.new.items) tokens.new result }
+    ensures { SteppedTo (statement_step (here left) (around_of around) (statements_in statements.old.items) tokens.old.left)
+        (statements_in statements.old.items) tokens.old.left (statements_in statements.new.items) tokens.new.left result }
 {
     let span = tokens.span();
     if let Some(text) = tokens.text() {
@@ -113,8 +113,8 @@ fn next_tag<'source, R: ReadsExpressions>(
     word: &str,
 ) -> Result<bool, Refusal>
     ensures { SteppedTo (opened_step (here left) (around_of around) (statements_in statements.old.items) (opening word.now)
-        (passed (passed tokens.old)))
-        (statements_in statements.old.items) tokens.old (statements_in statements.new.items) tokens.new result }
+        (passed (passed tokens.old.left)))
+        (statements_in statements.old.items) tokens.old.left (statements_in statements.new.items) tokens.new.left result }
 {
     match opening_named(word) {
         Some(opening) => {
@@ -139,7 +139,7 @@ fn opened<'source, R: ReadsExpressions>(
     opening: Opening,
     span: Span,
 ) -> Result<Stmt<'source>, Refusal>
-    ensures { ParsedStatement (opened_by (here left) (around_of around) (opening_of opening) tokens.old) tokens.new result }
+    ensures { ParsedStatement (opened_by (here left) (around_of around) (opening_of opening) tokens.old.left) tokens.new.left result }
 {
     match opening {
         Opening::For => return for_loop::<R>(alloc, tokens, left, around, span).map(Stmt::ForLoop),
@@ -189,7 +189,7 @@ fn ended_body<'source, R: ReadsExpressions>(
     around: Around,
     end: &str,
 ) -> Result<Vec<Stmt<'source>>, Refusal>
-    ensures { ParsedBody (and_then (deeper_body left (around_of around) tokens.old) (expect_tag end.now)) tokens.new result }
+    ensures { ParsedBody (and_then (deeper_body left (around_of around) tokens.old.left) (expect_tag end.now)) tokens.new.left result }
 {
     let body = body::<R>(alloc, tokens, left, around)?;
     parts::expect_tag(tokens, end)?;
@@ -206,7 +206,7 @@ fn otherwise<'source, R: ReadsExpressions>(
     around: Around,
     end: &str,
 ) -> Result<Vec<Stmt<'source>>, Refusal>
-    ensures { ParsedBody (else_by (here left) (around_of around) end.now tokens.old) tokens.new result }
+    ensures { ParsedBody (else_by (here left) (around_of around) end.now tokens.old.left) tokens.new.left result }
 {
     if parts::begins_tag(tokens, "else") {
         parts::expect_tag(tokens, "else")?;
@@ -225,7 +225,8 @@ fn for_loop<'source, R: ReadsExpressions>(
     around: Around,
     span: Span,
 ) -> Result<Spanned<Box<ForLoop<'source>>>, Refusal>
-    ensures { ParsedAs (λ n. statement_of (statements.ForLoop n)) (for_by (here left) (around_of around) tokens.old) tokens.new result }
+    ensures { ParsedAs (λ n. statement_of (statements.ForLoop n))
+        (for_by (here left) (around_of around) tokens.old.left) tokens.new.left result }
 {
     let head = heads::read_for::<R>(alloc, tokens, left, span)?;
     let body = body::<R>(alloc, tokens, left, around.within_loop())?;
@@ -242,7 +243,8 @@ fn if_condition<'source, R: ReadsExpressions>(
     around: Around,
     span: Span,
 ) -> Result<Spanned<Box<IfCond<'source>>>, Refusal>
-    ensures { ParsedAs (λ n. statement_of (statements.IfCond n)) (if_by (here left) (around_of around) tokens.old) tokens.new result }
+    ensures { ParsedAs (λ n. statement_of (statements.IfCond n))
+        (if_by (here left) (around_of around) tokens.old.left) tokens.new.left result }
 {
     let first = read_branch::<R>(alloc, tokens, left, around, span)?;
     let others = branches::<R>(alloc, tokens, left, around)?;
@@ -261,7 +263,7 @@ fn read_branch<'source, R: ReadsExpressions>(
     around: Around,
     span: Span,
 ) -> Result<Spanned<Box<IfCond<'source>>>, Refusal>
-    ensures { ParsedAs branch_in (branch_by (here left) (around_of around) tokens.old) tokens.new result }
+    ensures { ParsedAs branch_in (branch_by (here left) (around_of around) tokens.old.left) tokens.new.left result }
 {
     let head = heads::read_branch::<R>(alloc, tokens, left, span)?;
     let body = body::<R>(alloc, tokens, left, around)?;
@@ -276,8 +278,8 @@ fn branches<'source, R: ReadsExpressions>(
     left: u32,
     around: Around,
 ) -> Result<Vec<Spanned<Box<IfCond<'source>>>>, Refusal>
-    ensures { ParsedAs (λ v. branches_in v.items) (all (branch_step (here left) (around_of around)) no_branches tokens.old)
-        tokens.new result }
+    ensures { ParsedAs (λ v. branches_in v.items) (all (branch_step (here left) (around_of around)) no_branches tokens.old.left)
+        tokens.new.left result }
 {
     let mut branches = Vec::new(alloc);
     loop {
@@ -298,8 +300,8 @@ fn next_branch<'source, R: ReadsExpressions>(
     around: Around,
     branches: &mut Vec<Spanned<Box<IfCond<'source>>>>,
 ) -> Result<bool, Refusal>
-    ensures { SteppedTo (branch_step (here left) (around_of around) (branches_in branches.old.items) tokens.old)
-        (branches_in branches.old.items) tokens.old (branches_in branches.new.items) tokens.new result }
+    ensures { SteppedTo (branch_step (here left) (around_of around) (branches_in branches.old.items) tokens.old.left)
+        (branches_in branches.old.items) tokens.old.left (branches_in branches.new.items) tokens.new.left result }
 {
     if parts::begins_tag(tokens, "elif") {
         let span = tokens.span();
@@ -320,7 +322,8 @@ fn with_block<'source, R: ReadsExpressions>(
     around: Around,
     span: Span,
 ) -> Result<Spanned<Box<WithBlock<'source>>>, Refusal>
-    ensures { ParsedAs (λ n. statement_of (statements.WithBlock n)) (with_by (here left) (around_of around) tokens.old) tokens.new result }
+    ensures { ParsedAs (λ n. statement_of (statements.WithBlock n))
+        (with_by (here left) (around_of around) tokens.old.left) tokens.new.left result }
 {
     let head = heads::read_with::<R>(alloc, tokens, left)?;
     let body = ended_body::<R>(alloc, tokens, left, around, "endwith")?;
@@ -335,7 +338,7 @@ fn set<'source, R: ReadsExpressions>(
     around: Around,
     span: Span,
 ) -> Result<Stmt<'source>, Refusal>
-    ensures { ParsedStatement (set_by (here left) (around_of around) tokens.old) tokens.new result }
+    ensures { ParsedStatement (set_by (here left) (around_of around) tokens.old.left) tokens.new.left result }
 {
     match heads::read_set::<R>(alloc, tokens, left, span)? {
         SetHead::Values(node) => return Ok(Stmt::Set(node)),
@@ -356,7 +359,7 @@ fn set_block<'source, R: ReadsExpressions>(
     span: Span,
 ) -> Result<Spanned<Box<SetBlock<'source>>>, Refusal>
     ensures { ParsedAs (λ n. statement_of (statements.SetBlock n))
-        (set_rest (here left) (around_of around) (set_over (set_block_of head.entry)) tokens.old) tokens.new result }
+        (set_rest (here left) (around_of around) (set_over (set_block_of head.entry)) tokens.old.left) tokens.new.left result }
 {
     let body = ended_body::<R>(alloc, tokens, left, around, "endset")?;
     Ok(ends::set_block(head, body, tokens.expand_span(span)))
@@ -370,7 +373,8 @@ fn auto_escape<'source, R: ReadsExpressions>(
     around: Around,
     span: Span,
 ) -> Result<Spanned<Box<AutoEscape<'source>>>, Refusal>
-    ensures { ParsedAs (λ n. statement_of (statements.AutoEscape n)) (autoescape_by (here left) (around_of around) tokens.old) tokens.new result }
+    ensures { ParsedAs (λ n. statement_of (statements.AutoEscape n))
+        (autoescape_by (here left) (around_of around) tokens.old.left) tokens.new.left result }
 {
     let head = heads::read_auto_escape::<R>(alloc, tokens, left, span)?;
     let body = ended_body::<R>(alloc, tokens, left, around, "endautoescape")?;
@@ -385,7 +389,8 @@ fn filter_block<'source, R: ReadsExpressions>(
     around: Around,
     span: Span,
 ) -> Result<Spanned<Box<FilterBlock<'source>>>, Refusal>
-    ensures { ParsedAs (λ n. statement_of (statements.FilterBlock n)) (filter_block_by (here left) (around_of around) tokens.old) tokens.new result }
+    ensures { ParsedAs (λ n. statement_of (statements.FilterBlock n))
+        (filter_block_by (here left) (around_of around) tokens.old.left) tokens.new.left result }
 {
     let head = heads::read_filter_block::<R>(alloc, tokens, left, span)?;
     let body = ended_body::<R>(alloc, tokens, left, around, "endfilter")?;
@@ -400,7 +405,8 @@ fn block<'source, R: ReadsExpressions>(
     around: Around,
     span: Span,
 ) -> Result<Spanned<Box<Block<'source>>>, Refusal>
-    ensures { ParsedAs (λ n. statement_of (statements.Block n)) (block_by (here left) (around_of around) tokens.old) tokens.new result }
+    ensures { ParsedAs (λ n. statement_of (statements.Block n))
+        (block_by (here left) (around_of around) tokens.old.left) tokens.new.left result }
 {
     let head = heads::read_block(tokens, around.in_macro)?;
     let body = body::<R>(alloc, tokens, left, around.within_block())?;
@@ -414,7 +420,7 @@ fn macro_block<'source, R: ReadsExpressions>(
     left: u32,
     span: Span,
 ) -> Result<Spanned<Box<Macro<'source>>>, Refusal>
-    ensures { ParsedAs (λ n. statement_of (statements.Macro n)) (macro_by (here left) tokens.old) tokens.new result }
+    ensures { ParsedAs (λ n. statement_of (statements.Macro n)) (macro_by (here left) tokens.old.left) tokens.new.left result }
 {
     let head = heads::read_macro::<R>(alloc, tokens, left)?;
     let body = ended_body::<R>(alloc, tokens, left, Around::within_macro(), "endmacro")?;
@@ -428,7 +434,7 @@ fn call_block<'source, R: ReadsExpressions>(
     left: u32,
     span: Span,
 ) -> Result<Spanned<Box<CallBlock<'source>>>, Refusal>
-    ensures { ParsedAs (λ n. statement_of (statements.CallBlock n)) (call_by (here left) tokens.old) tokens.new result }
+    ensures { ParsedAs (λ n. statement_of (statements.CallBlock n)) (call_by (here left) tokens.old.left) tokens.new.left result }
 {
     let head = heads::read_call::<R>(alloc, tokens, left)?;
     let body = ended_body::<R>(alloc, tokens, left, Around::within_macro(), "endcall")?;

@@ -70,16 +70,16 @@ decreases-read_statements g l = 16 * l.left + 13
 
 abbrev pub invariant-read_statements-loop-statements : goal.invariant-read_statements-loop-statements
 invariant-read_statements-loop-statements g l =
-    all (statement_step (here l.left) (around_of l.around)) (statements_in l.statements.items) l.tokens ≡
-    all (statement_step (here l.left) (around_of l.around)) no_statements l.initial.tokens
+    all (statement_step (here l.left) (around_of l.around)) (statements_in l.statements.items) l.tokens.left ≡
+    all (statement_step (here l.left) (around_of l.around)) no_statements l.initial.tokens.left
 
 abbrev pub decreases-read_statements-loop-statements : goal.decreases-read_statements-loop-statements
-decreases-read_statements-loop-statements g l = length l.tokens
+decreases-read_statements-loop-statements g l = length l.tokens.left
 
 abbrev pub invariant-branches-loop-branches : goal.invariant-branches-loop-branches
 invariant-branches-loop-branches g l =
-    all (branch_step (here l.left) (around_of l.around)) (branches_in l.branches.items) l.tokens ≡
-    all (branch_step (here l.left) (around_of l.around)) no_branches l.initial.tokens
+    all (branch_step (here l.left) (around_of l.around)) (branches_in l.branches.items) l.tokens.left ≡
+    all (branch_step (here l.left) (around_of l.around)) no_branches l.initial.tokens.left
 
 abbrev pub decreases-branches-loop-branches : goal.decreases-branches-loop-branches
-decreases-branches-loop-branches g l = length l.tokens
+decreases-branches-loop-branches g l = length l.tokens.left
