@@ -1,4 +1,5 @@
 pub mod Along
+pub mod Ends
 pub mod Entries
 pub mod Items
 pub mod Linked

@@ -1,2 +1,3 @@
 pub mod Chains
+pub mod Ends
 pub mod Own

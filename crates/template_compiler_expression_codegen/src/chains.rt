@@ -1,15 +1,52 @@
-//! The leaps of a chain of comparisons, which are told their target at its end.
-ghost use Rattle.std.specs.Prelude.{◌≡◌, ◌++◌, ◌∷◌, [], OnOk, IfErr, length};
-ghost use Rattle.template_code.specs.Code.{jump_if_false_or_pop};
+//! The comparisons of a chain, and its leaps, which are told their target at its end.
+ghost use Rattle.std.specs.Prelude.{◌≡◌, ◌++◌, ◌∷◌, [], OnOk, IfOk, IfErr, length};
+ghost use Rattle.template_code.specs.Code.{compare_and_preserve, jump_if_false_or_pop};
 ghost use Rattle.template_code.specs.Listing.{code_in, TakesNoMore};
 ghost use Rattle.template_compiler_codegen.specs.Expressions.{one};
-ghost use Rattle.template_compiler_emission.specs.Puts.{Keeps, Puts};
-ghost use Rattle.template_compiler_expression_codegen.specs.Chains.{is_false, leapt};
+ghost use Rattle.template_compiler_folding.specs.Folding.{comparison_folded};
+ghost use Rattle.template_compiler_emission.specs.Puts.{Keeps, Puts, behind};
+ghost use Rattle.template_compiler_expression_codegen.specs.Chains.{is_false, leapt, left_behind};
 
 use template_code::Instructions;
-use template_compiler_emission::{Leap, land, reserve};
+use template_compiler_emission::{Leap, comparison_instruction, land, load_copy, put, reserve};
+use template_compiler_folding::fold_comparison;
+use template_tree::CompareOpKind;
 use template_values_core::Value;
 use template_values_errors::Error;
+
+// What is constant of a comparison: its truth, and behind it the left side of the next one.
+#[derive(Drop)]
+pub(crate) struct Link {
+    pub(crate) holds: Option<Value>,
+    pub(crate) left: Option<Value>,
+}
+
+// A comparison behind its right side, which is loaded first where it was held back.
+#[inline(always)]
+pub(crate) fn end_link<'source>(
+    code: &mut Instructions<'source>,
+    left: &Option<Value>,
+    op: CompareOpKind,
+    right: Option<Value>,
+) -> Result<Link, Error>
+    ensures holds { IfOk result (λ l. l.holds ≡ comparison_folded op left.now right) }
+    ensures left { IfOk result (λ l. l.left ≡ left_behind l.holds right) }
+    ensures put { OnOk result (Puts (behind right (one (compare_and_preserve op))) code.old code.new) }
+    ensures refused { IfErr result (TakesNoMore (code_in code.new)) }
+{
+    load_copy(code, &right, None)?;
+    put(code, comparison_instruction(op), None)?;
+    match fold_comparison(op, left, &right)? {
+        Some(holds) => Ok(Link {
+            holds: Some(holds),
+            left: right,
+        }),
+        None => Ok(Link {
+            holds: None,
+            left: None,
+        }),
+    }
+}
 
 // A comparison that is constant and false: the chain ends behind it.
 pub(crate) fn is_false(holds: &Option<Value>) -> bool

@@ -17,17 +17,13 @@ ghost use Rattle.template_compiler_emission.specs.Puts.{Puts, unless, behind};
 ghost use Rattle.template_compiler_expression_codegen.specs.Chains.{Grows, constant_behind, leaps_in, left_behind, link_code, linked_to};
 ghost use Rattle.template_compiler_expression_codegen.specs.Own.{own_constant, own_code};
 
-use crate::chains::{is_false, put_leap, tell_leaps};
+use crate::chains::{Link, end_link, is_false, put_leap, tell_leaps};
+use crate::operators::{Choice, end_choice, end_operator, end_unary};
 use std::alloc::Global;
 use std::borrow::CowStr;
 use template_code::{Instruction, Instructions};
-use template_compiler_emission::{
-    Leap, comparison_instruction, land, leap_of, load, load_copy, operator_instruction, put,
-    reserve, unary_instruction,
-};
-use template_compiler_folding::{
-    fold_binary, fold_comparison, fold_list, fold_map, fold_tuple, fold_unary,
-};
+use template_compiler_emission::{Leap, land, leap_of, load, load_copy, put, reserve};
+use template_compiler_folding::{fold_list, fold_map, fold_tuple};
 use template_tree::{BinOpKind, CompareOp, Expr, Span, UnaryOpKind};
 use template_tree_spines::{left, spine};
 use template_values_core::Value;
@@ -186,17 +182,7 @@ fn fold_unary_operator<'source>(
 {
     let begins = code.len();
     let constant = fold_expr(alloc, code, operand, from)?;
-    match fold_unary(op, &constant)? {
-        Some(value) => {
-            code.truncate(begins);
-            Ok(Some(value))
-        }
-        None => {
-            load(code, constant, from)?;
-            put(code, unary_instruction(op), None)?;
-            Ok(None)
-        }
-    }
+    end_unary(code, begins, op, constant, from)
 }
 
 // `and` or `or` behind its left side, which is loaded before the right one, and dropped again where both
@@ -221,17 +207,8 @@ fn fold_choice<'source>(
     load_copy(code, left, from)?;
     let jump = reserve(code, leap, None)?;
     let constant = fold_expr(alloc, code, right, None)?;
-    match fold_binary(alloc, op, left, &constant)? {
-        Some(value) => {
-            code.truncate(begins);
-            Ok(Some(value))
-        }
-        None => {
-            load(code, constant, None)?;
-            land(code, jump, leap);
-            Ok(None)
-        }
-    }
+    let choice = Choice { begins, jump, leap };
+    end_choice(alloc, code, choice, op, left, constant)
 }
 
 // Another operator behind its left side, which is loaded before the right one, and dropped again where
@@ -255,17 +232,7 @@ fn fold_operator<'source>(
     let begins = code.len();
     load_copy(code, left, from)?;
     let constant = fold_expr(alloc, code, right, None)?;
-    match fold_binary(alloc, op, left, &constant)? {
-        Some(value) => {
-            code.truncate(begins);
-            Ok(Some(value))
-        }
-        None => {
-            load(code, constant, None)?;
-            put(code, operator_instruction(op), None)?;
-            Ok(None)
-        }
-    }
+    end_operator(alloc, code, begins, op, left, constant)
 }
 
 // An expression that may be left out, for which a constant stands then.
@@ -486,13 +453,6 @@ fn fold_map_literal<'source>(
     }
 }
 
-// What is constant of a comparison: its truth, and behind it the left side of the next one.
-#[derive(Drop)]
-struct Link {
-    holds: Option<Value>,
-    left: Option<Value>,
-}
-
 // What is constant of a chain, and the places of its leaps.
 #[derive(Drop)]
 struct Linked {
@@ -515,18 +475,7 @@ fn compile_link<'source>(
     ensures refused { IfErr result (TakesNoMore (code_in code.new)) }
 {
     let right = fold_expr(alloc, code, &link.expr, None)?;
-    load_copy(code, &right, None)?;
-    put(code, comparison_instruction(link.op), None)?;
-    match fold_comparison(link.op, left, &right)? {
-        Some(holds) => Ok(Link {
-            holds: Some(holds),
-            left: right,
-        }),
-        None => Ok(Link {
-            holds: None,
-            left: None,
-        }),
-    }
+    end_link(code, left, link.op, right)
 }
 
 // The comparisons behind the first one, each behind a leap whose target is told later, up to one that is

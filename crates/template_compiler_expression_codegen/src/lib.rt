@@ -3,6 +3,7 @@
 
 mod chains;
 mod expressions;
+mod operators;
 mod whole;
 
 pub use expressions::fold_expr;

@@ -1,7 +1,7 @@
 use Rattle.std.proofs.Common.{◌≡◌, ℕ, ◌+◌, ◌<◌, ◌++◌, List, length, take, drop, false, Option, None, ap, sym, subst, ◌∙◌, arith, refl}
 use Rattle.std.proofs.Math.ListN.{set}
 use Rattle.std.proofs.lemmas.Result.{on_ok_weaker}
-use Rattle.std.specs.Prelude.{option_and_then}
+use Rattle.std.specs.Prelude.{IfOk, option_and_then}
 use Rattle.template_values_model.specs.Val.{Val}
 use Rattle.template_tree.specs.Tree.{Expression, Links, chain, links_more, list_literal, map_literal, tuple_literal}
 use Rattle.template_tree.specs.View.{expression_of, expressions_in, links_in, optional_in}
@@ -14,15 +14,17 @@ use Rattle.template_tree.specs.declared.expressions.Tuple.{Tuple as TupleNode}
 use Rattle.template_tree_spines.proofs.Walks.{walked}
 use Rattle.template_walk.specs.Constants.{chain_constant, constant_of}
 use Rattle.template_walk.specs.Runnable.{IsRunnable}
-use Rattle.template_code.specs.Code.{build_list, build_tuple}
+use Rattle.template_code.specs.Code.{build_list, build_tuple, compare_and_preserve, operate}
 use Rattle.template_code.specs.Listing.{code_in}
-use Rattle.template_compiler_codegen.specs.Expressions.{chain_code, expression_code}
+use Rattle.template_compiler_codegen.specs.Expressions.{chain_code, expression_code, one, unary_code}
+use Rattle.template_compiler_folding.specs.Folding.{binary_folded, comparison_folded, unary_folded}
 use Rattle.template_compiler_emission.specs.declared.leaps.Leap.TheVariants.{Always, IfFalse}
 use Rattle.template_compiler_emission.specs.Leaps.{leap_code}
 use Rattle.template_compiler_emission.specs.Puts.{Puts, unless}
 use Rattle.template_compiler_emission.proofs.Putting.{same_then, puts_then, puts_skipped, puts_either}
-use Rattle.template_compiler_expression_codegen.specs.Chains.{constant_behind, is_false, leaps_in, linked_to}
+use Rattle.template_compiler_expression_codegen.specs.Chains.{constant_behind, is_false, leaps_in, left_behind, linked_to}
 use Rattle.template_compiler_expression_codegen.proofs.Along.{alone_put, nothing_left, runnable_at, depth_at, one_node, so_far}
+use Rattle.template_compiler_expression_codegen.proofs.Ends.{ends_choice, ends_operator, ends_unary, puts_over}
 use Rattle.template_compiler_expression_codegen.proofs.Items.{item_runnable, number_is, puts_item}
 use Rattle.template_compiler_expression_codegen.proofs.Linked.{behind_none, link_goes, link_known, link_more, link_runnable, links_at, place_more}
 use Rattle.template_compiler_expression_codegen.proofs.Own.{known, add_own, no_left, own_step}
@@ -30,13 +32,6 @@ use Rattle.template_compiler_expression_codegen.proofs.Putting.{grows_back_at, g
 use Rattle.template_compiler_expression_codegen.proofs.Sizes.{item_deep, link_deep}
 use Rattle.template_compiler_expression_codegen.proofs.Trees.{chain_deep, chain_is, keys_deep, list_deep, list_is, map_is, tuple_deep, tuple_is, values_deep}
 use Rattle.template_compiler_expression_codegen.proofs.expressions.+expression.Goals as goal
-
-pub fold_choice-returns-in_ok-load-in-None-clause-put : goal.fold_choice-returns-in_ok-load-in-None-clause-put
-fold_choice-returns-in_ok-load-in-None-clause-put t c =
-    let whole = puts_whole (expression_of c.args.right.now) c.in_ok-constant.ensures.constant c.in_ok-constant.ensures.put c.in_ok-load-in-None.ensures.put in
-    let landed = c.land.ensures.landed ∙
-    ap (λ m. set (code_in c.load.new.code) m (leap_code c.args.leap (length (code_in c.load.new.code)))) c.in_ok-jump.ensures.place in
-    puts_behind c.args.left.now c.in_ok-load_copy.ensures.put (puts_skipped c.args.leap c.in_ok-jump.ensures.put whole landed c.land.ensures.same)
 
 pub fold_expr-loop-i-preserved : goal.fold_expr-loop-i-preserved
 fold_expr-loop-i-preserved t c =
@@ -83,11 +78,6 @@ fold_expr-returns-clause-put t c =
           ap (λ (o : Option Val). code_in c.args.code.now ++ unless o (expression_code e) p) (sym constant);
       same = c.loop-i.invariant.same;
     }
-
-pub fold_operator-returns-in_ok-put-in-None-clause-put : goal.fold_operator-returns-in_ok-put-in-None-clause-put
-fold_operator-returns-in_ok-put-in-None-clause-put t c =
-    let whole = puts_whole (expression_of c.args.right.now) c.in_ok-constant.ensures.constant c.in_ok-constant.ensures.put c.in_ok-load-in-None.ensures.put in
-    puts_behind c.args.left.now c.in_ok-load_copy.ensures.put (puts_then whole (puts_as c.operator_instruction.ensures c.in_ok-put-in-None.ensures.put))
 
 pub compile_chain-returns-in_ok-put-in-None-holds-2-clause-constant : goal.compile_chain-returns-in_ok-put-in-None-holds-2-clause-constant
 compile_chain-returns-in_ok-put-in-None-holds-2-clause-constant t c =
@@ -157,16 +147,6 @@ compile_items-loop-item-preserved t c =
     let es = c.args.items.now in
     let within : c.loop-item.item-index < length es = omega arith in
     puts_item es c.loop-item.item-index c.item-item.result within c.item-item.is c.loop-item.invariant c.in_ok-compile_expr.ensures.put
-
-pub compile_link-returns-in-Some-clause-put : goal.compile_link-returns-in-Some-clause-put
-compile_link-returns-in-Some-clause-put t c =
-    puts_then (puts_whole (expression_of c.args.link.now.expr) c.in_ok-right.ensures.constant c.in_ok-right.ensures.put c.in_ok-load_copy.ensures.put)
-    (puts_as c.comparison_instruction.ensures c.in_ok-put.ensures.put)
-
-pub compile_link-returns-in-None-clause-put : goal.compile_link-returns-in-None-clause-put
-compile_link-returns-in-None-clause-put t c =
-    puts_then (puts_whole (expression_of c.args.link.now.expr) c.in_ok-right.ensures.constant c.in_ok-right.ensures.put c.in_ok-load_copy.ensures.put)
-    (puts_as c.comparison_instruction.ensures c.in_ok-put.ensures.put)
 
 pub compile_links-compile_link-requires : goal.compile_links-compile_link-requires
 compile_links-compile_link-requires t c =
@@ -319,27 +299,6 @@ fold_chain-returns-in-Some-clause-put t c =
     grows_back_at c.len-begins.result c.len-begins.ensures.len (grows_then (grows_by c.in_ok-load_copy.ensures.put) c.in_ok-holds.ensures.grown)
     c.truncate.ensures.kept c.truncate.ensures.same c.truncate.ensures.places
 
-pub fold_choice-returns-in-Some-clause-put : goal.fold_choice-returns-in-Some-clause-put
-fold_choice-returns-in-Some-clause-put t c =
-    puts_back_at c.len-begins.result c.len-begins.ensures.len
-    (puts_then c.in_ok-load_copy.ensures.put (puts_then c.in_ok-jump.ensures.put c.in_ok-constant.ensures.put))
-    c.truncate.ensures.kept c.truncate.ensures.same c.truncate.ensures.places
-
-pub fold_operator-returns-in-Some-clause-put : goal.fold_operator-returns-in-Some-clause-put
-fold_operator-returns-in-Some-clause-put t c =
-    puts_back_at c.len-begins.result c.len-begins.ensures.len (puts_then c.in_ok-load_copy.ensures.put c.in_ok-constant.ensures.put)
-    c.truncate.ensures.kept c.truncate.ensures.same c.truncate.ensures.places
-
-pub fold_unary_operator-returns-in-Some-clause-put : goal.fold_unary_operator-returns-in-Some-clause-put
-fold_unary_operator-returns-in-Some-clause-put t c =
-    puts_back_at c.len-begins.result c.len-begins.ensures.len c.in_ok-constant.ensures.put
-    c.truncate.ensures.kept c.truncate.ensures.same c.truncate.ensures.places
-
-pub fold_unary_operator-returns-in_ok-put-in-None-clause-put : goal.fold_unary_operator-returns-in_ok-put-in-None-clause-put
-fold_unary_operator-returns-in_ok-put-in-None-clause-put t c =
-    let whole = puts_whole (expression_of c.args.operand.now) c.in_ok-constant.ensures.constant c.in_ok-constant.ensures.put c.in_ok-load-in-None.ensures.put in
-    puts_then whole (puts_as c.unary_instruction.ensures c.in_ok-put-in-None.ensures.put)
-
 pub compile_expr-returns-clause-put : goal.compile_expr-returns-clause-put
 compile_expr-returns-clause-put t c = on_ok_weaker c.load.result (λ last.
     puts_whole (expression_of c.args.expr.now) c.in_ok-constant.ensures.constant c.in_ok-constant.ensures.put last) c.load.ensures.put
@@ -347,3 +306,48 @@ compile_expr-returns-clause-put t c = on_ok_weaker c.load.result (λ last.
 pub compile_item-returns-clause-put : goal.compile_item-returns-clause-put
 compile_item-returns-clause-put t c = on_ok_weaker c.put.result (λ last.
     puts_behind c.args.left c.in_ok-load.ensures.put (puts_then c.in_ok-compile_expr.ensures.put last)) c.put.ensures.put
+
+pub fold_unary_operator-returns-clause-constant : goal.fold_unary_operator-returns-clause-constant
+fold_unary_operator-returns-clause-constant t c =
+    subst (λ (k : Option Val). IfOk c.end_unary.result (λ o. o ≡ unary_folded c.args.op k)) c.in_ok-constant.ensures.constant c.end_unary.ensures.constant
+
+pub fold_unary_operator-returns-clause-put : goal.fold_unary_operator-returns-clause-put
+fold_unary_operator-returns-clause-put t c =
+    ends_unary (expression_of c.args.operand.now) (one (unary_code c.args.op)) c.len-begins.result _ c.end_unary.result c.end_unary.new.code
+    c.len-begins.ensures.len c.in_ok-constant.ensures.constant c.in_ok-constant.ensures.put c.end_unary.ensures.put
+
+pub fold_choice-returns-clause-constant : goal.fold_choice-returns-clause-constant
+fold_choice-returns-clause-constant t c =
+    subst (λ (k : Option Val). IfOk c.end_choice.result (λ o. o ≡ binary_folded c.args.op c.args.left.now k)) c.in_ok-constant.ensures.constant
+    c.end_choice.ensures.constant
+
+pub fold_choice-returns-clause-put : goal.fold_choice-returns-clause-put
+fold_choice-returns-clause-put t c =
+    ends_choice c.args.left.now (expression_of c.args.right.now) c.args.leap c.len-begins.result c.in_ok-jump.jump _ c.end_choice.result
+    c.end_choice.new.code c.len-begins.ensures.len c.in_ok-load_copy.ensures.put c.in_ok-jump.ensures.place c.in_ok-jump.ensures.put
+    c.in_ok-constant.ensures.constant c.in_ok-constant.ensures.put c.end_choice.ensures.put
+
+pub fold_operator-returns-clause-constant : goal.fold_operator-returns-clause-constant
+fold_operator-returns-clause-constant t c =
+    subst (λ (k : Option Val). IfOk c.end_operator.result (λ o. o ≡ binary_folded c.args.op c.args.left.now k)) c.in_ok-constant.ensures.constant
+    c.end_operator.ensures.constant
+
+pub fold_operator-returns-clause-put : goal.fold_operator-returns-clause-put
+fold_operator-returns-clause-put t c =
+    ends_operator c.args.left.now (expression_of c.args.right.now) (one (operate c.args.op)) c.len-begins.result _ c.end_operator.result
+    c.end_operator.new.code c.len-begins.ensures.len c.in_ok-load_copy.ensures.put c.in_ok-constant.ensures.constant
+    c.in_ok-constant.ensures.put c.end_operator.ensures.put
+
+pub compile_link-returns-clause-holds : goal.compile_link-returns-clause-holds
+compile_link-returns-clause-holds t c =
+    subst (λ (k : Option Val). IfOk c.end_link.result (λ l. l.holds ≡ comparison_folded c.args.link.now.op c.args.left.now k))
+    c.in_ok-right.ensures.constant c.end_link.ensures.holds
+
+pub compile_link-returns-clause-left : goal.compile_link-returns-clause-left
+compile_link-returns-clause-left t c =
+    subst (λ (k : Option Val). IfOk c.end_link.result (λ l. l.left ≡ left_behind l.holds k)) c.in_ok-right.ensures.constant c.end_link.ensures.left
+
+pub compile_link-returns-clause-put : goal.compile_link-returns-clause-put
+compile_link-returns-clause-put t c = on_ok_weaker c.end_link.result (λ last.
+    puts_over (expression_of c.args.link.now.expr) (one (compare_and_preserve c.args.link.now.op)) _ c.in_ok-right.ensures.constant
+    c.in_ok-right.ensures.put last) c.end_link.ensures.put
