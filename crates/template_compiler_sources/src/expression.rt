@@ -43,7 +43,7 @@ fn whole_expression<'source>(
     alloc: Global,
     tokens: &mut TokenStream<'source>,
 ) -> Result<Expr<'source>, Refusal>
-    ensures { ParsedExpression (expression_alone tokens.old) result }
+    ensures { ParsedExpression (expression_alone tokens.old.left) result }
 {
     let tree = read_expression(alloc, tokens, MAX_DEPTH)?;
     if tokens.is_done() {

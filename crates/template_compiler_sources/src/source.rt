@@ -52,7 +52,7 @@ fn whole_template<'source>(
     alloc: Global,
     tokens: &mut TokenStream<'source>,
 ) -> Result<Spanned<Template<'source>>, Refusal>
-    ensures { ParsedTemplate (template_of tokens.old) result }
+    ensures { ParsedTemplate (template_of tokens.old.left) result }
 {
     let start = tokens.span();
     let children = read_template(alloc, tokens)?;

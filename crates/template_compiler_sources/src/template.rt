@@ -20,7 +20,7 @@ pub(crate) fn read_template<'source>(
     alloc: Global,
     tokens: &mut TokenStream<'source>,
 ) -> Result<Vec<Stmt<'source>>, Refusal>
-    ensures { ParsedWhole (template_of tokens.old) result }
+    ensures { ParsedWhole (template_of tokens.old.left) result }
 {
     let body = read_statements::<ExpressionParser>(alloc, tokens, MAX_DEPTH, Around::nothing())?;
     if !tokens.is_done() {

@@ -9,5 +9,5 @@ pub returns : goal.returns
 returns c =
     let names : texts_in c.in_ok-names.names.items ≡ blocks_among (statements_in c.in_ok-body.body.items) = search rules in
     let twice : are_distinct (texts_in c.in_ok-names.names.items) ≡ false = search rules in
-    whole_twice c.args.tokens.now _ (statements_in c.in_ok-body.body.items) (texts_in c.in_ok-names.names.items) _ c.in_ok-body.ensures
+    whole_twice c.args.tokens.now.left _ (statements_in c.in_ok-body.body.items) (texts_in c.in_ok-names.names.items) _ c.in_ok-body.ensures
     c.nothing.ensures (sym c.is_done.ensures ∙ c.if-not-is_done.false) names twice
