@@ -1,11 +1,11 @@
 -- Operators behind their operands, of which each is dropped again, or put whole.
-use Rattle.std.proofs.Common.{◌≡◌, [], ◌++◌, ℕ, List, length, Option, None, Some, Result, Ok, Err, sym, ap, subst, ◌∙◌, append-nil}
+use Rattle.std.proofs.Common.{◌≡◌, ◌++◌, ℕ, List, length, Option, None, Some, Result, Ok, Err, sym, ap, subst, ◌∙◌, append-nil}
 use Rattle.std.specs.Prelude.{IfOk}
 use Rattle.std.proofs.Math.ListN.{set}
 use Rattle.template_values_model.specs.Val.{Val}
 use Rattle.template_tree.specs.Tree.{Expression}
 use Rattle.template_walk.specs.Constants.{constant_of}
-use Rattle.template_code.specs.Code.{Code, load_const}
+use Rattle.template_code.specs.Code.{Code}
 use Rattle.template_code.specs.Listing.{code_in}
 use Rattle.template_code.specs.declared.listing.Instructions.{Instructions}
 use Rattle.template_compiler_codegen.specs.Expressions.{Coded, one, nothing, then_code, skipped, expression_code}

@@ -1,5 +1,4 @@
 use Rattle.std.proofs.Common.{◌≡◌, ℕ, ◌+◌, ◌<◌, ◌++◌, List, length, take, drop, false, Option, None, ap, sym, subst, ◌∙◌, arith, refl}
-use Rattle.std.proofs.Math.ListN.{set}
 use Rattle.std.proofs.lemmas.Result.{on_ok_weaker}
 use Rattle.std.specs.Prelude.{IfOk, option_and_then}
 use Rattle.template_values_model.specs.Val.{Val}
@@ -19,16 +18,15 @@ use Rattle.template_code.specs.Listing.{code_in}
 use Rattle.template_compiler_codegen.specs.Expressions.{chain_code, expression_code, one, unary_code}
 use Rattle.template_compiler_folding.specs.Folding.{binary_folded, comparison_folded, unary_folded}
 use Rattle.template_compiler_emission.specs.declared.leaps.Leap.TheVariants.{Always, IfFalse}
-use Rattle.template_compiler_emission.specs.Leaps.{leap_code}
 use Rattle.template_compiler_emission.specs.Puts.{Puts, unless}
-use Rattle.template_compiler_emission.proofs.Putting.{same_then, puts_then, puts_skipped, puts_either}
+use Rattle.template_compiler_emission.proofs.Putting.{same_then, puts_then, puts_either}
 use Rattle.template_compiler_expression_codegen.specs.Chains.{constant_behind, is_false, leaps_in, left_behind, linked_to}
 use Rattle.template_compiler_expression_codegen.proofs.Along.{alone_put, nothing_left, runnable_at, depth_at, one_node, so_far}
 use Rattle.template_compiler_expression_codegen.proofs.Ends.{ends_choice, ends_operator, ends_unary, puts_over}
 use Rattle.template_compiler_expression_codegen.proofs.Items.{item_runnable, number_is, puts_item}
 use Rattle.template_compiler_expression_codegen.proofs.Linked.{behind_none, link_goes, link_known, link_more, link_runnable, links_at, place_more}
 use Rattle.template_compiler_expression_codegen.proofs.Own.{known, add_own, no_left, own_step}
-use Rattle.template_compiler_expression_codegen.proofs.Putting.{grows_back_at, grows_by, grows_itself, grows_then, landed_at, puts_as, puts_back_at, puts_behind, puts_chain, puts_optional, puts_whole}
+use Rattle.template_compiler_expression_codegen.proofs.Putting.{grows_back_at, grows_by, grows_itself, grows_then, landed_at, puts_as, puts_behind, puts_chain, puts_optional, puts_whole}
 use Rattle.template_compiler_expression_codegen.proofs.Sizes.{item_deep, link_deep}
 use Rattle.template_compiler_expression_codegen.proofs.Trees.{chain_deep, chain_is, keys_deep, list_deep, list_is, map_is, tuple_deep, tuple_is, values_deep}
 use Rattle.template_compiler_expression_codegen.proofs.expressions.+expression.Goals as goal
