@@ -1,16 +1,16 @@
 //! What all forms are made of: a head with its parts in parentheses, a list in brackets, words and texts.
-ghost use Rattle.std.specs.Prelude.{◌≡◌, suc, IfOk};
-
-use std::alloc::Global;
+use std::alloc::{AllocError, Global};
 use template_tree::{BinOpKind, CompareOpKind, Span, UnaryOpKind};
-use template_values_errors::{Error, ErrorKind};
+use template_values_errors::ErrorKind;
 
-/// A form as far as it is written.
+/// A form as far as it is written. What is refused on the way is kept, so that what writes need not ask.
 #[derive(Drop)]
 pub(crate) struct Form {
     pub(crate) text: String,
     /// Whether the place of each node stands behind it.
     pub(crate) with_places: bool,
+    /// Why it is not whole, where it is not.
+    pub(crate) refused: Option<ErrorKind>,
 }
 
 impl Form {
@@ -19,39 +19,59 @@ impl Form {
         Form {
             text: String::new(alloc),
             with_places: false,
+            refused: None,
         }
     }
 
-    pub(crate) fn push(&mut self, c: char) -> Result<(), Error> {
-        Ok(self.text.push(c)?)
+    /// Keeps the first refusal.
+    pub(crate) fn refuse(&mut self, kind: ErrorKind) {
+        if self.refused.is_none() {
+            self.refused = Some(kind);
+        }
     }
 
-    pub(crate) fn push_str(&mut self, text: &str) -> Result<(), Error> {
-        Ok(self.text.push_str(text)?)
+    /// Keeps that memory was refused, where it was.
+    pub(crate) fn note(&mut self, written: Result<(), AllocError>) {
+        if written.is_err() {
+            self.refuse(ErrorKind::OutOfMemory);
+        }
+    }
+
+    pub(crate) fn push(&mut self, c: char) {
+        let written = self.text.push(c);
+        self.note(written);
+    }
+
+    pub(crate) fn push_str(&mut self, text: &str) {
+        let written = self.text.push_str(text);
+        self.note(written);
+    }
+
+    pub(crate) fn push_number(&mut self, number: i128) {
+        let written = write!(self.text, "{number}");
+        self.note(written);
     }
 
     /// The place of the node whose form ends here: `@line:column:offset-line:column:offset`.
-    pub(crate) fn place(&mut self, span: Span) -> Result<(), Error> {
+    pub(crate) fn place(&mut self, span: Span) {
         if self.with_places {
-            self.write_place(span)
-        } else {
-            Ok(())
+            let written = write_place(&mut self.text, span);
+            self.note(written);
         }
     }
+}
 
-    fn write_place(&mut self, span: Span) -> Result<(), Error> {
-        write!(
-            self.text,
-            "@{}:{}:{}",
-            span.start_line, span.start_col, span.start_offset
-        )?;
-        write!(
-            self.text,
-            "-{}:{}:{}",
-            span.end_line, span.end_col, span.end_offset
-        )?;
-        Ok(())
-    }
+fn write_place(text: &mut String, span: Span) -> Result<(), AllocError> {
+    write!(
+        text,
+        "@{}:{}:{}",
+        span.start_line, span.start_col, span.start_offset
+    )?;
+    write!(
+        text,
+        "-{}:{}:{}",
+        span.end_line, span.end_col, span.end_offset
+    )
 }
 
 /// What is left out.
@@ -103,19 +123,19 @@ pub(crate) fn comparison_word(op: CompareOpKind) -> &'static str {
 }
 
 /// `(head`, before its parts.
-pub(crate) fn open(head: &str, out: &mut Form) -> Result<(), Error> {
-    out.push('(')?;
-    out.push_str(head)
+pub(crate) fn open(head: &str, out: &mut Form) {
+    out.push('(');
+    out.push_str(head);
 }
 
 /// A word behind what stands there.
-pub(crate) fn word(word: &str, out: &mut Form) -> Result<(), Error> {
-    out.push(' ')?;
-    out.push_str(word)
+pub(crate) fn word(word: &str, out: &mut Form) {
+    out.push(' ');
+    out.push_str(word);
 }
 
 /// The word behind what stands there, or the sign for what is left out.
-pub(crate) fn word_if(is_there: bool, there: &str, out: &mut Form) -> Result<(), Error> {
+pub(crate) fn word_if(is_there: bool, there: &str, out: &mut Form) {
     if is_there {
         word(there, out)
     } else {
@@ -124,15 +144,15 @@ pub(crate) fn word_if(is_there: bool, there: &str, out: &mut Form) -> Result<(),
 }
 
 /// A text in double quotes; quotes, backslashes and newlines are escaped.
-pub(crate) fn quoted(text: &str, out: &mut Form) -> Result<(), Error> {
-    out.push('"')?;
+pub(crate) fn quoted(text: &str, out: &mut Form) {
+    out.push('"');
     for c in text.chars() {
-        push_escaped(c, out)?;
+        push_escaped(c, out);
     }
-    out.push('"')
+    out.push('"');
 }
 
-fn push_escaped(c: char, out: &mut Form) -> Result<(), Error> {
+fn push_escaped(c: char, out: &mut Form) {
     match c {
         '"' => out.push_str("\\\""),
         '\\' => out.push_str("\\\\"),
@@ -140,16 +160,5 @@ fn push_escaped(c: char, out: &mut Form) -> Result<(), Error> {
         '\r' => out.push_str("\\r"),
         '\t' => out.push_str("\\t"),
         c => out.push(c),
-    }
-}
-
-// One level less; `TooLarge` where none is left.
-pub(crate) fn deeper(left: u32) -> Result<u32, Error>
-    ensures { IfOk result (λ next. left ≡ suc next) }
-{
-    if left == 0 {
-        Err(Error::new(ErrorKind::TooLarge))
-    } else {
-        Ok(left - 1)
     }
 }

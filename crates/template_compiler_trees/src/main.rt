@@ -63,62 +63,62 @@ enum Asked {
 }
 
 fn main(rt: HostRuntime) -> io::Result<()> {
-    let alloc = rt.alloc();
-    for line in rt.lines(alloc) {
-        let line = line?;
-        match answer(alloc, line.as_str()) {
-            Ok(text) => println!(rt; "{line}{text}")?,
-            Err(error) => println!(rt; "{line} = {}", error.kind().name())?,
-        }
+    for line in rt.lines(rt.alloc()) {
+        write_line(&rt, line?.as_str())?;
     }
     Ok(())
 }
 
-// What stands behind a line: nothing behind a heading, else what comes of the JSON in it.
-fn answer(alloc: Global, line: &str) -> Result<String, Error> {
-    let mut out = Form::new(alloc);
-    about_line(alloc, line, &mut out)?;
-    Ok(out.text)
-}
-
-fn about_line(alloc: Global, line: &str, out: &mut Form) -> Result<(), Error> {
+fn write_line(rt: &HostRuntime, line: &str) -> io::Result<()> {
     if line.starts_with('#') || line.is_empty() {
-        return Ok(());
-    }
-    out.push_str(" = ")?;
-    match Json::from_str(alloc, line) {
-        Ok(json) => about_json(alloc, &json, out),
-        Err(error) => Err(refusal(&error)),
-    }
-}
-
-fn refusal(error: &serde_json::Error) -> Error {
-    if error.is_memory() {
-        Error::new(ErrorKind::OutOfMemory)
+        println!(rt; "{line}")
     } else {
-        Error::new(ErrorKind::SyntaxError)
+        write_answer(rt, line, &answer(rt.alloc(), line))
     }
 }
 
-fn unreadable() -> Result<(), Error> {
-    Err(Error::new(ErrorKind::SyntaxError))
+fn write_answer(rt: &HostRuntime, line: &str, answer: &Form) -> io::Result<()> {
+    match answer.refused {
+        None => println!(rt; "{line} = {}", answer.text),
+        Some(kind) => println!(rt; "{line} = {}", kind.name()),
+    }
 }
 
-fn about_json(alloc: Global, json: &Json, out: &mut Form) -> Result<(), Error> {
+// What comes of the JSON in a line.
+fn answer(alloc: Global, line: &str) -> Form {
+    let mut out = Form::new(alloc);
+    match Json::from_str(alloc, line) {
+        Ok(json) => about_json(alloc, &json, &mut out),
+        Err(error) => out.refuse(kind_of(&error)),
+    }
+    out
+}
+
+fn kind_of(error: &serde_json::Error) -> ErrorKind {
+    if error.is_memory() {
+        ErrorKind::OutOfMemory
+    } else {
+        ErrorKind::SyntaxError
+    }
+}
+
+fn about_json(alloc: Global, json: &Json, out: &mut Form) {
     match json {
-        Json::String(source) => about_template(
-            alloc,
-            source.as_str(),
-            SyntaxConfig::new(),
-            Asked::Form,
-            out,
-        ),
+        Json::String(source) => {
+            about_template(
+                alloc,
+                source.as_str(),
+                SyntaxConfig::new(),
+                Asked::Form,
+                out,
+            )
+        }
         Json::Object(entries) => about_entries(alloc, entries, out),
-        _ => unreadable(),
+        _ => out.refuse(ErrorKind::SyntaxError),
     }
 }
 
-fn about_entries(alloc: Global, entries: &Map<String, Json>, out: &mut Form) -> Result<(), Error> {
+fn about_entries(alloc: Global, entries: &Map<String, Json>, out: &mut Form) {
     out.with_places = entries.get("places").is_some();
     match text_in(entries, "source") {
         Some(source) => about_source(alloc, source, entries, out),
@@ -133,37 +133,26 @@ fn text_in<'line>(entries: &'line Map<String, Json>, name: &str) -> Option<&'lin
     }
 }
 
-fn about_source(
-    alloc: Global,
-    source: &str,
-    entries: &Map<String, Json>,
-    out: &mut Form,
-) -> Result<(), Error> {
+fn about_source(alloc: Global, source: &str, entries: &Map<String, Json>, out: &mut Form) {
     match syntax_of(alloc, entries) {
         Ok(syntax) => about_template(alloc, source, syntax, Asked::Form, out),
-        Err(error) => Err(error),
+        Err(error) => out.refuse(error.kind()),
     }
 }
 
-fn about_template(
-    alloc: Global,
-    source: &str,
-    syntax: SyntaxConfig,
-    asked: Asked,
-    out: &mut Form,
-) -> Result<(), Error> {
+fn about_template(alloc: Global, source: &str, syntax: SyntaxConfig, asked: Asked, out: &mut Form) {
     let mut parser = Parser::new(alloc, source, NAME, syntax);
-    about_read(&parser.parse(), asked, out)
+    about_read(&parser.parse(), asked, out);
 }
 
-fn about_read(read: &Result<Stmt<'_>, Error>, asked: Asked, out: &mut Form) -> Result<(), Error> {
+fn about_read(read: &Result<Stmt<'_>, Error>, asked: Asked, out: &mut Form) {
     match read {
         Ok(tree) => about_tree(tree, asked, out),
-        Err(error) => Err(Error::new(error.kind())),
+        Err(error) => out.refuse(error.kind()),
     }
 }
 
-fn about_tree(tree: &Stmt<'_>, asked: Asked, out: &mut Form) -> Result<(), Error> {
+fn about_tree(tree: &Stmt<'_>, asked: Asked, out: &mut Form) {
     match asked {
         Asked::Form => statement(tree, out, LEVELS),
         Asked::Count => statement_count(tree, out),
@@ -171,75 +160,67 @@ fn about_tree(tree: &Stmt<'_>, asked: Asked, out: &mut Form) -> Result<(), Error
 }
 
 // What is asked of an expression, or of a text that is told by its parts.
-fn about_others(alloc: Global, entries: &Map<String, Json>, out: &mut Form) -> Result<(), Error> {
+fn about_others(alloc: Global, entries: &Map<String, Json>, out: &mut Form) {
     match text_in(entries, "expression") {
         Some(source) => about_expression(alloc, source, text_in(entries, "ask"), out),
         None => about_texts(alloc, entries, out),
     }
 }
 
-fn about_expression(
-    alloc: Global,
-    source: &str,
-    ask: Option<&str>,
-    out: &mut Form,
-) -> Result<(), Error> {
+fn about_expression(alloc: Global, source: &str, ask: Option<&str>, out: &mut Form) {
     let mut parser = Parser::new(alloc, source, NAME, SyntaxConfig::new());
-    about_read_expr(&parser.parse_standalone_expr(), ask, out)
+    about_read_expr(&parser.parse_standalone_expr(), ask, out);
 }
 
-fn about_read_expr(
-    read: &Result<Expr<'_>, Error>,
-    ask: Option<&str>,
-    out: &mut Form,
-) -> Result<(), Error> {
+fn about_read_expr(read: &Result<Expr<'_>, Error>, ask: Option<&str>, out: &mut Form) {
     match read {
         Ok(expr) => about_expr(expr, ask, out),
-        Err(error) => Err(Error::new(error.kind())),
+        Err(error) => out.refuse(error.kind()),
     }
 }
 
-fn about_expr(expr: &Expr<'_>, ask: Option<&str>, out: &mut Form) -> Result<(), Error> {
+fn about_expr(expr: &Expr<'_>, ask: Option<&str>, out: &mut Form) {
     match ask {
         None => expression(expr, out, LEVELS),
         Some("words") => out.push_str(expr.description()),
         Some("callee") => callee(expr, out),
-        Some(_) => unreadable(),
+        Some(_) => out.refuse(ErrorKind::SyntaxError),
     }
 }
 
-fn about_texts(alloc: Global, entries: &Map<String, Json>, out: &mut Form) -> Result<(), Error> {
-    match entries.get("repeat") {
-        Some(Json::Array(parts)) => about_repeated(alloc, parts.as_slice(), out),
-        _ => unreadable(),
+fn about_texts(alloc: Global, entries: &Map<String, Json>, out: &mut Form) {
+    match repeated(alloc, entries.get("repeat")) {
+        Ok(source) => {
+            about_template(
+                alloc,
+                source.as_str(),
+                SyntaxConfig::new(),
+                Asked::Count,
+                out,
+            )
+        }
+        Err(error) => out.refuse(error.kind()),
     }
-}
-
-fn about_repeated(alloc: Global, parts: &[Json], out: &mut Form) -> Result<(), Error> {
-    let source = repeated(alloc, parts)?;
-    about_template(
-        alloc,
-        source.as_str(),
-        SyntaxConfig::new(),
-        Asked::Count,
-        out,
-    )
 }
 
 // The text that repeats each text so many times.
-fn repeated(alloc: Global, parts: &[Json]) -> Result<String, Error> {
+fn repeated(alloc: Global, parts: Option<&Json>) -> Result<String, Error> {
     let mut source = String::new(alloc);
-    for part in parts {
-        push_part(part, &mut source)?;
+    match parts {
+        Some(Json::Array(parts)) => push_parts(parts.as_slice(), &mut source)?,
+        _ => unreadable()?,
     }
     Ok(source)
 }
 
-fn push_part(part: &Json, source: &mut String) -> Result<(), Error> {
-    match part {
-        Json::Array(pair) => push_pair(pair.as_slice(), source),
-        _ => unreadable(),
+fn push_parts(parts: &[Json], source: &mut String) -> Result<(), Error> {
+    for part in parts {
+        match part {
+            Json::Array(pair) => push_pair(pair.as_slice(), source)?,
+            _ => unreadable()?,
+        }
     }
+    Ok(())
 }
 
 fn push_pair(pair: &[Json], source: &mut String) -> Result<(), Error> {
@@ -252,4 +233,8 @@ fn push_pair(pair: &[Json], source: &mut String) -> Result<(), Error> {
         }
         _ => unreadable(),
     }
+}
+
+fn unreadable() -> Result<(), Error> {
+    Err(Error::new(ErrorKind::SyntaxError))
 }

@@ -4,7 +4,7 @@
 #![tactic(auto)]
 
 use std::alloc::Global;
-use template_environment::Environment;
+use template_environment::{Captured, Environment, Template};
 use template_machine_ids::StateIds;
 use template_values_core::Value;
 use template_values_errors::Error;
@@ -18,46 +18,53 @@ const PAGE_CONTEXT: &[u8] = b"{\"title\": \"Q & A\", \"items\": [1, \"<b>\", nul
 fn main(rt: HostRuntime) -> anyhow::Result<()> {
     let mut ids = StateIds::new(0);
     let mut environment = Environment::new(rt.alloc(), &mut ids)?;
+    show(&rt, &mut environment, &mut ids)
+}
+
+// Adds templates, renders them, and tells what stands.
+fn show(
+    rt: &HostRuntime,
+    environment: &mut Environment<'_>,
+    ids: &mut StateIds,
+) -> anyhow::Result<()> {
     environment.add_template("hello.txt", "Hello {{ name }}!")?;
     environment.add_template("head.html", "<h1>{{ title }}</h1>")?;
     environment.add_template("page.html", PAGE)?;
 
-    print_hello(&rt, &environment, &mut ids)?;
-    print_page(&rt, &environment, &mut ids)?;
-    add_broken(&rt, &mut environment)?;
-    print_names(&rt, &environment)?;
-    print_exports(&rt, &environment, &mut ids)
+    print_render(
+        rt,
+        environment,
+        ids,
+        "hello.txt",
+        hello_context(rt.alloc())?,
+    )?;
+    print_render(
+        rt,
+        environment,
+        ids,
+        "page.html",
+        context_from_json(rt.alloc(), PAGE_CONTEXT)?,
+    )?;
+    add_broken(rt, environment)?;
+    print_names(rt, environment)?;
+    print_exports(rt, environment, ids)
 }
 
-// A render over a context from Rust values.
-fn print_hello(
-    rt: &HostRuntime,
-    environment: &Environment<'_>,
-    ids: &mut StateIds,
-) -> anyhow::Result<()> {
-    let hello = environment
-        .get_template("hello.txt")?
-        .render(ids, hello_context(rt.alloc())?)?;
-    println!(rt; "{hello}")?;
-    Ok(())
-}
-
-// A context of one name.
+// A context from Rust values, of one name.
 fn hello_context(alloc: Global) -> Result<Value, Error> {
     let name = Value::from_str(alloc, "World")?;
     Value::from_pairs(alloc, vec![in alloc; ("name", name)]?)
 }
 
-// A render over a context from JSON.
-fn print_page(
+fn print_render(
     rt: &HostRuntime,
     environment: &Environment<'_>,
     ids: &mut StateIds,
+    name: &str,
+    context: Value,
 ) -> anyhow::Result<()> {
-    let page = environment
-        .get_template("page.html")?
-        .render(ids, context_from_json(rt.alloc(), PAGE_CONTEXT)?)?;
-    println!(rt; "{page}")?;
+    let text = environment.get_template(name)?.render(ids, context)?;
+    println!(rt; "{text}")?;
     Ok(())
 }
 
@@ -71,9 +78,12 @@ fn add_broken(rt: &HostRuntime, environment: &mut Environment<'_>) -> anyhow::Re
 }
 
 fn print_names(rt: &HostRuntime, environment: &Environment<'_>) -> anyhow::Result<()> {
-    for template in environment.templates()? {
-        let name = template.name();
-        println!(rt; "stands: {name}")?;
+    print_each(rt, environment.templates()?.as_slice())
+}
+
+fn print_each(rt: &HostRuntime, templates: &[Template<'_, '_>]) -> anyhow::Result<()> {
+    for template in templates {
+        println!(rt; "stands: {}", template.name())?;
     }
     Ok(())
 }
@@ -85,9 +95,12 @@ fn print_exports(
     ids: &mut StateIds,
 ) -> anyhow::Result<()> {
     let template = environment.template_from_str("{% set answer = 42 %}Hello again!")?;
-    let captured = template.render_captured(ids, Value::undefined())?;
+    print_left(rt, &template.render_captured(ids, Value::undefined())?)
+}
+
+fn print_left(rt: &HostRuntime, captured: &Captured<'_, '_>) -> anyhow::Result<()> {
     println!(rt; "{}", captured.output())?;
-    for name in captured.state().exports()? {
+    for name in &captured.state().exports()? {
         println!(rt; "exports: {name}")?;
     }
     Ok(())

@@ -22,15 +22,6 @@ decreases-single l = 10 * l.left + 2
 abbrev pub decreases-pair : goal.decreases-pair
 decreases-pair l = 10 * l.left + 2
 
-abbrev pub decreases-unary : goal.decreases-unary
-decreases-unary l = 10 * l.left + 3
-
-abbrev pub decreases-binary : goal.decreases-binary
-decreases-binary l = 10 * l.left + 3
-
-abbrev pub decreases-item : goal.decreases-item
-decreases-item l = 10 * l.left + 3
-
 abbrev pub decreases-slice : goal.decreases-slice
 decreases-slice l = 10 * l.left + 3
 
