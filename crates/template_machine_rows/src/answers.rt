@@ -1,6 +1,6 @@
 //! What comes of a case.
 use crate::calls::ask;
-use crate::case::{Case, Escapes};
+use crate::case::{Case, Escapes, Setting};
 use crate::escapes::{NumberedRule, ShortNames};
 use crate::steps::Step;
 use std::alloc::Global;
@@ -13,7 +13,7 @@ use template_values_errors::Error;
 
 /// What comes of the case, in one line.
 pub(crate) fn answer(alloc: Global, case: &Case<'_>) -> Result<String, Error> {
-    match case.escapes {
+    match case.setting.escapes {
         Escapes::ByName => answer_by_name(alloc, case),
         Escapes::Never => answer_without_escapes(alloc, case),
         Escapes::Shorter(length) => answer_by_length(alloc, case, length),
@@ -22,51 +22,69 @@ pub(crate) fn answer(alloc: Global, case: &Case<'_>) -> Result<String, Error> {
 
 fn answer_by_name(alloc: Global, case: &Case<'_>) -> Result<String, Error> {
     let mut ids = StateIds::new(0);
-    let environment = Environment::new(alloc, &mut ids)?;
-    answer_in(alloc, environment, &mut ids, case)
+    let mut environment = Environment::new(alloc, &mut ids)?;
+    answer_in(alloc, &mut environment, &mut ids, case)
 }
 
 fn answer_without_escapes(alloc: Global, case: &Case<'_>) -> Result<String, Error> {
     let mut ids = StateIds::new(0);
-    let environment = Environment::empty(alloc, &mut ids)?;
-    answer_in(alloc, environment, &mut ids, case)
+    let mut environment = Environment::empty(alloc, &mut ids)?;
+    answer_in(alloc, &mut environment, &mut ids, case)
 }
 
 fn answer_by_length(alloc: Global, case: &Case<'_>, length: usize) -> Result<String, Error> {
     let mut ids = StateIds::new(0);
     let rule = ShortNames::shorter_than(length);
-    let environment = Environment::with_auto_escape_callback(alloc, rule, &mut ids)?;
-    answer_in(alloc, environment, &mut ids, case)
+    let mut environment = Environment::with_auto_escape_callback(alloc, rule, &mut ids)?;
+    answer_in(alloc, &mut environment, &mut ids, case)
 }
 
 fn answer_in<'line, R: NumberedRule>(
     alloc: Global,
-    environment: Environment<'line, R>,
+    environment: &mut Environment<'line, R>,
     ids: &mut StateIds,
     case: &Case<'line>,
 ) -> Result<String, Error> {
-    let mut environment = environment;
-    set(&mut environment, case);
+    set(environment, &case.setting);
     let mut out = String::new(alloc);
+    if take_all(alloc, environment, case, &mut out)? {
+        ask(
+            alloc,
+            environment,
+            ids,
+            case.subject,
+            &case.setting,
+            &mut out,
+        )?;
+    }
+    Ok(out)
+}
+
+fn set<R: AutoEscapeRule>(environment: &mut Environment<'_, R>, setting: &Setting) {
+    environment.set_fuel(setting.fuel);
+    environment.set_undefined_behavior(setting.undefined);
+    if let Some(limit) = setting.limit {
+        environment.set_recursion_limit(limit);
+    }
+}
+
+// Takes the steps, writes which additions are refused, and tells whether the case goes on behind them.
+fn take_all<'line, R: NumberedRule>(
+    alloc: Global,
+    environment: &mut Environment<'line, R>,
+    case: &Case<'line>,
+    out: &mut String,
+) -> Result<bool, Error> {
     for step in &case.steps {
-        if let Err(error) = take(alloc, &mut environment, case.is_owned, *step) {
-            write_refusal(*step, &error, &mut out)?;
-            if !case.skips_refusals {
-                return Ok(out);
+        if let Err(error) = take(alloc, environment, case.setting.is_owned, *step) {
+            write_refusal(*step, &error, out)?;
+            if !case.setting.skips_refusals {
+                return Ok(false);
             }
             out.push_str(", ")?;
         }
     }
-    ask(alloc, &environment, ids, case, &mut out)?;
-    Ok(out)
-}
-
-fn set<R: AutoEscapeRule>(environment: &mut Environment<'_, R>, case: &Case<'_>) {
-    environment.set_fuel(case.fuel);
-    environment.set_undefined_behavior(case.undefined);
-    if let Some(limit) = case.limit {
-        environment.set_recursion_limit(limit);
-    }
+    Ok(true)
 }
 
 fn take<'line, R: NumberedRule>(

@@ -1,5 +1,5 @@
 //! What is asked for behind the steps.
-use crate::case::{Call, Case, Subject};
+use crate::case::{Call, Setting, Subject};
 use crate::renders::{write_captured, write_render, write_text};
 use crate::tellings::{write_list, write_new_state, write_refused, write_templates, write_value};
 use std::alloc::Global;
@@ -9,25 +9,26 @@ use template_machine_escape::AutoEscapeRule;
 use template_machine_ids::StateIds;
 use template_values_errors::Error;
 
-/// Writes what comes of what the case asks for.
+/// Writes what comes of what is asked of the subject.
 pub(crate) fn ask<'line, R: AutoEscapeRule>(
     alloc: Global,
     environment: &Environment<'line, R>,
     ids: &mut StateIds,
-    case: &Case<'line>,
+    subject: Subject<'line>,
+    setting: &Setting,
     out: &mut String,
 ) -> Result<(), Error> {
-    match case.subject {
+    match subject {
         Subject::Main(name) => match environment.get_template(name) {
-            Ok(template) => ask_template(alloc, environment, &template, ids, case, out),
+            Ok(template) => ask_template(alloc, environment, &template, ids, setting, out),
             Err(error) => write_refused(&error, out),
         },
-        Subject::Source(source) => ask_source(alloc, environment, source, ids, case, out),
+        Subject::Source(source) => ask_source(alloc, environment, source, ids, setting, out),
         Subject::Named { name, source } => {
-            ask_named(alloc, environment, name, source, ids, case, out)
+            ask_named(alloc, environment, name, source, ids, setting, out)
         }
         Subject::Expression(source) => {
-            ask_expression(alloc, environment, source, ids, case, out)
+            ask_expression(alloc, environment, source, ids, setting, out)
         }
     }
 }
@@ -37,15 +38,15 @@ fn ask_source<'line, R: AutoEscapeRule>(
     environment: &Environment<'line, R>,
     source: &'line str,
     ids: &mut StateIds,
-    case: &Case<'line>,
+    setting: &Setting,
     out: &mut String,
 ) -> Result<(), Error> {
-    if let Call::Usual = case.call {
-        let text = environment.render_str(source, ids, case.context.copy()?);
+    if let Call::Usual = setting.call {
+        let text = environment.render_str(source, ids, setting.context.copy()?);
         return write_text(alloc, text, out);
     }
     match environment.template_from_str(source) {
-        Ok(template) => ask_template(alloc, environment, &template, ids, case, out),
+        Ok(template) => ask_template(alloc, environment, &template, ids, setting, out),
         Err(error) => write_refused(&error, out),
     }
 }
@@ -56,15 +57,15 @@ fn ask_named<'line, R: AutoEscapeRule>(
     name: &'line str,
     source: &'line str,
     ids: &mut StateIds,
-    case: &Case<'line>,
+    setting: &Setting,
     out: &mut String,
 ) -> Result<(), Error> {
-    if let Call::Usual = case.call {
-        let text = environment.render_named_str(name, source, ids, case.context.copy()?);
+    if let Call::Usual = setting.call {
+        let text = environment.render_named_str(name, source, ids, setting.context.copy()?);
         return write_text(alloc, text, out);
     }
     match environment.template_from_named_str(name, source) {
-        Ok(template) => ask_template(alloc, environment, &template, ids, case, out),
+        Ok(template) => ask_template(alloc, environment, &template, ids, setting, out),
         Err(error) => write_refused(&error, out),
     }
 }
@@ -74,13 +75,13 @@ fn ask_template<'line, R: AutoEscapeRule>(
     environment: &Environment<'line, R>,
     template: &Template<'_, 'line, R>,
     ids: &mut StateIds,
-    case: &Case<'line>,
+    setting: &Setting,
     out: &mut String,
 ) -> Result<(), Error> {
-    match case.call {
-        Call::Usual => write_render(alloc, template, ids, case, out),
-        Call::Render => write_text(alloc, template.render(ids, case.context.copy()?), out),
-        Call::RenderCaptured => write_captured(alloc, template, ids, case, out),
+    match setting.call {
+        Call::Usual => write_render(alloc, template, ids, setting, out),
+        Call::Render => write_text(alloc, template.render(ids, setting.context.copy()?), out),
+        Call::RenderCaptured => write_captured(alloc, template, ids, setting, out),
         Call::States => write_states(environment, template, ids, out),
         Call::UsedNames => write_used_names(template, out),
         Call::ContextNames => write_context_names(environment, template, out),
@@ -126,16 +127,16 @@ fn ask_expression<'line, R: AutoEscapeRule>(
     environment: &Environment<'line, R>,
     source: &'line str,
     ids: &mut StateIds,
-    case: &Case<'line>,
+    setting: &Setting,
     out: &mut String,
 ) -> Result<(), Error> {
-    let compiled = if case.is_owned {
+    let compiled = if setting.is_owned {
         owned_expression(alloc, environment, source)
     } else {
         environment.compile_expression(source)
     };
     match compiled {
-        Ok(expression) => tell_expression(&expression, ids, case, out),
+        Ok(expression) => tell_expression(&expression, ids, setting, out),
         Err(error) => write_refused(&error, out),
     }
 }
@@ -153,15 +154,15 @@ fn owned_expression<'env, 'line, R: AutoEscapeRule>(
 fn tell_expression<R: AutoEscapeRule>(
     expression: &Expression<'_, '_, R>,
     ids: &mut StateIds,
-    case: &Case<'_>,
+    setting: &Setting,
     out: &mut String,
 ) -> Result<(), Error> {
-    if let Call::UsedNames = case.call {
+    if let Call::UsedNames = setting.call {
         write_list(&expression.undeclared_variables(false)?, out)?;
         out.push(' ')?;
         return write_list(&expression.undeclared_variables(true)?, out);
     }
-    match expression.eval(ids, case.context.copy()?) {
+    match expression.eval(ids, setting.context.copy()?) {
         Ok(value) => write_value(&value, out),
         Err(error) => write_refused(&error, out),
     }

@@ -27,14 +27,19 @@ const KNOWN: [&str; 15] = [
     "skip",
 ];
 
-/// A case: what is done, and in which setting.
+/// A case: what is done, what is asked for then, and in which setting.
 #[derive(Drop)]
 pub(crate) struct Case<'line> {
     pub(crate) steps: Vec<Step<'line>>,
     pub(crate) subject: Subject<'line>,
+    pub(crate) setting: Setting,
+}
+
+/// What a case says besides its texts.
+#[derive(Drop)]
+pub(crate) struct Setting {
     pub(crate) call: Call,
     pub(crate) place: Place,
-    pub(crate) context: Value,
     pub(crate) fuel: Option<u64>,
     pub(crate) limit: Option<usize>,
     pub(crate) undefined: UndefinedBehavior,
@@ -42,6 +47,7 @@ pub(crate) struct Case<'line> {
     pub(crate) is_owned: bool,
     pub(crate) tells_state: bool,
     pub(crate) skips_refusals: bool,
+    pub(crate) context: Value,
 }
 
 /// What is rendered, or evaluated.
@@ -102,6 +108,15 @@ impl<'line> Case<'line> {
         let steps = steps_of(alloc, entries.get("templates"))?;
         Ok(Case {
             subject: subject_of(entries, steps.as_slice())?,
+            setting: Setting::read(alloc, entries)?,
+            steps,
+        })
+    }
+}
+
+impl Setting {
+    fn read(alloc: Global, entries: &Map<String, Json>) -> Result<Setting, Error> {
+        Ok(Setting {
             call: call_of(entries)?,
             place: place_of(entries.get("room"))?,
             fuel: number_of(entries.get("fuel"))?,
@@ -112,7 +127,6 @@ impl<'line> Case<'line> {
             tells_state: truth_of(entries.get("state"))?,
             skips_refusals: truth_of(entries.get("skip"))?,
             context: context_of(alloc, entries.get("context"))?,
-            steps,
         })
     }
 }

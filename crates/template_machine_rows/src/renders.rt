@@ -1,5 +1,5 @@
 //! Renders, by the place that their text goes to.
-use crate::case::{Case, Place};
+use crate::case::{Place, Setting};
 use crate::tellings::{write_quoted, write_refused, write_state};
 use std::alloc::Global;
 use template_environment::{Captured, Template};
@@ -9,60 +9,59 @@ use template_machine_output::{NullWriter, WriteWrapper};
 use template_values_core::Value;
 use template_values_errors::Error;
 
-/// Renders into the place of the case, and writes the text that it has taken.
+/// Renders into the place of the setting, and writes the text that it has taken.
 pub(crate) fn write_render<R: AutoEscapeRule>(
     alloc: Global,
     template: &Template<'_, '_, R>,
     ids: &mut StateIds,
-    case: &Case<'_>,
+    setting: &Setting,
     out: &mut String,
 ) -> Result<(), Error> {
-    match case.place {
-        Place::Text => write_whole(alloc, template, ids, case, out),
-        Place::Room(room) => write_room(alloc, template, ids, case, room, out),
-        Place::Nowhere => write_nowhere(template, ids, case, out),
+    match setting.place {
+        Place::Text => write_whole(alloc, template, ids, setting, out),
+        Place::Room(room) => write_room(alloc, template, ids, setting, room, out),
+        Place::Nowhere => write_nowhere(template, ids, setting, out),
     }
 }
 
 fn write_nowhere<R: AutoEscapeRule>(
     template: &Template<'_, '_, R>,
     ids: &mut StateIds,
-    case: &Case<'_>,
+    setting: &Setting,
     out: &mut String,
 ) -> Result<(), Error> {
     out.push('_')?;
-    let ended = template.render_captured_to(ids, case.context.copy()?, &mut NullWriter);
-    write_end(ended, case, out)
+    let ended = template.render_captured_to(ids, setting.context.copy()?, &mut NullWriter);
+    write_end(&ended, setting, out)
 }
 
 fn write_whole<R: AutoEscapeRule>(
     alloc: Global,
     template: &Template<'_, '_, R>,
     ids: &mut StateIds,
-    case: &Case<'_>,
+    setting: &Setting,
     out: &mut String,
 ) -> Result<(), Error> {
     let mut text = String::new(alloc);
-    let ended = template.render_captured_to(ids, case.context.copy()?, &mut text);
-    write_quoted(alloc, text, out)?;
-    write_end(ended, case, out)
+    let ended = template.render_captured_to(ids, setting.context.copy()?, &mut text);
+    write_taken(alloc, text, &ended, setting, out)
 }
 
 fn write_room<R: AutoEscapeRule>(
     alloc: Global,
     template: &Template<'_, '_, R>,
     ids: &mut StateIds,
-    case: &Case<'_>,
+    setting: &Setting,
     room: usize,
     out: &mut String,
 ) -> Result<(), Error> {
-    let context = case.context.copy()?;
     let mut bytes = vec![in alloc; 0u8; room]?;
-    let (left, ended) = fill(template, ids, context, bytes.as_mut_slice());
-    let taken = room.saturating_sub(left);
-    let text = String::from_utf8_lossy(alloc, bytes.get(..taken).unwrap_or(b""))?;
-    write_quoted(alloc, text, out)?;
-    write_end(ended, case, out)
+    let (left, ended) = fill(template, ids, setting.context.copy()?, bytes.as_mut_slice());
+    let taken = bytes.get(..room.saturating_sub(left)).unwrap_or(b"");
+    match String::from_utf8_lossy(alloc, taken) {
+        Ok(text) => write_taken(alloc, text, &ended, setting, out),
+        Err(error) => Err(Error::from(error)),
+    }
 }
 
 // Renders into the bytes, and tells how many of them are left.
@@ -77,28 +76,40 @@ fn fill<'template, 'line, R: AutoEscapeRule>(
     (sink.w.len(), ended)
 }
 
+// The text that the render's place took, and how it ended.
+fn write_taken<R: AutoEscapeRule>(
+    alloc: Global,
+    text: String,
+    ended: &Result<Captured<'_, '_, R>, Error>,
+    setting: &Setting,
+    out: &mut String,
+) -> Result<(), Error> {
+    write_quoted(alloc, text, out)?;
+    write_end(ended, setting, out)
+}
+
 // What follows the text: what the render took of its fuel and left, or how it ended.
 fn write_end<R: AutoEscapeRule>(
-    ended: Result<Captured<'_, '_, R>, Error>,
-    case: &Case<'_>,
+    ended: &Result<Captured<'_, '_, R>, Error>,
+    setting: &Setting,
     out: &mut String,
 ) -> Result<(), Error> {
     match ended {
-        Ok(captured) => write_left(&captured, case, out),
+        Ok(captured) => write_left(captured, setting, out),
         Err(error) => Ok(write!(out, " ! {error}")?),
     }
 }
 
-// What a render took of its fuel, where one is set, and the state that it left, where the case tells it.
+// What a render took of its fuel, where one is set, and the state that it left, where the setting tells it.
 fn write_left<R: AutoEscapeRule>(
     captured: &Captured<'_, '_, R>,
-    case: &Case<'_>,
+    setting: &Setting,
     out: &mut String,
 ) -> Result<(), Error> {
     if let Some((consumed, _)) = captured.fuel_levels() {
         write!(out, " price {consumed}")?;
     }
-    if case.tells_state {
+    if setting.tells_state {
         out.push(' ')?;
         write_state(captured.state(), out)?;
     }
@@ -110,16 +121,23 @@ pub(crate) fn write_captured<R: AutoEscapeRule>(
     alloc: Global,
     template: &Template<'_, '_, R>,
     ids: &mut StateIds,
-    case: &Case<'_>,
+    setting: &Setting,
     out: &mut String,
 ) -> Result<(), Error> {
-    match template.render_captured(ids, case.context.copy()?) {
-        Ok(captured) => {
-            write_quoted(alloc, String::from_str(alloc, captured.output())?, out)?;
-            write_left(&captured, case, out)
-        }
+    match template.render_captured(ids, setting.context.copy()?) {
+        Ok(captured) => write_output(alloc, &captured, setting, out),
         Err(error) => write_refused(&error, out),
     }
+}
+
+fn write_output<R: AutoEscapeRule>(
+    alloc: Global,
+    captured: &Captured<'_, '_, R>,
+    setting: &Setting,
+    out: &mut String,
+) -> Result<(), Error> {
+    write_quoted(alloc, String::from_str(alloc, captured.output())?, out)?;
+    write_left(captured, setting, out)
 }
 
 /// Writes a text, or why there is none.
