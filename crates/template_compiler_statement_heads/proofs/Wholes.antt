@@ -1,6 +1,6 @@
 -- A statement is its head, and what is read behind it.
-use Rattle.std.proofs.Common.{◌≡◌, ℕ, Bool, true, false, if◌then◌else◌, codes, List, [], ◌∷◌, Option, None, Some, Ok, Err, refl, sym, ap, ◌∙◌}
-use Rattle.template_tree.specs.Tree.{Expression, Optional, absent, given, Arguments, Statement, Statements, for_loop, with_block, set_block, auto_escape, block, macro, call_block, break_loop, Assignments}
+use Rattle.std.proofs.Common.{◌≡◌, ℕ, Bool, true, false, if◌then◌else◌, codes, List, ◌∷◌, Option, None, Some, Ok, Err, refl, sym, ap, ◌∙◌}
+use Rattle.template_tree.specs.Tree.{Expression, Optional, absent, given, Arguments, Statement, Statements, for_loop, with_block, set_block, auto_escape, block, macro, call_block, break_loop}
 use Rattle.template_tree.specs.Kinds.{call_parts}
 use Rattle.template_compiler_tokens.specs.Token.{Token, bad_syntax, block_end, identifier, symbol, paren_open}
 use Rattle.template_compiler_reading.specs.Steps.{Read, and_then}
@@ -8,13 +8,13 @@ use Rattle.template_compiler_reading.proofs.Loops.{then_goes, then_fails}
 use Rattle.template_compiler_reading.proofs.Readings.{ok_tree, ok_rest}
 use Rattle.template_compiler_stream.specs.declared.refusal.Refusal.{Refusal}
 use Rattle.template_compiler_stream.specs.declared.refusal.Refusal.TheVariants as refusals
-use Rattle.template_compiler_stream.specs.Refusals.{Refused, fault_of}
+use Rattle.template_compiler_stream.specs.Refusals.{Refused}
 use Rattle.template_compiler_statements.specs.Words.{is_reserved}
-use Rattle.template_compiler_statements.specs.Trees.{Parameters, is_block_body}
-use Rattle.template_compiler_statements.specs.Grammar.{Around, loop_around, block_around, macro_around}
-use Rattle.template_compiler_statements.specs.Reader.{Here, expect_tag, expect_word, tag_end, body_by, targets_by, target_by, begins_values, loop_filter_by, word_by, else_by, for_by, for_in, for_body, assignments_by, with_by, set_by, set_behind, set_body, set_values, autoescape_by, branch_by, filtered_body, filter_block_by, block_by, block_body, block_end_by, macro_by, optional_parameters_by, only_call, call_body, call_by}
+use Rattle.template_compiler_statements.specs.Trees.{Parameters}
+use Rattle.template_compiler_statements.specs.Grammar.{Around, loop_around, macro_around}
+use Rattle.template_compiler_statements.specs.Reader.{Here, expect_tag, expect_word, tag_end, body_by, targets_by, target_by, begins_values, loop_filter_by, word_by, else_by, for_by, for_in, for_body, assignments_by, with_by, set_by, set_behind, set_body, autoescape_by, branch_by, filtered_body, filter_block_by, block_by, block_body, macro_by, optional_parameters_by, only_call, call_body, call_by}
 use Rattle.template_compiler_statement_parts.proofs.Again.{unit, again, tag_again}
-use Rattle.template_compiler_statement_heads.specs.Heads.{for_head, in_head, expression_head, filter_head, block_head, declared_head, macro_head, call_head, set_targets, set_block_head, set_behind_head, set_head, SetRead, set_whole, set_over, with_head, for_rest, block_rest, set_rest}
+use Rattle.template_compiler_statement_heads.specs.Heads.{for_head, expression_head, filter_head, block_head, declared_head, macro_head, call_head, set_targets, set_block_head, set_head, set_whole, set_over, with_head, for_rest, block_rest, set_rest}
 
 -- one reading behind another, however they are put together
 through : {A B C : Type 0} (m : Read A) (k : A → List Token → Read C) (f : A → List Token → Read B) (g : B → List Token → Read C) →

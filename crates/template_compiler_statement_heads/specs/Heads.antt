@@ -3,7 +3,7 @@ use Rattle.std.specs.Prelude.{ℕ, Bool, true, false, if◌then◌else◌, codes
 use Rattle.std.specs.Global.{Box}
 use Rattle.template_tree.specs.Tree.{Expression, Optional, absent, given, Arguments, Statement, Statements, Assignments, for_loop, set_block, block}
 use Rattle.template_tree.specs.Kinds.{call_parts}
-use Rattle.template_tree.specs.View.{expression_of, expressions_in, arguments_in, optional_in}
+use Rattle.template_tree.specs.View.{expression_of, arguments_in, optional_in}
 use Rattle.template_tree.specs.declared.span.Spanned.{Spanned}
 use Rattle.template_tree_statements.specs.View.{statement_of}
 use Rattle.template_tree_statements.specs.declared.statements.ForLoop.{ForLoop}

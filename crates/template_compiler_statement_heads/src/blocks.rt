@@ -1,4 +1,5 @@
 //! The heads of blocks, of filter blocks, of `autoescape` and of conditions.
+ghost use Rattle.std.specs.Prelude.{◌≡◌, [], IfOk};
 ghost use Rattle.template_compiler_statement_heads.specs.Heads.{block_head, block_of, expression_head, filter_head, with_head};
 ghost use Rattle.template_compiler_statement_parts.specs.Parsed.{ParsedAs};
 ghost use Rattle.template_compiler_statements.specs.Reader.{here};
@@ -20,22 +21,36 @@ pub struct BlockHead<'source> {
     pub required: bool,
 }
 
+// An expression, and the end of its tag.
+#[inline(always)]
+#[tactic(auto, using(template_compiler_statement_parts::proofs::Again::tag_end_again), unfolding(template_compiler_reading::specs::Steps::and_then, template_compiler_statements::specs::Reader::here, template_compiler_statements::specs::Reader::here_by))]
+fn read_only_expression<'source, R: ReadsExpressions>(
+    alloc: Global,
+    tokens: &mut TokenStream<'source>,
+    left: u32,
+) -> Result<Expr<'source>, Refusal>
+    ensures { ParsedAs expression_of (expression_head (here left) tokens.old.left) tokens.new.left result }
+{
+    let expr = R::read_expression(alloc, tokens, left)?;
+    expect_tag_end(tokens)?;
+    Ok(expr)
+}
+
 /// Reads the head of an `autoescape`.
 ///
 /// # Errors
 ///
 /// The fault of the token that does not fit, or want of memory.
-#[tactic(auto, using(template_compiler_statement_parts::proofs::Again::tag_end_again), unfolding(template_compiler_reading::specs::Steps::and_then, template_compiler_statements::specs::Reader::here, template_compiler_statements::specs::Reader::here_by))]
 pub fn read_auto_escape<'source, R: ReadsExpressions>(
     alloc: Global,
     tokens: &mut TokenStream<'source>,
     left: u32,
     span: Span,
 ) -> Result<Spanned<Box<AutoEscape<'source>>>, Refusal>
-    ensures { ParsedAs (λ n. expression_of n.node.value.enabled) (expression_head (here left) tokens.old.left) tokens.new.left result }
+    ensures read { ParsedAs (λ n. expression_of n.node.value.enabled) (expression_head (here left) tokens.old.left) tokens.new.left result }
+    ensures empty { IfOk result (λ n. n.node.value.body.items ≡ []) }
 {
-    let enabled = R::read_expression(alloc, tokens, left)?;
-    expect_tag_end(tokens)?;
+    let enabled = read_only_expression::<R>(alloc, tokens, left)?;
     let node = AutoEscape {
         enabled,
         body: Vec::new(alloc),
@@ -48,17 +63,17 @@ pub fn read_auto_escape<'source, R: ReadsExpressions>(
 /// # Errors
 ///
 /// The fault of the token that does not fit, or want of memory.
-#[tactic(auto, using(template_compiler_statement_parts::proofs::Again::tag_end_again), unfolding(template_compiler_reading::specs::Steps::and_then, template_compiler_statements::specs::Reader::here, template_compiler_statements::specs::Reader::here_by))]
 pub fn read_branch<'source, R: ReadsExpressions>(
     alloc: Global,
     tokens: &mut TokenStream<'source>,
     left: u32,
     span: Span,
 ) -> Result<Spanned<Box<IfCond<'source>>>, Refusal>
-    ensures { ParsedAs (λ n. expression_of n.node.value.expr) (expression_head (here left) tokens.old.left) tokens.new.left result }
+    ensures read { ParsedAs (λ n. expression_of n.node.value.expr) (expression_head (here left) tokens.old.left) tokens.new.left result }
+    ensures empty { IfOk result (λ n. n.node.value.true_body.items ≡ []) }
+    ensures no_other { IfOk result (λ n. n.node.value.false_body.items ≡ []) }
 {
-    let expr = R::read_expression(alloc, tokens, left)?;
-    expect_tag_end(tokens)?;
+    let expr = read_only_expression::<R>(alloc, tokens, left)?;
     let node = IfCond {
         expr,
         true_body: Vec::new(alloc),
@@ -79,7 +94,8 @@ pub fn read_filter_block<'source, R: ReadsExpressions>(
     left: u32,
     span: Span,
 ) -> Result<Spanned<Box<FilterBlock<'source>>>, Refusal>
-    ensures { ParsedAs (λ n. given (expression_of n.node.value.filter)) (filter_head (here left) tokens.old.left) tokens.new.left result }
+    ensures read { ParsedAs (λ n. given (expression_of n.node.value.filter)) (filter_head (here left) tokens.old.left) tokens.new.left result }
+    ensures empty { IfOk result (λ n. n.node.value.body.items ≡ []) }
 {
     let first = R::read_filter(alloc, tokens, left, None)?;
     match R::read_filter_chain(alloc, tokens, left, Some(first))? {

@@ -1,4 +1,5 @@
 //! The heads of loops.
+ghost use Rattle.std.specs.Prelude.{◌≡◌, [], IfOk};
 ghost use Rattle.template_compiler_statement_heads.specs.Heads.{for_head, in_head, loop_head};
 ghost use Rattle.template_compiler_statement_parts.specs.Parsed.{ParsedAs};
 ghost use Rattle.template_compiler_statements.specs.Reader.{here};
@@ -23,7 +24,9 @@ pub fn read_for<'source, R: ReadsExpressions>(
     left: u32,
     span: Span,
 ) -> Result<Spanned<Box<ForLoop<'source>>>, Refusal>
-    ensures { ParsedAs loop_head (for_head (here left) tokens.old.left) tokens.new.left result }
+    ensures read { ParsedAs loop_head (for_head (here left) tokens.old.left) tokens.new.left result }
+    ensures empty { IfOk result (λ n. n.node.value.body.items ≡ []) }
+    ensures no_other { IfOk result (λ n. n.node.value.else_body.items ≡ []) }
 {
     let target = read_targets(alloc, tokens, left, false)?;
     expect_word(tokens, "in")?;
@@ -39,7 +42,9 @@ fn read_in<'source, R: ReadsExpressions>(
     target: Expr<'source>,
     span: Span,
 ) -> Result<Spanned<Box<ForLoop<'source>>>, Refusal>
-    ensures { ParsedAs loop_head (in_head (here left) (expression_of target.entry) tokens.old.left) tokens.new.left result }
+    ensures read { ParsedAs loop_head (in_head (here left) (expression_of target.entry) tokens.old.left) tokens.new.left result }
+    ensures empty { IfOk result (λ n. n.node.value.body.items ≡ []) }
+    ensures no_other { IfOk result (λ n. n.node.value.else_body.items ≡ []) }
 {
     let iter = R::read_condition(alloc, tokens, left)?;
     let filter_expr = read_loop_filter::<R>(alloc, tokens, left)?;

@@ -9,7 +9,7 @@ ghost use Rattle.template_values_json_leaves.specs.Leaves.{IsLeaf, leaf_value};
 
 use serde_json::Value as Json;
 use template_values_core::Value;
-use template_values_errors::{Error, ErrorKind};
+use template_values_errors::Error;
 
 /// The value that null, a truth value, a number or a text stands for, moving the text.
 ///
@@ -27,7 +27,7 @@ pub fn value_of_leaf(json: Json) -> Result<Value, Error>
         Json::Bool(value) => Ok(Value::from_bool(value)),
         Json::Number(number) => match number.as_i128() {
             Some(number) => Ok(Value::from_int(number)),
-            None => Err(Error::new(ErrorKind::NoFloats)),
+            None => unreachable!(),
         },
         Json::String(text) => Value::from_text(text),
         Json::Array(_) => unreachable!(),

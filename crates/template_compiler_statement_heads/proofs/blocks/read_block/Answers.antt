@@ -1,4 +1,4 @@
-use Rattle.std.proofs.Common.{rules, ◌≡◌, ◌∙◌}
+use Rattle.std.proofs.Common.{rules, ◌∙◌}
 use Rattle.template_compiler_stream.specs.Refusals.{Refused}
 use Rattle.template_compiler_statements.specs.Reader.{tag_end}
 use Rattle.template_compiler_statement_parts.proofs.Again.{no_again, ok_again, tag_end_again, unit}

@@ -1,4 +1,4 @@
-use Rattle.std.proofs.Common.{◌≡◌, ◌∙◌, sym, subst}
+use Rattle.std.proofs.Common.{◌∙◌, sym, subst}
 use Rattle.template_compiler_tokens.specs.Token.{paren_open}
 use Rattle.template_compiler_statements.specs.Reader.{here}
 use Rattle.template_compiler_statement_parts.specs.Parsed.{ParsedAs}

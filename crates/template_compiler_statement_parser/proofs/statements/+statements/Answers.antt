@@ -90,39 +90,39 @@ with_block-returns-in_err-body g t c =
 pub auto_escape-returns : goal.auto_escape-returns
 unfolding here here_by
 auto_escape-returns g t c =
-    body_made (here c.args.left) (around_of c.args.around) (codes "endautoescape") auto_escape (autoescape_whole (here c.args.left) (around_of c.args.around) c.args.tokens.now.left) _ _ c.in_ok-head.ensures _ _ c.in_ok-body.ensures ∙
+    body_made (here c.args.left) (around_of c.args.around) (codes "endautoescape") auto_escape (autoescape_whole (here c.args.left) (around_of c.args.around) c.args.tokens.now.left) _ _ c.in_ok-head.ensures.read _ _ c.in_ok-body.ensures ∙
     ap (λ s. Ok (s, c.ended_body.new.tokens.left)) (sym c.auto_escape.ensures)
 
 pub auto_escape-returns-in_err-head : goal.auto_escape-returns-in_err-head
 auto_escape-returns-in_err-head g t c =
     let refused : Refused (autoescape_by (here c.args.left) (around_of c.args.around) c.args.tokens.now.left) c.in_err-head.field-0.0 =
-    head_fails _ _ (autoescape_whole (here c.args.left) (around_of c.args.around) c.args.tokens.now.left) _ c.in_err-head.ensures in
+    head_fails _ _ (autoescape_whole (here c.args.left) (around_of c.args.around) c.args.tokens.now.left) _ c.in_err-head.ensures.read in
     search rules
 
 pub auto_escape-returns-in_err-body : goal.auto_escape-returns-in_err-body
 unfolding here here_by
 auto_escape-returns-in_err-body g t c =
     let refused : Refused (autoescape_by (here c.args.left) (around_of c.args.around) c.args.tokens.now.left) c.in_err-body.field-0.0 =
-    body_fails (here c.args.left) (around_of c.args.around) (codes "endautoescape") auto_escape (autoescape_whole (here c.args.left) (around_of c.args.around) c.args.tokens.now.left) _ _ c.in_ok-head.ensures _ c.in_err-body.ensures in
+    body_fails (here c.args.left) (around_of c.args.around) (codes "endautoescape") auto_escape (autoescape_whole (here c.args.left) (around_of c.args.around) c.args.tokens.now.left) _ _ c.in_ok-head.ensures.read _ c.in_err-body.ensures in
     search rules
 
 pub filter_block-returns : goal.filter_block-returns
 unfolding here here_by
 filter_block-returns g t c =
-    body_made (here c.args.left) (around_of c.args.around) (codes "endfilter") filtered_body (filter_whole (here c.args.left) (around_of c.args.around) c.args.tokens.now.left) _ _ c.in_ok-head.ensures _ _ c.in_ok-body.ensures ∙
+    body_made (here c.args.left) (around_of c.args.around) (codes "endfilter") filtered_body (filter_whole (here c.args.left) (around_of c.args.around) c.args.tokens.now.left) _ _ c.in_ok-head.ensures.read _ _ c.in_ok-body.ensures ∙
     ap (λ s. Ok (s, c.ended_body.new.tokens.left)) (sym c.filter_block.ensures)
 
 pub filter_block-returns-in_err-head : goal.filter_block-returns-in_err-head
 filter_block-returns-in_err-head g t c =
     let refused : Refused (filter_block_by (here c.args.left) (around_of c.args.around) c.args.tokens.now.left) c.in_err-head.field-0.0 =
-    head_fails _ _ (filter_whole (here c.args.left) (around_of c.args.around) c.args.tokens.now.left) _ c.in_err-head.ensures in
+    head_fails _ _ (filter_whole (here c.args.left) (around_of c.args.around) c.args.tokens.now.left) _ c.in_err-head.ensures.read in
     search rules
 
 pub filter_block-returns-in_err-body : goal.filter_block-returns-in_err-body
 unfolding here here_by
 filter_block-returns-in_err-body g t c =
     let refused : Refused (filter_block_by (here c.args.left) (around_of c.args.around) c.args.tokens.now.left) c.in_err-body.field-0.0 =
-    body_fails (here c.args.left) (around_of c.args.around) (codes "endfilter") filtered_body (filter_whole (here c.args.left) (around_of c.args.around) c.args.tokens.now.left) _ _ c.in_ok-head.ensures _ c.in_err-body.ensures in
+    body_fails (here c.args.left) (around_of c.args.around) (codes "endfilter") filtered_body (filter_whole (here c.args.left) (around_of c.args.around) c.args.tokens.now.left) _ _ c.in_ok-head.ensures.read _ c.in_err-body.ensures in
     search rules
 
 pub macro_block-returns : goal.macro_block-returns
@@ -221,13 +221,13 @@ pub for_loop-returns : goal.for_loop-returns
 unfolding here here_by
 for_loop-returns g t c =
     let body = rw c.within_loop.ensures at c.in_ok-body.ensures in
-    for_made (here c.args.left) (around_of c.args.around) _ _ _ _ _ _ _ c.in_ok-head.ensures body c.in_ok-else_body.ensures ∙
+    for_made (here c.args.left) (around_of c.args.around) _ _ _ _ _ _ _ c.in_ok-head.ensures.read body c.in_ok-else_body.ensures ∙
     ap (λ s. Ok (s, c.otherwise.new.tokens.left)) (sym c.for_loop.ensures)
 
 pub for_loop-returns-in_err-head : goal.for_loop-returns-in_err-head
 for_loop-returns-in_err-head g t c =
     let refused : Refused (for_by (here c.args.left) (around_of c.args.around) c.args.tokens.now.left) c.in_err-head.field-0.0 =
-    head_fails _ (for_rest (here c.args.left) (around_of c.args.around)) (for_whole (here c.args.left) (around_of c.args.around) c.args.tokens.now.left) _ c.in_err-head.ensures in
+    head_fails _ (for_rest (here c.args.left) (around_of c.args.around)) (for_whole (here c.args.left) (around_of c.args.around) c.args.tokens.now.left) _ c.in_err-head.ensures.read in
     search rules
 
 pub for_loop-returns-in_err-body : goal.for_loop-returns-in_err-body
@@ -235,7 +235,7 @@ unfolding here here_by
 for_loop-returns-in_err-body g t c =
     let body = rw c.within_loop.ensures at c.in_err-body.ensures in
     let refused : Refused (for_by (here c.args.left) (around_of c.args.around) c.args.tokens.now.left) c.in_err-body.field-0.0 =
-    for_body_fails (here c.args.left) (around_of c.args.around) _ _ _ c.in_ok-head.ensures _ body in
+    for_body_fails (here c.args.left) (around_of c.args.around) _ _ _ c.in_ok-head.ensures.read _ body in
     search rules
 
 pub for_loop-returns-in_err-else_body : goal.for_loop-returns-in_err-else_body
@@ -243,24 +243,24 @@ unfolding here here_by
 for_loop-returns-in_err-else_body g t c =
     let body = rw c.within_loop.ensures at c.in_ok-body.ensures in
     let refused : Refused (for_by (here c.args.left) (around_of c.args.around) c.args.tokens.now.left) c.in_err-else_body.field-0.0 =
-    for_else_fails (here c.args.left) (around_of c.args.around) _ _ _ _ _ c.in_ok-head.ensures body _ c.in_err-else_body.ensures in
+    for_else_fails (here c.args.left) (around_of c.args.around) _ _ _ _ _ c.in_ok-head.ensures.read body _ c.in_err-else_body.ensures in
     search rules
 
 pub read_branch-returns : goal.read_branch-returns
 unfolding here here_by
 read_branch-returns g t c =
-    behind _ (branch_whole (here c.args.left) (around_of c.args.around) c.args.tokens.now.left) _ _ c.in_ok-head.ensures (then_goes _ c.in_ok-body.ensures refl) ∙
+    behind _ (branch_whole (here c.args.left) (around_of c.args.around) c.args.tokens.now.left) _ _ c.in_ok-head.ensures.read (then_goes _ c.in_ok-body.ensures refl) ∙
     ap (λ b. Ok (b, c.body.new.tokens.left)) (sym c.branch-head-2.ensures)
 
 pub read_branch-returns-in_err-head : goal.read_branch-returns-in_err-head
 read_branch-returns-in_err-head g t c =
     let refused : Refused (branch_by (here c.args.left) (around_of c.args.around) c.args.tokens.now.left) c.in_err-head.field-0.0 =
-    head_fails _ _ (branch_whole (here c.args.left) (around_of c.args.around) c.args.tokens.now.left) _ c.in_err-head.ensures in
+    head_fails _ _ (branch_whole (here c.args.left) (around_of c.args.around) c.args.tokens.now.left) _ c.in_err-head.ensures.read in
     search rules
 
 pub read_branch-returns-in_err-body : goal.read_branch-returns-in_err-body
 unfolding here here_by
 read_branch-returns-in_err-body g t c =
     let refused : Refused (branch_by (here c.args.left) (around_of c.args.around) c.args.tokens.now.left) c.in_err-body.field-0.0 =
-    behind_fails _ (branch_whole (here c.args.left) (around_of c.args.around) c.args.tokens.now.left) _ _ c.in_ok-head.ensures _ (head_fails _ _ refl _ c.in_err-body.ensures) in
+    behind_fails _ (branch_whole (here c.args.left) (around_of c.args.around) c.args.tokens.now.left) _ _ c.in_ok-head.ensures.read _ (head_fails _ _ refl _ c.in_err-body.ensures) in
     search rules
