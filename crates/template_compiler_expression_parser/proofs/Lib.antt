@@ -1,4 +1,5 @@
 mod Alone
+mod Asked
 pub mod Chains
 pub mod Items
 pub mod Links
