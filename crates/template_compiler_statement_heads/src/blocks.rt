@@ -94,7 +94,8 @@ pub fn read_filter_block<'source, R: ReadsExpressions>(
     left: u32,
     span: Span,
 ) -> Result<Spanned<Box<FilterBlock<'source>>>, Refusal>
-    ensures read { ParsedAs (λ n. given (expression_of n.node.value.filter)) (filter_head (here left) tokens.old.left) tokens.new.left result }
+    ensures read { ParsedAs (λ n. given (expression_of n.node.value.filter)) (filter_head (here left) tokens.old.left)
+        tokens.new.left result }
     ensures empty { IfOk result (λ n. n.node.value.body.items ≡ []) }
 {
     let first = R::read_filter(alloc, tokens, left, None)?;
