@@ -3,3 +3,4 @@ pub mod Erased
 mod Stops
 pub mod Complete
 mod Laws
+pub mod Pushes
