@@ -3,12 +3,16 @@ ghost use Rattle.std.specs.Prelude.{◌≡◌, true, false, Some, Ok, suc};
 ghost use Rattle.std.specs.Cow.{cow_str_bytes};
 ghost use Rattle.template_compiler_expression_parts.specs.Parsed.{Parsed, ParsedAs, ParsedOptional, Stepped, SteppedTo, WentOn, paired_in, unnamed_by, written_in};
 ghost use Rattle.template_compiler_stream.specs.Signs.{level_of};
-ghost use Rattle.template_compiler_expressions.specs.Reader.{link_behind, argument_by, arguments_by, arguments_step, binary_by, bound_by, colon_end, comparison_by, deeper, else_behind, expression_by, filter_by, filter_step, filtered_by, is_by, items_step, link_step, list_by, map_by, negation_by, not_in_link, operand_by, operand_step, optional_arguments_by, paren_by, paren_end, part_step, parts_by, pairs_step, power_by, primary_by, slice_by, step_by, subscript_by, terms_by, test_arguments_by, test_by, unary_by};
-ghost use Rattle.template_compiler_expressions.specs.Trees.{nothing_paired, nothing_written};
+ghost use Rattle.template_compiler_expressions.specs.Reader.{colon_end, paren_end};
+ghost use Rattle.template_compiler_placed_expressions.specs.Reader.{link_behind, argument_by, arguments_by, arguments_step, binary_by, bound_by, comparison_by, deeper, else_behind, expression_by, filter_by, filter_step, filtered_by, is_by, items_step, link_step, list_by, map_by, negation_by, not_in_link, operand_by, operand_step, optional_arguments_by, paren_by, part_step, parts_by, pairs_step, power_by, primary_by, slice_by, step_by, subscript_by, terms_by, test_arguments_by, test_by, through_next, unary_by, up_to};
+ghost use Rattle.template_compiler_placed_expressions.specs.Nodes.{first_node, given_node, no_placed_links, no_placed_pairs, no_placed_written, node};
+ghost use Rattle.template_compiler_placed_expressions.specs.Views.{node_of, nodes_in, optional_node_in, placed_argument_of, placed_arguments_in, placed_links_in};
+ghost use Rattle.template_tree_places.specs.Expressions.{places_of};
+ghost use Rattle.template_tree_places.specs.Places.{parts_more};
 ghost use Rattle.template_compiler_expressions.specs.Words.{disjunction};
 ghost use Rattle.template_compiler_reading.specs.Steps.{and_then, all, goes, under};
-ghost use Rattle.template_tree.specs.Tree.{call, expressions_more, given, no_expressions, no_links, tuple_literal};
-ghost use Rattle.template_tree.specs.View.{argument_of, arguments_in, expression_of, expressions_in, links_in, optional_in};
+ghost use Rattle.template_tree.specs.Tree.{call, tuple_literal};
+ghost use Rattle.template_tree.specs.View.{expression_of};
 
 use std::alloc::Global;
 use std::borrow::CowStr;
@@ -18,16 +22,18 @@ use template_compiler_expression_parts::{
 };
 use template_compiler_stream::{Level, Refusal, Sign, TokenStream};
 use template_tree::{BinOpKind, CallArg, CompareOp, CompareOpKind, Expr, Span, UnaryOpKind};
+use template_tree_makers as nodes;
 
 // An expression, with so many nesting levels left.
 #[cycle(parser)]
-#[tactic(auto, unfolding(template_compiler_reading::specs::Steps::and_then, template_compiler_expressions::specs::Reader::expression_by, template_compiler_expressions::specs::Reader::if_behind, template_compiler_expressions::specs::Reader::deeper))]
+#[tactic(auto, unfolding(template_compiler_reading::specs::Steps::and_then, template_compiler_placed_expressions::specs::Reader::expression_by, template_compiler_placed_expressions::specs::Reader::if_behind, template_compiler_placed_expressions::specs::Reader::deeper))]
 pub(crate) fn expression<'source>(
     alloc: Global,
     tokens: &mut TokenStream<'source>,
     left: u32,
 ) -> Result<Expr<'source>, Refusal>
-    ensures { Parsed (expression_by (deeper left) tokens.old.left) tokens.new.left result }
+    ensures parsed { Parsed (expression_by tokens.old.spans (deeper tokens.old.spans left) tokens.old.left) tokens.new.left result }
+    ensures spans { tokens.new.spans ≡ tokens.old.spans }
 {
     let span = tokens.span();
     let value = binary(alloc, tokens, left, Level::Disjunction)?;
@@ -40,7 +46,7 @@ pub(crate) fn expression<'source>(
 
 // Behind `if`: the condition, and the other branch where there is one.
 #[cycle(parser)]
-#[tactic(auto, unfolding(template_compiler_reading::specs::Steps::and_then, template_compiler_expressions::specs::Reader::else_behind, template_compiler_expressions::specs::Reader::deeper))]
+#[tactic(auto, unfolding(template_compiler_reading::specs::Steps::and_then, template_compiler_placed_expressions::specs::Reader::else_behind, template_compiler_placed_expressions::specs::Reader::deeper))]
 fn branches<'source>(
     alloc: Global,
     tokens: &mut TokenStream<'source>,
@@ -48,8 +54,9 @@ fn branches<'source>(
     value: Expr<'source>,
     span: Span,
 ) -> Result<Expr<'source>, Refusal>
-    ensures { Parsed (and_then (binary_by (deeper left) disjunction tokens.old.left)
-        (else_behind (deeper (suc left)) (expression_of value.entry))) tokens.new.left result }
+    ensures parsed { Parsed (and_then (binary_by tokens.old.spans (deeper tokens.old.spans left) disjunction tokens.old.left)
+        (else_behind tokens.old.spans (deeper tokens.old.spans (suc left)) span (node_of value.entry))) tokens.new.left result }
+    ensures spans { tokens.new.spans ≡ tokens.old.spans }
 {
     let test = binary(alloc, tokens, left, Level::Disjunction)?;
     let other = if tokens.skip_word("else") {
@@ -57,19 +64,20 @@ fn branches<'source>(
     } else {
         None
     };
-    Ok(Expr::conditional(alloc, test, value, other, tokens.expand_span(span))?)
+    Ok(nodes::conditional(alloc, test, value, other, tokens.expand_span(span))?)
 }
 
 // Operands with the operators of a level between them. Most are alone, and go through no level below.
 #[cycle(parser)]
-#[tactic(auto, unfolding(template_compiler_reading::specs::Steps::and_then, template_compiler_expressions::specs::Reader::binary_by, template_compiler_expressions::specs::Reader::binary_of))]
+#[tactic(auto, unfolding(template_compiler_reading::specs::Steps::and_then, template_compiler_placed_expressions::specs::Reader::binary_by, template_compiler_placed_expressions::specs::Reader::binary_of))]
 pub(crate) fn binary<'source>(
     alloc: Global,
     tokens: &mut TokenStream<'source>,
     left: u32,
     level: Level,
 ) -> Result<Expr<'source>, Refusal>
-    ensures { Parsed (binary_by (deeper left) (level_of level) tokens.old.left) tokens.new.left result }
+    ensures parsed { Parsed (binary_by tokens.old.spans (deeper tokens.old.spans left) (level_of level) tokens.old.left) tokens.new.left result }
+    ensures spans { tokens.new.spans ≡ tokens.old.spans }
 {
     if tokens.begins_alone() {
         return literal(alloc, tokens);
@@ -88,8 +96,9 @@ fn operands<'source>(
     value: Expr<'source>,
     span: Span,
 ) -> Result<Expr<'source>, Refusal>
-    ensures { Parsed (all (operand_step (level_of level) (operand_by (deeper left) (level_of level))) (expression_of value.entry)
+    ensures parsed { Parsed (all (operand_step tokens.old.spans (level_of level) (operand_by tokens.old.spans (deeper tokens.old.spans left) (level_of level)) span) (node_of value.entry)
         tokens.old.left) tokens.new.left result }
+    ensures spans { tokens.new.spans ≡ tokens.old.spans }
 {
     let mut value = value;
     loop {
@@ -111,8 +120,9 @@ fn next_operand<'source>(
     value: Expr<'source>,
     span: Span,
 ) -> Result<Behind<'source>, Refusal>
-    ensures { Stepped (operand_step (level_of level) (operand_by (deeper left) (level_of level)) (expression_of value.entry)
-        tokens.old.left) (expression_of value.entry) tokens.old.left tokens.new.left result }
+    ensures parsed { Stepped (operand_step tokens.old.spans (level_of level) (operand_by tokens.old.spans (deeper tokens.old.spans left) (level_of level)) span (node_of value.entry)
+        tokens.old.left) (node_of value.entry) tokens.old.left tokens.new.left result }
+    ensures spans { tokens.new.spans ≡ tokens.old.spans }
 {
     match tokens.skip_operator(level) {
         Some(op) => {
@@ -120,21 +130,22 @@ fn next_operand<'source>(
                 Ok(right) => right,
                 Err(refusal) => return Err(refusal),
             };
-            Ok(Behind::Goes(Expr::binary(alloc, op, value, right, tokens.expand_span(span))?))
+            Ok(Behind::Goes(nodes::binary(alloc, op, value, right, tokens.expand_span(span))?))
         }
         None => Ok(Behind::Stops(value)),
     }
 }
 
 #[cycle(parser)]
-#[tactic(auto, unfolding(template_compiler_expressions::specs::Reader::operand_by, template_compiler_expressions::specs::Reader::binary_by))]
+#[tactic(auto, unfolding(template_compiler_placed_expressions::specs::Reader::operand_by, template_compiler_placed_expressions::specs::Reader::binary_by))]
 fn operand<'source>(
     alloc: Global,
     tokens: &mut TokenStream<'source>,
     left: u32,
     level: Level,
 ) -> Result<Expr<'source>, Refusal>
-    ensures { Parsed (operand_by (deeper left) (level_of level) tokens.old.left) tokens.new.left result }
+    ensures parsed { Parsed (operand_by tokens.old.spans (deeper tokens.old.spans left) (level_of level) tokens.old.left) tokens.new.left result }
+    ensures spans { tokens.new.spans ≡ tokens.old.spans }
 {
     match level {
         Level::Factors => power(alloc, tokens, left),
@@ -146,18 +157,19 @@ fn operand<'source>(
 }
 
 #[cycle(parser)]
-#[tactic(auto, unfolding(template_compiler_reading::specs::Steps::and_then, template_compiler_expressions::specs::Reader::negation_by, template_compiler_expressions::specs::Reader::deeper))]
+#[tactic(auto, unfolding(template_compiler_reading::specs::Steps::and_then, template_compiler_placed_expressions::specs::Reader::negation_by, template_compiler_placed_expressions::specs::Reader::deeper))]
 fn negation<'source>(
     alloc: Global,
     tokens: &mut TokenStream<'source>,
     left: u32,
 ) -> Result<Expr<'source>, Refusal>
-    ensures { Parsed (negation_by (deeper left) tokens.old.left) tokens.new.left result }
+    ensures parsed { Parsed (negation_by tokens.old.spans (deeper tokens.old.spans left) tokens.old.left) tokens.new.left result }
+    ensures spans { tokens.new.spans ≡ tokens.old.spans }
 {
     let span = tokens.span();
     if tokens.skip_word("not") {
         let operand = negation(alloc, tokens, deeper(left)?)?;
-        Ok(Expr::unary(alloc, UnaryOpKind::Not, operand, tokens.expand_span(span))?)
+        Ok(nodes::unary(alloc, UnaryOpKind::Not, operand, tokens.expand_span(span))?)
     } else {
         comparison(alloc, tokens, left)
     }
@@ -165,13 +177,14 @@ fn negation<'source>(
 
 // A sum, with comparisons behind it.
 #[cycle(parser)]
-#[tactic(auto, unfolding(template_compiler_reading::specs::Steps::and_then, template_compiler_expressions::specs::Reader::comparison_by, template_compiler_expressions::specs::Reader::terms_by, template_compiler_expressions::specs::Reader::binary_by, template_compiler_expressions::specs::Reader::operand_by))]
+#[tactic(auto, unfolding(template_compiler_reading::specs::Steps::and_then, template_compiler_placed_expressions::specs::Reader::comparison_by, template_compiler_placed_expressions::specs::Reader::terms_by, template_compiler_placed_expressions::specs::Reader::binary_by, template_compiler_placed_expressions::specs::Reader::operand_by))]
 fn comparison<'source>(
     alloc: Global,
     tokens: &mut TokenStream<'source>,
     left: u32,
 ) -> Result<Expr<'source>, Refusal>
-    ensures { Parsed (comparison_by (deeper left) tokens.old.left) tokens.new.left result }
+    ensures parsed { Parsed (comparison_by tokens.old.spans (deeper tokens.old.spans left) tokens.old.left) tokens.new.left result }
+    ensures spans { tokens.new.spans ≡ tokens.old.spans }
 {
     let span = tokens.span();
     let value = binary(alloc, tokens, left, Level::Terms)?;
@@ -185,7 +198,8 @@ fn links<'source>(
     tokens: &mut TokenStream<'source>,
     left: u32,
 ) -> Result<Vec<CompareOp<'source>>, Refusal>
-    ensures { ParsedAs (λ v. links_in v.items) (all (link_step (terms_by (deeper left))) no_links tokens.old.left) tokens.new.left result }
+    ensures parsed { ParsedAs (λ v. placed_links_in v.items) (all (link_step tokens.old.spans (terms_by tokens.old.spans (deeper tokens.old.spans left))) no_placed_links tokens.old.left) tokens.new.left result }
+    ensures spans { tokens.new.spans ≡ tokens.old.spans }
 {
     let mut links = Vec::new(alloc);
     loop {
@@ -205,8 +219,9 @@ fn next_link<'source>(
     left: u32,
     links: &mut Vec<CompareOp<'source>>,
 ) -> Result<bool, Refusal>
-    ensures { SteppedTo (link_step (terms_by (deeper left)) (links_in links.old.items) tokens.old.left) (links_in links.old.items)
-        tokens.old.left (links_in links.new.items) tokens.new.left result }
+    ensures parsed { SteppedTo (link_step tokens.old.spans (terms_by tokens.old.spans (deeper tokens.old.spans left)) (placed_links_in links.old.items) tokens.old.left) (placed_links_in links.old.items)
+        tokens.old.left (placed_links_in links.new.items) tokens.new.left result }
+    ensures spans { tokens.new.spans ≡ tokens.old.spans }
 {
     match tokens.skip_comparison() {
         Some(op) => put_link(alloc, tokens, left, op, links),
@@ -222,7 +237,7 @@ fn next_link<'source>(
 
 // Behind a comparison: its right side.
 #[cycle(parser)]
-#[tactic(auto, using(template_compiler_expression_parts::proofs::Pushes::links_push), unfolding(template_compiler_reading::specs::Steps::under, template_compiler_expressions::specs::Reader::link_behind, template_compiler_expressions::specs::Reader::terms_by, template_compiler_expressions::specs::Reader::binary_by, template_compiler_expressions::specs::Reader::operand_by))]
+#[tactic(auto, using(template_compiler_expression_parts::proofs::Pushes::links_push), unfolding(template_compiler_reading::specs::Steps::under, template_compiler_placed_expressions::specs::Reader::link_behind, template_compiler_placed_expressions::specs::Reader::terms_by, template_compiler_placed_expressions::specs::Reader::binary_by, template_compiler_placed_expressions::specs::Reader::operand_by))]
 fn put_link<'source>(
     alloc: Global,
     tokens: &mut TokenStream<'source>,
@@ -230,8 +245,9 @@ fn put_link<'source>(
     op: CompareOpKind,
     links: &mut Vec<CompareOp<'source>>,
 ) -> Result<bool, Refusal>
-    ensures { SteppedTo (link_behind (Some op) false (terms_by (deeper left)) (links_in links.old.items) tokens.old.left)
-        (links_in links.old.items) tokens.old.left (links_in links.new.items) tokens.new.left result }
+    ensures parsed { SteppedTo (link_behind tokens.old.spans (Some op) false (terms_by tokens.old.spans (deeper tokens.old.spans left)) (placed_links_in links.old.items) tokens.old.left)
+        (placed_links_in links.old.items) tokens.old.left (placed_links_in links.new.items) tokens.new.left result }
+    ensures spans { tokens.new.spans ≡ tokens.old.spans }
 {
     let right = match binary(alloc, tokens, left, Level::Terms) {
         Ok(right) => right,
@@ -243,15 +259,16 @@ fn put_link<'source>(
 
 // Behind the `not` of a `not in`.
 #[cycle(parser)]
-#[tactic(auto, unfolding(template_compiler_reading::specs::Steps::under, template_compiler_expressions::specs::Reader::link_behind, template_compiler_expressions::specs::Reader::not_in_link))]
+#[tactic(auto, unfolding(template_compiler_reading::specs::Steps::under, template_compiler_placed_expressions::specs::Reader::link_behind, template_compiler_placed_expressions::specs::Reader::not_in_link))]
 fn next_not_in<'source>(
     alloc: Global,
     tokens: &mut TokenStream<'source>,
     left: u32,
     links: &mut Vec<CompareOp<'source>>,
 ) -> Result<bool, Refusal>
-    ensures { SteppedTo (not_in_link (terms_by (deeper left)) (links_in links.old.items) tokens.old.left) (links_in links.old.items)
-        tokens.old.left (links_in links.new.items) tokens.new.left result }
+    ensures parsed { SteppedTo (not_in_link tokens.old.spans (terms_by tokens.old.spans (deeper tokens.old.spans left)) (placed_links_in links.old.items) tokens.old.left) (placed_links_in links.old.items)
+        tokens.old.left (placed_links_in links.new.items) tokens.new.left result }
+    ensures spans { tokens.new.spans ≡ tokens.old.spans }
 {
     if tokens.skip_word("in") {
         put_link(alloc, tokens, left, CompareOpKind::NotIn, links)
@@ -261,19 +278,20 @@ fn next_not_in<'source>(
 }
 
 #[cycle(parser)]
-#[tactic(auto, unfolding(template_compiler_reading::specs::Steps::and_then, template_compiler_expressions::specs::Reader::power_by, template_compiler_expressions::specs::Reader::power_behind, template_compiler_expressions::specs::Reader::deeper))]
+#[tactic(auto, unfolding(template_compiler_reading::specs::Steps::and_then, template_compiler_placed_expressions::specs::Reader::power_by, template_compiler_placed_expressions::specs::Reader::power_behind, template_compiler_placed_expressions::specs::Reader::deeper))]
 fn power<'source>(
     alloc: Global,
     tokens: &mut TokenStream<'source>,
     left: u32,
 ) -> Result<Expr<'source>, Refusal>
-    ensures { Parsed (power_by (deeper left) tokens.old.left) tokens.new.left result }
+    ensures parsed { Parsed (power_by tokens.old.spans (deeper tokens.old.spans left) tokens.old.left) tokens.new.left result }
+    ensures spans { tokens.new.spans ≡ tokens.old.spans }
 {
     let span = tokens.span();
     let value = filtered(alloc, tokens, left)?;
     if tokens.skip(Sign::Pow) {
         let right = power(alloc, tokens, deeper(left)?)?;
-        Ok(Expr::binary(
+        Ok(nodes::binary(
             alloc,
             BinOpKind::Pow,
             value,
@@ -287,13 +305,14 @@ fn power<'source>(
 
 // An unary, with filters and tests behind it.
 #[cycle(parser)]
-#[tactic(auto, unfolding(template_compiler_reading::specs::Steps::and_then, template_compiler_expressions::specs::Reader::filtered_by))]
+#[tactic(auto, unfolding(template_compiler_reading::specs::Steps::and_then, template_compiler_placed_expressions::specs::Reader::filtered_by))]
 fn filtered<'source>(
     alloc: Global,
     tokens: &mut TokenStream<'source>,
     left: u32,
 ) -> Result<Expr<'source>, Refusal>
-    ensures { Parsed (filtered_by (deeper left) tokens.old.left) tokens.new.left result }
+    ensures parsed { Parsed (filtered_by tokens.old.spans (deeper tokens.old.spans left) tokens.old.left) tokens.new.left result }
+    ensures spans { tokens.new.spans ≡ tokens.old.spans }
 {
     let span = tokens.span();
     let value = unary(alloc, tokens, left)?;
@@ -308,7 +327,8 @@ fn filters<'source>(
     value: Expr<'source>,
     span: Span,
 ) -> Result<Expr<'source>, Refusal>
-    ensures { Parsed (all (filter_step (deeper left)) (expression_of value.entry) tokens.old.left) tokens.new.left result }
+    ensures parsed { Parsed (all (filter_step tokens.old.spans (deeper tokens.old.spans left) span) (node_of value.entry) tokens.old.left) tokens.new.left result }
+    ensures spans { tokens.new.spans ≡ tokens.old.spans }
 {
     let mut value = value;
     loop {
@@ -321,7 +341,7 @@ fn filters<'source>(
 }
 
 #[cycle(parser)]
-#[tactic(auto, using(template_compiler_expression_parts::proofs::Rounds::filter_none), unfolding(template_compiler_reading::specs::Steps::under, template_compiler_expressions::specs::Reader::filter_step))]
+#[tactic(auto, using(template_compiler_expression_parts::proofs::Rounds::filter_none), unfolding(template_compiler_reading::specs::Steps::under, template_compiler_placed_expressions::specs::Reader::filter_step))]
 fn next_filter<'source>(
     alloc: Global,
     tokens: &mut TokenStream<'source>,
@@ -329,8 +349,9 @@ fn next_filter<'source>(
     value: Expr<'source>,
     span: Span,
 ) -> Result<Behind<'source>, Refusal>
-    ensures { Stepped (filter_step (deeper left) (expression_of value.entry) tokens.old.left) (expression_of value.entry) tokens.old.left
+    ensures parsed { Stepped (filter_step tokens.old.spans (deeper tokens.old.spans left) span (node_of value.entry) tokens.old.left) (node_of value.entry) tokens.old.left
         tokens.new.left result }
+    ensures spans { tokens.new.spans ≡ tokens.old.spans }
 {
     if tokens.skip(Sign::Pipe) {
         Ok(Behind::Goes(piped(alloc, tokens, left, value, span)?))
@@ -343,7 +364,7 @@ fn next_filter<'source>(
 
 // Behind `|`: a filter, with the parts of its result.
 #[cycle(parser)]
-#[tactic(auto, unfolding(template_compiler_reading::specs::Steps::and_then, template_compiler_expressions::specs::Reader::parts_by))]
+#[tactic(auto, unfolding(template_compiler_reading::specs::Steps::and_then, template_compiler_placed_expressions::specs::Reader::parts_by))]
 fn piped<'source>(
     alloc: Global,
     tokens: &mut TokenStream<'source>,
@@ -351,8 +372,9 @@ fn piped<'source>(
     value: Expr<'source>,
     span: Span,
 ) -> Result<Expr<'source>, Refusal>
-    ensures { Parsed (and_then (filter_by (deeper left) (given (expression_of value.entry)) tokens.old.left) (parts_by (deeper left)))
+    ensures parsed { Parsed (and_then (filter_by tokens.old.spans (deeper tokens.old.spans left) span (given_node (node_of value.entry)) tokens.old.left) (parts_by tokens.old.spans (deeper tokens.old.spans left) span))
         tokens.new.left result }
+    ensures spans { tokens.new.spans ≡ tokens.old.spans }
 {
     let filtered = filter(alloc, tokens, left, Some(value), span)?;
     parts(alloc, tokens, left, filtered, span)
@@ -360,7 +382,7 @@ fn piped<'source>(
 
 // A filter's name and its arguments.
 #[cycle(parser)]
-#[tactic(auto, unfolding(template_compiler_reading::specs::Steps::and_then, template_compiler_expressions::specs::Reader::filter_by))]
+#[tactic(auto, unfolding(template_compiler_reading::specs::Steps::and_then, template_compiler_placed_expressions::specs::Reader::filter_by))]
 pub(crate) fn filter<'source>(
     alloc: Global,
     tokens: &mut TokenStream<'source>,
@@ -368,22 +390,24 @@ pub(crate) fn filter<'source>(
     value: Option<Expr<'source>>,
     span: Span,
 ) -> Result<Expr<'source>, Refusal>
-    ensures { Parsed (filter_by (deeper left) (optional_in value.entry) tokens.old.left) tokens.new.left result }
+    ensures parsed { Parsed (filter_by tokens.old.spans (deeper tokens.old.spans left) span (optional_node_in value.entry) tokens.old.left) tokens.new.left result }
+    ensures spans { tokens.new.spans ≡ tokens.old.spans }
 {
     let name = name(alloc, tokens)?;
     let arguments = optional_arguments(alloc, tokens, left)?;
-    Ok(Expr::filtered(alloc, name, value, arguments, tokens.expand_span(span))?)
+    Ok(nodes::filtered(alloc, name, value, arguments, tokens.expand_span(span))?)
 }
 
 // Arguments in parentheses, where a `(` stands next.
 #[cycle(parser)]
-#[tactic(auto, using(template_compiler_expression_parts::proofs::Nothing::no_arguments_list), unfolding(template_compiler_expressions::specs::Reader::optional_arguments_by, template_compiler_expressions::specs::Reader::deeper))]
+#[tactic(auto, using(template_compiler_expression_parts::proofs::Nothing::no_arguments_list), unfolding(template_compiler_placed_expressions::specs::Reader::optional_arguments_by, template_compiler_placed_expressions::specs::Reader::deeper))]
 fn optional_arguments<'source>(
     alloc: Global,
     tokens: &mut TokenStream<'source>,
     left: u32,
 ) -> Result<Vec<CallArg<'source>>, Refusal>
-    ensures { ParsedAs (λ v. arguments_in v.items) (optional_arguments_by (deeper left) tokens.old.left) tokens.new.left result }
+    ensures parsed { ParsedAs (λ v. placed_arguments_in v.items) (optional_arguments_by tokens.old.spans (deeper tokens.old.spans left) tokens.old.left) tokens.new.left result }
+    ensures spans { tokens.new.spans ≡ tokens.old.spans }
 {
     if tokens.skip(Sign::ParenOpen) {
         arguments(alloc, tokens, deeper(left)?)
@@ -402,7 +426,8 @@ fn asked<'source>(
     value: Expr<'source>,
     span: Span,
 ) -> Result<Expr<'source>, Refusal>
-    ensures { Parsed (is_by (deeper left) (expression_of value.entry) tokens.old.left) tokens.new.left result }
+    ensures parsed { Parsed (is_by tokens.old.spans (deeper tokens.old.spans left) span (node_of value.entry) tokens.old.left) tokens.new.left result }
+    ensures spans { tokens.new.spans ≡ tokens.old.spans }
 {
     let negated = tokens.skip_word("not");
     test(alloc, tokens, left, negated, value, span)
@@ -410,7 +435,7 @@ fn asked<'source>(
 
 // A test's name and its arguments, with the parts behind it.
 #[cycle(parser)]
-#[tactic(auto, unfolding(template_compiler_reading::specs::Steps::and_then, template_compiler_expressions::specs::Reader::test_by))]
+#[tactic(auto, unfolding(template_compiler_reading::specs::Steps::and_then, template_compiler_placed_expressions::specs::Reader::test_by))]
 fn test<'source>(
     alloc: Global,
     tokens: &mut TokenStream<'source>,
@@ -419,7 +444,8 @@ fn test<'source>(
     value: Expr<'source>,
     span: Span,
 ) -> Result<Expr<'source>, Refusal>
-    ensures { Parsed (test_by (deeper left) negated (expression_of value.entry) tokens.old.left) tokens.new.left result }
+    ensures parsed { Parsed (test_by tokens.old.spans (deeper tokens.old.spans left) negated span (node_of value.entry) tokens.old.left) tokens.new.left result }
+    ensures spans { tokens.new.spans ≡ tokens.old.spans }
 {
     let name = name(alloc, tokens)?;
     if tokens.begins_argument() {
@@ -431,7 +457,7 @@ fn test<'source>(
 
 // A test with one argument, which stands without parentheses.
 #[cycle(parser)]
-#[tactic(auto, unfolding(template_compiler_reading::specs::Steps::and_then, template_compiler_expressions::specs::Reader::test_arguments_by))]
+#[tactic(auto, unfolding(template_compiler_reading::specs::Steps::and_then, template_compiler_placed_expressions::specs::Reader::test_arguments_by))]
 fn bare_test<'source>(
     alloc: Global,
     tokens: &mut TokenStream<'source>,
@@ -441,8 +467,9 @@ fn bare_test<'source>(
     value: Expr<'source>,
     span: Span,
 ) -> Result<Expr<'source>, Refusal>
-    ensures { Parsed (test_arguments_by (deeper left) true negated (expression_of value.entry) (cow_str_bytes name.entry) tokens.old.left)
+    ensures parsed { Parsed (test_arguments_by tokens.old.spans (deeper tokens.old.spans left) true negated span (node_of value.entry) (cow_str_bytes name.entry) tokens.old.left)
         tokens.new.left result }
+    ensures spans { tokens.new.spans ≡ tokens.old.spans }
 {
     let argument = unary(alloc, tokens, left)?;
     let mut arguments = Vec::new(alloc);
@@ -459,7 +486,7 @@ fn bare_test<'source>(
 
 // A test with arguments in parentheses, or with none.
 #[cycle(parser)]
-#[tactic(auto, unfolding(template_compiler_reading::specs::Steps::and_then, template_compiler_expressions::specs::Reader::test_arguments_by, template_compiler_expressions::specs::Reader::parts_by))]
+#[tactic(auto, unfolding(template_compiler_reading::specs::Steps::and_then, template_compiler_placed_expressions::specs::Reader::test_arguments_by, template_compiler_placed_expressions::specs::Reader::parts_by))]
 fn plain_test<'source>(
     alloc: Global,
     tokens: &mut TokenStream<'source>,
@@ -469,8 +496,9 @@ fn plain_test<'source>(
     value: Expr<'source>,
     span: Span,
 ) -> Result<Expr<'source>, Refusal>
-    ensures { Parsed (test_arguments_by (deeper left) false negated (expression_of value.entry) (cow_str_bytes name.entry) tokens.old.left)
+    ensures parsed { Parsed (test_arguments_by tokens.old.spans (deeper tokens.old.spans left) false negated span (node_of value.entry) (cow_str_bytes name.entry) tokens.old.left)
         tokens.new.left result }
+    ensures spans { tokens.new.spans ≡ tokens.old.spans }
 {
     let arguments = optional_arguments(alloc, tokens, left)?;
     let test = tested(
@@ -486,18 +514,19 @@ fn plain_test<'source>(
 
 // A minus, or a primary with its parts.
 #[cycle(parser)]
-#[tactic(auto, unfolding(template_compiler_reading::specs::Steps::and_then, template_compiler_expressions::specs::Reader::unary_by, template_compiler_expressions::specs::Reader::parts_by, template_compiler_expressions::specs::Reader::deeper))]
+#[tactic(auto, unfolding(template_compiler_reading::specs::Steps::and_then, template_compiler_placed_expressions::specs::Reader::unary_by, template_compiler_placed_expressions::specs::Reader::parts_by, template_compiler_placed_expressions::specs::Reader::deeper))]
 fn unary<'source>(
     alloc: Global,
     tokens: &mut TokenStream<'source>,
     left: u32,
 ) -> Result<Expr<'source>, Refusal>
-    ensures { Parsed (unary_by (deeper left) tokens.old.left) tokens.new.left result }
+    ensures parsed { Parsed (unary_by tokens.old.spans (deeper tokens.old.spans left) tokens.old.left) tokens.new.left result }
+    ensures spans { tokens.new.spans ≡ tokens.old.spans }
 {
     let span = tokens.span();
     if tokens.skip(Sign::Minus) {
         let operand = unary(alloc, tokens, deeper(left)?)?;
-        Ok(Expr::unary(alloc, UnaryOpKind::Neg, operand, tokens.expand_span(span))?)
+        Ok(nodes::unary(alloc, UnaryOpKind::Neg, operand, tokens.expand_span(span))?)
     } else {
         let value = primary(alloc, tokens, left)?;
         parts(alloc, tokens, left, value, span)
@@ -512,7 +541,8 @@ fn parts<'source>(
     value: Expr<'source>,
     span: Span,
 ) -> Result<Expr<'source>, Refusal>
-    ensures { Parsed (all (part_step (deeper left)) (expression_of value.entry) tokens.old.left) tokens.new.left result }
+    ensures parsed { Parsed (all (part_step tokens.old.spans (deeper tokens.old.spans left) span) (node_of value.entry) tokens.old.left) tokens.new.left result }
+    ensures spans { tokens.new.spans ≡ tokens.old.spans }
 {
     let mut value = value;
     loop {
@@ -525,7 +555,7 @@ fn parts<'source>(
 }
 
 #[cycle(parser)]
-#[tactic(auto, using(template_compiler_expression_parts::proofs::Rounds::part_none), unfolding(template_compiler_reading::specs::Steps::under, template_compiler_expressions::specs::Reader::part_step, template_compiler_expressions::specs::Reader::deeper))]
+#[tactic(auto, using(template_compiler_expression_parts::proofs::Rounds::part_none), unfolding(template_compiler_reading::specs::Steps::under, template_compiler_placed_expressions::specs::Reader::part_step, template_compiler_placed_expressions::specs::Reader::deeper))]
 fn next_part<'source>(
     alloc: Global,
     tokens: &mut TokenStream<'source>,
@@ -533,8 +563,9 @@ fn next_part<'source>(
     value: Expr<'source>,
     span: Span,
 ) -> Result<Behind<'source>, Refusal>
-    ensures { Stepped (part_step (deeper left) (expression_of value.entry) tokens.old.left) (expression_of value.entry) tokens.old.left
+    ensures parsed { Stepped (part_step tokens.old.spans (deeper tokens.old.spans left) span (node_of value.entry) tokens.old.left) (node_of value.entry) tokens.old.left
         tokens.new.left result }
+    ensures spans { tokens.new.spans ≡ tokens.old.spans }
 {
     if tokens.skip(Sign::Dot) {
         Ok(Behind::Goes(attribute(alloc, tokens, value, span)?))
@@ -557,16 +588,18 @@ fn call<'source>(
     value: Expr<'source>,
     span: Span,
 ) -> Result<Expr<'source>, Refusal>
-    ensures { WentOn (under (arguments_by (expression_by (deeper left)) tokens.old.left)
-        (λ args us. goes (call (expression_of value.entry) args) us)) tokens.new.left result }
+    ensures parsed { WentOn (under (arguments_by tokens.old.spans (expression_by tokens.old.spans (deeper tokens.old.spans left)) tokens.old.left)
+        (λ args us. goes (node (call (expression_of value.entry) args.tree) (up_to tokens.old.spans span us)
+        (parts_more (places_of value.entry) args.places)) us)) tokens.new.left result }
+    ensures spans { tokens.new.spans ≡ tokens.old.spans }
 {
     let arguments = arguments(alloc, tokens, left)?;
-    Ok(Expr::call(alloc, value, arguments, tokens.expand_span(span))?)
+    Ok(nodes::call(alloc, value, arguments, tokens.expand_span(span))?)
 }
 
 // Behind the `[` of an item or a slice.
 #[cycle(parser)]
-#[tactic(auto, using(template_compiler_expression_parts::proofs::Nothing::a_key, template_compiler_expression_parts::proofs::Nothing::no_key), unfolding(template_compiler_reading::specs::Steps::and_then, template_compiler_expressions::specs::Reader::subscript_by, template_compiler_expressions::specs::Reader::subscript_behind))]
+#[tactic(auto, using(template_compiler_expression_parts::proofs::Nothing::a_key, template_compiler_expression_parts::proofs::Nothing::no_key), unfolding(template_compiler_reading::specs::Steps::and_then, template_compiler_placed_expressions::specs::Reader::subscript_by, template_compiler_placed_expressions::specs::Reader::subscript_behind))]
 fn subscript<'source>(
     alloc: Global,
     tokens: &mut TokenStream<'source>,
@@ -574,7 +607,8 @@ fn subscript<'source>(
     value: Expr<'source>,
     span: Span,
 ) -> Result<Expr<'source>, Refusal>
-    ensures { Parsed (subscript_by (expression_by (deeper left)) (expression_of value.entry) tokens.old.left) tokens.new.left result }
+    ensures parsed { Parsed (subscript_by tokens.old.spans (expression_by tokens.old.spans (deeper tokens.old.spans left)) span (node_of value.entry) tokens.old.left) tokens.new.left result }
+    ensures spans { tokens.new.spans ≡ tokens.old.spans }
 {
     let start = bound(alloc, tokens, left)?;
     if tokens.skip(Sign::Colon) {
@@ -582,14 +616,14 @@ fn subscript<'source>(
     }
     let span = tokens.span_through_next(span);
     match start {
-        Some(key) => in_brackets(tokens, Expr::item(alloc, value, key, span)?),
+        Some(key) => in_brackets(tokens, nodes::item(alloc, value, key, span)?),
         None => Err(Refusal::Token(tokens.fault())),
     }
 }
 
 // Behind the first colon of a slice.
 #[cycle(parser)]
-#[tactic(auto, unfolding(template_compiler_reading::specs::Steps::and_then, template_compiler_expressions::specs::Reader::slice_by))]
+#[tactic(auto, unfolding(template_compiler_reading::specs::Steps::and_then, template_compiler_placed_expressions::specs::Reader::slice_by))]
 fn slice<'source>(
     alloc: Global,
     tokens: &mut TokenStream<'source>,
@@ -598,24 +632,26 @@ fn slice<'source>(
     start: Option<Expr<'source>>,
     span: Span,
 ) -> Result<Expr<'source>, Refusal>
-    ensures { Parsed (slice_by (expression_by (deeper left)) (expression_of value.entry) (optional_in start.entry) tokens.old.left)
+    ensures parsed { Parsed (slice_by tokens.old.spans (expression_by tokens.old.spans (deeper tokens.old.spans left)) span (node_of value.entry) (optional_node_in start.entry) tokens.old.left)
         tokens.new.left result }
+    ensures spans { tokens.new.spans ≡ tokens.old.spans }
 {
     let stop = bound(alloc, tokens, left)?;
     let step = step(alloc, tokens, left)?;
     let span = tokens.span_through_next(span);
-    in_brackets(tokens, Expr::slice(alloc, value, start, stop, step, span)?)
+    in_brackets(tokens, nodes::slice(alloc, value, start, stop, step, span)?)
 }
 
 // A bound of a slice, where it is not left out.
 #[cycle(parser)]
-#[tactic(auto, unfolding(template_compiler_reading::specs::Steps::and_then, template_compiler_expressions::specs::Reader::bound_by))]
+#[tactic(auto, unfolding(template_compiler_reading::specs::Steps::and_then, template_compiler_placed_expressions::specs::Reader::bound_by))]
 fn bound<'source>(
     alloc: Global,
     tokens: &mut TokenStream<'source>,
     left: u32,
 ) -> Result<Option<Expr<'source>>, Refusal>
-    ensures { ParsedOptional (bound_by (expression_by (deeper left)) tokens.old.left) tokens.new.left result }
+    ensures parsed { ParsedOptional (bound_by tokens.old.spans (expression_by tokens.old.spans (deeper tokens.old.spans left)) tokens.old.left) tokens.new.left result }
+    ensures spans { tokens.new.spans ≡ tokens.old.spans }
 {
     if tokens.ends_bound() {
         Ok(None)
@@ -626,13 +662,14 @@ fn bound<'source>(
 
 // The step of a slice, where a second colon stands next.
 #[cycle(parser)]
-#[tactic(auto, using(template_compiler_expression_parts::proofs::Nothing::no_step), unfolding(template_compiler_expressions::specs::Reader::step_by))]
+#[tactic(auto, using(template_compiler_expression_parts::proofs::Nothing::no_step), unfolding(template_compiler_placed_expressions::specs::Reader::step_by))]
 fn step<'source>(
     alloc: Global,
     tokens: &mut TokenStream<'source>,
     left: u32,
 ) -> Result<Option<Expr<'source>>, Refusal>
-    ensures { ParsedOptional (step_by (expression_by (deeper left)) tokens.old.left) tokens.new.left result }
+    ensures parsed { ParsedOptional (step_by tokens.old.spans (expression_by tokens.old.spans (deeper tokens.old.spans left)) tokens.old.left) tokens.new.left result }
+    ensures spans { tokens.new.spans ≡ tokens.old.spans }
 {
     if tokens.skip(Sign::Colon) {
         bound(alloc, tokens, left)
@@ -642,13 +679,14 @@ fn step<'source>(
 }
 
 #[cycle(parser)]
-#[tactic(auto, using(template_compiler_expression_parts::proofs::Nothing::no_bracket_opens), unfolding(template_compiler_expressions::specs::Reader::primary_by, template_compiler_expressions::specs::Reader::deeper))]
+#[tactic(auto, using(template_compiler_expression_parts::proofs::Nothing::no_bracket_opens), unfolding(template_compiler_placed_expressions::specs::Reader::primary_by, template_compiler_placed_expressions::specs::Reader::deeper))]
 fn primary<'source>(
     alloc: Global,
     tokens: &mut TokenStream<'source>,
     left: u32,
 ) -> Result<Expr<'source>, Refusal>
-    ensures { Parsed (primary_by (deeper left) tokens.old.left) tokens.new.left result }
+    ensures parsed { Parsed (primary_by tokens.old.spans (deeper tokens.old.spans left) tokens.old.left) tokens.new.left result }
+    ensures spans { tokens.new.spans ≡ tokens.old.spans }
 {
     let span = tokens.span();
     if tokens.skip(Sign::ParenOpen) {
@@ -664,17 +702,18 @@ fn primary<'source>(
 
 // Behind `(`.
 #[cycle(parser)]
-#[tactic(auto, using(template_compiler_expression_parts::proofs::Nothing::not_empty, template_compiler_expression_parts::proofs::Nothing::no_tuple), unfolding(template_compiler_reading::specs::Steps::and_then, template_compiler_expressions::specs::Reader::paren_by, template_compiler_expressions::specs::Reader::paren_behind, template_compiler_expressions::specs::Reader::items_by))]
+#[tactic(auto, using(template_compiler_expression_parts::proofs::Nothing::not_empty, template_compiler_expression_parts::proofs::Nothing::no_tuple), unfolding(template_compiler_reading::specs::Steps::and_then, template_compiler_placed_expressions::specs::Reader::paren_by, template_compiler_placed_expressions::specs::Reader::paren_behind, template_compiler_placed_expressions::specs::Reader::items_by))]
 fn paren<'source>(
     alloc: Global,
     tokens: &mut TokenStream<'source>,
     left: u32,
     span: Span,
 ) -> Result<Expr<'source>, Refusal>
-    ensures { Parsed (paren_by (expression_by (deeper left)) tokens.old.left) tokens.new.left result }
+    ensures parsed { Parsed (paren_by tokens.old.spans (expression_by tokens.old.spans (deeper tokens.old.spans left)) span tokens.old.left) tokens.new.left result }
+    ensures spans { tokens.new.spans ≡ tokens.old.spans }
 {
     if tokens.skip(Sign::ParenClose) {
-        return Ok(Expr::tuple(alloc, Vec::new(alloc), tokens.expand_span(span))?);
+        return Ok(nodes::tuple(alloc, Vec::new(alloc), tokens.expand_span(span))?);
     }
     let first = expression(alloc, tokens, left)?;
     if tokens.skip(Sign::Comma) {
@@ -694,31 +733,33 @@ fn tuple<'source>(
     first: Expr<'source>,
     span: Span,
 ) -> Result<Expr<'source>, Refusal>
-    ensures { Parsed (and_then (all (items_step (expression_by (deeper left)))
-        (expressions_more (expression_of first.entry) no_expressions) tokens.old.left) (λ es us. paren_end (tuple_literal es) us))
+    ensures parsed { Parsed (and_then (all (items_step tokens.old.spans (expression_by tokens.old.spans (deeper tokens.old.spans left)))
+        (first_node (node_of first.entry)) tokens.old.left) (λ es us. paren_end (node (tuple_literal es.tree) (through_next tokens.old.spans span us) es.places) us))
         tokens.new.left result }
+    ensures spans { tokens.new.spans ≡ tokens.old.spans }
 {
     let mut held = Vec::new(alloc);
     held.push(first)?;
     let held = items(alloc, tokens, left, held)?;
     let span = tokens.span_through_next(span);
-    in_parens(tokens, Expr::tuple(alloc, held, span)?)
+    in_parens(tokens, nodes::tuple(alloc, held, span)?)
 }
 
 // Behind the `[` of a list.
 #[cycle(parser)]
-#[tactic(auto, unfolding(template_compiler_reading::specs::Steps::and_then, template_compiler_expressions::specs::Reader::list_by, template_compiler_expressions::specs::Reader::items_by))]
+#[tactic(auto, unfolding(template_compiler_reading::specs::Steps::and_then, template_compiler_placed_expressions::specs::Reader::list_by, template_compiler_placed_expressions::specs::Reader::items_by))]
 fn list<'source>(
     alloc: Global,
     tokens: &mut TokenStream<'source>,
     left: u32,
     span: Span,
 ) -> Result<Expr<'source>, Refusal>
-    ensures { Parsed (list_by (expression_by (deeper left)) tokens.old.left) tokens.new.left result }
+    ensures parsed { Parsed (list_by tokens.old.spans (expression_by tokens.old.spans (deeper tokens.old.spans left)) span tokens.old.left) tokens.new.left result }
+    ensures spans { tokens.new.spans ≡ tokens.old.spans }
 {
     let held = items(alloc, tokens, left, Vec::new(alloc))?;
     let span = tokens.span_through_next(span);
-    in_brackets(tokens, Expr::list(alloc, held, span)?)
+    in_brackets(tokens, nodes::list(alloc, held, span)?)
 }
 
 // Items, with commas between them, up to a closing bracket.
@@ -729,8 +770,9 @@ fn items<'source>(
     left: u32,
     held: Vec<Expr<'source>>,
 ) -> Result<Vec<Expr<'source>>, Refusal>
-    ensures { ParsedAs (λ v. expressions_in v.items) (all (items_step (expression_by (deeper left))) (expressions_in held.entry.items)
+    ensures parsed { ParsedAs (λ v. nodes_in v.items) (all (items_step tokens.old.spans (expression_by tokens.old.spans (deeper tokens.old.spans left))) (nodes_in held.entry.items)
         tokens.old.left) tokens.new.left result }
+    ensures spans { tokens.new.spans ≡ tokens.old.spans }
 {
     let mut held = held;
     loop {
@@ -750,8 +792,9 @@ fn next_item<'source>(
     left: u32,
     held: &mut Vec<Expr<'source>>,
 ) -> Result<bool, Refusal>
-    ensures { SteppedTo (items_step (expression_by (deeper left)) (expressions_in held.old.items) tokens.old.left)
-        (expressions_in held.old.items) tokens.old.left (expressions_in held.new.items) tokens.new.left result }
+    ensures parsed { SteppedTo (items_step tokens.old.spans (expression_by tokens.old.spans (deeper tokens.old.spans left)) (nodes_in held.old.items) tokens.old.left)
+        (nodes_in held.old.items) tokens.old.left (nodes_in held.new.items) tokens.new.left result }
+    ensures spans { tokens.new.spans ≡ tokens.old.spans }
 {
     if tokens.closes() {
         return Ok(false);
@@ -767,18 +810,19 @@ fn next_item<'source>(
 
 // Behind the `{` of a map.
 #[cycle(parser)]
-#[tactic(auto, unfolding(template_compiler_reading::specs::Steps::and_then, template_compiler_expressions::specs::Reader::map_by, template_compiler_expressions::specs::Reader::pairs_by))]
+#[tactic(auto, unfolding(template_compiler_reading::specs::Steps::and_then, template_compiler_placed_expressions::specs::Reader::map_by, template_compiler_placed_expressions::specs::Reader::pairs_by))]
 fn map<'source>(
     alloc: Global,
     tokens: &mut TokenStream<'source>,
     left: u32,
     span: Span,
 ) -> Result<Expr<'source>, Refusal>
-    ensures { Parsed (map_by (expression_by (deeper left)) tokens.old.left) tokens.new.left result }
+    ensures parsed { Parsed (map_by tokens.old.spans (expression_by tokens.old.spans (deeper tokens.old.spans left)) span tokens.old.left) tokens.new.left result }
+    ensures spans { tokens.new.spans ≡ tokens.old.spans }
 {
     let Pairs { keys, values } = pairs(alloc, tokens, left)?;
     let span = tokens.span_through_next(span);
-    in_braces(tokens, Expr::map(alloc, keys, values, span)?)
+    in_braces(tokens, nodes::map(alloc, keys, values, span)?)
 }
 
 // Pairs, with commas between them, up to a closing bracket.
@@ -788,7 +832,8 @@ fn pairs<'source>(
     tokens: &mut TokenStream<'source>,
     left: u32,
 ) -> Result<Pairs<'source>, Refusal>
-    ensures { ParsedAs paired_in (all (pairs_step (expression_by (deeper left))) nothing_paired tokens.old.left) tokens.new.left result }
+    ensures parsed { ParsedAs paired_in (all (pairs_step tokens.old.spans (expression_by tokens.old.spans (deeper tokens.old.spans left))) no_placed_pairs tokens.old.left) tokens.new.left result }
+    ensures spans { tokens.new.spans ≡ tokens.old.spans }
 {
     let mut held = Pairs {
         keys: Vec::new(alloc),
@@ -811,8 +856,9 @@ fn next_pair<'source>(
     left: u32,
     held: &mut Pairs<'source>,
 ) -> Result<bool, Refusal>
-    ensures { SteppedTo (pairs_step (expression_by (deeper left)) (paired_in held.old) tokens.old.left) (paired_in held.old) tokens.old.left
+    ensures parsed { SteppedTo (pairs_step tokens.old.spans (expression_by tokens.old.spans (deeper tokens.old.spans left)) (paired_in held.old) tokens.old.left) (paired_in held.old) tokens.old.left
         (paired_in held.new) tokens.new.left result }
+    ensures spans { tokens.new.spans ≡ tokens.old.spans }
 {
     if tokens.closes() {
         return Ok(false);
@@ -838,7 +884,8 @@ fn key<'source>(
     tokens: &mut TokenStream<'source>,
     left: u32,
 ) -> Result<Expr<'source>, Refusal>
-    ensures { Parsed (and_then (expression_by (deeper left) tokens.old.left) colon_end) tokens.new.left result }
+    ensures parsed { Parsed (and_then (expression_by tokens.old.spans (deeper tokens.old.spans left) tokens.old.left) colon_end) tokens.new.left result }
+    ensures spans { tokens.new.spans ≡ tokens.old.spans }
 {
     let key = expression(alloc, tokens, left)?;
     before_colon(tokens, key)
@@ -846,13 +893,14 @@ fn key<'source>(
 
 // Behind the `(` of arguments.
 #[cycle(parser)]
-#[tactic(auto, unfolding(template_compiler_reading::specs::Steps::and_then, template_compiler_expressions::specs::Reader::arguments_by))]
+#[tactic(auto, unfolding(template_compiler_reading::specs::Steps::and_then, template_compiler_placed_expressions::specs::Reader::arguments_by))]
 fn arguments<'source>(
     alloc: Global,
     tokens: &mut TokenStream<'source>,
     left: u32,
 ) -> Result<Vec<CallArg<'source>>, Refusal>
-    ensures { ParsedAs (λ v. arguments_in v.items) (arguments_by (expression_by (deeper left)) tokens.old.left) tokens.new.left result }
+    ensures parsed { ParsedAs (λ v. placed_arguments_in v.items) (arguments_by tokens.old.spans (expression_by tokens.old.spans (deeper tokens.old.spans left)) tokens.old.left) tokens.new.left result }
+    ensures spans { tokens.new.spans ≡ tokens.old.spans }
 {
     let held = written(alloc, tokens, left)?;
     in_order(tokens, held)
@@ -865,8 +913,9 @@ fn written<'source>(
     tokens: &mut TokenStream<'source>,
     left: u32,
 ) -> Result<Written<'source>, Refusal>
-    ensures { ParsedAs written_in (all (arguments_step (expression_by (deeper left))) nothing_written tokens.old.left)
+    ensures parsed { ParsedAs written_in (all (arguments_step tokens.old.spans (expression_by tokens.old.spans (deeper tokens.old.spans left))) no_placed_written tokens.old.left)
         tokens.new.left result }
+    ensures spans { tokens.new.spans ≡ tokens.old.spans }
 {
     let mut held = Written {
         by_place: Vec::new(alloc),
@@ -889,8 +938,9 @@ fn next_argument<'source>(
     left: u32,
     held: &mut Written<'source>,
 ) -> Result<bool, Refusal>
-    ensures { SteppedTo (arguments_step (expression_by (deeper left)) (written_in held.old) tokens.old.left) (written_in held.old)
+    ensures parsed { SteppedTo (arguments_step tokens.old.spans (expression_by tokens.old.spans (deeper tokens.old.spans left)) (written_in held.old) tokens.old.left) (written_in held.old)
         tokens.old.left (written_in held.new) tokens.new.left result }
+    ensures spans { tokens.new.spans ≡ tokens.old.spans }
 {
     if tokens.closes() {
         return Ok(false);
@@ -905,13 +955,14 @@ fn next_argument<'source>(
 }
 
 #[cycle(parser)]
-#[tactic(auto, using(template_compiler_expression_parts::proofs::Nothing::not_named), unfolding(template_compiler_reading::specs::Steps::and_then, template_compiler_expressions::specs::Reader::argument_by, template_compiler_expressions::specs::Reader::named_argument))]
+#[tactic(auto, using(template_compiler_expression_parts::proofs::Nothing::not_named), unfolding(template_compiler_reading::specs::Steps::and_then, template_compiler_placed_expressions::specs::Reader::argument_by, template_compiler_placed_expressions::specs::Reader::named_argument))]
 fn argument<'source>(
     alloc: Global,
     tokens: &mut TokenStream<'source>,
     left: u32,
 ) -> Result<CallArg<'source>, Refusal>
-    ensures { ParsedAs argument_of (argument_by (expression_by (deeper left)) tokens.old.left) tokens.new.left result }
+    ensures parsed { ParsedAs placed_argument_of (argument_by tokens.old.spans (expression_by tokens.old.spans (deeper tokens.old.spans left)) tokens.old.left) tokens.new.left result }
+    ensures spans { tokens.new.spans ≡ tokens.old.spans }
 {
     match tokens.skip_keyword() {
         Some(name) => Ok(CallArg::Kwarg(name, expression(alloc, tokens, left)?)),
@@ -926,7 +977,8 @@ fn unnamed<'source>(
     tokens: &mut TokenStream<'source>,
     left: u32,
 ) -> Result<CallArg<'source>, Refusal>
-    ensures { ParsedAs argument_of (unnamed_by (expression_by (deeper left)) tokens.old.left) tokens.new.left result }
+    ensures parsed { ParsedAs placed_argument_of (unnamed_by (expression_by tokens.old.spans (deeper tokens.old.spans left)) tokens.old.left) tokens.new.left result }
+    ensures spans { tokens.new.spans ≡ tokens.old.spans }
 {
     if tokens.skip(Sign::Mul) {
         Ok(CallArg::PosSplat(expression(alloc, tokens, left)?))

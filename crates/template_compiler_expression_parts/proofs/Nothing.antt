@@ -1,14 +1,16 @@
 -- What stands next, where a sign does not.
 use Rattle.std.proofs.Common.{◌≡◌, Bool, true, false, if◌then◌else◌, List, [], ◌∷◌, Result, Ok, Err, refl, sym, subst, ap, ◌∙◌}
-use Rattle.template_tree.specs.Tree.{Arguments, Expression, item, Optional, absent, given, no_arguments, positional}
+use Rattle.template_tree.specs.Tree.{Expression, item, Optional, absent, given, no_arguments, positional}
 use Rattle.template_compiler_tokens.specs.Token.{Token, TokenFault, symbol, identifier, mul, pow, comma, colon, assign, bracket_open, bracket_close, paren_open, paren_close, brace_open, brace_close}
 use Rattle.template_compiler_reading.specs.Steps.{Read, fault, and_then, Step, goes, fails}
-use Rattle.template_compiler_expressions.specs.Reader.{Deeper, nothing_deeper, few_arguments, paren_end, bracket_end, brace_end, colon_end, begins_closing, separated, primary_by, optional_arguments_by, paren_behind, paren_by, step_by, subscript_behind, named_argument, argument_by}
-use Rattle.template_compiler_expressions.specs.Trees.{Written}
+use Rattle.template_compiler_expressions.specs.Reader.{Deeper, nothing_deeper, paren_end, bracket_end, brace_end, colon_end, begins_closing, separated, primary_by, optional_arguments_by, paren_behind, paren_by, step_by, subscript_behind}
+use Rattle.template_tree.specs.declared.span.Span.{Span}
+use Rattle.template_compiler_placed_expressions.specs.Nodes.{PlacedArguments, PlacedWritten}
+use Rattle.template_compiler_placed_expressions.specs.Reader.{few_arguments}
 use Rattle.template_compiler_stream.specs.declared.refusal.Refusal.{Refusal}
 use Rattle.template_compiler_stream.specs.Signs.{begins_symbol}
 use Rattle.template_compiler_stream.specs.Skips.{begins_keyword}
-use Rattle.template_compiler_expression_parts.specs.Parsed.{ParsedAs, unnamed_by}
+use Rattle.template_compiler_expression_parts.specs.Parsed.{ParsedAs}
 
 -- ends
 pub no_paren : {A : Type 0} (a : A) (ts : List Token) → begins_symbol paren_close ts ≡ false → paren_end a ts ≡ Err (fault ts)
@@ -72,22 +74,6 @@ no_arguments_list r [] e = refl
 no_arguments_list r (symbol paren_open ∷ ts) e = cc
 no_arguments_list r (t ∷ ts) e = refl
 
-pub not_named : (read : List Token → Read Expression) (ts : List Token) → begins_keyword ts ≡ false → argument_by read ts ≡ unnamed_by read ts
-unfolding argument_by named_argument unnamed_by
-not_named read [] e = refl
-not_named read (identifier n ∷ []) e = refl
-not_named read (identifier n ∷ symbol assign ∷ ts) e = cc
-not_named read (identifier n ∷ t ∷ ts) e = refl
-not_named read (t ∷ ts) e = refl
-
-pub no_spread : (read : List Token → Read Expression) (ts : List Token) → begins_symbol mul ts ≡ false → begins_symbol pow ts ≡ false →
-    unnamed_by read ts ≡ and_then (read ts) (λ e us. Ok (positional e, us))
-unfolding unnamed_by
-no_spread read [] e f = refl
-no_spread read (symbol mul ∷ ts) e f = cc
-no_spread read (symbol pow ∷ ts) e f = cc
-no_spread read (t ∷ ts) e f = refl
-
 -- subscripts
 pub a_key : (read : List Token → Read Expression) (a key : Expression) (ts : List Token) → begins_symbol colon ts ≡ false →
     subscript_behind read a (given key) ts ≡ bracket_end (item a key) ts
@@ -134,7 +120,8 @@ no_tuple read e (symbol comma ∷ ts) f = cc
 no_tuple read e (t ∷ ts) f = refl
 
 -- behind the arguments
-pub order_at : {B : Type 0} (view : B → Arguments) (w : Written) (old new : List Token) (r : Result B Refusal) → old ≡ symbol paren_close ∷ new →
-    ParsedAs view (few_arguments w new) new r → ParsedAs view (and_then (paren_end w old) few_arguments) new r
+pub order_at : {B : Type 0} (view : B → PlacedArguments) (spans : List Span) (w : PlacedWritten) (old new : List Token)
+    (r : Result B Refusal) → old ≡ symbol paren_close ∷ new → ParsedAs view (few_arguments spans w new) new r →
+    ParsedAs view (and_then (paren_end w old) (few_arguments spans)) new r
 unfolding and_then paren_end
-order_at view w old new r e h = subst (λ ts. ParsedAs view (and_then (paren_end w ts) few_arguments) new r) (sym e) h
+order_at view spans w old new r e h = subst (λ ts. ParsedAs view (and_then (paren_end w ts) (few_arguments spans)) new r) (sym e) h

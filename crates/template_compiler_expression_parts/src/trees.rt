@@ -1,12 +1,13 @@
 //! The trees of comparisons and of tests.
-ghost use Rattle.std.specs.Prelude.{◌≡◌, IfOk};
+ghost use Rattle.std.specs.Prelude.{◌≡◌, [], ◌∷◌, IfOk};
 ghost use Rattle.std.specs.Cow.{cow_str_bytes};
-ghost use Rattle.template_compiler_expressions.specs.Trees.{compared, compared_once, tested_as};
-ghost use Rattle.template_tree.specs.View.{arguments_in, expression_of, links_in};
+ghost use Rattle.template_compiler_placed_expressions.specs.Nodes.{compared_node, tested_node};
+ghost use Rattle.template_compiler_placed_expressions.specs.Views.{node_of, placed_arguments_in, placed_links_in};
 
 use std::alloc::{AllocError, Global};
 use std::borrow::CowStr;
 use template_tree::{BinOpKind, CallArg, CompareOp, CompareOpKind, Expr, Span, UnaryOpKind};
+use template_tree_makers as nodes;
 
 /// A value with the comparisons behind it: none is the value, one an operator, more are a chain.
 #[tactic(auto, using(crate::proofs::Pushes::compared_chain))]
@@ -16,11 +17,11 @@ pub fn compared<'source>(
     links: Vec<CompareOp<'source>>,
     span: Span,
 ) -> Result<Expr<'source>, AllocError>
-    ensures { IfOk result (λ e. expression_of e ≡ compared (expression_of value.entry) (links_in links.entry.items)) }
+    ensures { IfOk result (λ e. node_of e ≡ compared_node (node_of value.entry) (placed_links_in links.entry.items) span) }
 {
     let mut links = links;
     if links.len() > 1 {
-        return Expr::chain(alloc, value, links, span);
+        return nodes::chain(alloc, value, links, span);
     }
     match links.pop() {
         Some(link) => compared_once(alloc, value, link, span),
@@ -35,7 +36,7 @@ fn compared_once<'source>(
     link: CompareOp<'source>,
     span: Span,
 ) -> Result<Expr<'source>, AllocError>
-    ensures { IfOk result (λ e. expression_of e ≡ compared_once (expression_of value.entry) link.entry.op (expression_of link.entry.expr)) }
+    ensures { IfOk result (λ e. node_of e ≡ compared_node (node_of value.entry) (placed_links_in (link.entry ∷ [])) span) }
 {
     let CompareOp { op, expr } = link;
     let kind = match op {
@@ -47,11 +48,11 @@ fn compared_once<'source>(
         CompareOpKind::Gte => BinOpKind::Gte,
         CompareOpKind::In => BinOpKind::In,
         CompareOpKind::NotIn => {
-            let within = Expr::binary(alloc, BinOpKind::In, value, expr, span)?;
-            return Expr::unary(alloc, UnaryOpKind::Not, within, span);
+            let within = nodes::binary(alloc, BinOpKind::In, value, expr, span)?;
+            return nodes::unary(alloc, UnaryOpKind::Not, within, span);
         }
     };
-    Expr::binary(alloc, kind, value, expr, span)
+    nodes::binary(alloc, kind, value, expr, span)
 }
 
 /// A test of a value, or its negation.
@@ -64,12 +65,12 @@ pub fn tested<'source>(
     span: Span,
 ) -> Result<Expr<'source>, AllocError>
     ensures { IfOk result
-        (λ e. expression_of e ≡ tested_as negated (cow_str_bytes name.entry) (expression_of value.entry)
-        (arguments_in arguments.entry.items)) }
+        (λ e. node_of e ≡ tested_node negated (cow_str_bytes name.entry) (node_of value.entry)
+        (placed_arguments_in arguments.entry.items) span) }
 {
-    let test = Expr::tested(alloc, name, value, arguments, span)?;
+    let test = nodes::tested(alloc, name, value, arguments, span)?;
     if negated {
-        Expr::unary(alloc, UnaryOpKind::Not, test, span)
+        nodes::unary(alloc, UnaryOpKind::Not, test, span)
     } else {
         Ok(test)
     }

@@ -4,7 +4,7 @@ use Rattle.std.specs.Prelude.{ℕ, List, ◌∷◌}
 use Rattle.template_tree.specs.declared.span.Span.{Span}
 use Rattle.template_tree.specs.Tree.{Expression, Optional, Expressions, Links, Arguments, Argument}
 use Rattle.template_tree_places.specs.Places.{Places, at, Parts, no_parts, parts_more, one, and_parts}
-use Rattle.template_compiler_token_places.specs.Tokens.{stretch}
+use Rattle.template_compiler_token_places.specs.Tokens.{next_span, stretch}
 use Rattle.template_compiler_tokens.specs.Token.{Token, identifier, string, number, symbol, minus, bracket_open, brace_open, paren_open}
 use Rattle.template_compiler_expressions.specs.Words.{Level, word_not}
 use Rattle.template_compiler_expressions.specs.Trees.{Paired, Written}
@@ -91,7 +91,7 @@ abbrev mutual
   pub part_places : {d : ℕ} {ts us : List Token} {a e : Expression} → List Span → List Token → Places → IsPart d a ts e us → Places
   part_places spans from a (attribute_part {ts = ts}) = at (stretch spans from ts) (one a)
   part_places spans from a (number_part {n = n} {ts = ts}) =
-      at (stretch spans from ts) (parts_more a (one (at (stretch spans (number n ∷ ts) ts) no_parts)))
+      at (stretch spans from ts) (parts_more a (one (at (next_span spans (number n ∷ ts)) no_parts)))
   part_places spans from a (subscript_part e) = subscript_places spans from a e
   part_places spans from a (call_part {us = us} args) = at (stretch spans from us) (parts_more a (argument_list_places spans args))
 
@@ -111,9 +111,9 @@ abbrev mutual
   step_places spans (a_step e) = bound_places spans e
 
   pub primary_places : {d : ℕ} {ts us : List Token} {e : Expression} → List Span → IsPrimary d ts e us → Places
-  primary_places spans (name_primary {n = n} {ts = ts} none) = at (stretch spans (identifier n ∷ ts) ts) no_parts
-  primary_places spans (word_primary {n = n} {ts = ts} some) = at (stretch spans (identifier n ∷ ts) ts) no_parts
-  primary_places spans (number_primary {n = n} {ts = ts}) = at (stretch spans (number n ∷ ts) ts) no_parts
+  primary_places spans (name_primary {n = n} {ts = ts} none) = at (next_span spans (identifier n ∷ ts)) no_parts
+  primary_places spans (word_primary {n = n} {ts = ts} some) = at (next_span spans (identifier n ∷ ts)) no_parts
+  primary_places spans (number_primary {n = n} {ts = ts}) = at (next_span spans (number n ∷ ts)) no_parts
   primary_places spans (text_primary {s = s} {ts = ts} {us = us} texts) = at (stretch spans (string s ∷ ts) us) no_parts
   primary_places spans (paren_primary {ts = ts} e) = paren_places spans (symbol paren_open ∷ ts) e
   primary_places spans (list_primary {ts = ts} {us = us} es) =

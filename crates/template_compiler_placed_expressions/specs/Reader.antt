@@ -65,8 +65,8 @@ module _ (spans : List Span) where
   -- primaries and their parts
   unfoldable pub primary_by : Deeper → List Token → Read Node
   primary_by r (identifier n ∷ ts) =
-      Ok (node (word_tree (literal_word n) n) (stretch spans (identifier n ∷ ts) ts) no_parts, ts)
-  primary_by r (number n ∷ ts) = Ok (node (constant (int (pos n))) (stretch spans (number n ∷ ts) ts) no_parts, ts)
+      Ok (node (word_tree (literal_word n) n) (next_span spans (identifier n ∷ ts)) no_parts, ts)
+  primary_by r (number n ∷ ts) = Ok (node (constant (int (pos n))) (next_span spans (number n ∷ ts)) no_parts, ts)
   primary_by r (string s ∷ ts) =
       and_then (all text_step s ts) (λ t us. Ok (node (constant (text t)) (stretch spans (string s ∷ ts) us) no_parts, us))
   primary_by r (symbol paren_open ∷ ts) = r.paren (next_span spans (symbol paren_open ∷ ts)) ts
@@ -78,7 +78,7 @@ module _ (spans : List Span) where
   dot_part start a (identifier n ∷ ts) = goes (node (attribute a.tree n) (up_to start ts) (one a.places)) ts
   dot_part start a (number n ∷ ts) =
       goes (node (item a.tree (constant (int (pos n)))) (up_to start ts)
-      (parts_more a.places (one (at (stretch spans (number n ∷ ts) ts) no_parts)))) ts
+      (parts_more a.places (one (at (next_span spans (number n ∷ ts)) no_parts)))) ts
   dot_part start a ts = fails (fault ts)
 
   unfoldable pub part_step : Deeper → Span → Node → List Token → Step Node

@@ -38,7 +38,7 @@ module _ (spans : List Span) where
 
   unfoldable pub stored_by : List Token → Read Node
   stored_by (identifier n ∷ ts) =
-      if is_reserved n then Err bad_syntax else Ok (node (variable n) (stretch spans (identifier n ∷ ts) ts) no_parts, ts)
+      if is_reserved n then Err bad_syntax else Ok (node (variable n) (next_span spans (identifier n ∷ ts)) no_parts, ts)
   stored_by ts = Err (fault ts)
 
   unfoldable pub path_by : Bool → Span → Node → List Token → Read Node

@@ -37,7 +37,7 @@ abbrev mutual
   places_of_items end_of-Expr = no_parts
   places_of_items (more_of-Expr expr rest) = parts_more (places_of expr) (places_of_items rest)
 
-  places_of_links : {n : _} → Row_of-CompareOp n → Parts
+  pub places_of_links : {n : _} → Row_of-CompareOp n → Parts
   places_of_links end_of-CompareOp = no_parts
   places_of_links (more_of-CompareOp op expr rest) = parts_more (places_of expr) (places_of_links rest)
 

@@ -1,0 +1,146 @@
+//! Makers of nodes: each takes one allocation at most, and drops its parts where that is refused. A contract tells the tree of
+//! the node, and where it and its parts stand.
+#![tactic(auto)]
+
+ghost use Rattle.std.specs.Prelude.{◌≡◌, IfOk};
+ghost use Rattle.std.specs.Cow.{cow_str_bytes};
+ghost use Rattle.template_tree.specs.Tree.{variable, constant, unary, binary, chain, tested, attribute, item, call};
+ghost use Rattle.template_tree.specs.View.{expression_of, links_in, arguments_in};
+ghost use Rattle.template_tree_places.specs.Expressions.{places_of, places_in_links, places_in_arguments};
+ghost use Rattle.template_tree_places.specs.Places.{at, no_parts, parts_more, one};
+
+use std::alloc::{AllocError, Global};
+use std::borrow::CowStr;
+use template_tree::{
+    BinOp, BinOpKind, Call, CallArg, Compare, CompareOp, Const, Expr, GetAttr, GetItem, Span,
+    Spanned, Test, UnaryOp, UnaryOpKind, Var,
+};
+use template_values_core::Value;
+
+/// A name.
+pub fn variable<'source>(id: &'source str, span: Span) -> Expr<'source>
+    ensures tree { expression_of result ≡ variable id.now }
+    ensures places { places_of result ≡ at span no_parts }
+{
+    Expr::Var(Spanned::new(Var { id }, span))
+}
+
+/// A literal.
+pub fn constant<'source>(
+    alloc: Global,
+    value: Value,
+    span: Span,
+) -> Result<Expr<'source>, AllocError>
+    ensures tree { IfOk result (λ e. expression_of e ≡ constant value) }
+    ensures places { IfOk result (λ e. places_of e ≡ at span no_parts) }
+{
+    Ok(Expr::Const(Spanned::boxed(alloc, Const { value }, span)?))
+}
+
+/// An operator before its operand.
+pub fn unary<'source>(
+    alloc: Global,
+    op: UnaryOpKind,
+    expr: Expr<'source>,
+    span: Span,
+) -> Result<Expr<'source>, AllocError>
+    ensures tree { IfOk result (λ e. expression_of e ≡ unary op (expression_of expr.entry)) }
+    ensures places { IfOk result (λ e. places_of e ≡ at span (one (places_of expr.entry))) }
+{
+    let node = Spanned::boxed(alloc, UnaryOp { op, expr }, span)?;
+    Ok(Expr::UnaryOp(node))
+}
+
+/// An operator between its operands.
+pub fn binary<'source>(
+    alloc: Global,
+    op: BinOpKind,
+    left: Expr<'source>,
+    right: Expr<'source>,
+    span: Span,
+) -> Result<Expr<'source>, AllocError>
+    ensures tree { IfOk result (λ e. expression_of e ≡ binary op (expression_of left.entry) (expression_of right.entry)) }
+    ensures places { IfOk result (λ e. places_of e ≡ at span (parts_more (places_of left.entry) (one (places_of right.entry)))) }
+{
+    let node = Spanned::boxed(alloc, BinOp { op, left, right }, span)?;
+    Ok(Expr::BinOp(node))
+}
+
+/// Comparisons, one behind the other.
+pub fn chain<'source>(
+    alloc: Global,
+    expr: Expr<'source>,
+    ops: Vec<CompareOp<'source>>,
+    span: Span,
+) -> Result<Expr<'source>, AllocError>
+    ensures tree { IfOk result (λ e. expression_of e ≡ chain (expression_of expr.entry) (links_in ops.entry.items)) }
+    ensures places { IfOk result (λ e. places_of e ≡ at span (parts_more (places_of expr.entry) (places_in_links ops.entry.items))) }
+{
+    let node = Spanned::boxed(alloc, Compare { expr, ops }, span)?;
+    Ok(Expr::Compare(node))
+}
+
+/// `expr is name(args)`.
+pub fn tested<'source>(
+    alloc: Global,
+    name: CowStr<'source>,
+    expr: Expr<'source>,
+    args: Vec<CallArg<'source>>,
+    span: Span,
+) -> Result<Expr<'source>, AllocError>
+    ensures tree { IfOk result
+        (λ e. expression_of e ≡ tested (cow_str_bytes name.entry) (expression_of expr.entry) (arguments_in args.entry.items)) }
+    ensures places { IfOk result (λ e. places_of e ≡ at span (parts_more (places_of expr.entry) (places_in_arguments args.entry.items))) }
+{
+    let node = Spanned::boxed(alloc, Test { name, expr, args }, span)?;
+    Ok(Expr::Test(node))
+}
+
+/// `expr.name`.
+pub fn attribute<'source>(
+    alloc: Global,
+    expr: Expr<'source>,
+    name: &'source str,
+    span: Span,
+) -> Result<Expr<'source>, AllocError>
+    ensures tree { IfOk result (λ e. expression_of e ≡ attribute (expression_of expr.entry) name.now) }
+    ensures places { IfOk result (λ e. places_of e ≡ at span (one (places_of expr.entry))) }
+{
+    let node = Spanned::boxed(alloc, GetAttr { expr, name }, span)?;
+    Ok(Expr::GetAttr(node))
+}
+
+/// `expr[subscript_expr]`.
+pub fn item<'source>(
+    alloc: Global,
+    expr: Expr<'source>,
+    subscript_expr: Expr<'source>,
+    span: Span,
+) -> Result<Expr<'source>, AllocError>
+    ensures tree { IfOk result (λ e. expression_of e ≡ item (expression_of expr.entry) (expression_of subscript_expr.entry)) }
+    ensures places { IfOk result (λ e. places_of e ≡ at span (parts_more (places_of expr.entry) (one (places_of subscript_expr.entry)))) }
+{
+    let node = Spanned::boxed(
+        alloc,
+        GetItem {
+            expr,
+            subscript_expr,
+        },
+        span,
+    )?;
+    Ok(Expr::GetItem(node))
+}
+
+/// `expr(args)`.
+pub fn call<'source>(
+    alloc: Global,
+    expr: Expr<'source>,
+    args: Vec<CallArg<'source>>,
+    span: Span,
+) -> Result<Expr<'source>, AllocError>
+    ensures tree { IfOk result (λ e. expression_of e ≡ call (expression_of expr.entry) (arguments_in args.entry.items)) }
+    ensures places { IfOk result (λ e. places_of e ≡ at span (parts_more (places_of expr.entry) (places_in_arguments args.entry.items))) }
+{
+    let node = Spanned::boxed(alloc, Call { expr, args }, span)?;
+    Ok(Expr::Call(node))
+}
