@@ -1,15 +1,15 @@
 -- Lists of nodes with one more at the end, and their trees.
 use Rattle.std.proofs.Common.{◌≡◌, ℕ, ◌+◌, ◌<◌, ◌≤◌, Bool, true, false, if◌then◌else◌, List, [], ◌∷◌, ◌++◌, length, Ok, Err, refl, sym, ap, ◌∙◌, arith}
-use Rattle.std.specs.Prelude.{nat_le}
+use Rattle.std.specs.Prelude.{nat_le, Result, IfOk}
 use Rattle.std.proofs.lemmas.Bool.Decides.{nat_tests}
 use Rattle.template_compiler_tokens.specs.Token.{Token, bad_syntax}
 use Rattle.template_tree.specs.declared.span.Span.{Span}
-use Rattle.template_tree_places.specs.Places.{Parts, parts_more, and_parts}
+use Rattle.template_tree_places.specs.Places.{Parts, at, parts_more, and_parts}
 use Rattle.template_tree_places.specs.Expressions.{places_of, places_in, places_of_argument, places_in_arguments, places_in_links}
 use Rattle.template_compiler_grammar_places.specs.Nodes.{and_place}
 use Rattle.template_compiler_placed_expressions.specs.Nodes.{placed, placed_in_order, Node, node, compared_node, PlacedWritten, PlacedArguments}
 use Rattle.template_compiler_placed_expressions.specs.Reader.{few_arguments}
-use Rattle.template_compiler_placed_expressions.specs.Views.{placed_arguments_in, placed_links_in}
+use Rattle.template_compiler_placed_expressions.specs.Views.{node_of, placed_arguments_in, placed_links_in}
 use Rattle.template_compiler_placed_expressions.proofs.Pushes.{placed_arguments_append}
 use Rattle.template_tree.specs.Tree.{Expressions, expressions_more, Links, links_more, chain, Arguments, arguments_more}
 use Rattle.template_tree.specs.View.{expression_of, expressions_in, links_in, argument_of, arguments_in}
@@ -83,3 +83,11 @@ pub compared_chain : (a : Node) (xs : List CompareOp) (span : Span) → 1 < leng
 compared_chain a [] span h = absurd (omega arith)
 compared_chain a (x ∷ []) span h = absurd (omega arith)
 compared_chain a (x ∷ y ∷ xs) span h = refl
+
+pub compared_held : {E : Type 0} (a : Node) (xs : List CompareOp) (span : Span) (r : Result Expr E) → 1 < length xs →
+    IfOk r (λ e. expression_of e ≡ chain a.tree (links_in xs)) →
+    IfOk r (λ e. places_of e ≡ at span (parts_more a.places (places_in_links xs))) →
+    IfOk r (λ e. node_of e ≡ compared_node a (placed_links_in xs) span)
+compared_held a xs span (Ok e) h p q =
+    ap (λ t. placed t (places_of e)) p ∙ ap (λ q. placed (chain a.tree (links_in xs)) q) q ∙ sym (compared_chain a xs span h)
+compared_held a xs span (Err e) h p q = tt

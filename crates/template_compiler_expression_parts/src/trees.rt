@@ -10,7 +10,7 @@ use template_tree::{BinOpKind, CallArg, CompareOp, CompareOpKind, Expr, Span, Un
 use template_tree_makers as nodes;
 
 /// A value with the comparisons behind it: none is the value, one an operator, more are a chain.
-#[tactic(auto, using(crate::proofs::Pushes::compared_chain))]
+#[tactic(auto, using(crate::proofs::Pushes::compared_held))]
 pub fn compared<'source>(
     alloc: Global,
     value: Expr<'source>,
