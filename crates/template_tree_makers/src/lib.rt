@@ -4,16 +4,16 @@
 
 ghost use Rattle.std.specs.Prelude.{◌≡◌, IfOk};
 ghost use Rattle.std.specs.Cow.{cow_str_bytes};
-ghost use Rattle.template_tree.specs.Tree.{variable, constant, unary, binary, chain, tested, attribute, item, call};
-ghost use Rattle.template_tree.specs.View.{expression_of, links_in, arguments_in};
-ghost use Rattle.template_tree_places.specs.Expressions.{places_of, places_in_links, places_in_arguments};
-ghost use Rattle.template_tree_places.specs.Places.{at, no_parts, parts_more, one};
+ghost use Rattle.template_tree.specs.Tree.{variable, constant, slice, unary, binary, chain, conditional, filtered, tested, attribute, item, call, list_literal, tuple_literal, map_literal};
+ghost use Rattle.template_tree.specs.View.{expression_of, optional_in, expressions_in, links_in, arguments_in};
+ghost use Rattle.template_tree_places.specs.Expressions.{places_of, places_optional, places_in, places_in_links, places_in_arguments};
+ghost use Rattle.template_tree_places.specs.Places.{at, no_parts, parts_more, one, and_parts};
 
 use std::alloc::{AllocError, Global};
 use std::borrow::CowStr;
 use template_tree::{
-    BinOp, BinOpKind, Call, CallArg, Compare, CompareOp, Const, Expr, GetAttr, GetItem, Span,
-    Spanned, Test, UnaryOp, UnaryOpKind, Var,
+    BinOp, BinOpKind, Call, CallArg, Compare, CompareOp, Const, Expr, Filter, GetAttr, GetItem,
+    IfExpr, List, Map, Slice, Span, Spanned, Test, Tuple, UnaryOp, UnaryOpKind, Var,
 };
 use template_values_core::Value;
 
@@ -35,6 +35,34 @@ pub fn constant<'source>(
     ensures places { IfOk result (λ e. places_of e ≡ at span no_parts) }
 {
     Ok(Expr::Const(Spanned::boxed(alloc, Const { value }, span)?))
+}
+
+/// `expr[start:stop:step]`.
+pub fn slice<'source>(
+    alloc: Global,
+    expr: Expr<'source>,
+    start: Option<Expr<'source>>,
+    stop: Option<Expr<'source>>,
+    step: Option<Expr<'source>>,
+    span: Span,
+) -> Result<Expr<'source>, AllocError>
+    ensures tree { IfOk result
+        (λ e. expression_of e ≡ slice (expression_of expr.entry)
+        (optional_in start.entry) (optional_in stop.entry) (optional_in step.entry)) }
+    ensures places { IfOk result (λ e. places_of e ≡ at span (parts_more (places_of expr.entry)
+        (and_parts (places_optional start.entry) (and_parts (places_optional stop.entry) (places_optional step.entry))))) }
+{
+    let node = Spanned::boxed(
+        alloc,
+        Slice {
+            expr,
+            start,
+            stop,
+            step,
+        },
+        span,
+    )?;
+    Ok(Expr::Slice(node))
 }
 
 /// An operator before its operand.
@@ -78,6 +106,48 @@ pub fn chain<'source>(
 {
     let node = Spanned::boxed(alloc, Compare { expr, ops }, span)?;
     Ok(Expr::Compare(node))
+}
+
+/// `true_expr if test_expr else false_expr`.
+pub fn conditional<'source>(
+    alloc: Global,
+    test_expr: Expr<'source>,
+    true_expr: Expr<'source>,
+    false_expr: Option<Expr<'source>>,
+    span: Span,
+) -> Result<Expr<'source>, AllocError>
+    ensures tree { IfOk result
+        (λ e. expression_of e ≡ conditional (expression_of test_expr.entry)
+        (expression_of true_expr.entry) (optional_in false_expr.entry)) }
+    ensures places { IfOk result (λ e. places_of e ≡ at span (parts_more (places_of test_expr.entry)
+        (parts_more (places_of true_expr.entry) (places_optional false_expr.entry)))) }
+{
+    let node = Spanned::boxed(
+        alloc,
+        IfExpr {
+            test_expr,
+            true_expr,
+            false_expr,
+        },
+        span,
+    )?;
+    Ok(Expr::IfExpr(node))
+}
+
+/// `expr|name(args)`.
+pub fn filtered<'source>(
+    alloc: Global,
+    name: CowStr<'source>,
+    expr: Option<Expr<'source>>,
+    args: Vec<CallArg<'source>>,
+    span: Span,
+) -> Result<Expr<'source>, AllocError>
+    ensures tree { IfOk result
+        (λ e. expression_of e ≡ filtered (cow_str_bytes name.entry) (optional_in expr.entry) (arguments_in args.entry.items)) }
+    ensures places { IfOk result (λ e. places_of e ≡ at span (and_parts (places_optional expr.entry) (places_in_arguments args.entry.items))) }
+{
+    let node = Spanned::boxed(alloc, Filter { name, expr, args }, span)?;
+    Ok(Expr::Filter(node))
 }
 
 /// `expr is name(args)`.
@@ -143,4 +213,45 @@ pub fn call<'source>(
 {
     let node = Spanned::boxed(alloc, Call { expr, args }, span)?;
     Ok(Expr::Call(node))
+}
+
+/// `[items]`.
+pub fn list<'source>(
+    alloc: Global,
+    items: Vec<Expr<'source>>,
+    span: Span,
+) -> Result<Expr<'source>, AllocError>
+    ensures tree { IfOk result (λ e. expression_of e ≡ list_literal (expressions_in items.entry.items)) }
+    ensures places { IfOk result (λ e. places_of e ≡ at span (places_in items.entry.items)) }
+{
+    let node = Spanned::boxed(alloc, List { items }, span)?;
+    Ok(Expr::List(node))
+}
+
+/// `(items)`.
+pub fn tuple<'source>(
+    alloc: Global,
+    items: Vec<Expr<'source>>,
+    span: Span,
+) -> Result<Expr<'source>, AllocError>
+    ensures tree { IfOk result (λ e. expression_of e ≡ tuple_literal (expressions_in items.entry.items)) }
+    ensures places { IfOk result (λ e. places_of e ≡ at span (places_in items.entry.items)) }
+{
+    let node = Spanned::boxed(alloc, Tuple { items }, span)?;
+    Ok(Expr::Tuple(node))
+}
+
+/// `{keys: values}`.
+pub fn map<'source>(
+    alloc: Global,
+    keys: Vec<Expr<'source>>,
+    values: Vec<Expr<'source>>,
+    span: Span,
+) -> Result<Expr<'source>, AllocError>
+    ensures tree { IfOk result
+        (λ e. expression_of e ≡ map_literal (expressions_in keys.entry.items) (expressions_in values.entry.items)) }
+    ensures places { IfOk result (λ e. places_of e ≡ at span (and_parts (places_in keys.entry.items) (places_in values.entry.items))) }
+{
+    let node = Spanned::boxed(alloc, Map { keys, values }, span)?;
+    Ok(Expr::Map(node))
 }
