@@ -12,7 +12,7 @@ use Rattle.template_tree.specs.declared.operators.CompareOpKind.{CompareOpKind}
 use Rattle.template_tree.specs.declared.operators.CompareOpKind.TheVariants as comparisons
 use Rattle.template_tree_places.specs.Places.{at, Parts, no_parts, parts_more, one, and_parts}
 use Rattle.template_compiler_token_places.specs.Tokens.{last_span, next_span, until, stretch}
-use Rattle.template_compiler_tokens.specs.Token.{Token, bad, bad_syntax, identifier, string, number, symbol, minus, mul, pow, dot, comma, colon, assign, pipe, bracket_open, paren_open, paren_close, brace_open}
+use Rattle.template_compiler_tokens.specs.Token.{Token, bad_syntax, identifier, string, number, symbol, minus, mul, pow, dot, comma, colon, assign, pipe, bracket_open, paren_open, paren_close, brace_open}
 use Rattle.template_compiler_reading.specs.Steps.{Read, fault, and_then, Step, goes, stops, fails, under, all}
 use Rattle.template_compiler_expressions.specs.Words.{is_word, begins_bare, literal_word, Level, factors, texts, terms, conjunction, disjunction, operator, comparison_operator}
 use Rattle.template_compiler_expressions.specs.Trees.{argument_count, in_order}
@@ -46,12 +46,6 @@ nothing_deeper = record {
   arguments = too_deep;
 }
 
--- the tokens behind the next one; what is none is not passed
-abbrev pub passed : List Token → List Token
-passed [] = []
-passed (bad f ∷ ts) = bad f ∷ ts
-passed (t ∷ ts) = ts
-
 -- by the spans of all tokens
 module _ (spans : List Span) where
   -- from where it starts to the last token before the others
@@ -60,7 +54,7 @@ module _ (spans : List Span) where
 
   -- from where it starts to the next token
   abbrev pub through_next : Span → List Token → Span
-  through_next start ts = up_to start (passed ts)
+  through_next start ts = until start (next_span spans ts)
 
   -- primaries and their parts
   unfoldable pub primary_by : Deeper → List Token → Read Node
