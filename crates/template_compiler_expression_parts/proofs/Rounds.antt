@@ -1,21 +1,21 @@
 -- Rounds of repetitions, by what stands next.
 use Rattle.std.proofs.Common.{◌≡◌, codes, Bool, true, false, if◌then◌else◌, ℕ, Result, Ok, Err, List, [], ◌∷◌, None, Some, refl, sym, ap, subst, ◌∙◌}
-use Rattle.template_tree.specs.Tree.{Expression, binary, Optional, given}
+use Rattle.template_tree.specs.Tree.{Expression, binary}
 use Rattle.template_tree.specs.declared.operators.BinOpKind.{BinOpKind}
 use Rattle.template_tree.specs.declared.expressions.Expr.{Expr}
 use Rattle.template_compiler_tokens.specs.Token.{Token, TokenFault, bad, symbol, identifier, number, dot, pipe, bracket_open, paren_open}
 use Rattle.template_compiler_expressions.specs.Words.{begins_dotted, begins_word, word_not, Level, factors, texts, terms, conjunction, disjunction, operator}
 use Rattle.template_compiler_expressions.specs.Trees.{dotted}
 use Rattle.template_compiler_reading.specs.Steps.{Read, and_then, Step, goes, stops, fails, under, all}
-use Rattle.template_compiler_expressions.specs.Reader.{Deeper, dotted_step, part_step, name_of, is_by, test_by, filter_by, filter_step, chain_step}
+use Rattle.template_compiler_expressions.specs.Reader.{dotted_step, name_of}
 use Rattle.template_compiler_reading.proofs.Loops.{Shrinks, all_goes, all_stops, all_fails}
 use Rattle.template_compiler_stream.specs.declared.refusal.Refusal.{Refusal}
 use Rattle.template_compiler_stream.specs.declared.refusal.Refusal.TheVariants as refusals
 use Rattle.template_compiler_stream.specs.Refusals.{Refused, fault_of}
 use Rattle.template_tree.specs.declared.span.Span.{Span}
 use Rattle.template_compiler_token_places.specs.Tokens.{next_span}
-use Rattle.template_compiler_placed_expressions.specs.Nodes.{Placed, placed, Node, binary_node, bare_step}
-use Rattle.template_compiler_placed_expressions.specs.Reader.{dot_part, operand_behind, operand_step, up_to}
+use Rattle.template_compiler_placed_expressions.specs.Nodes.{Placed, placed, Node, OptionalNode, given_node, binary_node, bare_step}
+use Rattle.template_compiler_placed_expressions.specs.Reader.{Deeper, dot_part, operand_behind, operand_step, part_step, is_by, test_by, filter_by, filter_step, chain_step, up_to}
 use Rattle.template_compiler_placed_expressions.specs.Views.{node_of}
 use Rattle.template_tree.specs.View.{expression_of}
 use Rattle.template_tree_places.specs.Expressions.{places_of}
@@ -133,53 +133,57 @@ dot_at spans all start place whole a t old new r e f g i h =
     subst (λ m. WentOn m new r) (sym (ap (dot_part spans start a) e ∙ dotted_same spans start a t new)) there
 
 -- what stands next goes on with no filter, and with no part
-pub filter_none : (r : Deeper) (a : Expression) (ts : List Token) → begins_symbol pipe ts ≡ false → begins_word (codes "is") ts ≡ false →
-    filter_step r a ts ≡ stops
+pub filter_none : (spans : List Span) (r : Deeper) (start : Span) (a : Node) (ts : List Token) → begins_symbol pipe ts ≡ false →
+    begins_word (codes "is") ts ≡ false → filter_step spans r start a ts ≡ stops
 unfolding filter_step
-filter_none r a [] e f = refl
-filter_none r a (symbol pipe ∷ ts) e f = cc
-filter_none r a (identifier n ∷ ts) e f = ap (λ b. if b then under (is_by r a ts) goes else stops) f
-filter_none r a (t ∷ ts) e f = refl
+filter_none spans r start a [] e f = refl
+filter_none spans r start a (symbol pipe ∷ ts) e f = cc
+filter_none spans r start a (identifier n ∷ ts) e f = ap (λ b. if b then under (is_by spans r start a ts) goes else stops) f
+filter_none spans r start a (t ∷ ts) e f = refl
 
-pub part_none : (r : Deeper) (a : Expression) (ts : List Token) → begins_symbol dot ts ≡ false → begins_symbol bracket_open ts ≡ false →
-    begins_symbol paren_open ts ≡ false → part_step r a ts ≡ stops
+pub part_none : (spans : List Span) (r : Deeper) (start : Span) (a : Node) (ts : List Token) → begins_symbol dot ts ≡ false →
+    begins_symbol bracket_open ts ≡ false → begins_symbol paren_open ts ≡ false → part_step spans r start a ts ≡ stops
 unfolding part_step
-part_none r a [] e f g = refl
-part_none r a (symbol dot ∷ ts) e f g = cc
-part_none r a (symbol bracket_open ∷ ts) e f g = cc
-part_none r a (symbol paren_open ∷ ts) e f g = cc
-part_none r a (t ∷ ts) e f g = refl
+part_none spans r start a [] e f g = refl
+part_none spans r start a (symbol dot ∷ ts) e f g = cc
+part_none spans r start a (symbol bracket_open ∷ ts) e f g = cc
+part_none spans r start a (symbol paren_open ∷ ts) e f g = cc
+part_none spans r start a (t ∷ ts) e f g = refl
 
 -- behind `is`
-pub is_plain : (r : Deeper) (a : Expression) (ts : List Token) → begins_word (codes "not") ts ≡ false → is_by r a ts ≡ test_by r false a ts
+pub is_plain : (spans : List Span) (r : Deeper) (start : Span) (a : Node) (ts : List Token) → begins_word (codes "not") ts ≡ false →
+    is_by spans r start a ts ≡ test_by spans r false start a ts
 unfolding is_by test_by name_of and_then
-is_plain r a [] e = refl
-is_plain r a (t ∷ ts) e = ap (λ b. if b then test_by r true a ts else test_by r false a (t ∷ ts)) e
+is_plain spans r start a [] e = refl
+is_plain spans r start a (t ∷ ts) e = ap (λ b. if b then test_by spans r true start a ts else test_by spans r false start a (t ∷ ts)) e
 
-pub is_not : (r : Deeper) (a : Expression) (ts : List Token) → is_by r a (word_not ∷ ts) ≡ test_by r true a ts
+pub is_not : (spans : List Span) (r : Deeper) (start : Span) (a : Node) (ts : List Token) →
+    is_by spans r start a (word_not ∷ ts) ≡ test_by spans r true start a ts
 unfolding is_by
-is_not r a ts = refl
+is_not spans r start a ts = refl
 
 -- filters behind one another
-pub chain_goes : (r : Deeper) (value : Optional) (e : Expression) (old ts us : List Token) → old ≡ symbol pipe ∷ ts →
-    filter_by r value ts ≡ Ok (e, us) → chain_step r value old ≡ goes (given e) us
-unfolding chain_step under
-chain_goes r value e old ts us h i = ap (λ ts. chain_step r value ts) h ∙ ap (λ m. under m (λ e us. goes (given e) us)) i
+module _ (spans : List Span) (r : Deeper) (value : OptionalNode) where
+  pub chain_goes : (e : Node) (old ts us : List Token) → old ≡ symbol pipe ∷ ts →
+      filter_by spans r (next_span spans ts) value ts ≡ Ok (e, us) → chain_step spans r value old ≡ goes (given_node e) us
+  unfolding chain_step under
+  chain_goes e old ts us h i = ap (λ ts. chain_step spans r value ts) h ∙ ap (λ m. under m (λ e us. goes (given_node e) us)) i
 
-pub chain_fails : (r : Deeper) (value : Optional) (f : TokenFault) (old ts : List Token) → old ≡ symbol pipe ∷ ts →
-    filter_by r value ts ≡ Err f → chain_step r value old ≡ fails f
-unfolding chain_step under
-chain_fails r value f old ts h i = ap (λ ts. chain_step r value ts) h ∙ ap (λ m. under m (λ e us. goes (given e) us)) i
+  pub chain_fails : (f : TokenFault) (old ts : List Token) → old ≡ symbol pipe ∷ ts →
+      filter_by spans r (next_span spans ts) value ts ≡ Err f → chain_step spans r value old ≡ fails f
+  unfolding chain_step under
+  chain_fails f old ts h i = ap (λ ts. chain_step spans r value ts) h ∙ ap (λ m. under m (λ e us. goes (given_node e) us)) i
 
-pub chain_refused : (r : Deeper) (value : Optional) (e : Refusal) (old ts : List Token) → old ≡ symbol pipe ∷ ts →
-    Refused (filter_by r value ts) e → RefusedStep (chain_step r value old) e
-chain_refused r value e old ts h i = refused_under (filter_by r value ts) (chain_step r value old) e (λ f g. chain_fails r value f old ts h g) i
+  pub chain_refused : (e : Refusal) (old ts : List Token) → old ≡ symbol pipe ∷ ts →
+      Refused (filter_by spans r (next_span spans ts) value ts) e → RefusedStep (chain_step spans r value old) e
+  chain_refused e old ts h i =
+      refused_under (filter_by spans r (next_span spans ts) value ts) (chain_step spans r value old) e (λ f g. chain_fails f old ts h g) i
 
-pub chain_none : (r : Deeper) (value : Optional) (ts : List Token) → begins_symbol pipe ts ≡ false → chain_step r value ts ≡ stops
-unfolding chain_step
-chain_none r value [] e = refl
-chain_none r value (symbol pipe ∷ ts) e = cc
-chain_none r value (t ∷ ts) e = refl
+  pub chain_none : (ts : List Token) → begins_symbol pipe ts ≡ false → chain_step spans r value ts ≡ stops
+  unfolding chain_step
+  chain_none [] e = refl
+  chain_none (symbol pipe ∷ ts) e = cc
+  chain_none (t ∷ ts) e = refl
 
 -- parts of a name
 pub dotted_goes : (n m part : List ℕ) (ts us : List Token) → ts ≡ symbol dot ∷ identifier part ∷ us → m ≡ dotted n part → dotted_step n ts ≡ goes m us
