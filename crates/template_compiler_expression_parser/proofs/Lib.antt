@@ -1,5 +1,6 @@
 mod Alone
 pub mod Chains
+pub mod Falls
 pub mod Items
 pub mod Links
 pub mod Takes

@@ -32,7 +32,8 @@ pub(crate) fn expression<'source>(
     tokens: &mut TokenStream<'source>,
     left: u32,
 ) -> Result<Expr<'source>, Refusal>
-    ensures parsed { Parsed (expression_by tokens.old.spans (deeper tokens.old.spans left) tokens.old.left) tokens.new.left result }
+    ensures parsed { let table = tokens.old.spans in
+        Parsed (expression_by table (deeper table left) tokens.old.left) tokens.new.left result }
     ensures spans { tokens.new.spans ≡ tokens.old.spans }
 {
     let span = tokens.span();
@@ -54,8 +55,9 @@ fn branches<'source>(
     value: Expr<'source>,
     span: Span,
 ) -> Result<Expr<'source>, Refusal>
-    ensures parsed { Parsed (and_then (binary_by tokens.old.spans (deeper tokens.old.spans left) disjunction tokens.old.left)
-        (else_behind tokens.old.spans (deeper tokens.old.spans (suc left)) span (node_of value.entry))) tokens.new.left result }
+    ensures parsed { let table = tokens.old.spans in
+        Parsed (and_then (binary_by table (deeper table left) disjunction tokens.old.left) (else_behind table (deeper table (suc left)) span
+        (node_of value.entry))) tokens.new.left result }
     ensures spans { tokens.new.spans ≡ tokens.old.spans }
 {
     let test = binary(alloc, tokens, left, Level::Disjunction)?;
@@ -76,7 +78,8 @@ pub(crate) fn binary<'source>(
     left: u32,
     level: Level,
 ) -> Result<Expr<'source>, Refusal>
-    ensures parsed { Parsed (binary_by tokens.old.spans (deeper tokens.old.spans left) (level_of level) tokens.old.left) tokens.new.left result }
+    ensures parsed { let table = tokens.old.spans in
+        Parsed (binary_by table (deeper table left) (level_of level) tokens.old.left) tokens.new.left result }
     ensures spans { tokens.new.spans ≡ tokens.old.spans }
 {
     if tokens.begins_alone() {
@@ -96,7 +99,8 @@ fn operands<'source>(
     value: Expr<'source>,
     span: Span,
 ) -> Result<Expr<'source>, Refusal>
-    ensures parsed { Parsed (all (operand_step tokens.old.spans (level_of level) (operand_by tokens.old.spans (deeper tokens.old.spans left) (level_of level)) span) (node_of value.entry)
+    ensures parsed { let table = tokens.old.spans in
+        Parsed (all (operand_step table (level_of level) (operand_by table (deeper table left) (level_of level)) span) (node_of value.entry)
         tokens.old.left) tokens.new.left result }
     ensures spans { tokens.new.spans ≡ tokens.old.spans }
 {
@@ -120,7 +124,8 @@ fn next_operand<'source>(
     value: Expr<'source>,
     span: Span,
 ) -> Result<Behind<'source>, Refusal>
-    ensures parsed { Stepped (operand_step tokens.old.spans (level_of level) (operand_by tokens.old.spans (deeper tokens.old.spans left) (level_of level)) span (node_of value.entry)
+    ensures parsed { let table = tokens.old.spans in
+        Stepped (operand_step table (level_of level) (operand_by table (deeper table left) (level_of level)) span (node_of value.entry)
         tokens.old.left) (node_of value.entry) tokens.old.left tokens.new.left result }
     ensures spans { tokens.new.spans ≡ tokens.old.spans }
 {
@@ -144,7 +149,8 @@ fn operand<'source>(
     left: u32,
     level: Level,
 ) -> Result<Expr<'source>, Refusal>
-    ensures parsed { Parsed (operand_by tokens.old.spans (deeper tokens.old.spans left) (level_of level) tokens.old.left) tokens.new.left result }
+    ensures parsed { let table = tokens.old.spans in
+        Parsed (operand_by table (deeper table left) (level_of level) tokens.old.left) tokens.new.left result }
     ensures spans { tokens.new.spans ≡ tokens.old.spans }
 {
     match level {
@@ -163,7 +169,8 @@ fn negation<'source>(
     tokens: &mut TokenStream<'source>,
     left: u32,
 ) -> Result<Expr<'source>, Refusal>
-    ensures parsed { Parsed (negation_by tokens.old.spans (deeper tokens.old.spans left) tokens.old.left) tokens.new.left result }
+    ensures parsed { let table = tokens.old.spans in
+        Parsed (negation_by table (deeper table left) tokens.old.left) tokens.new.left result }
     ensures spans { tokens.new.spans ≡ tokens.old.spans }
 {
     let span = tokens.span();
@@ -183,7 +190,8 @@ fn comparison<'source>(
     tokens: &mut TokenStream<'source>,
     left: u32,
 ) -> Result<Expr<'source>, Refusal>
-    ensures parsed { Parsed (comparison_by tokens.old.spans (deeper tokens.old.spans left) tokens.old.left) tokens.new.left result }
+    ensures parsed { let table = tokens.old.spans in
+        Parsed (comparison_by table (deeper table left) tokens.old.left) tokens.new.left result }
     ensures spans { tokens.new.spans ≡ tokens.old.spans }
 {
     let span = tokens.span();
@@ -198,7 +206,9 @@ fn links<'source>(
     tokens: &mut TokenStream<'source>,
     left: u32,
 ) -> Result<Vec<CompareOp<'source>>, Refusal>
-    ensures parsed { ParsedAs (λ v. placed_links_in v.items) (all (link_step tokens.old.spans (terms_by tokens.old.spans (deeper tokens.old.spans left))) no_placed_links tokens.old.left) tokens.new.left result }
+    ensures parsed { let table = tokens.old.spans in
+        ParsedAs (λ v. placed_links_in v.items) (all (link_step table (terms_by table (deeper table left))) no_placed_links tokens.old.left)
+        tokens.new.left result }
     ensures spans { tokens.new.spans ≡ tokens.old.spans }
 {
     let mut links = Vec::new(alloc);
@@ -219,8 +229,9 @@ fn next_link<'source>(
     left: u32,
     links: &mut Vec<CompareOp<'source>>,
 ) -> Result<bool, Refusal>
-    ensures parsed { SteppedTo (link_step tokens.old.spans (terms_by tokens.old.spans (deeper tokens.old.spans left)) (placed_links_in links.old.items) tokens.old.left) (placed_links_in links.old.items)
-        tokens.old.left (placed_links_in links.new.items) tokens.new.left result }
+    ensures parsed { let table = tokens.old.spans in
+        SteppedTo (link_step table (terms_by table (deeper table left)) (placed_links_in links.old.items) tokens.old.left) (placed_links_in
+        links.old.items) tokens.old.left (placed_links_in links.new.items) tokens.new.left result }
     ensures spans { tokens.new.spans ≡ tokens.old.spans }
 {
     match tokens.skip_comparison() {
@@ -245,7 +256,8 @@ fn put_link<'source>(
     op: CompareOpKind,
     links: &mut Vec<CompareOp<'source>>,
 ) -> Result<bool, Refusal>
-    ensures parsed { SteppedTo (link_behind tokens.old.spans (Some op) false (terms_by tokens.old.spans (deeper tokens.old.spans left)) (placed_links_in links.old.items) tokens.old.left)
+    ensures parsed { let table = tokens.old.spans in
+        SteppedTo (link_behind table (Some op) false (terms_by table (deeper table left)) (placed_links_in links.old.items) tokens.old.left)
         (placed_links_in links.old.items) tokens.old.left (placed_links_in links.new.items) tokens.new.left result }
     ensures spans { tokens.new.spans ≡ tokens.old.spans }
 {
@@ -266,8 +278,9 @@ fn next_not_in<'source>(
     left: u32,
     links: &mut Vec<CompareOp<'source>>,
 ) -> Result<bool, Refusal>
-    ensures parsed { SteppedTo (not_in_link tokens.old.spans (terms_by tokens.old.spans (deeper tokens.old.spans left)) (placed_links_in links.old.items) tokens.old.left) (placed_links_in links.old.items)
-        tokens.old.left (placed_links_in links.new.items) tokens.new.left result }
+    ensures parsed { let table = tokens.old.spans in
+        SteppedTo (not_in_link table (terms_by table (deeper table left)) (placed_links_in links.old.items) tokens.old.left)
+        (placed_links_in links.old.items) tokens.old.left (placed_links_in links.new.items) tokens.new.left result }
     ensures spans { tokens.new.spans ≡ tokens.old.spans }
 {
     if tokens.skip_word("in") {
@@ -284,7 +297,8 @@ fn power<'source>(
     tokens: &mut TokenStream<'source>,
     left: u32,
 ) -> Result<Expr<'source>, Refusal>
-    ensures parsed { Parsed (power_by tokens.old.spans (deeper tokens.old.spans left) tokens.old.left) tokens.new.left result }
+    ensures parsed { let table = tokens.old.spans in
+        Parsed (power_by table (deeper table left) tokens.old.left) tokens.new.left result }
     ensures spans { tokens.new.spans ≡ tokens.old.spans }
 {
     let span = tokens.span();
@@ -311,7 +325,8 @@ fn filtered<'source>(
     tokens: &mut TokenStream<'source>,
     left: u32,
 ) -> Result<Expr<'source>, Refusal>
-    ensures parsed { Parsed (filtered_by tokens.old.spans (deeper tokens.old.spans left) tokens.old.left) tokens.new.left result }
+    ensures parsed { let table = tokens.old.spans in
+        Parsed (filtered_by table (deeper table left) tokens.old.left) tokens.new.left result }
     ensures spans { tokens.new.spans ≡ tokens.old.spans }
 {
     let span = tokens.span();
@@ -327,7 +342,8 @@ fn filters<'source>(
     value: Expr<'source>,
     span: Span,
 ) -> Result<Expr<'source>, Refusal>
-    ensures parsed { Parsed (all (filter_step tokens.old.spans (deeper tokens.old.spans left) span) (node_of value.entry) tokens.old.left) tokens.new.left result }
+    ensures parsed { let table = tokens.old.spans in
+        Parsed (all (filter_step table (deeper table left) span) (node_of value.entry) tokens.old.left) tokens.new.left result }
     ensures spans { tokens.new.spans ≡ tokens.old.spans }
 {
     let mut value = value;
@@ -349,7 +365,8 @@ fn next_filter<'source>(
     value: Expr<'source>,
     span: Span,
 ) -> Result<Behind<'source>, Refusal>
-    ensures parsed { Stepped (filter_step tokens.old.spans (deeper tokens.old.spans left) span (node_of value.entry) tokens.old.left) (node_of value.entry) tokens.old.left
+    ensures parsed { let table = tokens.old.spans in
+        Stepped (filter_step table (deeper table left) span (node_of value.entry) tokens.old.left) (node_of value.entry) tokens.old.left
         tokens.new.left result }
     ensures spans { tokens.new.spans ≡ tokens.old.spans }
 {
@@ -372,8 +389,9 @@ fn piped<'source>(
     value: Expr<'source>,
     span: Span,
 ) -> Result<Expr<'source>, Refusal>
-    ensures parsed { Parsed (and_then (filter_by tokens.old.spans (deeper tokens.old.spans left) span (given_node (node_of value.entry)) tokens.old.left) (parts_by tokens.old.spans (deeper tokens.old.spans left) span))
-        tokens.new.left result }
+    ensures parsed { let table = tokens.old.spans in
+        Parsed (and_then (filter_by table (deeper table left) span (given_node (node_of value.entry)) tokens.old.left) (parts_by table
+        (deeper table left) span)) tokens.new.left result }
     ensures spans { tokens.new.spans ≡ tokens.old.spans }
 {
     let filtered = filter(alloc, tokens, left, Some(value), span)?;
@@ -390,7 +408,8 @@ pub(crate) fn filter<'source>(
     value: Option<Expr<'source>>,
     span: Span,
 ) -> Result<Expr<'source>, Refusal>
-    ensures parsed { Parsed (filter_by tokens.old.spans (deeper tokens.old.spans left) span (optional_node_in value.entry) tokens.old.left) tokens.new.left result }
+    ensures parsed { let table = tokens.old.spans in
+        Parsed (filter_by table (deeper table left) span (optional_node_in value.entry) tokens.old.left) tokens.new.left result }
     ensures spans { tokens.new.spans ≡ tokens.old.spans }
 {
     let name = name(alloc, tokens)?;
@@ -406,7 +425,9 @@ fn optional_arguments<'source>(
     tokens: &mut TokenStream<'source>,
     left: u32,
 ) -> Result<Vec<CallArg<'source>>, Refusal>
-    ensures parsed { ParsedAs (λ v. placed_arguments_in v.items) (optional_arguments_by tokens.old.spans (deeper tokens.old.spans left) tokens.old.left) tokens.new.left result }
+    ensures parsed { let table = tokens.old.spans in
+        ParsedAs (λ v. placed_arguments_in v.items) (optional_arguments_by table (deeper table left) tokens.old.left) tokens.new.left
+        result }
     ensures spans { tokens.new.spans ≡ tokens.old.spans }
 {
     if tokens.skip(Sign::ParenOpen) {
@@ -426,7 +447,8 @@ fn asked<'source>(
     value: Expr<'source>,
     span: Span,
 ) -> Result<Expr<'source>, Refusal>
-    ensures parsed { Parsed (is_by tokens.old.spans (deeper tokens.old.spans left) span (node_of value.entry) tokens.old.left) tokens.new.left result }
+    ensures parsed { let table = tokens.old.spans in
+        Parsed (is_by table (deeper table left) span (node_of value.entry) tokens.old.left) tokens.new.left result }
     ensures spans { tokens.new.spans ≡ tokens.old.spans }
 {
     let negated = tokens.skip_word("not");
@@ -444,7 +466,8 @@ fn test<'source>(
     value: Expr<'source>,
     span: Span,
 ) -> Result<Expr<'source>, Refusal>
-    ensures parsed { Parsed (test_by tokens.old.spans (deeper tokens.old.spans left) negated span (node_of value.entry) tokens.old.left) tokens.new.left result }
+    ensures parsed { let table = tokens.old.spans in
+        Parsed (test_by table (deeper table left) negated span (node_of value.entry) tokens.old.left) tokens.new.left result }
     ensures spans { tokens.new.spans ≡ tokens.old.spans }
 {
     let name = name(alloc, tokens)?;
@@ -467,8 +490,9 @@ fn bare_test<'source>(
     value: Expr<'source>,
     span: Span,
 ) -> Result<Expr<'source>, Refusal>
-    ensures parsed { Parsed (test_arguments_by tokens.old.spans (deeper tokens.old.spans left) true negated span (node_of value.entry) (cow_str_bytes name.entry) tokens.old.left)
-        tokens.new.left result }
+    ensures parsed { let table = tokens.old.spans in
+        Parsed (test_arguments_by table (deeper table left) true negated span (node_of value.entry) (cow_str_bytes name.entry)
+        tokens.old.left) tokens.new.left result }
     ensures spans { tokens.new.spans ≡ tokens.old.spans }
 {
     let argument = unary(alloc, tokens, left)?;
@@ -496,8 +520,9 @@ fn plain_test<'source>(
     value: Expr<'source>,
     span: Span,
 ) -> Result<Expr<'source>, Refusal>
-    ensures parsed { Parsed (test_arguments_by tokens.old.spans (deeper tokens.old.spans left) false negated span (node_of value.entry) (cow_str_bytes name.entry) tokens.old.left)
-        tokens.new.left result }
+    ensures parsed { let table = tokens.old.spans in
+        Parsed (test_arguments_by table (deeper table left) false negated span (node_of value.entry) (cow_str_bytes name.entry)
+        tokens.old.left) tokens.new.left result }
     ensures spans { tokens.new.spans ≡ tokens.old.spans }
 {
     let arguments = optional_arguments(alloc, tokens, left)?;
@@ -520,7 +545,8 @@ fn unary<'source>(
     tokens: &mut TokenStream<'source>,
     left: u32,
 ) -> Result<Expr<'source>, Refusal>
-    ensures parsed { Parsed (unary_by tokens.old.spans (deeper tokens.old.spans left) tokens.old.left) tokens.new.left result }
+    ensures parsed { let table = tokens.old.spans in
+        Parsed (unary_by table (deeper table left) tokens.old.left) tokens.new.left result }
     ensures spans { tokens.new.spans ≡ tokens.old.spans }
 {
     let span = tokens.span();
@@ -541,7 +567,8 @@ fn parts<'source>(
     value: Expr<'source>,
     span: Span,
 ) -> Result<Expr<'source>, Refusal>
-    ensures parsed { Parsed (all (part_step tokens.old.spans (deeper tokens.old.spans left) span) (node_of value.entry) tokens.old.left) tokens.new.left result }
+    ensures parsed { let table = tokens.old.spans in
+        Parsed (all (part_step table (deeper table left) span) (node_of value.entry) tokens.old.left) tokens.new.left result }
     ensures spans { tokens.new.spans ≡ tokens.old.spans }
 {
     let mut value = value;
@@ -563,7 +590,8 @@ fn next_part<'source>(
     value: Expr<'source>,
     span: Span,
 ) -> Result<Behind<'source>, Refusal>
-    ensures parsed { Stepped (part_step tokens.old.spans (deeper tokens.old.spans left) span (node_of value.entry) tokens.old.left) (node_of value.entry) tokens.old.left
+    ensures parsed { let table = tokens.old.spans in
+        Stepped (part_step table (deeper table left) span (node_of value.entry) tokens.old.left) (node_of value.entry) tokens.old.left
         tokens.new.left result }
     ensures spans { tokens.new.spans ≡ tokens.old.spans }
 {
@@ -588,9 +616,10 @@ fn call<'source>(
     value: Expr<'source>,
     span: Span,
 ) -> Result<Expr<'source>, Refusal>
-    ensures parsed { WentOn (under (arguments_by tokens.old.spans (expression_by tokens.old.spans (deeper tokens.old.spans left)) tokens.old.left)
-        (λ args us. goes (node (call (expression_of value.entry) args.tree) (up_to tokens.old.spans span us)
-        (parts_more (places_of value.entry) args.places)) us)) tokens.new.left result }
+    ensures parsed { let table = tokens.old.spans in
+        WentOn (under (arguments_by table (expression_by table (deeper table left)) tokens.old.left) (λ args us. goes (node (call
+        (expression_of value.entry) args.tree) (up_to table span us) (parts_more (places_of value.entry) args.places)) us)) tokens.new.left
+        result }
     ensures spans { tokens.new.spans ≡ tokens.old.spans }
 {
     let arguments = arguments(alloc, tokens, left)?;
@@ -607,7 +636,9 @@ fn subscript<'source>(
     value: Expr<'source>,
     span: Span,
 ) -> Result<Expr<'source>, Refusal>
-    ensures parsed { Parsed (subscript_by tokens.old.spans (expression_by tokens.old.spans (deeper tokens.old.spans left)) span (node_of value.entry) tokens.old.left) tokens.new.left result }
+    ensures parsed { let table = tokens.old.spans in
+        Parsed (subscript_by table (expression_by table (deeper table left)) span (node_of value.entry) tokens.old.left) tokens.new.left
+        result }
     ensures spans { tokens.new.spans ≡ tokens.old.spans }
 {
     let start = bound(alloc, tokens, left)?;
@@ -632,8 +663,9 @@ fn slice<'source>(
     start: Option<Expr<'source>>,
     span: Span,
 ) -> Result<Expr<'source>, Refusal>
-    ensures parsed { Parsed (slice_by tokens.old.spans (expression_by tokens.old.spans (deeper tokens.old.spans left)) span (node_of value.entry) (optional_node_in start.entry) tokens.old.left)
-        tokens.new.left result }
+    ensures parsed { let table = tokens.old.spans in
+        Parsed (slice_by table (expression_by table (deeper table left)) span (node_of value.entry) (optional_node_in start.entry)
+        tokens.old.left) tokens.new.left result }
     ensures spans { tokens.new.spans ≡ tokens.old.spans }
 {
     let stop = bound(alloc, tokens, left)?;
@@ -650,7 +682,8 @@ fn bound<'source>(
     tokens: &mut TokenStream<'source>,
     left: u32,
 ) -> Result<Option<Expr<'source>>, Refusal>
-    ensures parsed { ParsedOptional (bound_by tokens.old.spans (expression_by tokens.old.spans (deeper tokens.old.spans left)) tokens.old.left) tokens.new.left result }
+    ensures parsed { let table = tokens.old.spans in
+        ParsedOptional (bound_by table (expression_by table (deeper table left)) tokens.old.left) tokens.new.left result }
     ensures spans { tokens.new.spans ≡ tokens.old.spans }
 {
     if tokens.ends_bound() {
@@ -668,7 +701,8 @@ fn step<'source>(
     tokens: &mut TokenStream<'source>,
     left: u32,
 ) -> Result<Option<Expr<'source>>, Refusal>
-    ensures parsed { ParsedOptional (step_by tokens.old.spans (expression_by tokens.old.spans (deeper tokens.old.spans left)) tokens.old.left) tokens.new.left result }
+    ensures parsed { let table = tokens.old.spans in
+        ParsedOptional (step_by table (expression_by table (deeper table left)) tokens.old.left) tokens.new.left result }
     ensures spans { tokens.new.spans ≡ tokens.old.spans }
 {
     if tokens.skip(Sign::Colon) {
@@ -685,7 +719,8 @@ fn primary<'source>(
     tokens: &mut TokenStream<'source>,
     left: u32,
 ) -> Result<Expr<'source>, Refusal>
-    ensures parsed { Parsed (primary_by tokens.old.spans (deeper tokens.old.spans left) tokens.old.left) tokens.new.left result }
+    ensures parsed { let table = tokens.old.spans in
+        Parsed (primary_by table (deeper table left) tokens.old.left) tokens.new.left result }
     ensures spans { tokens.new.spans ≡ tokens.old.spans }
 {
     let span = tokens.span();
@@ -709,7 +744,8 @@ fn paren<'source>(
     left: u32,
     span: Span,
 ) -> Result<Expr<'source>, Refusal>
-    ensures parsed { Parsed (paren_by tokens.old.spans (expression_by tokens.old.spans (deeper tokens.old.spans left)) span tokens.old.left) tokens.new.left result }
+    ensures parsed { let table = tokens.old.spans in
+        Parsed (paren_by table (expression_by table (deeper table left)) span tokens.old.left) tokens.new.left result }
     ensures spans { tokens.new.spans ≡ tokens.old.spans }
 {
     if tokens.skip(Sign::ParenClose) {
@@ -733,9 +769,10 @@ fn tuple<'source>(
     first: Expr<'source>,
     span: Span,
 ) -> Result<Expr<'source>, Refusal>
-    ensures parsed { Parsed (and_then (all (items_step tokens.old.spans (expression_by tokens.old.spans (deeper tokens.old.spans left)))
-        (first_node (node_of first.entry)) tokens.old.left) (λ es us. paren_end (node (tuple_literal es.tree) (through_next tokens.old.spans span us) es.places) us))
-        tokens.new.left result }
+    ensures parsed { let table = tokens.old.spans in
+        Parsed (and_then (all (items_step table (expression_by table (deeper table left))) (first_node (node_of first.entry))
+        tokens.old.left) (λ es us. paren_end (node (tuple_literal es.tree) (through_next table span us) es.places) us)) tokens.new.left
+        result }
     ensures spans { tokens.new.spans ≡ tokens.old.spans }
 {
     let mut held = Vec::new(alloc);
@@ -754,7 +791,8 @@ fn list<'source>(
     left: u32,
     span: Span,
 ) -> Result<Expr<'source>, Refusal>
-    ensures parsed { Parsed (list_by tokens.old.spans (expression_by tokens.old.spans (deeper tokens.old.spans left)) span tokens.old.left) tokens.new.left result }
+    ensures parsed { let table = tokens.old.spans in
+        Parsed (list_by table (expression_by table (deeper table left)) span tokens.old.left) tokens.new.left result }
     ensures spans { tokens.new.spans ≡ tokens.old.spans }
 {
     let held = items(alloc, tokens, left, Vec::new(alloc))?;
@@ -770,7 +808,8 @@ fn items<'source>(
     left: u32,
     held: Vec<Expr<'source>>,
 ) -> Result<Vec<Expr<'source>>, Refusal>
-    ensures parsed { ParsedAs (λ v. nodes_in v.items) (all (items_step tokens.old.spans (expression_by tokens.old.spans (deeper tokens.old.spans left))) (nodes_in held.entry.items)
+    ensures parsed { let table = tokens.old.spans in
+        ParsedAs (λ v. nodes_in v.items) (all (items_step table (expression_by table (deeper table left))) (nodes_in held.entry.items)
         tokens.old.left) tokens.new.left result }
     ensures spans { tokens.new.spans ≡ tokens.old.spans }
 {
@@ -792,8 +831,9 @@ fn next_item<'source>(
     left: u32,
     held: &mut Vec<Expr<'source>>,
 ) -> Result<bool, Refusal>
-    ensures parsed { SteppedTo (items_step tokens.old.spans (expression_by tokens.old.spans (deeper tokens.old.spans left)) (nodes_in held.old.items) tokens.old.left)
-        (nodes_in held.old.items) tokens.old.left (nodes_in held.new.items) tokens.new.left result }
+    ensures parsed { let table = tokens.old.spans in
+        SteppedTo (items_step table (expression_by table (deeper table left)) (nodes_in held.old.items) tokens.old.left) (nodes_in
+        held.old.items) tokens.old.left (nodes_in held.new.items) tokens.new.left result }
     ensures spans { tokens.new.spans ≡ tokens.old.spans }
 {
     if tokens.closes() {
@@ -817,7 +857,8 @@ fn map<'source>(
     left: u32,
     span: Span,
 ) -> Result<Expr<'source>, Refusal>
-    ensures parsed { Parsed (map_by tokens.old.spans (expression_by tokens.old.spans (deeper tokens.old.spans left)) span tokens.old.left) tokens.new.left result }
+    ensures parsed { let table = tokens.old.spans in
+        Parsed (map_by table (expression_by table (deeper table left)) span tokens.old.left) tokens.new.left result }
     ensures spans { tokens.new.spans ≡ tokens.old.spans }
 {
     let Pairs { keys, values } = pairs(alloc, tokens, left)?;
@@ -832,7 +873,9 @@ fn pairs<'source>(
     tokens: &mut TokenStream<'source>,
     left: u32,
 ) -> Result<Pairs<'source>, Refusal>
-    ensures parsed { ParsedAs paired_in (all (pairs_step tokens.old.spans (expression_by tokens.old.spans (deeper tokens.old.spans left))) no_placed_pairs tokens.old.left) tokens.new.left result }
+    ensures parsed { let table = tokens.old.spans in
+        ParsedAs paired_in (all (pairs_step table (expression_by table (deeper table left))) no_placed_pairs tokens.old.left)
+        tokens.new.left result }
     ensures spans { tokens.new.spans ≡ tokens.old.spans }
 {
     let mut held = Pairs {
@@ -856,8 +899,9 @@ fn next_pair<'source>(
     left: u32,
     held: &mut Pairs<'source>,
 ) -> Result<bool, Refusal>
-    ensures parsed { SteppedTo (pairs_step tokens.old.spans (expression_by tokens.old.spans (deeper tokens.old.spans left)) (paired_in held.old) tokens.old.left) (paired_in held.old) tokens.old.left
-        (paired_in held.new) tokens.new.left result }
+    ensures parsed { let table = tokens.old.spans in
+        SteppedTo (pairs_step table (expression_by table (deeper table left)) (paired_in held.old) tokens.old.left) (paired_in held.old)
+        tokens.old.left (paired_in held.new) tokens.new.left result }
     ensures spans { tokens.new.spans ≡ tokens.old.spans }
 {
     if tokens.closes() {
@@ -884,7 +928,8 @@ fn key<'source>(
     tokens: &mut TokenStream<'source>,
     left: u32,
 ) -> Result<Expr<'source>, Refusal>
-    ensures parsed { Parsed (and_then (expression_by tokens.old.spans (deeper tokens.old.spans left) tokens.old.left) colon_end) tokens.new.left result }
+    ensures parsed { let table = tokens.old.spans in
+        Parsed (and_then (expression_by table (deeper table left) tokens.old.left) colon_end) tokens.new.left result }
     ensures spans { tokens.new.spans ≡ tokens.old.spans }
 {
     let key = expression(alloc, tokens, left)?;
@@ -899,7 +944,9 @@ fn arguments<'source>(
     tokens: &mut TokenStream<'source>,
     left: u32,
 ) -> Result<Vec<CallArg<'source>>, Refusal>
-    ensures parsed { ParsedAs (λ v. placed_arguments_in v.items) (arguments_by tokens.old.spans (expression_by tokens.old.spans (deeper tokens.old.spans left)) tokens.old.left) tokens.new.left result }
+    ensures parsed { let table = tokens.old.spans in
+        ParsedAs (λ v. placed_arguments_in v.items) (arguments_by table (expression_by table (deeper table left)) tokens.old.left)
+        tokens.new.left result }
     ensures spans { tokens.new.spans ≡ tokens.old.spans }
 {
     let held = written(alloc, tokens, left)?;
@@ -913,7 +960,8 @@ fn written<'source>(
     tokens: &mut TokenStream<'source>,
     left: u32,
 ) -> Result<Written<'source>, Refusal>
-    ensures parsed { ParsedAs written_in (all (arguments_step tokens.old.spans (expression_by tokens.old.spans (deeper tokens.old.spans left))) no_placed_written tokens.old.left)
+    ensures parsed { let table = tokens.old.spans in
+        ParsedAs written_in (all (arguments_step table (expression_by table (deeper table left))) no_placed_written tokens.old.left)
         tokens.new.left result }
     ensures spans { tokens.new.spans ≡ tokens.old.spans }
 {
@@ -938,8 +986,9 @@ fn next_argument<'source>(
     left: u32,
     held: &mut Written<'source>,
 ) -> Result<bool, Refusal>
-    ensures parsed { SteppedTo (arguments_step tokens.old.spans (expression_by tokens.old.spans (deeper tokens.old.spans left)) (written_in held.old) tokens.old.left) (written_in held.old)
-        tokens.old.left (written_in held.new) tokens.new.left result }
+    ensures parsed { let table = tokens.old.spans in
+        SteppedTo (arguments_step table (expression_by table (deeper table left)) (written_in held.old) tokens.old.left) (written_in
+        held.old) tokens.old.left (written_in held.new) tokens.new.left result }
     ensures spans { tokens.new.spans ≡ tokens.old.spans }
 {
     if tokens.closes() {
@@ -961,7 +1010,8 @@ fn argument<'source>(
     tokens: &mut TokenStream<'source>,
     left: u32,
 ) -> Result<CallArg<'source>, Refusal>
-    ensures parsed { ParsedAs placed_argument_of (argument_by tokens.old.spans (expression_by tokens.old.spans (deeper tokens.old.spans left)) tokens.old.left) tokens.new.left result }
+    ensures parsed { let table = tokens.old.spans in
+        ParsedAs placed_argument_of (argument_by table (expression_by table (deeper table left)) tokens.old.left) tokens.new.left result }
     ensures spans { tokens.new.spans ≡ tokens.old.spans }
 {
     match tokens.skip_keyword() {
@@ -977,7 +1027,8 @@ fn unnamed<'source>(
     tokens: &mut TokenStream<'source>,
     left: u32,
 ) -> Result<CallArg<'source>, Refusal>
-    ensures parsed { ParsedAs placed_argument_of (unnamed_by (expression_by tokens.old.spans (deeper tokens.old.spans left)) tokens.old.left) tokens.new.left result }
+    ensures parsed { let table = tokens.old.spans in
+        ParsedAs placed_argument_of (unnamed_by (expression_by table (deeper table left)) tokens.old.left) tokens.new.left result }
     ensures spans { tokens.new.spans ≡ tokens.old.spans }
 {
     if tokens.skip(Sign::Mul) {

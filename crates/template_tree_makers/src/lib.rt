@@ -144,7 +144,8 @@ pub fn filtered<'source>(
 ) -> Result<Expr<'source>, AllocError>
     ensures tree { IfOk result
         (λ e. expression_of e ≡ filtered (cow_str_bytes name.entry) (optional_in expr.entry) (arguments_in args.entry.items)) }
-    ensures places { IfOk result (λ e. places_of e ≡ at span (and_parts (places_optional expr.entry) (places_in_arguments args.entry.items))) }
+    ensures places { IfOk result
+        (λ e. places_of e ≡ at span (and_parts (places_optional expr.entry) (places_in_arguments args.entry.items))) }
 {
     let node = Spanned::boxed(alloc, Filter { name, expr, args }, span)?;
     Ok(Expr::Filter(node))
