@@ -248,7 +248,7 @@ fn next_link<'source>(
 
 // Behind a comparison: its right side.
 #[cycle(parser)]
-#[tactic(auto, using(template_compiler_expression_parts::proofs::Pushes::links_push), unfolding(template_compiler_reading::specs::Steps::under, template_compiler_placed_expressions::specs::Reader::link_behind, template_compiler_placed_expressions::specs::Reader::terms_by, template_compiler_placed_expressions::specs::Reader::binary_by, template_compiler_placed_expressions::specs::Reader::operand_by))]
+#[tactic(auto, using(template_compiler_placed_expressions::proofs::Pushes::placed_links_push), unfolding(template_compiler_reading::specs::Steps::under, template_compiler_placed_expressions::specs::Reader::link_behind, template_compiler_placed_expressions::specs::Reader::terms_by, template_compiler_placed_expressions::specs::Reader::binary_by, template_compiler_placed_expressions::specs::Reader::operand_by))]
 fn put_link<'source>(
     alloc: Global,
     tokens: &mut TokenStream<'source>,
@@ -824,7 +824,7 @@ fn items<'source>(
 }
 
 #[cycle(parser)]
-#[tactic(auto, using(template_compiler_expression_parts::proofs::Pushes::expressions_push, crate::proofs::Items::closing_stops, crate::proofs::Items::item_goes, crate::proofs::Items::item_refused, crate::proofs::Items::item_unseparated))]
+#[tactic(auto, using(template_compiler_placed_expressions::proofs::Pushes::nodes_push, crate::proofs::Items::closing_stops, crate::proofs::Items::item_goes, crate::proofs::Items::item_refused, crate::proofs::Items::item_unseparated))]
 fn next_item<'source>(
     alloc: Global,
     tokens: &mut TokenStream<'source>,
