@@ -65,8 +65,8 @@ fn numbers(alloc: Global, count: u32) -> Option<Value> {
 fn render(rt: &HostRuntime, source: &str, name: &str, value: Value) -> Option<Duration> {
     let context = context_of(rt.alloc(), name, value)?;
     let mut ids = StateIds::new(0);
-    let environment = environment_of(rt.alloc(), source, &mut ids).ok()?;
-    render_in(rt, &environment, &mut ids, context)
+    let mut environment = Environment::new(rt.alloc(), &mut ids).ok()?;
+    render_in(rt, &mut environment, source, &mut ids, context)
 }
 
 fn context_of(alloc: Global, name: &str, value: Value) -> Option<Value> {
@@ -74,12 +74,14 @@ fn context_of(alloc: Global, name: &str, value: Value) -> Option<Value> {
     Value::from_pairs(alloc, pairs).ok()
 }
 
-fn render_in(
+fn render_in<'source>(
     rt: &HostRuntime,
-    environment: &Environment<'_>,
+    environment: &mut Environment<'source>,
+    source: &'source str,
     ids: &mut StateIds,
     context: Value,
 ) -> Option<Duration> {
+    add_templates(environment, source).ok()?;
     let template = environment.get_template("t.txt").ok()?;
     time_render(rt, &template, ids, context)
 }
@@ -98,13 +100,10 @@ fn time_render(
     Some(time)
 }
 
-fn environment_of<'source>(
-    alloc: Global,
+fn add_templates<'source>(
+    environment: &mut Environment<'source>,
     source: &'source str,
-    ids: &mut StateIds,
-) -> Result<Environment<'source>, Error> {
-    let mut environment = Environment::new(alloc, ids)?;
+) -> Result<(), Error> {
     environment.add_template("part", "<{{ x }}>")?;
-    environment.add_template("t.txt", source)?;
-    Ok(environment)
+    environment.add_template("t.txt", source)
 }
