@@ -3,8 +3,8 @@
 import sys,tempfile,os,subprocess,re,json,importlib.machinery,importlib.util
 from collections import Counter
 prog=os.path.abspath(sys.argv[1]); shape=sys.argv[2]; fnw=sys.argv[3]
-l=importlib.machinery.SourceFileLoader("instr","/work/hA/benchmarks/instructions"); s=importlib.util.spec_from_loader("instr",l); m=importlib.util.module_from_spec(s); l.exec_module(m)
-T={"table":1,"hosts":1,"rounds":1}
+l=importlib.machinery.SourceFileLoader("instr","/work/main/benchmarks/instructions"); s=importlib.util.spec_from_loader("instr",l); m=importlib.util.module_from_spec(s); l.exec_module(m)
+T={"table":1,"hosts":1,"rounds":1,"source":1}
 with tempfile.TemporaryDirectory() as f:
     n,t,c,u=m.SHAPES[shape](T[shape])
     if shape=="rounds": c={"outer":list(range(100)),"inner":list(range(100))}; u=10000
