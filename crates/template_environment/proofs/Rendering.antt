@@ -16,7 +16,7 @@ use Rattle.template_machine_meaning.specs.Meaning.{Standing}
 use Rattle.template_machine_meaning.specs.Laws.{AreAllRunnable}
 use Rattle.template_machine_meaning.proofs.Ends.{every_run_ends}
 use Rattle.template_machine_codes.specs.Codes.{coded, codes_of}
-use Rattle.template_machine_outcomes.specs.Outcomes.{Stops}
+use Rattle.template_machine_going.specs.Outcomes.{Stops}
 use Rattle.template_machine_renders.specs.Programs.{program_of, programs_of}
 use Rattle.template_machine_renders.specs.Runs.{EndsWith, Runs}
 use Rattle.template_machine_renders.specs.Renders.{at_start, IsDone, Renders}

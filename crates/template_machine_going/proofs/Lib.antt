@@ -1,3 +1,6 @@
 pub mod Paths
 pub mod Going
 pub mod Stopping
+pub mod Straying
+pub mod ComingOut
+pub mod Staying

@@ -4,3 +4,7 @@ pub mod Goings
 pub mod Stops
 pub mod Acts
 pub mod Laws
+pub mod Strays
+pub mod Outcomes
+pub mod Comings
+pub mod Bounds

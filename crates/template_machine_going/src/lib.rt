@@ -4,6 +4,12 @@
 
 ghost use Rattle.template_machine_going.specs.Laws.{ActsGo, FaultsOn, FaultsThere, GoesNowhere, GoesOn, RunsOutOn, RunsOutThere, SpentThere, WantsOn, WantsThere};
 
+mod bounds;
+mod outcomes;
+
+pub use bounds::{beginnings_stay, ends_stay, uncut_stays};
+pub use outcomes::{outcomes_follow, steps_come_out, strays_on};
+
 /// A machine that goes nowhere has gone, and goings follow one another.
 pub fn goings_follow<S>()
     ensures nowhere { GoesNowhere S }

@@ -27,8 +27,8 @@ use Rattle.template_machine_codes.proofs.Alike.{code_means_expression, code_mean
 use Rattle.template_machine_going.specs.Spots.{Spot}
 use Rattle.template_machine_going.specs.Paying.{Paid}
 use Rattle.template_machine_going.proofs.Paths.{behind-behind}
-use Rattle.template_machine_outcomes.specs.Outcomes.{Stops, faults, runs_out, wants, strays}
-use Rattle.template_machine_outcomes.specs.Strays.{IsLost}
+use Rattle.template_machine_going.specs.Outcomes.{Stops, faults, runs_out, wants, strays}
+use Rattle.template_machine_going.specs.Strays.{IsLost}
 use Rattle.template_machine_loop.specs.Runs.{EndsOver}
 use Rattle.template_machine_renders.specs.Renders.{at_start, GivesValue, IsOver, IsDone, Renders, whole, broken}
 use Rattle.template_machine_renders.specs.Laws.{EndsRender, ExpressionsEvaluate, StopsRender}

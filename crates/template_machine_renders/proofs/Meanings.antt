@@ -6,7 +6,7 @@ use Rattle.template_process.proofs.Driving.{run_alike}
 use Rattle.template_code.specs.Code.{Code}
 use Rattle.template_code.specs.Steps.{exec}
 use Rattle.template_code.proofs.Rising.{exec_more}
-use Rattle.template_machine_bounds.proofs.Staying.{beginnings_stay}
+use Rattle.template_machine_going.proofs.Staying.{beginnings_stay}
 use Rattle.template_machine_meaning.specs.World.{World}
 use Rattle.template_machine_meaning.specs.Surroundings.{answer}
 use Rattle.template_machine_meaning.specs.Meaning.{Setting}

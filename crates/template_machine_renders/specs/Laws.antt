@@ -12,7 +12,7 @@ use Rattle.template_machine_meaning.specs.Surroundings.{answer}
 use Rattle.template_machine_meaning.specs.Meaning.{Setting, evaluation, meaning}
 use Rattle.template_machine_codes.specs.Codes.{codes_of}
 use Rattle.template_machine_going.specs.Spots.{Spot}
-use Rattle.template_machine_outcomes.specs.Outcomes.{Stops}
+use Rattle.template_machine_going.specs.Outcomes.{Stops}
 use Rattle.template_machine_loop.specs.Runs.{EndsWith, Evaluates}
 use Rattle.template_machine_renders.specs.Renders.{at_start, GivesValue, IsDone, Renders}
 

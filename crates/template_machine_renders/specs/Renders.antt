@@ -10,7 +10,7 @@ use Rattle.template_process.specs.Trace.{Run, text_of}
 use Rattle.template_machine_output.specs.Writes.{AppendsBeginning}
 use Rattle.template_machine_meaning.specs.World.{World}
 use Rattle.template_machine_going.specs.Spots.{Spot}
-use Rattle.template_machine_outcomes.specs.Outcomes.{IsWanting}
+use Rattle.template_machine_going.specs.Outcomes.{IsWanting}
 use Rattle.template_machine_loop.specs.Performs.{spot}
 
 -- where the machine stands at the start of a run

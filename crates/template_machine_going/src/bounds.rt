@@ -1,7 +1,6 @@
 //! Laws of code under bounds on its instructions: what it has done under one it has done under every greater one.
-#![tactic(auto)]
 
-ghost use Rattle.template_machine_bounds.specs.Bounds.{BeginningsStay, EndsStay, UncutStays};
+ghost use Rattle.template_machine_going.specs.Bounds.{BeginningsStay, EndsStay, UncutStays};
 
 /// Code that came to its end under a bound does the same under every greater one.
 pub fn ends_stay<S>()

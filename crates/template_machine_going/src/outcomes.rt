@@ -1,8 +1,7 @@
 //! How instructions and runs of them come out: they go on, fault, run out of fuel, want memory or a sink that works, or
 //! are lost; and the laws of all that.
-#![tactic(auto)]
 
-ghost use Rattle.template_machine_outcomes.specs.Laws.{ComesBehind, SpentComesOut, StepComesOut, StraysOn, StraysThere};
+ghost use Rattle.template_machine_going.specs.Comings.{ComesBehind, SpentComesOut, StepComesOut, StraysOn, StraysThere};
 
 /// A run that is lost behind a going, or at an instruction that is paid, is lost from its first spot on.
 pub fn strays_on<S>()

@@ -1,5 +1,0 @@
-use Rattle.template_machine_bounds.proofs.Staying as laws
-use Rattle.template_machine_bounds.proofs.beginnings_stay.Goals as goal
-
-pub returns : goal.returns
-returns g c = laws.beginnings_stay _

@@ -1,0 +1,5 @@
+use Rattle.template_machine_going.proofs.Staying as laws
+use Rattle.template_machine_going.proofs.bounds.beginnings_stay.Goals as goal
+
+pub returns : goal.returns
+returns g c = laws.beginnings_stay _

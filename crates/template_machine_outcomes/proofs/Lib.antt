@@ -1,2 +1,0 @@
-pub mod Straying
-pub mod ComingOut

@@ -1,5 +1,0 @@
-use Rattle.template_machine_outcomes.proofs.ComingOut as laws
-use Rattle.template_machine_outcomes.proofs.outcomes_follow.Goals as goal
-
-pub returns : goal.returns
-returns g c = laws.comes_behind _ _

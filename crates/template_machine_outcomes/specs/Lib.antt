@@ -1,3 +1,0 @@
-pub mod Strays
-pub mod Outcomes
-pub mod Laws
