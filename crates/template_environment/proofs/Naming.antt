@@ -3,8 +3,8 @@ use Rattle.std.proofs.Common.{◌≡◌, ℕ, Bool, false, ◌||◌, List, codes
 use Rattle.std.specs.Option.{option_map}
 use Rattle.template_names.specs.Names.{is_used}
 use Rattle.template_names_undeclared.proofs.Walking.{turned}
-use Rattle.template_machine_isolation.specs.Isolation as isolation
-use Rattle.template_machine_isolation.specs.Isolation.{IsContextName, is_given}
+use Rattle.template_machine_meaning.specs.Isolation as isolation
+use Rattle.template_machine_meaning.specs.Isolation.{IsContextName, is_given}
 use Rattle.template_machine_meaning.specs.Meaning.{Standing}
 use Rattle.template_compiled.specs.Compiled.{Compiled, standing_of}
 use Rattle.template_compiled.specs.Names.{uses}

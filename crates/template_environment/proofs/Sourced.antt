@@ -5,7 +5,7 @@ use Rattle.template_values_modes.specs.declared.AutoEscape.{AutoEscape}
 use Rattle.template_values_model.specs.Val.{Val}
 use Rattle.template_machine_escape.specs.Rule.{IsEscapeOf}
 use Rattle.template_machine_escape.proofs.OneRule.{one_escape}
-use Rattle.template_machine_isolation.specs.Isolation.{IsolatesNames}
+use Rattle.template_machine_meaning.specs.Isolation.{IsolatesNames}
 use Rattle.template_compiled.specs.Compiled.{Compiled}
 use Rattle.template_compiled.specs.Sources.{Source, read_by, tree_in}
 use Rattle.template_compiled.specs.declared.config.TemplateConfig.{TemplateConfig}

@@ -7,7 +7,7 @@ use Rattle.template_names.specs.Names.{stands_in}
 use Rattle.template_process.specs.Drive.{ends, faults}
 use Rattle.template_process.specs.Fuel.{IsSameRun, under}
 use Rattle.template_process.specs.Trace.{Run}
-use Rattle.template_machine_isolation.specs.Isolation.{AgreesAt}
+use Rattle.template_machine_meaning.specs.Isolation.{AgreesAt}
 use Rattle.template_machine_meaning.specs.Meaning.{evaluated}
 use Rattle.template_machine_meaning.specs.World.{World}
 use Rattle.template_compiled.specs.Expressions.{expression_in}

@@ -6,7 +6,7 @@ use Rattle.template_values_model.specs.Val.{Val}
 use Rattle.template_tree.specs.Tree.{Statements}
 use Rattle.template_process.specs.Fuel.{IsSameRun, under}
 use Rattle.template_process.specs.Trace.{Run}
-use Rattle.template_machine_isolation.specs.Isolation.{AgreesAt, IsContextName}
+use Rattle.template_machine_meaning.specs.Isolation.{AgreesAt, IsContextName}
 use Rattle.template_machine_meaning.specs.Meaning.{rendered}
 use Rattle.template_machine_meaning.specs.World.{World}
 use Rattle.template_compiled.specs.Sources.{Source, tree_in}

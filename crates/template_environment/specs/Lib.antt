@@ -10,6 +10,6 @@ pub mod Plain
 -- what contracts here cite of the crates below
 pub use Rattle.template_compiled.specs.Sources
 pub use Rattle.template_compiled.specs.Compiled
-pub use Rattle.template_machine_isolation.specs.Isolation
+pub use Rattle.template_machine_meaning.specs.Isolation
 pub use Rattle.template_machine_operations.specs.Outcomes
 pub use Rattle.template_machine_renders.specs.Renders

@@ -25,7 +25,7 @@ use template_compiled_templates::CompiledTemplates;
 use template_compiler_syntax::SyntaxConfig;
 use template_machine_escape::{AutoEscapeRule, EscapeRule, NoRule};
 use template_machine_ids::StateIds;
-use template_machine_isolation::isolation;
+use template_machine_meaning::isolation;
 use template_values_core::Value;
 use template_values_errors::{Error, ErrorKind};
 use template_values_modes::{AutoEscape, UndefinedBehavior};

@@ -18,7 +18,7 @@ use std::collections::BTreeSet;
 use template_compiled::CompiledExpression;
 use template_machine_escape::{AutoEscapeRule, NoRule};
 use template_machine_ids::StateIds;
-use template_machine_isolation::expression_isolation;
+use template_machine_meaning::expression_isolation;
 use template_machine_output::NullWriter;
 use template_machine_renders::run_expression;
 use template_machine_state::State as MachineState;

@@ -4,7 +4,7 @@ ghost use Rattle.std.specs.BTreeSet.{contains_text};
 ghost use Rattle.template_values_errors.specs.Memory.{NoMemory};
 ghost use Rattle.template_values_model.specs.Val.{Val};
 ghost use Rattle.template_names.specs.Names.{IsTold};
-ghost use Rattle.template_machine_isolation.specs.Isolation.{IsContextName, is_given};
+ghost use Rattle.template_machine_meaning.specs.Isolation.{IsContextName, is_given};
 ghost use Rattle.template_environment.specs.Isolated.{AgreeAmong, AgreeFor, IsSameRender, IsSameRenderIn, tree_of};
 ghost use Rattle.template_environment.specs.Reading.{registry_of};
 ghost use Rattle.template_environment.specs.Standing.{setting_of};
@@ -14,7 +14,7 @@ use crate::template::Template;
 use std::alloc::Global;
 use std::collections::BTreeSet;
 use template_machine_escape::AutoEscapeRule;
-use template_machine_isolation::isolation;
+use template_machine_meaning::isolation;
 use template_names_undeclared::add_name;
 use template_values_errors::Error;
 

@@ -9,3 +9,10 @@ pub mod Included
 pub mod Statements
 pub mod Ends
 pub mod Evaluating
+pub mod RunsKept
+pub mod Known
+pub mod Walks
+pub mod Turned
+pub mod Replies
+pub mod Isolated
+pub mod Evaluated

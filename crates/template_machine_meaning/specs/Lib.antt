@@ -5,3 +5,5 @@ pub mod Includes
 pub mod Surroundings
 pub mod Meaning
 pub mod Laws
+pub mod Keeps
+pub mod Isolation

@@ -5,6 +5,12 @@
 ghost use Rattle.template_machine_meaning.specs.Laws.{BoundsExtend, EveryRunEnds, MeaningsExtend, OneMeaning};
 ghost use Rattle.template_machine_meaning.specs.Laws.{EvaluationsNeedNoBound, EveryEvaluationGives};
 
+mod isolation;
+mod keeping;
+
+pub use isolation::{expression_isolation, isolation};
+pub use keeping::runs_keep;
+
 /// Under a greater bound a process that goes further gives a run that extends.
 pub fn bounds_extend()
     ensures { BoundsExtend }

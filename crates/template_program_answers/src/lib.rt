@@ -4,7 +4,7 @@
 
 ghost use Rattle.template_program_answers.specs.Law.{OneAnswer};
 
-use template_machine_isolation::isolation;
+use template_machine_meaning::isolation;
 
 /// Two answers to one request with the same templates and the same context, as the contract of `run` tells them, end
 /// alike and write the same bytes, where neither wants anything: memory, a sink that works, room for a source or its code,

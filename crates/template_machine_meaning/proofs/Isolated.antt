@@ -15,10 +15,10 @@ use Rattle.template_walk.specs.Statements.{template_walk}
 use Rattle.template_machine_meaning.specs.World.{World, first_world}
 use Rattle.template_machine_meaning.specs.Surroundings.{Program, respond, runners}
 use Rattle.template_machine_meaning.specs.Meaning.{Standing, Setting, walks_of, rendered}
-use Rattle.template_machine_isolation.specs.Isolation.{is_given, IsContextName, AgreesAt, IsolatesNames}
-use Rattle.template_machine_isolation.proofs.Known.{base}
-use Rattle.template_machine_isolation.proofs.Walks.{template_within}
-use Rattle.template_machine_isolation.proofs.Replies.{RunsSo, runs_so}
+use Rattle.template_machine_meaning.specs.Isolation.{is_given, IsContextName, AgreesAt, IsolatesNames}
+use Rattle.template_machine_meaning.proofs.Known.{base}
+use Rattle.template_machine_meaning.proofs.Walks.{template_within}
+use Rattle.template_machine_meaning.proofs.Replies.{RunsSo, runs_so}
 
 module _ (names : List ℕ → Type 0) (given : (name : List ℕ) → IsTrue (is_given name) → names name) (d : Val) where
   -- what a region uses, the template uses, or the engine gives

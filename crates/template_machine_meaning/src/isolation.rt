@@ -1,7 +1,6 @@
 //! The laws of isolation: what a template's render takes of its context, and an expression's evaluation.
-#![tactic(auto)]
 
-ghost use Rattle.template_machine_isolation.specs.Isolation.{IsolatesExpressions, IsolatesNames};
+ghost use Rattle.template_machine_meaning.specs.Isolation.{IsolatesExpressions, IsolatesNames};
 
 /// Over two contexts that agree on the names that a template and the templates that stand use, and on
 /// those that the engine gives, a render leaves the same trace and comes to the same end.

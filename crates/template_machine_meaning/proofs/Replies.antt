@@ -22,8 +22,8 @@ use Rattle.template_machine_meaning.specs.Undefined.{forbids_printing, forbids_i
 use Rattle.template_machine_meaning.specs.Replies.{told, changed, refused, kinded, guarded, replied_with, changed_with}
 use Rattle.template_machine_meaning.specs.Includes.{Runner, choices_in, standing_or, named_or, first_standing, told_of, include_levels, within, wrapped, included_run, not_found, included_by, included_from}
 use Rattle.template_machine_meaning.specs.Surroundings.{Programs, printed_reply, attribute_given, item_given, unpacked, unpacked_into, empty_frame, loop_frame, opened_loop, asked_once, next_reply, escape_named, escape_put_back, respond}
-use Rattle.template_machine_isolation.proofs.Known.{Known, inner, stored, closed, cleared, learnt, May, Within}
-use Rattle.template_machine_isolation.proofs.Turned.{context_before, over_frames, over_context, Fits, fits_less, finds, pushes, many, fits_stored, fits_cleared, fits_closed}
+use Rattle.template_machine_meaning.proofs.Known.{Known, inner, stored, closed, cleared, learnt, May, Within}
+use Rattle.template_machine_meaning.proofs.Turned.{context_before, over_frames, over_context, Fits, fits_less, finds, pushes, many, fits_stored, fits_cleared, fits_closed}
 
 -- the same over the context
 abbrev pub over_reply : Val → Reply World → Reply World

@@ -7,7 +7,7 @@ use Rattle.std.proofs.lemmas.Slice.Eq.{bytes_eq-Decides}
 use Rattle.template_values_model.specs.Val.{Val}
 use Rattle.template_values_model.specs.Lookup.{value_at}
 use Rattle.template_machine_meaning.specs.World.{Loop, Frame, World, local_at, known_in, known_at, put_local}
-use Rattle.template_machine_isolation.proofs.Known.{Known, base, inner, IsIn, Grows, stored, closed, cleared, IsInner, IsSafe}
+use Rattle.template_machine_meaning.proofs.Known.{Known, base, inner, IsIn, Grows, stored, closed, cleared, IsInner, IsSafe}
 
 -- the outermost frame has the context, the others stay
 abbrev pub context_before : Val → List Frame → Val → Val

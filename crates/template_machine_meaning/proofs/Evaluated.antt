@@ -14,10 +14,10 @@ use Rattle.template_walk.specs.Statements.{standalone_walk, template_walk}
 use Rattle.template_machine_meaning.specs.World.{World, first_world}
 use Rattle.template_machine_meaning.specs.Surroundings.{Program, runners}
 use Rattle.template_machine_meaning.specs.Meaning.{Standing, Setting, walks_of, evaluated}
-use Rattle.template_machine_isolation.specs.Isolation.{AgreesAt, IsolatesExpressions}
-use Rattle.template_machine_isolation.proofs.Known.{base}
-use Rattle.template_machine_isolation.proofs.Walks.{in_expression}
-use Rattle.template_machine_isolation.proofs.Replies.{RunsSo, runs_so}
+use Rattle.template_machine_meaning.specs.Isolation.{AgreesAt, IsolatesExpressions}
+use Rattle.template_machine_meaning.proofs.Known.{base}
+use Rattle.template_machine_meaning.proofs.Walks.{in_expression}
+use Rattle.template_machine_meaning.proofs.Replies.{RunsSo, runs_so}
 
 module _ (names : List ℕ → Type 0) (d : Val) (setting : Setting) where
   -- no template is run

@@ -18,7 +18,7 @@ use Rattle.template_process.specs.Process.{Ask, look_up, operate, compare, get_a
 use Rattle.template_walk.specs.Constants.{constant_of}
 use Rattle.template_walk.specs.Expressions.{folded, unary_ask, binary_walk, expression_walk, optional_walk, expressions_walk, walks_of, entries_walk, chain_walk, linked_walk}
 use Rattle.template_walk.specs.Statements.{Exits, outside, closing, number_of, target_walk, targets_walk, assignments_walk, rounds, loop_end, past, statement_walk, statements_walk, template_walk}
-use Rattle.template_machine_isolation.proofs.Known.{Known, base, inner, IsKnown, Grows, grows_itself, grows_on, known_on, stored, cleared, grows_stored, knows_stored, IsSafe, Within}
+use Rattle.template_machine_meaning.proofs.Known.{Known, base, inner, IsKnown, Grows, grows_itself, grows_on, known_on, stored, cleared, grows_stored, knows_stored, IsSafe, Within}
 
 module _ (names : List ℕ → Type 0) (start : Known) where
   abbrev In : Known → Process → Type 0
