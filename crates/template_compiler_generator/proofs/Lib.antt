@@ -1,2 +1,9 @@
 pub mod Building
 pub mod Texts
+pub mod Segments
+pub mod Plain
+pub mod Moving
+pub mod Running
+pub mod Whole
+pub mod Pieces
+mod Accepted

@@ -1,6 +1,0 @@
-pub mod Segments
-pub mod Plain
-pub mod Moving
-pub mod Running
-pub mod Whole
-pub mod Pieces

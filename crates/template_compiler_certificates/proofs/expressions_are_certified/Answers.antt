@@ -1,5 +1,0 @@
-use Rattle.template_compiler_certificates.proofs.Whole as laws
-use Rattle.template_compiler_certificates.proofs.expressions_are_certified.Goals as goal
-
-pub returns : goal.returns
-returns c = laws.expressions_certified

@@ -1,5 +1,0 @@
-use Rattle.template_compiler_certificates.proofs.Pieces as laws
-use Rattle.template_compiler_certificates.proofs.statements_perform_anywhere.Goals as goal
-
-pub returns : goal.returns
-returns c = laws.statements_anywhere
