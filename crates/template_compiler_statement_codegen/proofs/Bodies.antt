@@ -8,7 +8,7 @@ use Rattle.template_tree_statements.specs.declared.statements.Stmt.{Stmt, size-S
 use Rattle.template_walk.specs.Runnable.{IsRunnableStatement, AreRunnableStatements}
 use Rattle.template_code.specs.declared.listing.Instructions.{Instructions}
 use Rattle.template_compiler_codegen.specs.Statements.{Ways, statement_code, statements_code}
-use Rattle.template_compiler_lowering.specs.Breaks.{breaks_of, breaks_in}
+use Rattle.template_compiler_statement_codegen.specs.Breaks.{breaks_of, breaks_in}
 use Rattle.template_tree_parts.specs.Listed.{statements_in}
 use Rattle.template_compiler_statement_codegen.specs.Listed.{body_deep}
 use Rattle.template_compiler_statement_codegen.specs.Rounds.{Lowers, LowersBody, LowersStatement, Remains, ways_of}

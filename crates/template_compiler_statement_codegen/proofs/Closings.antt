@@ -8,7 +8,7 @@ use Rattle.template_code.specs.declared.listing.Instructions.{Instructions}
 use Rattle.template_compiler_codegen.specs.Expressions.{one}
 use Rattle.template_compiler_codegen.specs.Statements.{Ways, closing_with, statements_code}
 use Rattle.template_compiler_emission.specs.Puts.{Puts}
-use Rattle.template_compiler_lowering.specs.Breaks.{breaks_in}
+use Rattle.template_compiler_statement_codegen.specs.Breaks.{breaks_in}
 use Rattle.template_compiler_statement_codegen.specs.Rounds.{Lowers, LowersBody, closed_by, closed_code, closed_places, closing_code, ways_of}
 use Rattle.template_compiler_statement_codegen.specs.declared.rounds.Closing.{Closing}
 use Rattle.template_compiler_statement_codegen.specs.declared.rounds.Round.{Round}

@@ -12,7 +12,7 @@ use Rattle.template_compiler_codegen.specs.Statements.{Ways, branches_code, stat
 use Rattle.template_compiler_emission.specs.declared.leaps.Leap.TheVariants.{Always, IfFalse}
 use Rattle.template_compiler_emission.specs.Leaps.{leap_code}
 use Rattle.template_compiler_emission.specs.Puts.{Keeps, Puts}
-use Rattle.template_compiler_lowering.specs.Breaks.{Places, no_places, then_places, branches_places, breaks_of, breaks_in}
+use Rattle.template_compiler_statement_codegen.specs.Breaks.{Places, no_places, then_places, branches_places, breaks_of, breaks_in}
 use Rattle.template_tree_parts.specs.Listed.{statements_in}
 use Rattle.template_compiler_statement_codegen.specs.Listed.{condition_of}
 use Rattle.template_compiler_statement_codegen.specs.Rounds.{Lowers, LowersBody, LowersBranch, LowersChain, Remains, ways_of}

@@ -7,3 +7,5 @@ pub mod Lowering
 pub mod Nodes
 pub mod Unpacking
 pub mod Wholes
+pub mod Leading
+pub mod Rounds

@@ -13,8 +13,8 @@ use Rattle.template_compiler_emission.specs.Leaps.{leap_code}
 use Rattle.template_compiler_emission.specs.Puts.{Keeps, Puts}
 use Rattle.template_compiler_emission.proofs.Pieces.{two_pieces, one_longer, either_one}
 use Rattle.template_compiler_emission.proofs.Putting.{same_itself, same_then, puts_then, puts_skipped}
-use Rattle.template_compiler_lowering.specs.Breaks.{Places, no_places, then_places, next_places, either_places, led}
-use Rattle.template_compiler_lowering.proofs.Leading.{led-append}
+use Rattle.template_compiler_statement_codegen.specs.Breaks.{Places, no_places, then_places, next_places, either_places, led}
+use Rattle.template_compiler_statement_codegen.proofs.Leading.{led-append}
 use Rattle.template_compiler_statement_codegen.specs.Rounds.{Lowers, Remains, closed_by, ways_of}
 use Rattle.template_compiler_statement_codegen.specs.declared.rounds.Closing.{Closing}
 use Rattle.template_compiler_statement_codegen.specs.declared.rounds.Round.{Round}

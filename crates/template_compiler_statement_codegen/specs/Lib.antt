@@ -1,2 +1,4 @@
 pub mod Listed
 pub mod Rounds
+pub mod Breaks
+pub mod Laws

@@ -8,7 +8,7 @@ use Rattle.template_code.specs.declared.listing.Instructions.{Instructions}
 use Rattle.template_compiler_codegen.specs.Expressions.{Coded, one, nothing, then_code}
 use Rattle.template_compiler_codegen.specs.Statements.{Ways, closing_with, statement_code, statements_code}
 use Rattle.template_compiler_emission.specs.Puts.{Keeps, Puts}
-use Rattle.template_compiler_lowering.specs.Breaks.{Places, no_places, then_places, breaks_of, breaks_in, led}
+use Rattle.template_compiler_statement_codegen.specs.Breaks.{Places, no_places, then_places, breaks_of, breaks_in, led}
 use Rattle.template_tree_parts.specs.Listed.{statements_in}
 use Rattle.template_compiler_statement_codegen.specs.Listed.{condition_of}
 use Rattle.template_compiler_statement_codegen.specs.declared.rounds.Closing.{Closing}

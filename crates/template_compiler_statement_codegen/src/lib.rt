@@ -1,10 +1,14 @@
 //! From statements to the instructions that do what they do.
 #![tactic(auto)]
 
+mod breaks;
+mod lowering;
 mod rounds;
 mod statements;
 mod targets;
 
+pub use breaks::tell_breaks;
+pub use lowering::breaks_lead;
 pub use statements::compile_template;
 pub use targets::{compile_assignment, compile_assignments};
 pub use template_compiler_expression_codegen::compile_expr;

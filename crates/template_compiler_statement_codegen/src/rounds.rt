@@ -5,7 +5,7 @@ ghost use Rattle.template_code.specs.View.{code_of};
 ghost use Rattle.template_code.specs.Listing.{code_in, TakesNoMore};
 ghost use Rattle.template_compiler_codegen.specs.Statements.{statement_code};
 ghost use Rattle.template_compiler_emission.specs.Puts.{Puts};
-ghost use Rattle.template_compiler_lowering.specs.Breaks.{breaks_of};
+ghost use Rattle.template_compiler_statement_codegen.specs.Breaks.{breaks_of};
 ghost use Rattle.template_compiler_statement_codegen.specs.Rounds.{Lowers, closed_by, closing_code, ways_of};
 
 use std::alloc::Global;

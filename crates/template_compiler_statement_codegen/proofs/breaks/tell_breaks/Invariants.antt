@@ -2,8 +2,8 @@
 use Rattle.std.proofs.Common.{◌≡◌, length, vec_len}
 use Rattle.template_code.specs.Listing.{code_in}
 use Rattle.template_compiler_emission.specs.Puts.{Keeps}
-use Rattle.template_compiler_lowering.specs.Breaks.{led}
-use Rattle.template_compiler_lowering.proofs.breaks.tell_breaks.Given as goal
+use Rattle.template_compiler_statement_codegen.specs.Breaks.{led}
+use Rattle.template_compiler_statement_codegen.proofs.breaks.tell_breaks.Given as goal
 
 abbrev pub invariant-loop-place : goal.invariant-loop-place
 invariant-loop-place l = record {

@@ -9,8 +9,8 @@ use Rattle.template_compiler_codegen.specs.Expressions.{Coded}
 use Rattle.template_compiler_codegen.specs.Statements.{Ways, own_ways, rounds_code, statements_code}
 use Rattle.template_compiler_codegen.proofs.Lengths.{long_statements}
 use Rattle.template_compiler_emission.proofs.Pieces.{one_more, one_longer}
-use Rattle.template_compiler_lowering.specs.Breaks.{breaks_in, led}
-use Rattle.template_compiler_lowering.proofs.Leading.{leads_statements}
+use Rattle.template_compiler_statement_codegen.specs.Breaks.{breaks_in, led}
+use Rattle.template_compiler_statement_codegen.proofs.Leading.{leads_statements}
 
 pub rounds_told : (target : Coded) (body : Statements) (xs a b c d e f : List Code) → a ≡ xs ++ iterate 0 ∷ [] → b ≡ a ++ target (length a)
     → c ≡ b ++ statements_code (own_ways 0 (length xs)) body (length b) → d ≡ c ++ jump (length xs) ∷ []

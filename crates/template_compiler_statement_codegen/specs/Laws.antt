@@ -3,7 +3,7 @@ use Rattle.std.specs.Prelude.{◌≡◌, ℕ, List, ◌++◌, length}
 use Rattle.template_tree.specs.Tree.{Statements}
 use Rattle.template_code.specs.Code.{Code}
 use Rattle.template_compiler_codegen.specs.Statements.{Ways, statements_code}
-use Rattle.template_compiler_lowering.specs.Breaks.{breaks_in, led}
+use Rattle.template_compiler_statement_codegen.specs.Breaks.{breaks_in, led}
 
 -- Between any code: once the jumps of the breaks are told a target, the code is that of statements whose breaks lead
 -- there from the first.

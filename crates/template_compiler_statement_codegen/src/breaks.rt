@@ -2,7 +2,7 @@
 ghost use Rattle.std.specs.Prelude.{◌≡◌, length};
 ghost use Rattle.template_code.specs.Listing.{code_in};
 ghost use Rattle.template_compiler_emission.specs.Puts.{Keeps};
-ghost use Rattle.template_compiler_lowering.specs.Breaks.{led};
+ghost use Rattle.template_compiler_statement_codegen.specs.Breaks.{led};
 
 use template_code::Instructions;
 use template_compiler_emission::{Leap, land};

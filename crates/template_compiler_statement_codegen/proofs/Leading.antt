@@ -7,7 +7,7 @@ use Rattle.template_code.specs.Code.{Code, push_with, pop_frame, push_loop, push
 use Rattle.template_compiler_codegen.specs.Expressions.{Coded, then_code, one, skipped, either_code, expression_code}
 use Rattle.template_compiler_codegen.specs.Statements.{Ways, own_ways, closing_with, target_code, assignments_code, loop_flags, rounds_code, loop_end_code, branches_code, left_by, statement_code, statements_code}
 use Rattle.template_compiler_codegen.proofs.Lengths.{AsLong, long_statements}
-use Rattle.template_compiler_lowering.specs.Breaks.{Places, no_places, then_places, next_places, either_places, branches_places, loop_end_places, breaks_of, breaks_in, led}
+use Rattle.template_compiler_statement_codegen.specs.Breaks.{Places, no_places, then_places, next_places, either_places, branches_places, loop_end_places, breaks_of, breaks_in, led}
 
 -- between any two lists of code, the one piece becomes the other, which is as long
 abbrev Leads : ℕ → Places → Coded → Coded → Type 0

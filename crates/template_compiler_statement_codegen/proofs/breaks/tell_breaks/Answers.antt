@@ -3,8 +3,8 @@ use Rattle.std.proofs.lemmas.List.{length-set}
 use Rattle.template_code.specs.Code.{jump}
 use Rattle.template_code.specs.Listing.{code_in}
 use Rattle.template_compiler_emission.proofs.Putting.{same_then}
-use Rattle.template_compiler_lowering.proofs.Leading.{one_told}
-use Rattle.template_compiler_lowering.proofs.breaks.tell_breaks.Goals as goal
+use Rattle.template_compiler_statement_codegen.proofs.Leading.{one_told}
+use Rattle.template_compiler_statement_codegen.proofs.breaks.tell_breaks.Goals as goal
 
 pub loop-place-preserved : goal.loop-place-preserved
 loop-place-preserved c =
