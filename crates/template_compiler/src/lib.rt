@@ -62,6 +62,6 @@ pub use template_compiler_statement_laws::{is_decided, one_template, reads_the_g
 pub use template_compiler_syntax::{StartMarker, SyntaxConfig, SyntaxConfigBuilder};
 pub use template_compiler_tokenizer::{TokenStream, Tokenizer};
 pub use template_compiler_tokens::{Token, Tokens, one_token};
-pub use template_constants::as_const;
+pub use template_compiler_folding::as_const;
 pub use template_names_undeclared::{add_undeclared, find_undeclared, first_segments};
 pub use template_values_errors::{Error, ErrorKind};

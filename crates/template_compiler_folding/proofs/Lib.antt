@@ -1,2 +1,4 @@
 pub mod Pairs
 pub mod Settling
+pub mod Along
+pub mod Chains

@@ -1,8 +1,10 @@
 //! What is known of a tree before a render runs, from what is known of its parts.
 #![tactic(auto)]
 
+mod constants;
 mod containers;
 mod operators;
 
+pub use constants::as_const;
 pub use containers::{fold_list, fold_map, fold_tuple};
 pub use operators::{fold_binary, fold_comparison, fold_unary, goes_on};

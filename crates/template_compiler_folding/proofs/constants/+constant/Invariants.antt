@@ -4,9 +4,9 @@ use Rattle.std.specs.Prelude.{option_and_then}
 use Rattle.template_tree.specs.View.{links_in}
 use Rattle.template_tree.specs.declared.expressions.Expr.{size-Expr}
 use Rattle.template_walk.specs.Constants.{chain_constant}
-use Rattle.template_constants.specs.Nodes.{constant_from}
-use Rattle.template_constants.proofs.Along.{so_far}
-use Rattle.template_constants.proofs.constants.+constant.Given as goal
+use Rattle.template_compiler_folding.specs.Nodes.{constant_from}
+use Rattle.template_compiler_folding.proofs.Along.{so_far}
+use Rattle.template_compiler_folding.proofs.constants.+constant.Given as goal
 
 abbrev pub decreases-as_const : goal.decreases-as_const
 decreases-as_const l = 2 * size-Expr l.expr.now + 1

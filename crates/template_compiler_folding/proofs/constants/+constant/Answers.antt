@@ -8,10 +8,10 @@ use Rattle.template_tree.proofs.Rows.{expressions_row}
 use Rattle.template_tree_parts.proofs.Trees.{chain_tree}
 use Rattle.template_tree_spines.proofs.Walks.{walked}
 use Rattle.template_walk.specs.Constants.{constant_of}
-use Rattle.template_constants.specs.Nodes.{node_constant}
-use Rattle.template_constants.proofs.Along.{node_step}
-use Rattle.template_constants.proofs.Chains.{link_ends, link_goes}
-use Rattle.template_constants.proofs.constants.+constant.Goals as goal
+use Rattle.template_compiler_folding.specs.Nodes.{node_constant}
+use Rattle.template_compiler_folding.proofs.Along.{node_step}
+use Rattle.template_compiler_folding.proofs.Chains.{link_ends, link_goes}
+use Rattle.template_compiler_folding.proofs.constants.+constant.Goals as goal
 
 pub as_const-returns-clause-constant : goal.as_const-returns-clause-constant
 as_const-returns-clause-constant t c =

@@ -4,10 +4,10 @@ ghost use Rattle.template_values_errors.specs.Memory.{NoMemory};
 ghost use Rattle.template_tree.specs.View.{expression_of, links_in};
 ghost use Rattle.template_walk.specs.Constants.{constant_of, chain_constant};
 ghost use Rattle.template_compiler_folding.specs.Folding.{binary_folded};
-ghost use Rattle.template_constants.specs.Nodes.{node_constant};
+ghost use Rattle.template_compiler_folding.specs.Nodes.{node_constant};
 
 use std::alloc::Global;
-use template_compiler_folding::{
+use crate::{
     fold_binary, fold_comparison, fold_list, fold_map, fold_tuple, fold_unary, goes_on,
 };
 use template_tree::{BinOpKind, CompareOp, Expr};

@@ -11,7 +11,7 @@ use Rattle.template_tree.specs.View.{expression_of, links_in}
 use Rattle.template_walk.specs.Constants.{chain_constant, chain_decided, constant_of, made}
 use Rattle.template_walk.specs.Operators.{compared}
 use Rattle.template_compiler_folding.specs.Folding.{comparison_folded, is_known_true}
-use Rattle.template_constants.specs.Nodes.{constant_from}
+use Rattle.template_compiler_folding.specs.Nodes.{constant_from}
 
 -- the constant of a chain from a comparison on
 abbrev pub constant_at : CompareOpKind → Links → Option Val → Option Val → Option Val

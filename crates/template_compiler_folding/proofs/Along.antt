@@ -8,7 +8,7 @@ use Rattle.template_tree.specs.View.{expression_of}
 use Rattle.template_tree.specs.declared.expressions.Expr.{Expr}
 use Rattle.template_tree_spines.specs.Spine.{left_of, before}
 use Rattle.template_walk.specs.Constants.{constant_of}
-use Rattle.template_constants.specs.Nodes.{node_constant}
+use Rattle.template_compiler_folding.specs.Nodes.{node_constant}
 
 pub node_step : (e : Expression) → constant_of e ≡ node_constant (before constant_of None (left_of e)) e
 node_step (variable name) = refl
