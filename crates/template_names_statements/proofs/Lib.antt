@@ -1,2 +1,4 @@
 mod Bodies
 mod Walking
+mod Nodes
+pub mod Storing

@@ -13,9 +13,9 @@ use Rattle.template_names_state.specs.declared.state.Names.{Names}
 use Rattle.template_names_statements.specs.Choices.{choice_of}
 use Rattle.template_names_state.specs.Among.{just, nothing}
 use Rattle.template_names_state.specs.Goes.{Goes}
-use Rattle.template_names_expressions.specs.Stores.{backwards}
+use Rattle.template_names_statements.specs.Stores.{backwards}
 use Rattle.template_names_state.proofs.Laws.{and_false, or_false, turned, uses_as, uses_then}
-use Rattle.template_names_expressions.proofs.Storing.{used_by_arguments}
+use Rattle.template_names_statements.proofs.Storing.{used_by_arguments}
 
 behind : (a k c u : Bool) → ((a || (not k && false)) || (not (k || c) && u)) ≡ (a || (not k && (not c && u)))
 behind true k c u = refl

@@ -1,7 +1,11 @@
 //! The names in statements.
 #![tactic(auto)]
 
+mod expressions;
 mod parts;
 mod statements;
+mod targets;
 
+pub use expressions::{use_arguments, use_expression, use_optional};
 pub use statements::use_statement;
+pub use targets::{assign, assign_target, bind_arguments, bind_imports, use_assignments};

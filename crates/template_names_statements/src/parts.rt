@@ -6,7 +6,7 @@ ghost use Rattle.template_names_state.specs.Among.{just, nothing};
 ghost use Rattle.template_names_state.specs.Goes.{Goes};
 
 use std::alloc::AllocError;
-use template_names_expressions::{assign_target, use_arguments, use_expression, use_optional};
+use crate::{assign_target, use_arguments, use_expression, use_optional};
 use template_names_state::Names;
 use template_tree::Call;
 use template_tree_statements::{ForLoop, SetBlock};

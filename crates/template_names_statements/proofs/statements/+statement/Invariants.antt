@@ -7,7 +7,7 @@ use Rattle.template_names_state.specs.declared.state.Names.{Names}
 use Rattle.template_names_statements.specs.Choices.{choice_of}
 use Rattle.template_names_state.specs.Among.{nothing}
 use Rattle.template_names_state.specs.Goes.{Goes}
-use Rattle.template_names_expressions.specs.Stores.{is_stored_among}
+use Rattle.template_names_statements.specs.Stores.{is_stored_among}
 use Rattle.template_names_statements.proofs.statements.+statement.Given as goal
 
 abbrev pub decreases-use_statement : goal.decreases-use_statement

@@ -7,8 +7,8 @@ use Rattle.template_names_state.specs.declared.state.Names.{Names}
 use Rattle.template_names_state.specs.Among.{nothing}
 use Rattle.template_names_state.specs.Dotted.{fields_of}
 use Rattle.template_names_state.specs.Goes.{Goes}
-use Rattle.template_names_expressions.specs.Parts.{left_place, left_deep}
-use Rattle.template_names_expressions.proofs.expressions.+expression.Given as goal
+use Rattle.template_names_statements.specs.Parts.{left_place, left_deep}
+use Rattle.template_names_statements.proofs.expressions.+expression.Given as goal
 
 abbrev pub decreases-use_expression : goal.decreases-use_expression
 decreases-use_expression l = 3 * size-Expr l.expr.now + 1

@@ -4,8 +4,8 @@ use Rattle.template_tree_statements.specs.View.{assignments_in}
 use Rattle.template_names.specs.Names.{place_from}
 use Rattle.template_names_state.specs.declared.state.Names.{Names}
 use Rattle.template_names_state.specs.Goes.{Goes}
-use Rattle.template_names_expressions.specs.Stores.{is_assigned}
-use Rattle.template_names_expressions.proofs.targets.use_assignments.Given as goal
+use Rattle.template_names_statements.specs.Stores.{is_assigned}
+use Rattle.template_names_statements.proofs.targets.use_assignments.Given as goal
 
 abbrev pub invariant-loop-assignment : goal.invariant-loop-assignment
 invariant-loop-assignment l = (c : Names) →

@@ -23,7 +23,7 @@ use Rattle.template_tree.proofs.Rows.{arguments_row}
 use Rattle.template_tree_parts.proofs.Trees.{chain_tree, choice_tree, list_tree, map_tree, slice_tree, tuple_tree}
 use Rattle.template_names.specs.Names.{Places, place_before, place_in, place_if_given, place_in_one, place_in_links, place_in_arguments}
 use Rattle.template_names_state.specs.Dotted.{fields_left}
-use Rattle.template_names_expressions.specs.Parts.{left_deep, left_place, place_beside}
+use Rattle.template_names_statements.specs.Parts.{left_deep, left_place, place_beside}
 
 filter_beside : (q : Places) (fields : Items (Items ℕ)) (n : Spanned (Box FilterNode Global)) →
     place_beside q fields (expression_of (Filter n)) ≡ place_in_arguments q (arguments_in n.node.value.args.items)

@@ -1,6 +1,6 @@
 use Rattle.std.proofs.Common.{refl}
 use Rattle.template_names_state.proofs.Laws.{goes_then_on}
-use Rattle.template_names_expressions.proofs.targets.assign.Goals as goal
+use Rattle.template_names_statements.proofs.targets.assign.Goals as goal
 
 pub returns : goal.returns
 returns c =

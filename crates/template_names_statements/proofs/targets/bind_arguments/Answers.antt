@@ -1,7 +1,7 @@
 use Rattle.std.proofs.Common.{◌≡◌, ◌≤◌, ◌-◌, length, take, arith}
-use Rattle.template_names_expressions.specs.Stores.{backwards}
-use Rattle.template_names_expressions.proofs.Storing.{arguments_end, argument_ends}
-use Rattle.template_names_expressions.proofs.targets.bind_arguments.Goals as goal
+use Rattle.template_names_statements.specs.Stores.{backwards}
+use Rattle.template_names_statements.proofs.Storing.{arguments_end, argument_ends}
+use Rattle.template_names_statements.proofs.targets.bind_arguments.Goals as goal
 
 pub loop-at-preserved : goal.loop-at-preserved
 loop-at-preserved c =

@@ -5,7 +5,7 @@ ghost use Rattle.template_names.specs.Names.{place_in, place_if_given, place_in_
 ghost use Rattle.template_names_state.specs.Among.{nothing};
 ghost use Rattle.template_names_state.specs.Dotted.{fields_of};
 ghost use Rattle.template_names_state.specs.Goes.{Goes};
-ghost use Rattle.template_names_expressions.specs.Parts.{place_beside};
+ghost use Rattle.template_names_statements.specs.Parts.{place_beside};
 
 use std::alloc::AllocError;
 use template_names_state::{Names, go_left};

@@ -1,9 +1,9 @@
 use Rattle.std.proofs.Common.{◌≡◌, ◌≤◌, ◌+◌, ◌-◌, ℕ, length, take, arith, sym, ap, ◌∙◌}
 use Rattle.template_tree.specs.Tree.{Expressions}
-use Rattle.template_names_expressions.specs.Stores.{backwards, place_in_first}
+use Rattle.template_names_statements.specs.Stores.{backwards, place_in_first}
 use Rattle.template_names_state.proofs.Laws.{uses_on}
-use Rattle.template_names_expressions.proofs.Storing.{backwards_last}
-use Rattle.template_names_expressions.proofs.targets.use_last.Goals as goal
+use Rattle.template_names_statements.proofs.Storing.{backwards_last}
+use Rattle.template_names_statements.proofs.targets.use_last.Goals as goal
 
 pub returns : goal.returns
 returns c =

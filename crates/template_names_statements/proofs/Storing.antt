@@ -13,7 +13,7 @@ use Rattle.template_names.specs.Names.{Places, is_imported, is_stored_in, is_sto
 use Rattle.template_names_state.specs.declared.state.Names.{Names}
 use Rattle.template_names_state.specs.Among.{nothing}
 use Rattle.template_names_state.specs.Goes.{Goes, no_place}
-use Rattle.template_names_expressions.specs.Stores.{backwards, place_in_first, is_assigned, is_bound}
+use Rattle.template_names_statements.specs.Stores.{backwards, place_in_first, is_assigned, is_bound}
 use Rattle.template_names_state.proofs.Laws.{goes_as, goes_nowhere, goes_then, or_assoc, or_false}
 
 -- a list of targets, and an expression that is no target

@@ -1,2 +1,0 @@
-mod Nodes
-pub mod Storing
