@@ -2,3 +2,5 @@ pub mod Texts
 pub mod Lifting
 pub mod Left
 mod Holding
+pub mod Scoping
+pub mod Straying

@@ -3,6 +3,10 @@
 
 mod asides;
 mod at_once;
+mod escapes;
+mod frames;
+mod loops;
+mod names;
 mod operands;
 mod plain;
 mod rules;
@@ -11,7 +15,13 @@ mod writing;
 
 pub use asides::{made_of, number_given};
 pub use at_once::{begin_at_once, perform_at_once};
+pub use escapes::{pop_auto_escape, push_auto_escape};
+pub use frames::{pop_frame, push_with};
+pub use loops::{iterate, iterate_at_once, pop_loop_frame, push_did_not_iterate, push_loop};
+pub use names::{
+    lookup, lookup_at_once, number_named, store_local, store_local_at_once, store_number,
+};
 pub use plain::{perform, perform_at_length};
 pub use rules::Rules;
-pub use template_machine_scopes::{pop_loop_frame, push_loop, store_number};
+pub use crate::{pop_loop_frame, push_loop, store_number};
 pub use writing::{emit, emit_raw, emit_value};

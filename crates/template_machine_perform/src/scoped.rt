@@ -11,7 +11,7 @@ use crate::rules::Rules;
 use std::alloc::Global;
 use template_code::Instruction;
 use template_machine_operands::Operands;
-use template_machine_scopes::{
+use crate::{
     iterate, lookup, pop_auto_escape, pop_frame, pop_loop_frame, push_auto_escape,
     push_did_not_iterate, push_loop, push_with, store_local,
 };

@@ -1,2 +1,0 @@
-pub mod Scoping
-pub mod Straying
