@@ -9,7 +9,7 @@ use Rattle.template_values_model.specs.Val.{Val}
 use Rattle.template_tree.specs.Tree.{Expression, slice, binary, chain, filtered, tested, attribute, item, call}
 use Rattle.template_tree.specs.View.{expression_of}
 use Rattle.template_tree.specs.declared.expressions.Expr.{Expr, size-Expr}
-use Rattle.template_tree_spines.specs.Spine.{spine_of, left_of, before}
+use Rattle.template_tree_parts.specs.Spine.{spine_of, left_of, before}
 use Rattle.template_walk.specs.Constants.{constant_of}
 use Rattle.template_walk.specs.Runnable.{IsRunnable}
 use Rattle.template_code.specs.Code.{Code}

@@ -6,7 +6,7 @@ use Rattle.template_tree.specs.declared.operators.BinOpKind.{BinOpKind}
 use Rattle.template_tree.specs.declared.operators.BinOpKind.TheVariants.{ScAnd, ScOr}
 use Rattle.template_tree.specs.Tree.{Expression, variable, constant, unary, binary, chain, conditional, filtered, tested, attribute, item, call, list_literal, tuple_literal, map_literal}
 use Rattle.template_tree.specs.Tree as tree
-use Rattle.template_tree_spines.specs.Spine.{left_of, before}
+use Rattle.template_tree_parts.specs.Spine.{left_of, before}
 use Rattle.template_walk.specs.Constants.{constant_of, binary_constant, chain_constant}
 use Rattle.template_walk.specs.Runnable.{IsRunnable}
 use Rattle.template_walk.specs.Statements.{number_of}

@@ -25,7 +25,7 @@ use template_code::{Instruction, Instructions};
 use template_compiler_emission::{Leap, land, leap_of, load, load_copy, put, reserve};
 use template_compiler_folding::{fold_list, fold_map, fold_tuple};
 use template_tree::{BinOpKind, CompareOp, Expr, Span, UnaryOpKind};
-use template_tree_spines::{left, spine};
+use template_tree_parts::{left, spine};
 use template_values_core::Value;
 use template_values_errors::Error;
 

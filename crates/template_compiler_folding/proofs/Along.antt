@@ -6,7 +6,7 @@ use Rattle.template_tree.specs.Tree.{Expression, variable, constant, unary, bina
 use Rattle.template_tree.specs.Tree as tree
 use Rattle.template_tree.specs.View.{expression_of}
 use Rattle.template_tree.specs.declared.expressions.Expr.{Expr}
-use Rattle.template_tree_spines.specs.Spine.{left_of, before}
+use Rattle.template_tree_parts.specs.Spine.{left_of, before}
 use Rattle.template_walk.specs.Constants.{constant_of}
 use Rattle.template_compiler_folding.specs.Nodes.{node_constant}
 

@@ -11,7 +11,7 @@ use crate::{
     fold_binary, fold_comparison, fold_list, fold_map, fold_tuple, fold_unary, goes_on,
 };
 use template_tree::{BinOpKind, CompareOp, Expr};
-use template_tree_spines::spine;
+use template_tree_parts::spine;
 use template_values_core::Value;
 use template_values_errors::Error;
 

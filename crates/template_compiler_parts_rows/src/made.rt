@@ -2,7 +2,7 @@
 use crate::forms::Form;
 use std::alloc::{AllocError, Global};
 use template_tree::{Expr, Span};
-use template_tree_spines::spine;
+use template_tree_parts::spine;
 use template_values_errors::Error;
 
 /// What a tree is, where it was made.

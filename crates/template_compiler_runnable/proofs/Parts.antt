@@ -9,7 +9,7 @@ use Rattle.template_tree.specs.declared.expressions.Map.{Map as MapNode}
 use Rattle.template_tree.specs.declared.expressions.Slice.{Slice as SliceNode}
 use Rattle.template_tree.specs.declared.expressions.Expr.{Expr, size-Expr, Compare as CompareNode, Map, Slice}
 use Rattle.template_tree_parts.proofs.Trees.{chain_tree, map_tree, slice_tree}
-use Rattle.template_tree_spines.specs.Spine.{left_of, before}
+use Rattle.template_tree_parts.specs.Spine.{left_of, before}
 use Rattle.template_compiler_runnable.specs.Running.{runs, runs_beside, runs_if_given, all_run, chain_runs, left_deep, left_runs, is_target}
 
 and_true : (b : Bool) → b ≡ (b && true)

@@ -6,7 +6,7 @@ ghost use Rattle.template_compiler_runnable.specs.Running.{runs, runs_beside, ru
 
 use template_compiler_constructs::has_walk;
 use template_tree::{CompareOp, Expr};
-use template_tree_spines::left;
+use template_tree_parts::left;
 
 /// Whether an expression's tree is one whose constructs all have a walk. Takes linear time.
 pub fn is_runnable_expr(expr: &Expr<'_>) -> bool

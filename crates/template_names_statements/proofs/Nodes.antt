@@ -2,7 +2,7 @@
 use Rattle.std.proofs.Common.{◌≡◌, ℕ, ◌≤◌, ◌<◌, ◌+◌, Bool, true, false, ◌&&◌, ◌||◌, List as Items, bytes_eq, Option, None, Some, Bor, Box, Global, rules, arith, refl, sym, ap, ◌∙◌}
 use Rattle.std.specs.Prelude.{option_map, IfSome}
 use Rattle.template_tree.specs.Tree.{Expression, variable, constant, slice, unary, binary, chain, conditional, filtered, tested, attribute, item, call, list_literal, tuple_literal, map_literal, absent, given}
-use Rattle.template_tree_spines.specs.Spine.{left_of, before}
+use Rattle.template_tree_parts.specs.Spine.{left_of, before}
 use Rattle.template_names_state.specs.declared.state.Names.{Names}
 use Rattle.template_names_state.specs.Among.{nothing}
 use Rattle.template_names_state.specs.Goes.{Goes}

@@ -10,7 +10,7 @@ ghost use Rattle.template_names_statements.specs.Parts.{place_beside};
 use std::alloc::AllocError;
 use template_names_state::{Names, go_left};
 use template_tree::{CallArg, CompareOp, Expr};
-use template_tree_spines::left;
+use template_tree_parts::left;
 
 /// Uses the names in an expression.
 ///

@@ -1,2 +1,4 @@
 pub mod Rows
 pub mod Trees
+pub mod Chains
+pub mod Walks

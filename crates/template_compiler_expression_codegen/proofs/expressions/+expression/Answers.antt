@@ -10,7 +10,7 @@ use Rattle.template_tree.specs.declared.expressions.Expr.{size-Expr}
 use Rattle.template_tree.specs.declared.expressions.List.{List as ListNode}
 use Rattle.template_tree.specs.declared.expressions.Map.{Map as MapNode}
 use Rattle.template_tree.specs.declared.expressions.Tuple.{Tuple as TupleNode}
-use Rattle.template_tree_spines.proofs.Walks.{walked}
+use Rattle.template_tree_parts.proofs.Walks.{walked}
 use Rattle.template_walk.specs.Constants.{chain_constant, constant_of}
 use Rattle.template_walk.specs.Runnable.{IsRunnable}
 use Rattle.template_code.specs.Code.{build_list, build_tuple, compare_and_preserve, operate}

@@ -6,7 +6,7 @@ use Rattle.template_tree.specs.declared.expressions.CompareOp.{CompareOp}
 use Rattle.template_tree.specs.declared.expressions.Expr.{Expr, the_lemmas}
 use Rattle.template_tree.proofs.Rows.{expressions_row}
 use Rattle.template_tree_parts.proofs.Trees.{chain_tree}
-use Rattle.template_tree_spines.proofs.Walks.{walked}
+use Rattle.template_tree_parts.proofs.Walks.{walked}
 use Rattle.template_walk.specs.Constants.{constant_of}
 use Rattle.template_compiler_folding.specs.Nodes.{node_constant}
 use Rattle.template_compiler_folding.proofs.Along.{node_step}

@@ -1,6 +1,6 @@
 //! The left chain of an expression, which may be as long as the source.
 ghost use Rattle.std.specs.Prelude.{◌≡◌, ◌≤◌, All, IfOk, map};
-ghost use Rattle.template_tree_spines.specs.Spine.{spine_of};
+ghost use Rattle.template_tree_parts.specs.Spine.{spine_of};
 ghost use Rattle.template_tree.specs.View.{expression_of};
 ghost use Rattle.template_tree.specs.declared.expressions.Expr.{size-Expr};
 

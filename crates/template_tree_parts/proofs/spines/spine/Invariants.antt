@@ -1,8 +1,8 @@
 use Rattle.std.proofs.Common.{◌≡◌, ◌≤◌, ◌++◌, All, map, reverse}
-use Rattle.template_tree_spines.specs.Spine.{spine_of}
+use Rattle.template_tree_parts.specs.Spine.{spine_of}
 use Rattle.template_tree.specs.View.{expression_of}
 use Rattle.template_tree.specs.declared.expressions.Expr.{size-Expr}
-use Rattle.template_tree_spines.proofs.spines.spine.Given as goal
+use Rattle.template_tree_parts.proofs.spines.spine.Given as goal
 
 abbrev pub invariant-loop-passed : goal.invariant-loop-passed
 invariant-loop-passed l = record {

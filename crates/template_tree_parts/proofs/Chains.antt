@@ -4,7 +4,7 @@ use Rattle.std.proofs.lemmas.List.{reverse-append}
 use Rattle.std.proofs.lemmas.List.Elements.{All-push, All-same}
 use denote.Hole.Carrier.{out}
 use Rattle.template_tree.specs.Tree.{Expression}
-use Rattle.template_tree_spines.specs.Spine.{spine_of}
+use Rattle.template_tree_parts.specs.Spine.{spine_of}
 use Rattle.template_tree.specs.View.{expression_of, chain_of}
 use Rattle.template_tree.specs.declared.span.Spanned.{Spanned}
 use Rattle.template_tree.specs.declared.expressions.Filter.{Filter as FilterNode}

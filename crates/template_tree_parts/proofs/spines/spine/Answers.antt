@@ -1,8 +1,8 @@
 use Rattle.std.proofs.Common.{rules, refl}
-use Rattle.template_tree_spines.proofs.Chains.{passed_more, passed_within, chain_spine, filter_spine}
+use Rattle.template_tree_parts.proofs.Chains.{passed_more, passed_within, chain_spine, filter_spine}
 use Rattle.template_tree.specs.declared.expressions.Expr.{the_lemmas}
 use Rattle.template_tree.specs.declared.expressions.Compare.{out-Compare}
-use Rattle.template_tree_spines.proofs.spines.spine.Goals as goal
+use Rattle.template_tree_parts.proofs.spines.spine.Goals as goal
 
 pub loop-passed-preserved-in-Test : goal.loop-passed-preserved-in-Test
 loop-passed-preserved-in-Test c = record {
