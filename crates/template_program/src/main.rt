@@ -3,7 +3,7 @@
 
 use std::process::ExitCode;
 use std::{env, io};
-use template_program_start::{refuse_arguments, start};
+use template_program_run::{refuse_arguments, start};
 
 fn main(rt: HostRuntime) -> ExitCode {
     match run(&rt) {

@@ -3,7 +3,7 @@ use crate::requests::DEFAULT_LIMIT;
 use serde_json::{Map, Value as Json};
 use std::alloc::Global;
 use template_machine_ids::StateIds;
-use template_program_start::{Command, Outcome, Request, run};
+use template_program_run::{Command, Outcome, Request, run};
 use template_rows::{
     behavior_of, count_of, expect_names, number_of, pairs_of, quoted, text_of, unreadable,
 };

@@ -2,7 +2,7 @@
 use crate::sizes::Came;
 use std::alloc::Global;
 use template_machine_ids::StateIds;
-use template_program_start::{Command, Outcome, Request, run};
+use template_program_run::{Command, Outcome, Request, run};
 use template_rows::unreadable;
 use template_values_errors::{Error, ErrorKind};
 use template_values_modes::UndefinedBehavior;

@@ -1,7 +1,7 @@
 //! Runs of the program's body, with their inputs and outputs.
 use serde_json::{Map, Value as Json};
 use std::alloc::Global;
-use template_program_start::start;
+use template_program_run::start;
 use template_rows::{
     Input, Output, READY, bytes_of, count_of, expect_names, kind_of, quoted, texts_of,
 };

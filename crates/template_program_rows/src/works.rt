@@ -5,7 +5,7 @@ use crate::requests::{
 };
 use crate::sizes::Came;
 use std::alloc::{AllocError, Global};
-use template_program_start::Command;
+use template_program_run::Command;
 use template_values_errors::Error;
 
 const MANY: usize = 1000;

@@ -3,3 +3,4 @@ pub mod Settings
 pub mod MainStands
 pub mod Rendering
 pub mod Counting
+pub mod Flushing

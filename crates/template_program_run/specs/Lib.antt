@@ -5,3 +5,5 @@ pub mod Environments
 pub mod Lines
 pub mod Answers
 pub mod Plain
+pub mod Status
+pub mod Starts

@@ -3,11 +3,17 @@
 #![tactic(auto)]
 
 mod additions;
+mod faults;
+mod inputs;
 mod names;
+mod performing;
 mod request;
 mod running;
+mod starting;
 
 pub use request::Request;
 pub use running::run;
+pub use starting::{refuse_arguments, start};
 pub use template_program_context::Command;
-pub use template_program_outcomes::Outcome;
+pub use template_program_outcomes::{Outcome, status_of};
+pub use crate::{Command, Request, run};

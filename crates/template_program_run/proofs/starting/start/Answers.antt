@@ -1,5 +1,5 @@
 use Rattle.std.proofs.Common.{inl, inr}
-use Rattle.template_program_start.proofs.starting.start.Goals as goal
+use Rattle.template_program_run.proofs.starting.start.Goals as goal
 
 pub returns-in-Ok-read_inputs : goal.returns-in-Ok-read_inputs
 returns-in-Ok-read_inputs g c =

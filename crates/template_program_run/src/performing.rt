@@ -2,7 +2,7 @@
 ghost use Rattle.std.specs.Prelude.{◌≡◌, option_copied, option_map};
 ghost use Rattle.template_machine_output.specs.Wrapper.{failure_count};
 ghost use Rattle.template_program_context.specs.Context.{text_pairs};
-ghost use Rattle.template_program_start.specs.Starts.{PerformsRequest, RunsFlushed};
+ghost use Rattle.template_program_run.specs.Starts.{PerformsRequest, RunsFlushed};
 
 use crate::faults::write_error;
 use crate::inputs::Inputs;
@@ -11,7 +11,7 @@ use std::io::{BufWriter, Write};
 use template_machine_ids::StateIds;
 use template_machine_output::WriteWrapper;
 use template_program_outcomes::{MEMORY, Outcome, after_flush, status_of};
-use template_program_run::run;
+use crate::run;
 use template_values_errors::{Error, ErrorKind};
 
 /// Runs the request over a buffer, which is flushed after a fault too, and tells a fault on one line.

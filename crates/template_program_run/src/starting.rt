@@ -3,8 +3,8 @@ ghost use Rattle.std.specs.Prelude.{◌≡◌, map};
 ghost use Rattle.std.specs.IoError.{error_kind};
 ghost use Rattle.clap.specs.Words.{fault_of, subcommand_of};
 ghost use Rattle.template_program_words.specs.CommandLine.{program};
-ghost use Rattle.template_program_start.specs.Starts.{Starts, words_status};
-ghost use Rattle.template_program_start.specs.Status.{arguments_status, file_status};
+ghost use Rattle.template_program_run.specs.Starts.{Starts, words_status};
+ghost use Rattle.template_program_run.specs.Status.{arguments_status, file_status};
 
 use crate::faults::{write_error, write_fault};
 use crate::inputs::{Inputs, read_inputs};

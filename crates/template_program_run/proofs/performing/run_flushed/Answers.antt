@@ -1,7 +1,7 @@
 use Rattle.std.proofs.Common.{ap}
 use Rattle.template_program_context.specs.Context.{text_pairs}
-use Rattle.template_program_start.proofs.Flushing.{runs_flushed}
-use Rattle.template_program_start.proofs.performing.run_flushed.Goals as goal
+use Rattle.template_program_run.proofs.Flushing.{runs_flushed}
+use Rattle.template_program_run.proofs.performing.run_flushed.Goals as goal
 
 pub returns : goal.returns
 returns g c =

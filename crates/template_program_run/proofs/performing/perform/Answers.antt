@@ -2,8 +2,8 @@
 use Rattle.std.proofs.Common.{◌≡◌, ◌∙◌, [], ap, ap₂, inr, List, ℕ, Option, subst, option_map}
 use Rattle.std.specs.Io.KnownBytes.{append_known}
 use Rattle.template_program_context.specs.Context.{text_pairs}
-use Rattle.template_program_start.specs.Starts.{RunsFlushed}
-use Rattle.template_program_start.proofs.performing.perform.Goals as goal
+use Rattle.template_program_run.specs.Starts.{RunsFlushed}
+use Rattle.template_program_run.proofs.performing.perform.Goals as goal
 
 pub returns : goal.returns
 returns g c =

@@ -5,7 +5,7 @@ use Rattle.template_program_run.specs.Answers.{AnswersRequest}
 use Rattle.template_program_outcomes.specs.declared.outcome.Outcome.{Outcome}
 use Rattle.template_program_run.specs.declared.request.Request.{Request}
 use Rattle.template_program_outcomes.specs.Flushes.{flushed}
-use Rattle.template_program_start.specs.Starts.{RunsFlushed}
+use Rattle.template_program_run.specs.Starts.{RunsFlushed}
 
 -- the additions, the context, the first id and the count of failures are what they are called
 pub runs_flushed : (request : Request) (additions given : List (List ℕ × List ℕ)) (json read : Option (List ℕ)) (next failed fails : ℕ)

@@ -18,7 +18,7 @@ use Rattle.template_program_context.specs.declared.command.Command.TheVariants a
 use Rattle.template_program_run.specs.declared.request.Request.{Request}
 use Rattle.template_program_outcomes.specs.Flushes.{flushed}
 use Rattle.template_program_outcomes.specs.Status.{IsStatusOf}
-use Rattle.template_program_start.specs.Status.{file_status}
+use Rattle.template_program_run.specs.Status.{file_status}
 
 -- the status of words that are refused, or that ask for help
 abbrev pub words_status : WordsFault → ℕ
