@@ -2,3 +2,5 @@ pub mod Trees
 pub mod Plain
 pub mod Accepting
 pub mod Alone
+pub mod Updates
+pub mod Listing

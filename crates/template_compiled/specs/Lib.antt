@@ -3,3 +3,4 @@ pub mod Compiled
 pub mod Names
 pub mod Plain
 pub mod Expressions
+pub mod Standing

@@ -5,7 +5,9 @@ mod compiled;
 mod config;
 mod expression;
 mod naming;
+mod templates;
 
 pub use compiled::{CompiledTemplate, one_tree, plain_text};
 pub use config::TemplateConfig;
 pub use expression::{CompiledExpression, one_standalone_tree};
+pub use templates::CompiledTemplates;

@@ -56,5 +56,5 @@ pub use Rattle.template_compiled.specs.Compiled
 pub use Rattle.template_compiled.specs.Expressions as ExpressionSources
 pub use Rattle.template_compiled.specs.Names as TemplateNames
 pub use Rattle.template_compiled.specs.Plain
-pub use Rattle.template_compiled_templates.specs.Standing
+pub use Rattle.template_compiled.specs.Standing
 pub use Rattle.template_machine_escape.specs.Rule

@@ -49,10 +49,7 @@ pub use template_code::{
     LOOP_FLAG_WITH_LOOP_VAR, LocalId, MACRO_CALLER, MAX_LOCALS, code_rises,
 };
 pub use template_code_references::get_referenced_names;
-pub use template_compiled::{
-    CompiledExpression, CompiledTemplate, TemplateConfig, one_standalone_tree, one_tree, plain_text,
-};
-pub use template_compiled_templates::CompiledTemplates;
+pub use template_compiled::{CompiledExpression, CompiledTemplate, CompiledTemplates, TemplateConfig, one_standalone_tree, one_tree, plain_text};
 pub use template_compiler_codegen::{expressions_perform, templates_perform};
 pub use template_compiler_generator::{CodeGenerator, blocks_generate};
 pub use template_compiler_runnable::{is_runnable, is_runnable_expr};

@@ -5,8 +5,7 @@ use std::alloc::Global;
 use std::borrow::CowStr;
 use template_code::{Instruction, Instructions, LOOP_FLAG_WITH_LOOP_VAR};
 use template_code_references::get_referenced_names;
-use template_compiled::{CompiledTemplate, TemplateConfig};
-use template_compiled_templates::CompiledTemplates;
+use template_compiled::{CompiledTemplate, CompiledTemplates, TemplateConfig};
 use template_values_core::{Content, Value};
 use template_values_errors::Error;
 

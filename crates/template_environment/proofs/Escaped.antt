@@ -3,8 +3,8 @@ use Rattle.std.proofs.Common.{◌≡◌, ◌∙◌, ℕ, Bool, true, false, cond
 use Rattle.std.proofs.lemmas.Slice.Eq.{bytes_eq-Decides}
 use Rattle.template_machine_escape.specs.Rule.{IsEscapeOf}
 use Rattle.template_compiled.specs.Compiled.{Compiled, IsFaithful}
-use Rattle.template_compiled_templates.specs.Standing.{compiled_at}
-use Rattle.template_compiled_templates.specs.declared.templates.CompiledTemplates.{CompiledTemplates}
+use Rattle.template_compiled.specs.Standing.{compiled_at}
+use Rattle.template_compiled.specs.declared.templates.CompiledTemplates.{CompiledTemplates}
 
 -- each has the escape of its name
 abbrev pub AreEscaped : CompiledTemplates → Type 0

@@ -8,7 +8,7 @@ use Rattle.template_machine_meaning.specs.Isolation.{IsContextName, is_given}
 use Rattle.template_machine_meaning.specs.Meaning.{Standing}
 use Rattle.template_compiled.specs.Compiled.{Compiled, standing_of}
 use Rattle.template_compiled.specs.Names.{uses}
-use Rattle.template_compiled_templates.specs.Standing.{IsUsedByOne, compiled_at}
+use Rattle.template_compiled.specs.Standing.{IsUsedByOne, compiled_at}
 use Rattle.template_environment_histories.proofs.Using.{either}
 use Rattle.template_environment.specs.Standing.{setting_of}
 use Rattle.template_environment.specs.declared.registry.Registry.{Registry}

@@ -23,7 +23,7 @@ use Rattle.template_machine_renders.specs.Renders.{at_start, IsDone, Renders}
 use Rattle.template_machine_renders.proofs.Coming.{ends_render, stops_render}
 use Rattle.template_compiled.specs.Compiled.{Compiled, code_for, standing_of}
 use Rattle.template_compiled.specs.Sources.{tree_in}
-use Rattle.template_compiled_templates.specs.Standing.{compiled_at}
+use Rattle.template_compiled.specs.Standing.{compiled_at}
 use Rattle.template_environment.specs.Renderings.{rendering}
 use Rattle.template_environment.specs.Standing.{setting_of, unit_of, units_of}
 use Rattle.template_environment.specs.declared.registry.Registry.{Registry}

@@ -2,11 +2,10 @@
 ghost use Rattle.std.specs.Prelude.{ℕ, List};
 ghost use Rattle.std.specs.Option.{ForSome};
 ghost use Rattle.template_machine_escape.specs.Rule.{IsEscapeOf};
-ghost use Rattle.template_compiled_templates.specs.Standing.{compiled_at};
+ghost use Rattle.template_compiled.specs.Standing.{compiled_at};
 
 use std::alloc::Global;
-use template_compiled::{CompiledTemplate, TemplateConfig};
-use template_compiled_templates::CompiledTemplates;
+use template_compiled::{CompiledTemplate, CompiledTemplates, TemplateConfig};
 use template_machine_renders::{Compiled, Rules, Templates};
 use template_values_errors::Error;
 use template_values_modes::UndefinedBehavior;

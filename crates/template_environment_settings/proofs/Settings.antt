@@ -11,7 +11,7 @@ use Rattle.template_machine_escape.proofs.OneRule.{one_escape}
 use Rattle.template_machine_meaning.specs.Meaning.{rendered}
 use Rattle.template_compiled.specs.Compiled.{Compiled, standing_of}
 use Rattle.template_compiled.specs.Sources.{Source, tree_in}
-use Rattle.template_compiled_templates.specs.Standing.{compiled_at}
+use Rattle.template_compiled.specs.Standing.{compiled_at}
 use Rattle.template_environment_settings.specs.Alike.{AlikeHaveOneSetting, AlikeRenderTheSame}
 
 none_some : {X : Type 0} {x : X} → None ≡ Some x → ⊥

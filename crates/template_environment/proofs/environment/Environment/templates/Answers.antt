@@ -9,7 +9,7 @@ use Rattle.std.proofs.lemmas.List.{map-append}
 use Rattle.std.proofs.lemmas.List.Elements.{All-push, All-same}
 use Rattle.std.proofs.lemmas.Map.Iter.{iter_end}
 use Rattle.template_compiled.specs.Compiled.{Compiled}
-use Rattle.template_compiled_templates.specs.Standing.{all_in}
+use Rattle.template_compiled.specs.Standing.{all_in}
 use Rattle.template_environment.specs.Views.{compiled_in, environment_of}
 use Rattle.template_environment.specs.declared.template.Template.{Template}
 use Rattle.template_environment.proofs.Listed.{found_by, map_twice}

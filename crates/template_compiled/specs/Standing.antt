@@ -3,7 +3,7 @@ use Rattle.std.specs.Prelude.{◌≡◌, ℕ, IsTrue, List, Option, Some}
 use Rattle.std.specs.BTreeMap.{get_by_text, values}
 use Rattle.template_compiled.specs.Compiled.{Compiled}
 use Rattle.template_compiled.specs.Names.{uses}
-use Rattle.template_compiled_templates.specs.declared.templates.CompiledTemplates.{CompiledTemplates}
+use Rattle.template_compiled.specs.declared.templates.CompiledTemplates.{CompiledTemplates}
 
 -- what stands under a name
 abbrev pub compiled_at : CompiledTemplates → List ℕ → Option Compiled

@@ -5,8 +5,8 @@ use Rattle.std.specs.BTreeMap.{get_by_text}
 use Rattle.template_compiler_runnable.specs.Running.{statements_run}
 use Rattle.template_compiler_runnable.proofs.Decided.{Decides-statements_run}
 use Rattle.template_compiled.specs.Sources.{tree_in}
-use Rattle.template_compiled_templates.proofs.Updates.{holds_inserted}
-use Rattle.template_compiled_templates.proofs.templates.CompiledTemplates.insert.Goals as goal
+use Rattle.template_compiled.proofs.Updates.{holds_inserted}
+use Rattle.template_compiled.proofs.templates.CompiledTemplates.insert.Goals as goal
 
 pub invariant_of-self : goal.invariant_of-self
 invariant_of-self c =

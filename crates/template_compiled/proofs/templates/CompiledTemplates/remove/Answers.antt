@@ -2,8 +2,8 @@ use Rattle.std.proofs.Common.{◌≡◌, false, true, None}
 use Rattle.std.proofs.lemmas.Map.Text.{btree_map_updates_text}
 use Rattle.template_compiler_runnable.specs.Running.{statements_run}
 use Rattle.template_compiled.specs.Sources.{tree_in}
-use Rattle.template_compiled_templates.proofs.Updates.{holds_after, none_some}
-use Rattle.template_compiled_templates.proofs.templates.CompiledTemplates.remove.Goals as goal
+use Rattle.template_compiled.proofs.Updates.{holds_after, none_some}
+use Rattle.template_compiled.proofs.templates.CompiledTemplates.remove.Goals as goal
 
 pub invariant_of-self : goal.invariant_of-self
 invariant_of-self c = record {

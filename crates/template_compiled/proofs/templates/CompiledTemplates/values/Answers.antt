@@ -1,6 +1,6 @@
 use Rattle.template_compiled.specs.Compiled.{Compiled}
-use Rattle.template_compiled_templates.proofs.Listing.{are_named, found_among, names_ascend}
-use Rattle.template_compiled_templates.proofs.templates.CompiledTemplates.values.Goals as goal
+use Rattle.template_compiled.proofs.Listing.{are_named, found_among, names_ascend}
+use Rattle.template_compiled.proofs.templates.CompiledTemplates.values.Goals as goal
 
 pub returns-clause-ordered : goal.returns-clause-ordered
 returns-clause-ordered c =

@@ -15,7 +15,7 @@ ghost use Rattle.template_compiled.specs.Sources.{tree_in};
 use std::alloc::Global;
 use std::collections::btree_map::Values;
 use std::collections::{BTreeMap, BTreeSet};
-use template_compiled::CompiledTemplate;
+use crate::CompiledTemplate;
 use template_environment_histories::{add_names_of_all, put_under};
 use template_values_errors::{Error, ErrorKind};
 
@@ -30,7 +30,7 @@ pub struct CompiledTemplates<'source> {
 
 impl<'source> CompiledTemplates<'source> {
     ghost use Rattle.template_compiled.specs.Compiled.{IsFaithful, Compiled};
-    ghost use Rattle.template_compiled_templates.specs.Standing.{IsUsedByOne, compiled_at, all_in};
+    ghost use Rattle.template_compiled.specs.Standing.{IsUsedByOne, compiled_at, all_in};
 
     /// No templates.
     pub fn new(alloc: Global) -> CompiledTemplates<'source>

@@ -1,2 +1,0 @@
-pub mod Updates
-pub mod Listing
