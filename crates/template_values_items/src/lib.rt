@@ -4,6 +4,8 @@
 mod items;
 mod membership;
 mod records;
+mod slices;
 
 pub use items::{get_attr, get_item, items_of};
 pub use membership::contains;
+pub use slices::slice;

@@ -8,7 +8,7 @@ ghost use Rattle.template_values_core.specs.Answers.{text_in};
 ghost use Rattle.template_values_core.specs.Depth.{vals_depth};
 ghost use Rattle.template_values_core.specs.Reads.{items_in};
 ghost use Rattle.template_values_operators.specs.Kinds.{list_made, bytes_of, is_nothing};
-ghost use Rattle.template_values_slices.specs.Places.{AreWithin, place_at};
+ghost use Rattle.template_values_items.specs.Places.{AreWithin, place_at};
 ghost use Rattle.template_values_operators.specs.Slices.{slice_of, item_at, slice_with, slice_in, sliced, bound_of, from_end, lowest, highest, bound_at, start_place, stop_place, step_count, distance, steps_within};
 
 use std::alloc::Global;

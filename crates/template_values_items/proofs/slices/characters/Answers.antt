@@ -1,6 +1,6 @@
 use Rattle.std.proofs.Common.{rules}
 use Rattle.std.proofs.lemmas.Str.{chars_from_encodes}
-use Rattle.template_values_slices.proofs.slices.characters.Goals as goal
+use Rattle.template_values_items.proofs.slices.characters.Goals as goal
 
 pub returns-clause-made : goal.returns-clause-made
 returns-clause-made c = search (rules, chars_from_encodes)

@@ -3,8 +3,8 @@ use Rattle.std.specs.Int.{w128}
 use Rattle.std.specs.Int.RustNames.{FitsSigned}
 use Rattle.std.proofs.lemmas.Int.{to_z-of_z}
 use Rattle.template_values_operators.specs.Slices.{distance, steps_within, step_count}
-use Rattle.template_values_slices.proofs.Steps.{within}
-use Rattle.template_values_slices.proofs.slices.picked_places.Goals as goal
+use Rattle.template_values_items.proofs.Steps.{within}
+use Rattle.template_values_items.proofs.slices.picked_places.Goals as goal
 
 pub returns-clause-within : goal.returns-clause-within
 returns-clause-within c =

@@ -1,6 +1,6 @@
 -- The places that a slice picks, as the program holds them.
 use Rattle.std.specs.Prelude.{ℕ, ◌<◌, ℤ, pos, ◌+ℤ◌, ◌*ℤ◌, ◌≤ℤ◌, ◌<ℤ◌}
-use Rattle.template_values_slices.specs.declared.slices.Places.{Places}
+use Rattle.template_values_items.specs.declared.slices.Places.{Places}
 
 -- the place of the k-th item
 abbrev pub place_at : Places → ℕ → ℤ

@@ -4,8 +4,8 @@ use Rattle.std.specs.Int.RustNames.{FitsSigned}
 use Rattle.std.proofs.lemmas.Int.{to_z-of_z}
 use Rattle.template_values_model.specs.Gives.{Gives, TellsFault}
 use Rattle.template_values_operators.specs.Slices.{bound_of, slice_by, slice_of, slice_with}
-use Rattle.template_values_slices.proofs.Bounds.{taken}
-use Rattle.template_values_slices.proofs.slices.slice.Goals as goal
+use Rattle.template_values_items.proofs.Bounds.{taken}
+use Rattle.template_values_items.proofs.slices.slice.Goals as goal
 
 pub returns-clause-gives : goal.returns-clause-gives
 returns-clause-gives c =

@@ -7,9 +7,9 @@ use Rattle.template_values_model.specs.Gives.{Gives}
 use Rattle.template_values_model.specs.Val.{Val}
 use Rattle.template_values_operators.specs.Kinds.{list_made}
 use Rattle.template_values_operators.specs.Slices.{picked, sliced, start_place, step_count, stop_place}
-use Rattle.template_values_slices.proofs.Shallow.{sliced_tells}
-use Rattle.template_values_slices.proofs.Steps.{picked_next}
-use Rattle.template_values_slices.proofs.slices.slice_items.Goals as goal
+use Rattle.template_values_items.proofs.Shallow.{sliced_tells}
+use Rattle.template_values_items.proofs.Steps.{picked_next}
+use Rattle.template_values_items.proofs.slices.slice_items.Goals as goal
 
 all_picked : (xs : List Val) (start stop : Option ℤ) (step first by : ℤ) (round count : ℕ) (items : List Val)
     → items ≡ picked xs first by round → round ≡ count → first ≡ start_place start step (length xs) → by ≡ step

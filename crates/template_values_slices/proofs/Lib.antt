@@ -1,3 +1,0 @@
-pub mod Shallow
-pub mod Steps
-mod Bounds
