@@ -15,7 +15,7 @@ use template_machine_undefined::{forbids_printing, refusal};
 use template_values_core::{Content, Value};
 use template_values_errors::Error;
 use template_values_modes::{AutoEscape, UndefinedBehavior};
-use template_values_pieces::{HTML_BLOCK, SHORT_TEXT, put_html};
+use template_values_print::{HTML_BLOCK, SHORT_TEXT, put_html};
 use template_values_records::Records;
 use template_values_text::escape_to;
 

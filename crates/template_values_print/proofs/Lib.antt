@@ -1,2 +1,4 @@
 pub mod PrintLemmas
 pub mod JsonLemmas
+pub mod PieceLemmas
+mod HtmlTexts

@@ -10,7 +10,7 @@ use Rattle.template_values_core.specs.declared.value.Entry.{Entry}
 use Rattle.template_values_forms.specs.Answers.{joined}
 use Rattle.template_values_forms.specs.Known.{Known}
 use Rattle.template_values_forms.specs.Printed.{inner_text, nested_text, pair_text, pairs_text, tuple_end, vals_text}
-use Rattle.template_values_pieces.proofs.PieceLemmas.{IsUtf8-one}
+use Rattle.template_values_print.proofs.PieceLemmas.{IsUtf8-one}
 
 pub comma_is_text : IsUtf8 (codes ", ")
 comma_is_text = IsUtf8-append (44 ∷ []) (32 ∷ []) (IsUtf8-one 44 (lit< tt)) (IsUtf8-one 32 (lit< tt))

@@ -1,8 +1,12 @@
 //! What values print, and their JSON, written piece by piece.
 #![tactic(auto)]
 
+mod html;
+mod pieces;
 mod print;
 mod serial;
 
+pub use html::{HTML_BLOCK, SHORT_TEXT, put_html};
+pub use pieces::{Markup, Quoting, push, push_bytes, push_quoted};
 pub use print::print_outer;
 pub use serial::json_outer;

@@ -6,14 +6,14 @@ ghost use Rattle.template_values_core.specs.Maps.{pairs_of};
 ghost use Rattle.template_values_core.specs.Shape.{pairs_in};
 ghost use Rattle.template_values_forms.specs.Answers.{joined, mapped};
 ghost use Rattle.template_values_forms.specs.Json.{byte_items, flat_data, inner_data, items_data, json_data, key_data, key_text, members_data, namespace_data, nested_data, number_data};
-ghost use Rattle.template_values_pieces.specs.Pieces.{Writes};
+ghost use Rattle.template_values_print.specs.Pieces.{Writes};
 
 use crate::print::deepest;
 use itoa::Buffer;
 use template_values_core::{Content, Entry, Value};
 use template_values_errors::{Error, ErrorKind};
 use template_values_forms::{GREATEST_JSON_NUMBER, LEAST_JSON_NUMBER};
-use template_values_pieces::{Markup, Quoting, push, push_quoted};
+use crate::{Markup, Quoting, push, push_quoted};
 use template_values_records::Records;
 
 /// Writes the compact JSON of the value, as `serde_json` does. Namespaces are followed. Takes time linear in the text.

@@ -3,14 +3,13 @@ ghost use Rattle.std.specs.Prelude.{string_bytes};
 ghost use Rattle.template_values_forms.specs.Answers.{AppendsOrRefuses, mapped};
 ghost use Rattle.template_values_forms.specs.Escaped.{escaped, html_text, json_text};
 ghost use Rattle.template_values_forms.specs.Escapes.{html};
-ghost use Rattle.template_values_pieces.specs.Pieces.{Writes};
+ghost use Rattle.template_values_print.specs.Pieces.{Writes};
 ghost use Rattle.template_values_forms.specs.Printed.{printed};
 
 use template_values_core::{Content, Value};
 use template_values_errors::{Error, ErrorKind};
 use template_values_modes::AutoEscape;
-use template_values_pieces::{Markup, push};
-use template_values_print::{json_outer, print_outer};
+use template_values_print::{Markup, json_outer, print_outer, push};
 use template_values_records::Records;
 
 /// Appends the text of the value under the escape `rule` to `out`, which a refusal leaves as it was:

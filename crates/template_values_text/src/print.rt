@@ -5,8 +5,7 @@ ghost use Rattle.template_values_forms.specs.Printed.{printed};
 
 use template_values_core::Value;
 use template_values_errors::Error;
-use template_values_pieces::Markup;
-use template_values_print::print_outer;
+use template_values_print::{Markup, print_outer};
 use template_values_records::Records;
 
 /// Appends the text that the value prints to `out`, which a refusal leaves as it was. Namespaces are

@@ -1,7 +1,7 @@
 use Rattle.std.proofs.Common.{arith, ◌+◌}
 use Rattle.template_values_forms.specs.Printed.{inner_text}
 use Rattle.template_values_print.proofs.PrintLemmas.{comma_is_text, inner_text-below, pairs_text-next, vals_text-next}
-use Rattle.template_values_pieces.proofs.PieceLemmas.{Writes-then}
+use Rattle.template_values_print.proofs.PieceLemmas.{Writes-then}
 use Rattle.template_values_print.proofs.print.+print.Goals as goal
 
 pub print_inner-returns : goal.print_inner-returns

@@ -5,7 +5,7 @@ use Rattle.template_values_errors.specs.declared.ErrorKind.{ErrorKind}
 use Rattle.template_values_model.specs.Val.{vals_of}
 use Rattle.template_values_core.specs.Maps.{pairs_of}
 use Rattle.template_values_core.specs.Shape.{pairs_in}
-use Rattle.template_values_pieces.specs.Pieces.{Writes}
+use Rattle.template_values_print.specs.Pieces.{Writes}
 use Rattle.template_values_forms.specs.Printed.{inner_text, pairs_text, vals_text}
 use Rattle.template_values_print.proofs.print.+print.Given as goal
 

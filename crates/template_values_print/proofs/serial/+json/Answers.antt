@@ -5,9 +5,9 @@ use Rattle.template_values_core.specs.Maps.{pairs_of}
 use Rattle.template_values_core.specs.Shape.{pairs_in}
 use Rattle.template_values_forms.specs.Json.{inner_data, items_data, members_data}
 use Rattle.template_values_print.proofs.JsonLemmas.{array_text, inner_data-below, object_text, items_data-next, members_data-next}
-use Rattle.template_values_pieces.proofs.PieceLemmas.{Writes-stop, Writes-then}
+use Rattle.template_values_print.proofs.PieceLemmas.{Writes-stop, Writes-then}
 use Rattle.template_values_print.proofs.PrintLemmas.{pairs_none, vals_none}
-use Rattle.template_values_pieces.specs.declared.pieces.Markup.TheVariants.{Plain}
+use Rattle.template_values_print.specs.declared.pieces.Markup.TheVariants.{Plain}
 use Rattle.template_values_print.proofs.serial.+json.Goals as goal
 
 pub json_inner-returns : goal.json_inner-returns

@@ -6,8 +6,8 @@ use Rattle.template_values_core.specs.Maps.{pairs_of}
 use Rattle.template_values_core.specs.Shape.{pairs_in}
 use Rattle.template_values_forms.specs.Answers.{mapped}
 use Rattle.template_values_forms.specs.Json.{inner_data, items_data, members_data}
-use Rattle.template_values_pieces.specs.Pieces.{Writes}
-use Rattle.template_values_pieces.specs.declared.pieces.Markup.TheVariants.{Plain}
+use Rattle.template_values_print.specs.Pieces.{Writes}
+use Rattle.template_values_print.specs.declared.pieces.Markup.TheVariants.{Plain}
 use Rattle.template_values_print.proofs.serial.+json.Given as goal
 
 abbrev pub decreases-json_inner : goal.decreases-json_inner

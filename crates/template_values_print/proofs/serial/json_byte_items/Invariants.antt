@@ -2,8 +2,8 @@ use Rattle.std.proofs.Common.{List, drop, Result, Ok, string_bytes, ℕ, false}
 use Rattle.serde_json.specs.Written.{items_text}
 use Rattle.template_values_errors.specs.declared.ErrorKind.{ErrorKind}
 use Rattle.template_values_forms.specs.Json.{byte_items}
-use Rattle.template_values_pieces.specs.Pieces.{Writes}
-use Rattle.template_values_pieces.specs.declared.pieces.Markup.TheVariants.{Plain}
+use Rattle.template_values_print.specs.Pieces.{Writes}
+use Rattle.template_values_print.specs.declared.pieces.Markup.TheVariants.{Plain}
 use Rattle.template_values_print.proofs.serial.json_byte_items.Given as goal
 
 -- what writes the bytes that are left from here writes all of them

@@ -1,6 +1,6 @@
 use Rattle.std.proofs.Common.{string_bytes}
 use Rattle.template_values_forms.specs.Printed.{printed}
-use Rattle.template_values_pieces.proofs.PieceLemmas.{Writes-html}
+use Rattle.template_values_print.proofs.PieceLemmas.{Writes-html}
 use Rattle.template_values_text.proofs.escape.print_html.Goals as goal
 
 pub returns : goal.returns

@@ -1,2 +1,0 @@
-pub mod PieceLemmas
-mod HtmlTexts
