@@ -23,5 +23,4 @@ pub use names::{
 };
 pub use plain::{perform, perform_at_length};
 pub use rules::Rules;
-pub use crate::{pop_loop_frame, push_loop, store_number};
 pub use writing::{emit, emit_raw, emit_value};

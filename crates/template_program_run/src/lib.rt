@@ -16,4 +16,3 @@ pub use running::run;
 pub use starting::{refuse_arguments, start};
 pub use template_program_context::Command;
 pub use template_program_outcomes::{Outcome, status_of};
-pub use crate::{Command, Request, run};
