@@ -1,4 +1,5 @@
 //! Templates and expressions that were accepted: their code, which is that of the tree of their source.
+//! And the templates that stand, each under its name.
 #![tactic(auto)]
 
 mod compiled;

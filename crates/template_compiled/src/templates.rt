@@ -12,10 +12,10 @@ ghost use Rattle.template_values_errors.specs.Memory.{NoMemory};
 ghost use Rattle.template_compiler_runnable.specs.Running.{statements_run};
 ghost use Rattle.template_compiled.specs.Sources.{tree_in};
 
+use crate::CompiledTemplate;
 use std::alloc::Global;
 use std::collections::btree_map::Values;
 use std::collections::{BTreeMap, BTreeSet};
-use crate::CompiledTemplate;
 use template_environment_histories::{add_names_of_all, put_under};
 use template_values_errors::{Error, ErrorKind};
 

@@ -49,8 +49,12 @@ pub use template_code::{
     LOOP_FLAG_WITH_LOOP_VAR, LocalId, MACRO_CALLER, MAX_LOCALS, code_rises,
 };
 pub use template_code_references::get_referenced_names;
-pub use template_compiled::{CompiledExpression, CompiledTemplate, CompiledTemplates, TemplateConfig, one_standalone_tree, one_tree, plain_text};
+pub use template_compiled::{
+    CompiledExpression, CompiledTemplate, CompiledTemplates, TemplateConfig, one_standalone_tree,
+    one_tree, plain_text,
+};
 pub use template_compiler_codegen::{expressions_perform, templates_perform};
+pub use template_compiler_folding::as_const;
 pub use template_compiler_generator::{CodeGenerator, blocks_generate};
 pub use template_compiler_runnable::{is_runnable, is_runnable_expr};
 pub use template_compiler_sources::{Parser, parse, parse_expr};
@@ -59,6 +63,5 @@ pub use template_compiler_statement_laws::{is_decided, one_template, reads_the_g
 pub use template_compiler_syntax::{StartMarker, SyntaxConfig, SyntaxConfigBuilder};
 pub use template_compiler_tokenizer::{TokenStream, Tokenizer};
 pub use template_compiler_tokens::{Token, Tokens, one_token};
-pub use template_compiler_folding::as_const;
 pub use template_names_undeclared::{add_undeclared, find_undeclared, first_segments};
 pub use template_values_errors::{Error, ErrorKind};

@@ -6,10 +6,8 @@ ghost use Rattle.template_walk.specs.Constants.{constant_of, chain_constant};
 ghost use Rattle.template_compiler_folding.specs.Folding.{binary_folded};
 ghost use Rattle.template_compiler_folding.specs.Nodes.{node_constant};
 
+use crate::{fold_binary, fold_comparison, fold_list, fold_map, fold_tuple, fold_unary, goes_on};
 use std::alloc::Global;
-use crate::{
-    fold_binary, fold_comparison, fold_list, fold_map, fold_tuple, fold_unary, goes_on,
-};
 use template_tree::{BinOpKind, CompareOp, Expr};
 use template_tree_parts::spine;
 use template_values_core::Value;

@@ -14,11 +14,11 @@ ghost use Rattle.template_tree.specs.View.{expression_of};
 ghost use Rattle.template_values_errors.specs.Memory.{NoMemory};
 ghost use Rattle.template_walk.specs.Runnable.{IsRunnable};
 
+use crate::{CodeGenerator, expressions_are_certified, templates_are_certified};
 use std::alloc::Global;
 use template_code::Instructions;
 use template_code_checked::{Checked, verify};
 use template_code_shapes::{StreamKind, certified_is_good};
-use crate::{CodeGenerator, expressions_are_certified, templates_are_certified};
 use template_tree::Expr;
 use template_tree_statements::Stmt;
 use template_values_errors::Error;

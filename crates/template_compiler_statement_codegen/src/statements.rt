@@ -17,12 +17,12 @@ ghost use Rattle.template_compiler_statement_codegen.specs.Rounds.{Lowers, Lower
 
 use crate::rounds::{Closing, Round, put_break, put_continue};
 use crate::targets::{compile_assignment, compile_assignments};
+use crate::tell_breaks;
 use std::alloc::{AllocError, Global};
 use std::borrow::CowStr;
 use template_code::{Instruction, Instructions, LOOP_FLAG_WITH_LOOP_VAR};
 use template_compiler_emission::{Leap, land, put, reserve};
 use template_compiler_expression_codegen::compile_expr;
-use crate::tell_breaks;
 use template_tree::{Expr, Span, Spanned};
 use template_tree_statements::{IfCond, Stmt};
 use template_values_errors::Error;

@@ -53,7 +53,9 @@ pub use template_machine_escape::{
 };
 pub use template_machine_frames::{Context, Frame, LoopState};
 pub use template_machine_ids::StateIds;
-pub use template_machine_meaning::{every_evaluation_gives, every_run_ends, expression_isolation, isolation, one_meaning};
+pub use template_machine_meaning::{
+    every_evaluation_gives, every_run_ends, expression_isolation, isolation, one_meaning,
+};
 pub use template_machine_operands::Operands;
 pub use template_machine_output::{NullWriter, Sink, SinkFault, WriteWrapper, write_text};
 pub use template_machine_state::{Caller, State as MachineState};

@@ -1,5 +1,5 @@
-//! Definitions and their laws: how far the machine has come in its code, how it stops, and what one instruction
-//! does.
+//! Definitions and their laws: how far the machine has come in its code, how it stops, what one instruction does, how
+//! instructions and runs of them come out, and what a bound on instructions leaves as it is.
 #![tactic(auto)]
 
 ghost use Rattle.template_machine_going.specs.Laws.{ActsGo, FaultsOn, FaultsThere, GoesNowhere, GoesOn, RunsOutOn, RunsOutThere, SpentThere, WantsOn, WantsThere};

@@ -1,5 +1,5 @@
-//! Definitions and their laws: what surrounds a running template, how it answers the template's events, and what a
-//! template means.
+//! Definitions and their laws: what surrounds a running template, how it answers the template's events, what a template
+//! means, what every run keeps, and what it takes of its context.
 #![tactic(auto)]
 
 ghost use Rattle.template_machine_meaning.specs.Laws.{BoundsExtend, EveryRunEnds, MeaningsExtend, OneMeaning};

@@ -8,13 +8,13 @@ ghost use Rattle.template_machine_perform.specs.Performs.{IsQuiet};
 
 use crate::operands::{perform_on_operands, straight};
 use crate::rules::Rules;
-use std::alloc::Global;
-use template_code::Instruction;
-use template_machine_operands::Operands;
 use crate::{
     iterate, lookup, pop_auto_escape, pop_frame, pop_loop_frame, push_auto_escape,
     push_did_not_iterate, push_loop, push_with, store_local,
 };
+use std::alloc::Global;
+use template_code::Instruction;
+use template_machine_operands::Operands;
 use template_machine_state::State;
 use template_machine_steps::Way;
 use template_values_errors::Error;

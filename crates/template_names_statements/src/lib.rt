@@ -1,4 +1,4 @@
-//! The names in statements.
+//! The names in expressions and statements.
 #![tactic(auto)]
 
 mod expressions;

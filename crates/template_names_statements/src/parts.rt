@@ -5,8 +5,8 @@ ghost use Rattle.template_names.specs.Names.{is_stored_in, place_if_given, place
 ghost use Rattle.template_names_state.specs.Among.{just, nothing};
 ghost use Rattle.template_names_state.specs.Goes.{Goes};
 
-use std::alloc::AllocError;
 use crate::{assign_target, use_arguments, use_expression, use_optional};
+use std::alloc::AllocError;
 use template_names_state::Names;
 use template_tree::Call;
 use template_tree_statements::{ForLoop, SetBlock};

@@ -10,10 +10,8 @@ ghost use Rattle.template_names_statements.specs.Stores.{is_stored_among};
 ghost use Rattle.template_names_statements.specs.Choices.{choice_of, loop_of, with_of};
 
 use crate::parts::{begin_loop, end_set_block, use_call};
+use crate::{assign, bind_arguments, bind_imports, use_assignments, use_expression};
 use std::alloc::AllocError;
-use crate::{
-    assign, bind_arguments, bind_imports, use_assignments, use_expression,
-};
 use template_names_state::Names;
 use template_tree::{Expr, Spanned};
 use template_tree_statements::{ForLoop, IfCond, Stmt, WithBlock};

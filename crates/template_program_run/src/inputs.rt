@@ -4,11 +4,11 @@ ghost use Rattle.template_program_context.specs.Context.{text_pairs};
 ghost use Rattle.template_program_words.specs.Reading.{parts_of};
 ghost use Rattle.template_program_run.specs.Starts.{AreRead, AreTemplates, IsAsked, IsContextFile, IsInput, IsReadFrom, first_name, addition_names, template_names};
 
+use crate::{Command, Request};
 use std::alloc::Global;
 use template_program_files::{
     FileFault, FileSystem, ReadWrapper, Reader, read_file, read_text, read_text_file,
 };
-use crate::{Command, Request};
 use template_program_words::{Definition, NamesWords, RenderWords, Words};
 use template_values_modes::UndefinedBehavior;
 

@@ -1,5 +1,5 @@
 //! What the program does with texts and a context that are read: it adds the templates in order, and
-//! renders the main one or tells its names.
+//! renders the main one or tells its names. And the body of the program, over any runtime, reader and writers.
 #![tactic(auto)]
 
 mod additions;

@@ -6,12 +6,12 @@ ghost use Rattle.template_program_run.specs.Starts.{PerformsRequest, RunsFlushed
 
 use crate::faults::write_error;
 use crate::inputs::Inputs;
+use crate::run;
 use std::alloc::Global;
 use std::io::{BufWriter, Write};
 use template_machine_ids::StateIds;
 use template_machine_output::WriteWrapper;
 use template_program_outcomes::{MEMORY, Outcome, after_flush, status_of};
-use crate::run;
 use template_values_errors::{Error, ErrorKind};
 
 /// Runs the request over a buffer, which is flushed after a fault too, and tells a fault on one line.

@@ -1,4 +1,4 @@
-//! Definitions and laws: the trees of nodes, from the parts that they hold.
+//! The trees of nodes, from the parts that they hold; and the descent along an expression's left chain.
 #![tactic(auto)]
 
 mod spines;

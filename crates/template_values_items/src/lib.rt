@@ -1,4 +1,4 @@
-//! What values hold: items, attributes, what a loop goes over, and whether a value is in another.
+//! What values hold: items, attributes, slices, what a loop goes over, and whether a value is in another.
 #![tactic(auto)]
 
 mod items;

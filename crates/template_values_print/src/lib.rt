@@ -1,4 +1,5 @@
-//! What values print, and their JSON, written piece by piece.
+//! What values print, and their JSON, written piece by piece: as it is, with references for HTML's markup, or between
+//! quotes.
 #![tactic(auto)]
 
 mod html;

@@ -7,11 +7,11 @@ ghost use Rattle.template_values_forms.specs.Answers.{joined};
 ghost use Rattle.template_values_print.specs.Pieces.{Writes};
 ghost use Rattle.template_values_forms.specs.Printed.{enclosed, flat_text, inner_text, level_limit, loop_text, macro_text, map_text, namespace_text, nested_text, pair_text, pairs_text, place_text, printed, tuple_end, vals_text};
 
+use crate::{Markup, Quoting, push, push_bytes, push_quoted};
 use itoa::Buffer;
 use template_values_core::{Content, Entry, Value};
 use template_values_errors::{Error, ErrorKind};
 use template_values_model::DEPTH_LIMIT;
-use crate::{Markup, Quoting, push, push_bytes, push_quoted};
 use template_values_records::Records;
 
 /// Writes the text that the value prints. Namespaces are followed. Takes time linear in the text.

@@ -9,11 +9,11 @@ ghost use Rattle.template_values_forms.specs.Json.{byte_items, flat_data, inner_
 ghost use Rattle.template_values_print.specs.Pieces.{Writes};
 
 use crate::print::deepest;
+use crate::{Markup, Quoting, push, push_quoted};
 use itoa::Buffer;
 use template_values_core::{Content, Entry, Value};
 use template_values_errors::{Error, ErrorKind};
 use template_values_forms::{GREATEST_JSON_NUMBER, LEAST_JSON_NUMBER};
-use crate::{Markup, Quoting, push, push_quoted};
 use template_values_records::Records;
 
 /// Writes the compact JSON of the value, as `serde_json` does. Namespaces are followed. Takes time linear in the text.
