@@ -8,4 +8,4 @@ pub mod Nodes
 pub mod Unpacking
 pub mod Wholes
 pub mod Leading
-pub mod Rounds
+pub mod TellingRounds

@@ -13,7 +13,7 @@ use Rattle.template_compiler_emission.specs.Leaps.{leap_code}
 use Rattle.template_compiler_emission.specs.Puts.{Keeps, Puts}
 use Rattle.template_compiler_emission.proofs.Putting.{same_then}
 use Rattle.template_compiler_statement_codegen.specs.Breaks.{Places, breaks_in, led, loop_end_places}
-use Rattle.template_compiler_statement_codegen.proofs.Rounds.{rounds_told}
+use Rattle.template_compiler_statement_codegen.proofs.TellingRounds.{rounds_told}
 use Rattle.template_tree_parts.specs.Listed.{statements_in}
 use Rattle.template_compiler_statement_codegen.specs.Rounds.{Lowers, LowersBody, ways_of}
 use Rattle.template_compiler_statement_codegen.specs.declared.rounds.Closing.{Closing}

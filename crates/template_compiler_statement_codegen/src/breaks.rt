@@ -1,8 +1,10 @@
 //! The breaks of a loop, which are told their target once the loop's end is known.
+
 ghost use Rattle.std.specs.Prelude.{◌≡◌, length};
 ghost use Rattle.template_code.specs.Listing.{code_in};
 ghost use Rattle.template_compiler_emission.specs.Puts.{Keeps};
 ghost use Rattle.template_compiler_statement_codegen.specs.Breaks.{led};
+ghost use Rattle.template_compiler_statement_codegen.specs.Laws.{BreaksLead};
 
 use template_code::Instructions;
 use template_compiler_emission::{Leap, land};
@@ -17,3 +19,8 @@ pub fn tell_breaks<'source>(code: &mut Instructions<'source>, breaks: Vec<u32>)
         land(code, place, Leap::Always);
     }
 }
+
+/// Told where the loop ends, the breaks of its body lead there, and else the body's code stays.
+pub fn breaks_lead()
+    ensures { BreaksLead }
+{}

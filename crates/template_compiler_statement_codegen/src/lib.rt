@@ -2,13 +2,11 @@
 #![tactic(auto)]
 
 mod breaks;
-mod lowering;
 mod rounds;
 mod statements;
 mod targets;
 
-pub use breaks::tell_breaks;
-pub use lowering::breaks_lead;
+pub use breaks::{breaks_lead, tell_breaks};
 pub use statements::compile_template;
 pub use targets::{compile_assignment, compile_assignments};
 pub use template_compiler_expression_codegen::compile_expr;

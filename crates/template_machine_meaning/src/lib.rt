@@ -5,11 +5,11 @@
 ghost use Rattle.template_machine_meaning.specs.Laws.{BoundsExtend, EveryRunEnds, MeaningsExtend, OneMeaning};
 ghost use Rattle.template_machine_meaning.specs.Laws.{EvaluationsNeedNoBound, EveryEvaluationGives};
 
-mod isolation;
-mod keeping;
+mod contexts;
+mod kept;
 
-pub use isolation::{expression_isolation, isolation};
-pub use keeping::runs_keep;
+pub use contexts::{expression_isolation, isolation};
+pub use kept::runs_keep;
 
 /// Under a greater bound a process that goes further gives a run that extends.
 pub fn bounds_extend()

@@ -1,5 +1,5 @@
 use Rattle.template_machine_meaning.proofs.Evaluated.{isolates_expressions}
-use Rattle.template_machine_meaning.proofs.isolation.expression_isolation.Goals as goal
+use Rattle.template_machine_meaning.proofs.contexts.expression_isolation.Goals as goal
 
 pub returns : goal.returns
 returns c = isolates_expressions
