@@ -1,3 +1,4 @@
 pub mod Lists
 pub mod Rows
 pub mod Openings
+pub mod Branches

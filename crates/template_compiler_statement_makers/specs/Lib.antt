@@ -1,3 +1,5 @@
 pub mod Surroundings
 pub mod Blank
 pub mod Listed
+pub mod Begun
+pub mod Branches

@@ -2,8 +2,9 @@
 ghost use Rattle.std.specs.Prelude.{◌≡◌};
 ghost use Rattle.template_compiler_statement_parts.specs.Parsed.{ParsedAs, SteppedTo};
 ghost use Rattle.template_compiler_reading.specs.Steps.{all, and_then};
-ghost use Rattle.template_compiler_statement_heads.specs.Branches.{branch_in, branches_in};
-ghost use Rattle.template_compiler_statement_heads.specs.Heads.{set_block_of, set_over, set_rest};
+ghost use Rattle.template_compiler_statement_declarations.specs.Heads.{set_over, set_rest};
+ghost use Rattle.template_compiler_statement_makers.specs.Begun.{set_block_of};
+ghost use Rattle.template_compiler_statement_makers.specs.Branches.{branch_in, branches_in};
 ghost use Rattle.template_compiler_statement_parser.specs.Bodies.{ParsedBody, ParsedStatement};
 ghost use Rattle.template_compiler_statement_makers.specs.Surroundings.{around_of, opening_of};
 ghost use Rattle.template_compiler_stream.specs.Left.{passed};
@@ -14,10 +15,11 @@ ghost use Rattle.template_tree_statements.specs.declared.statements.Stmt.TheVari
 ghost use Rattle.template_compiler_statement_makers.specs.Listed.{statements_in};
 
 use std::alloc::Global;
-use template_compiler_statement_heads as heads;
-use template_compiler_statement_heads::{SetHead, ends};
+use template_compiler_statement_declarations as declarations;
+use template_compiler_statement_declarations::SetHead;
 use template_compiler_statement_leaves as leaves;
-use template_compiler_statement_makers::{Around, Opening, makers, opening_named};
+use template_compiler_statement_loops as loops;
+use template_compiler_statement_makers::{Around, Opening, ends, makers, opening_named};
 use template_compiler_statement_parts as parts;
 use template_compiler_statement_values::ReadsExpressions;
 use template_compiler_stream::{Fault, Refusal, TokenStream};
@@ -228,7 +230,7 @@ fn for_loop<'source, R: ReadsExpressions>(
     ensures { ParsedAs (λ n. statement_of (statements.ForLoop n))
         (for_by (here left) (around_of around) tokens.old.left) tokens.new.left result }
 {
-    let head = heads::read_for::<R>(alloc, tokens, left, span)?;
+    let head = loops::read_for::<R>(alloc, tokens, left, span)?;
     let body = body::<R>(alloc, tokens, left, around.within_loop())?;
     let else_body = otherwise::<R>(alloc, tokens, left, around, "endfor")?;
     Ok(ends::for_loop(head, body, else_body, tokens.expand_span(span)))
@@ -265,7 +267,7 @@ fn read_branch<'source, R: ReadsExpressions>(
 ) -> Result<Spanned<Box<IfCond<'source>>>, Refusal>
     ensures { ParsedAs branch_in (branch_by (here left) (around_of around) tokens.old.left) tokens.new.left result }
 {
-    let head = heads::read_branch::<R>(alloc, tokens, left, span)?;
+    let head = loops::read_branch::<R>(alloc, tokens, left, span)?;
     let body = body::<R>(alloc, tokens, left, around)?;
     Ok(ends::branch(head, body))
 }
@@ -292,7 +294,7 @@ fn branches<'source, R: ReadsExpressions>(
 }
 
 #[cycle(statements)]
-#[tactic(auto, using(crate::proofs::Next::branch_here, crate::proofs::Next::no_branch, template_compiler_statement_heads::proofs::Branches::branches_push), unfolding(template_compiler_reading::specs::Steps::under))]
+#[tactic(auto, using(crate::proofs::Next::branch_here, crate::proofs::Next::no_branch, template_compiler_statement_makers::proofs::Branches::branches_push), unfolding(template_compiler_reading::specs::Steps::under))]
 fn next_branch<'source, R: ReadsExpressions>(
     alloc: Global,
     tokens: &mut TokenStream<'source>,
@@ -325,7 +327,7 @@ fn with_block<'source, R: ReadsExpressions>(
     ensures { ParsedAs (λ n. statement_of (statements.WithBlock n))
         (with_by (here left) (around_of around) tokens.old.left) tokens.new.left result }
 {
-    let head = heads::read_with::<R>(alloc, tokens, left)?;
+    let head = loops::read_with::<R>(alloc, tokens, left)?;
     let body = ended_body::<R>(alloc, tokens, left, around, "endwith")?;
     Ok(makers::with_block(alloc, head, body, tokens.expand_span(span))?)
 }
@@ -340,7 +342,7 @@ fn set<'source, R: ReadsExpressions>(
 ) -> Result<Stmt<'source>, Refusal>
     ensures { ParsedStatement (set_by (here left) (around_of around) tokens.old.left) tokens.new.left result }
 {
-    match heads::read_set::<R>(alloc, tokens, left, span)? {
+    match declarations::read_set::<R>(alloc, tokens, left, span)? {
         SetHead::Values(node) => return Ok(Stmt::Set(node)),
         SetHead::Block(head) => {
             return set_block::<R>(alloc, tokens, left, around, head, span).map(Stmt::SetBlock);
@@ -376,7 +378,7 @@ fn auto_escape<'source, R: ReadsExpressions>(
     ensures { ParsedAs (λ n. statement_of (statements.AutoEscape n))
         (autoescape_by (here left) (around_of around) tokens.old.left) tokens.new.left result }
 {
-    let head = heads::read_auto_escape::<R>(alloc, tokens, left, span)?;
+    let head = loops::read_auto_escape::<R>(alloc, tokens, left, span)?;
     let body = ended_body::<R>(alloc, tokens, left, around, "endautoescape")?;
     Ok(ends::auto_escape(head, body, tokens.expand_span(span)))
 }
@@ -392,7 +394,7 @@ fn filter_block<'source, R: ReadsExpressions>(
     ensures { ParsedAs (λ n. statement_of (statements.FilterBlock n))
         (filter_block_by (here left) (around_of around) tokens.old.left) tokens.new.left result }
 {
-    let head = heads::read_filter_block::<R>(alloc, tokens, left, span)?;
+    let head = loops::read_filter_block::<R>(alloc, tokens, left, span)?;
     let body = ended_body::<R>(alloc, tokens, left, around, "endfilter")?;
     Ok(ends::filter_block(head, body, tokens.expand_span(span)))
 }
@@ -408,9 +410,9 @@ fn block<'source, R: ReadsExpressions>(
     ensures { ParsedAs (λ n. statement_of (statements.Block n))
         (block_by (here left) (around_of around) tokens.old.left) tokens.new.left result }
 {
-    let head = heads::read_block(tokens, around.in_macro)?;
+    let head = declarations::read_block(tokens, around.in_macro)?;
     let body = body::<R>(alloc, tokens, left, around.within_block())?;
-    ends::read_block_end(alloc, tokens, head, body, span)
+    declarations::read_block_end(alloc, tokens, head, body, span)
 }
 
 #[cycle(statements)]
@@ -422,9 +424,9 @@ fn macro_block<'source, R: ReadsExpressions>(
 ) -> Result<Spanned<Box<Macro<'source>>>, Refusal>
     ensures { ParsedAs (λ n. statement_of (statements.Macro n)) (macro_by (here left) tokens.old.left) tokens.new.left result }
 {
-    let head = heads::read_macro::<R>(alloc, tokens, left)?;
+    let head = declarations::read_macro::<R>(alloc, tokens, left)?;
     let body = ended_body::<R>(alloc, tokens, left, Around::within_macro(), "endmacro")?;
-    Ok(ends::macro_block(alloc, head, body, tokens.expand_span(span))?)
+    Ok(declarations::macro_block(alloc, head, body, tokens.expand_span(span))?)
 }
 
 #[cycle(statements)]
@@ -436,7 +438,7 @@ fn call_block<'source, R: ReadsExpressions>(
 ) -> Result<Spanned<Box<CallBlock<'source>>>, Refusal>
     ensures { ParsedAs (λ n. statement_of (statements.CallBlock n)) (call_by (here left) tokens.old.left) tokens.new.left result }
 {
-    let head = heads::read_call::<R>(alloc, tokens, left)?;
+    let head = declarations::read_call::<R>(alloc, tokens, left)?;
     let body = ended_body::<R>(alloc, tokens, left, Around::within_macro(), "endcall")?;
-    Ok(ends::call_block(alloc, head, body, tokens.expand_span(span))?)
+    Ok(declarations::call_block(alloc, head, body, tokens.expand_span(span))?)
 }

@@ -9,8 +9,10 @@ use Rattle.template_compiler_statement_makers.specs.Surroundings.{around_of}
 use Rattle.template_compiler_statement_parser.specs.Bodies.{ParsedBody}
 use Rattle.template_compiler_statement_makers.specs.Listed.{statements_in}
 use Rattle.template_compiler_statement_parts.specs.Parsed.{ParsedAs, SteppedTo}
-use Rattle.template_compiler_statement_heads.proofs.Wholes.{autoescape_whole, behind, behind_fails, block_whole, body_fails, body_made, branch_whole, call_whole, filter_whole, for_body_fails, for_else_fails, for_made, for_whole, head_fails, macro_whole, set_body_fails, set_body_made, set_whole_by, with_whole}
-use Rattle.template_compiler_statement_heads.specs.Heads.{block_rest, for_rest, set_block_of, set_over, set_rest}
+use Rattle.template_compiler_statement_parser.proofs.Wholes.{autoescape_whole, behind, behind_fails, block_whole, body_fails, body_made, branch_whole, call_whole, filter_whole, for_body_fails, for_else_fails, for_made, for_whole, head_fails, macro_whole, set_body_fails, set_body_made, set_whole_by, with_whole}
+use Rattle.template_compiler_statement_declarations.specs.Heads.{block_rest, set_over, set_rest}
+use Rattle.template_compiler_statement_loops.specs.Heads.{for_rest}
+use Rattle.template_compiler_statement_makers.specs.Begun.{set_block_of}
 use Rattle.template_compiler_reading.proofs.Loops.{then_goes}
 use Rattle.template_tree_statements.specs.View.{statement_of}
 use Rattle.template_tree_statements.specs.declared.statements.Stmt.TheVariants.{Block}

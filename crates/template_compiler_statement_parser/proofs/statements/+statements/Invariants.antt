@@ -5,7 +5,7 @@ use Rattle.template_compiler_reading.specs.Steps.{all}
 use Rattle.template_compiler_statements.specs.Reader.{here, statement_step, branch_step}
 use Rattle.template_compiler_statements.specs.Trees.{no_branches}
 use Rattle.template_compiler_statement_makers.specs.Surroundings.{around_of}
-use Rattle.template_compiler_statement_heads.specs.Branches.{branches_in}
+use Rattle.template_compiler_statement_makers.specs.Branches.{branches_in}
 use Rattle.template_compiler_statement_parser.proofs.statements.+statements.Given as goal
 
 abbrev pub decreases-body : goal.decreases-body

@@ -1,0 +1,79 @@
+//! Blocks: their heads, and what ends them.
+ghost use Rattle.std.specs.Prelude.{◌≡◌};
+ghost use Rattle.template_compiler_statement_declarations.specs.Heads.{block_head, block_of, ended_block};
+ghost use Rattle.template_compiler_statement_makers.specs.Listed.{statements_in};
+ghost use Rattle.template_compiler_statement_parts.specs.Parsed.{ParsedAs};
+ghost use Rattle.template_compiler_statements.specs.Trees.{is_block_body};
+ghost use Rattle.template_tree_statements.specs.View.{statement_of};
+ghost use Rattle.template_tree_statements.specs.declared.statements.Stmt.TheVariants as statements;
+
+use std::alloc::Global;
+use template_compiler_statement_makers::{is_blank, makers};
+use template_compiler_statement_parts::{expect_block_end, expect_tag_end, read_flag};
+use template_compiler_stream::{Fault, Refusal, TokenStream};
+use template_tree::{Span, Spanned};
+use template_tree_statements::{Block, Stmt};
+
+/// The head of a block.
+#[derive(Clone, Copy)]
+pub struct BlockHead<'source> {
+    pub name: &'source str,
+    pub required: bool,
+}
+
+/// Reads the head of a block, which stands in no macro.
+///
+/// # Errors
+///
+/// The fault of the token that does not fit.
+#[tactic(auto, using(template_compiler_statement_parts::proofs::Again::tag_end_again, crate::proofs::Named::block_here, crate::proofs::Named::no_block), unfolding(template_compiler_reading::specs::Steps::and_then))]
+pub fn read_block<'source>(
+    tokens: &mut TokenStream<'source>,
+    in_macro: bool,
+) -> Result<BlockHead<'source>, Refusal>
+    ensures { ParsedAs block_of (block_head in_macro tokens.old.left) tokens.new.left result }
+{
+    match tokens.word() {
+        Some(name) => {
+            tokens.advance();
+            if in_macro {
+                return Err(Refusal::Token(Fault::Syntax));
+            }
+            let required = read_flag(tokens, "required");
+            expect_tag_end(tokens)?;
+            Ok(BlockHead { name, required })
+        }
+        None => Err(Refusal::Token(tokens.fault())),
+    }
+}
+
+/// A block with its body, and the tag that ends it. A required block has a blank body.
+///
+/// # Errors
+///
+/// The fault of the token that does not fit, or want of memory.
+#[tactic(auto, using(crate::proofs::Ended::block_end_again))]
+pub fn read_block_end<'source>(
+    alloc: Global,
+    tokens: &mut TokenStream<'source>,
+    head: BlockHead<'source>,
+    body: Vec<Stmt<'source>>,
+    span: Span,
+) -> Result<Spanned<Box<Block<'source>>>, Refusal>
+    ensures { ParsedAs (λ n. statement_of (statements.Block n))
+        (ended_block (block_of head.entry) (statements_in body.entry.items) tokens.old.left) tokens.new.left result }
+{
+    if !is_block_body(head.required, &body) {
+        return Err(Refusal::Token(Fault::Syntax));
+    }
+    expect_block_end(tokens, head.name)?;
+    let whole = tokens.expand_span(span);
+    Ok(makers::block(alloc, head.name, head.required, body, whole)?)
+}
+
+// A required block has a blank body. Linear.
+fn is_block_body<'source>(required: bool, body: &[Stmt<'source>]) -> bool
+    ensures { result ≡ is_block_body required (statements_in body.now) }
+{
+    if required { is_blank(body) } else { true }
+}

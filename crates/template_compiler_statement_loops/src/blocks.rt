@@ -1,0 +1,124 @@
+//! The heads of conditions, of `with`, of `autoescape` and of filter blocks.
+ghost use Rattle.std.specs.Prelude.{◌≡◌, [], IfOk};
+ghost use Rattle.template_compiler_statement_loops.specs.Heads.{expression_head, filter_head, with_head};
+ghost use Rattle.template_compiler_statement_parts.specs.Parsed.{ParsedAs};
+ghost use Rattle.template_compiler_statements.specs.Reader.{here};
+ghost use Rattle.template_tree.specs.Tree.{given};
+ghost use Rattle.template_tree.specs.View.{expression_of};
+ghost use Rattle.template_tree_statements.specs.View.{assignments_in};
+
+use std::alloc::Global;
+use template_compiler_statement_parts::expect_tag_end;
+use template_compiler_statement_values::{ReadsExpressions, read_assignments};
+use template_compiler_stream::{Fault, Refusal, TokenStream};
+use template_tree::{Expr, Span, Spanned};
+use template_tree_statements::{AutoEscape, FilterBlock, IfCond};
+
+// An expression, and the end of its tag.
+#[inline(always)]
+#[tactic(auto, using(template_compiler_statement_parts::proofs::Again::tag_end_again), unfolding(template_compiler_reading::specs::Steps::and_then, template_compiler_statements::specs::Reader::here, template_compiler_statements::specs::Reader::here_by))]
+fn read_only_expression<'source, R: ReadsExpressions>(
+    alloc: Global,
+    tokens: &mut TokenStream<'source>,
+    left: u32,
+) -> Result<Expr<'source>, Refusal>
+    ensures { ParsedAs expression_of (expression_head (here left) tokens.old.left) tokens.new.left result }
+{
+    let expr = R::read_expression(alloc, tokens, left)?;
+    expect_tag_end(tokens)?;
+    Ok(expr)
+}
+
+/// Reads the head of an `autoescape`.
+///
+/// # Errors
+///
+/// The fault of the token that does not fit, or want of memory.
+pub fn read_auto_escape<'source, R: ReadsExpressions>(
+    alloc: Global,
+    tokens: &mut TokenStream<'source>,
+    left: u32,
+    span: Span,
+) -> Result<Spanned<Box<AutoEscape<'source>>>, Refusal>
+    ensures read { ParsedAs (λ n. expression_of n.node.value.enabled) (expression_head (here left) tokens.old.left) tokens.new.left result }
+    ensures empty { IfOk result (λ n. n.node.value.body.items ≡ []) }
+{
+    let enabled = read_only_expression::<R>(alloc, tokens, left)?;
+    let node = AutoEscape {
+        enabled,
+        body: Vec::new(alloc),
+    };
+    Ok(Spanned::boxed(alloc, node, span)?)
+}
+
+/// Reads the head of a condition, an `if` or an `elif`.
+///
+/// # Errors
+///
+/// The fault of the token that does not fit, or want of memory.
+pub fn read_branch<'source, R: ReadsExpressions>(
+    alloc: Global,
+    tokens: &mut TokenStream<'source>,
+    left: u32,
+    span: Span,
+) -> Result<Spanned<Box<IfCond<'source>>>, Refusal>
+    ensures read { ParsedAs (λ n. expression_of n.node.value.expr) (expression_head (here left) tokens.old.left) tokens.new.left result }
+    ensures empty { IfOk result (λ n. n.node.value.true_body.items ≡ []) }
+    ensures no_other { IfOk result (λ n. n.node.value.false_body.items ≡ []) }
+{
+    let expr = read_only_expression::<R>(alloc, tokens, left)?;
+    let node = IfCond {
+        expr,
+        true_body: Vec::new(alloc),
+        false_body: Vec::new(alloc),
+    };
+    Ok(Spanned::boxed(alloc, node, span)?)
+}
+
+/// Reads the head of a filter block. The chain of its filters is never empty.
+///
+/// # Errors
+///
+/// The fault of the token that does not fit, or want of memory.
+#[tactic(auto, using(template_compiler_statement_parts::proofs::Again::tag_end_again, crate::proofs::Filters::filters_given), unfolding(template_compiler_reading::specs::Steps::and_then, template_compiler_statements::specs::Reader::here, template_compiler_statements::specs::Reader::here_by))]
+pub fn read_filter_block<'source, R: ReadsExpressions>(
+    alloc: Global,
+    tokens: &mut TokenStream<'source>,
+    left: u32,
+    span: Span,
+) -> Result<Spanned<Box<FilterBlock<'source>>>, Refusal>
+    ensures read { ParsedAs (λ n. given (expression_of n.node.value.filter)) (filter_head (here left) tokens.old.left)
+        tokens.new.left result }
+    ensures empty { IfOk result (λ n. n.node.value.body.items ≡ []) }
+{
+    let first = R::read_filter(alloc, tokens, left, None)?;
+    match R::read_filter_chain(alloc, tokens, left, Some(first))? {
+        Some(filter) => {
+            expect_tag_end(tokens)?;
+            let node = FilterBlock {
+                filter,
+                body: Vec::new(alloc),
+            };
+            Ok(Spanned::boxed(alloc, node, span)?)
+        }
+        None => Err(Refusal::Token(Fault::Syntax)),
+    }
+}
+
+/// Reads the targets of a `with` and their values, and the end of its tag.
+///
+/// # Errors
+///
+/// The fault of the token that does not fit, or want of memory.
+#[tactic(auto, using(template_compiler_statement_parts::proofs::Again::tag_end_again), unfolding(template_compiler_reading::specs::Steps::and_then))]
+pub fn read_with<'source, R: ReadsExpressions>(
+    alloc: Global,
+    tokens: &mut TokenStream<'source>,
+    left: u32,
+) -> Result<Vec<(Expr<'source>, Expr<'source>)>, Refusal>
+    ensures { ParsedAs (λ v. assignments_in v.items) (with_head (here left) tokens.old.left) tokens.new.left result }
+{
+    let assignments = read_assignments::<R>(alloc, tokens, left)?;
+    expect_tag_end(tokens)?;
+    Ok(assignments)
+}

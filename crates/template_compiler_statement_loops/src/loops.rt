@@ -1,0 +1,63 @@
+//! The heads of loops.
+ghost use Rattle.std.specs.Prelude.{◌≡◌, [], IfOk};
+ghost use Rattle.template_compiler_statement_loops.specs.Heads.{for_head, in_head};
+ghost use Rattle.template_compiler_statement_makers.specs.Begun.{loop_head};
+ghost use Rattle.template_compiler_statement_parts.specs.Parsed.{ParsedAs};
+ghost use Rattle.template_compiler_statements.specs.Reader.{here};
+ghost use Rattle.template_tree.specs.View.{expression_of};
+
+use std::alloc::Global;
+use template_compiler_statement_parts::{expect_tag_end, expect_word, read_flag, read_targets};
+use template_compiler_statement_values::{ReadsExpressions, read_loop_filter};
+use template_compiler_stream::{Refusal, TokenStream};
+use template_tree::{Expr, Span, Spanned};
+use template_tree_statements::ForLoop;
+
+/// Reads the head of a loop.
+///
+/// # Errors
+///
+/// The fault of the token that does not fit, or want of memory.
+#[tactic(auto, using(template_compiler_statement_parts::proofs::Again::word_again), unfolding(template_compiler_reading::specs::Steps::and_then, template_compiler_statements::specs::Reader::here, template_compiler_statements::specs::Reader::here_by))]
+pub fn read_for<'source, R: ReadsExpressions>(
+    alloc: Global,
+    tokens: &mut TokenStream<'source>,
+    left: u32,
+    span: Span,
+) -> Result<Spanned<Box<ForLoop<'source>>>, Refusal>
+    ensures read { ParsedAs loop_head (for_head (here left) tokens.old.left) tokens.new.left result }
+    ensures empty { IfOk result (λ n. n.node.value.body.items ≡ []) }
+    ensures no_other { IfOk result (λ n. n.node.value.else_body.items ≡ []) }
+{
+    let target = read_targets(alloc, tokens, left, false)?;
+    expect_word(tokens, "in")?;
+    read_in::<R>(alloc, tokens, left, target, span)
+}
+
+// The head of a loop, behind its `in`.
+#[tactic(auto, using(template_compiler_statement_parts::proofs::Again::tag_end_again), unfolding(template_compiler_reading::specs::Steps::and_then, template_compiler_statements::specs::Reader::here, template_compiler_statements::specs::Reader::here_by))]
+fn read_in<'source, R: ReadsExpressions>(
+    alloc: Global,
+    tokens: &mut TokenStream<'source>,
+    left: u32,
+    target: Expr<'source>,
+    span: Span,
+) -> Result<Spanned<Box<ForLoop<'source>>>, Refusal>
+    ensures read { ParsedAs loop_head (in_head (here left) (expression_of target.entry) tokens.old.left) tokens.new.left result }
+    ensures empty { IfOk result (λ n. n.node.value.body.items ≡ []) }
+    ensures no_other { IfOk result (λ n. n.node.value.else_body.items ≡ []) }
+{
+    let iter = R::read_condition(alloc, tokens, left)?;
+    let filter_expr = read_loop_filter::<R>(alloc, tokens, left)?;
+    let recursive = read_flag(tokens, "recursive");
+    expect_tag_end(tokens)?;
+    let node = ForLoop {
+        target,
+        iter,
+        filter_expr,
+        recursive,
+        body: Vec::new(alloc),
+        else_body: Vec::new(alloc),
+    };
+    Ok(Spanned::boxed(alloc, node, span)?)
+}

@@ -1,0 +1,115 @@
+//! Statements of their heads and their bodies. A head with its body is one node more at most.
+ghost use Rattle.std.specs.Prelude.{◌≡◌, IfOk};
+ghost use Rattle.template_compiler_statement_makers.specs.Begun.{loop_head, set_block_of};
+ghost use Rattle.template_compiler_statement_makers.specs.Branches.{branch_in, branches_in};
+ghost use Rattle.template_compiler_statement_makers.specs.Listed.{statements_in};
+ghost use Rattle.template_compiler_statements.specs.Trees.{branched};
+ghost use Rattle.template_tree.specs.Tree as tree;
+ghost use Rattle.template_tree.specs.View.{expression_of};
+ghost use Rattle.template_tree_statements.specs.View.{statement_of};
+ghost use Rattle.template_tree_statements.specs.declared.statements.Stmt.TheVariants as statements;
+
+use crate::makers;
+use std::alloc::{AllocError, Global};
+use template_compiler_stream::until;
+use template_tree::{Span, Spanned};
+use template_tree_statements::{AutoEscape, FilterBlock, ForLoop, IfCond, SetBlock, Stmt};
+
+/// A loop with its bodies.
+#[tactic(auto, using(crate::proofs::Rows::statements_row))]
+pub fn for_loop<'source>(
+    head: Spanned<Box<ForLoop<'source>>>,
+    body: Vec<Stmt<'source>>,
+    else_body: Vec<Stmt<'source>>,
+    span: Span,
+) -> Spanned<Box<ForLoop<'source>>>
+    ensures { let h = loop_head head.entry in statement_of (statements.ForLoop result) ≡
+        tree.for_loop h.0 h.1 h.2 h.3 (statements_in body.entry.items) (statements_in else_body.entry.items) }
+{
+    let mut node = head;
+    node.node.body = body;
+    node.node.else_body = else_body;
+    node.span = span;
+    node
+}
+
+/// An `autoescape` with its body.
+#[tactic(auto, using(crate::proofs::Rows::statements_row))]
+pub fn auto_escape<'source>(
+    head: Spanned<Box<AutoEscape<'source>>>,
+    body: Vec<Stmt<'source>>,
+    span: Span,
+) -> Spanned<Box<AutoEscape<'source>>>
+    ensures { statement_of (statements.AutoEscape result) ≡
+        tree.auto_escape (expression_of head.entry.node.value.enabled) (statements_in body.entry.items) }
+{
+    let mut node = head;
+    node.node.body = body;
+    node.span = span;
+    node
+}
+
+/// A filter block with its body.
+#[tactic(auto, using(crate::proofs::Rows::statements_row))]
+pub fn filter_block<'source>(
+    head: Spanned<Box<FilterBlock<'source>>>,
+    body: Vec<Stmt<'source>>,
+    span: Span,
+) -> Spanned<Box<FilterBlock<'source>>>
+    ensures { statement_of (statements.FilterBlock result) ≡
+        tree.filter_block (expression_of head.entry.node.value.filter) (statements_in body.entry.items) }
+{
+    let mut node = head;
+    node.node.body = body;
+    node.span = span;
+    node
+}
+
+/// A set block with its body.
+#[tactic(auto, using(crate::proofs::Rows::statements_row))]
+pub fn set_block<'source>(
+    head: Spanned<Box<SetBlock<'source>>>,
+    body: Vec<Stmt<'source>>,
+    span: Span,
+) -> Spanned<Box<SetBlock<'source>>>
+    ensures { let h = set_block_of head.entry in
+        statement_of (statements.SetBlock result) ≡ tree.set_block h.0 h.1 (statements_in body.entry.items) }
+{
+    let mut node = head;
+    node.node.body = body;
+    node.span = span;
+    node
+}
+
+/// A condition with its body; what stands for the other case comes later.
+pub fn branch<'source>(
+    head: Spanned<Box<IfCond<'source>>>,
+    body: Vec<Stmt<'source>>,
+) -> Spanned<Box<IfCond<'source>>>
+    ensures { branch_in result ≡ (expression_of head.entry.node.value.expr, statements_in body.entry.items) }
+{
+    let mut node = head;
+    node.node.true_body = body;
+    node
+}
+
+/// Each branch is the one statement of the body before it, up to the end of the whole.
+#[tactic(auto, using(crate::proofs::Branches::branched_last))]
+pub fn branched<'source>(
+    alloc: Global,
+    branches: Vec<Spanned<Box<IfCond<'source>>>>,
+    last: Vec<Stmt<'source>>,
+    whole: Span,
+) -> Result<Vec<Stmt<'source>>, AllocError>
+    ensures { IfOk result (λ v. statements_in v.items ≡ branched (branches_in branches.entry.items) (statements_in last.entry.items)) }
+{
+    let mut branches = branches;
+    let mut body = last;
+    while let Some(branch) = branches.pop() {
+        let span = until(branch.span, whole);
+        let node = makers::otherwise(branch, body, span);
+        body = Vec::new(alloc);
+        body.push(Stmt::IfCond(node))?;
+    }
+    Ok(body)
+}
