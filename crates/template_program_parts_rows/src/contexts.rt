@@ -3,9 +3,7 @@ use serde_json::{Map, Value as Json};
 use std::alloc::Global;
 use template_program_context::read_context;
 use template_rows::{bytes_of, expect_names, pairs_of};
-use template_values_core::Value;
-use template_values_errors::Error;
-use template_values_text::{NoRecords, print_to};
+use template_values::{Error, NoRecords, Value, print_to};
 
 /// The levels of a context and what it prints, or why it is refused.
 pub(crate) fn answer_context(

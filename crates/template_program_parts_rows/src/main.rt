@@ -1,5 +1,10 @@
-//! The parts of the program that need no engine, as rows. Each line of standard input is a JSON object of one of these
-//! kinds; of its entries all but the first may be left out. Words that are read alone:
+//! Calls of values, and the parts of the program that need no engine, as rows. Each line of standard input is JSON.
+//!
+//! What is no object is an expression: `null` is none, an array is a call of the name that stands first with the values of
+//! the others, and all else is itself. It gives the value that it has, as containers print it, or the kind of the refusal.
+//! All that prints is written behind a text; a refusal that changes that text is told as `BadStream`.
+//!
+//! An object is of one of these kinds; of its entries all but the first may be left out. Words that are read alone:
 //!
 //! - `read`: the words behind the program's name, an array of texts;
 //! - `begins`, `holds`: how the text of help or of a refusal begins, and what stands in it.
@@ -48,14 +53,21 @@
 //!
 //! The line is written as it stands, then ` = `, then what came of it, or `? ` and a word where the line is of no kind, or
 //! where memory is refused. A line that begins with `#` is a heading. To add a row, write its line into `stdout`, and the
-//! object that it begins with into `stdin`.
+//! JSON that it begins with into `stdin`.
 #![tactic(auto)]
 
+mod calls;
+mod constructors;
 mod contexts;
+mod errors;
+mod expressions;
 mod files;
 mod inputs;
+mod large;
+mod modes;
 mod pieces;
 mod readers;
+mod scene;
 mod sinks;
 mod sizes;
 mod states;
@@ -63,6 +75,7 @@ mod tasks;
 mod words;
 
 use crate::contexts::answer_context;
+use crate::expressions::answer_expression;
 use crate::files::{remove_files, write_files};
 use crate::inputs::{answer_file, answer_input};
 use crate::pieces::answer_pieces;
@@ -70,7 +83,6 @@ use crate::sizes::answer_size;
 use crate::states::{answer_escape, answer_ids};
 use crate::tasks::answer_time;
 use crate::words::answer_words;
-use anyhow::bail;
 use serde_json::{Map, Value as Json};
 use std::alloc::Global;
 use std::io;
@@ -103,7 +115,7 @@ fn write_answer(rt: &HostRuntime, line: &str, answer: &anyhow::Result<String>) -
 fn answer_of_line(rt: &HostRuntime, line: &str) -> anyhow::Result<String> {
     match Json::from_str(rt.alloc(), line)? {
         Json::Object(entries) => answer_among_files(rt, &entries),
-        _ => bail!("no object"),
+        expression => Ok(answer_expression(rt.alloc(), expression)?),
     }
 }
 

@@ -4,8 +4,7 @@ use std::alloc::Global;
 use template_machine_escape::{EscapeRule, default_auto_escape_callback};
 use template_machine_ids::StateIds;
 use template_rows::{count_of, expect_names, number_of, unreadable};
-use template_values_errors::Error;
-use template_values_modes::AutoEscape;
+use template_values::{AutoEscape, Error};
 
 /// The escape of a name by its ending, and then that under each rule.
 pub(crate) fn answer_escape(

@@ -1,12 +1,12 @@
 //! The tasks of values.
+use crate::calls::write_to;
+use crate::large::numbers;
+use crate::scene::Scene;
 use anyhow::bail;
 use std::alloc::Global;
 use std::hint::black_box;
 use std::time::{Duration, Instant};
-use template_values_core::{Entry, Value};
-use template_values_modes::AutoEscape;
-use template_values_operators::add;
-use template_values_text::{NoRecords, escape_to, print_to};
+use template_values::{AutoEscape, Entry, Value, add};
 
 // 10 MB of text, as so many lines.
 const LINE: &str =
@@ -38,47 +38,49 @@ pub(crate) fn answer_time(rt: &HostRuntime, task: &str) -> anyhow::Result<String
 // The time of the task of that name; none where there is no such task, or something was refused.
 fn measure(rt: &HostRuntime, task: &str) -> Option<Duration> {
     match task {
-        "print" => print(rt),
-        "escape-html" => escape(rt, LINE, LINES, AutoEscape::Html),
-        "escape-dense" => escape(rt, DENSE, DENSE_TIMES, AutoEscape::Html),
-        "escape-json" => escape(rt, LINE, LINES, AutoEscape::Json),
+        "print" => write(rt, LINE, LINES, None),
+        "escape-html" => write(rt, LINE, LINES, Some(AutoEscape::Html)),
+        "escape-dense" => write(rt, DENSE, DENSE_TIMES, Some(AutoEscape::Html)),
+        "escape-json" => write(rt, LINE, LINES, Some(AutoEscape::Json)),
         "sort-map" => sort_map(rt),
         "look-up" => look_up(rt),
-        "add" => add_up(rt),
-        "copy" => copy(rt),
+        "add" => add_up(rt, &mut Value::from_int(0), &Value::from_int(1)),
+        "copy" => copy(rt, &numbers(rt.alloc(), KEYS as usize).ok()?),
         _ => None,
     }
 }
 
-// A text, so many times.
-fn repeated(alloc: Global, text: &str, times: usize) -> Option<Value> {
-    Value::from_text(text.repeat(alloc, times).ok()?).ok()
+// The time since the start, where there was one and the work is done.
+fn time_since(rt: &HostRuntime, start: Option<Instant>, is_done: bool) -> Option<Duration> {
+    match start {
+        Some(start) if is_done => start.elapsed(rt).ok(),
+        _ => None,
+    }
 }
 
-fn print(rt: &HostRuntime) -> Option<Duration> {
-    print_of(rt, &repeated(rt.alloc(), LINE, LINES)?)
+// A text, so many times, as it prints or under an escape.
+fn write(
+    rt: &HostRuntime,
+    text: &str,
+    times: usize,
+    escape: Option<AutoEscape>,
+) -> Option<Duration> {
+    let text = Value::from_text(text.repeat(rt.alloc(), times).ok()?).ok()?;
+    write_value(rt, &Scene::new(rt.alloc()).ok()?, &text, escape)
 }
 
-fn print_of(rt: &HostRuntime, value: &Value) -> Option<Duration> {
+fn write_value(
+    rt: &HostRuntime,
+    scene: &Scene,
+    value: &Value,
+    escape: Option<AutoEscape>,
+) -> Option<Duration> {
     let mut out = String::new(rt.alloc());
-    let start = Instant::now(rt).ok()?;
-    print_to(value, &NoRecords, &mut out).ok()?;
-    let time = start.elapsed(rt).ok()?;
+    let start = Instant::now(rt).ok();
+    let written = write_to(value, escape, scene, &mut out);
+    let time = time_since(rt, start, written.is_ok());
     black_box(out.as_str().len());
-    Some(time)
-}
-
-fn escape(rt: &HostRuntime, text: &str, times: usize, rule: AutoEscape) -> Option<Duration> {
-    escape_of(rt, &repeated(rt.alloc(), text, times)?, rule)
-}
-
-fn escape_of(rt: &HostRuntime, value: &Value, rule: AutoEscape) -> Option<Duration> {
-    let mut out = String::new(rt.alloc());
-    let start = Instant::now(rt).ok()?;
-    escape_to(value, rule, &NoRecords, &mut out).ok()?;
-    let time = start.elapsed(rt).ok()?;
-    black_box(out.as_str().len());
-    Some(time)
+    time
 }
 
 // The numbers from 0 to `KEYS` in an order that is far from sorted.
@@ -105,20 +107,14 @@ fn entries(alloc: Global) -> Option<Vec<Entry>> {
 
 fn sort_map(rt: &HostRuntime) -> Option<Duration> {
     let entries = entries(rt.alloc())?;
-    let start = Instant::now(rt).ok()?;
-    let map = Value::from_map(rt.alloc(), entries).ok()?;
-    let time = start.elapsed(rt).ok()?;
-    black_box(map.levels());
-    Some(time)
+    let start = Instant::now(rt).ok();
+    let map = Value::from_map(rt.alloc(), entries);
+    time_since(rt, start, black_box(map.is_ok()))
 }
 
 fn look_up(rt: &HostRuntime) -> Option<Duration> {
-    let names = names(rt.alloc())?;
-    let entries = entries(rt.alloc())?;
-    match Value::from_map(rt.alloc(), entries) {
-        Ok(map) => look_up_in(rt, &map, names.as_slice()),
-        Err(_refused) => None,
-    }
+    let map = Value::from_map(rt.alloc(), entries(rt.alloc())?).ok()?;
+    look_up_in(rt, &map, names(rt.alloc())?.as_slice())
 }
 
 // The keys in the order in which they are looked up.
@@ -134,7 +130,7 @@ fn names(alloc: Global) -> Option<Vec<String>> {
 
 fn look_up_in(rt: &HostRuntime, map: &Value, names: &[String]) -> Option<Duration> {
     let mut found = 0u32;
-    let start = Instant::now(rt).ok()?;
+    let start = Instant::now(rt).ok();
     for _ in 0..LOOK_UPS / KEYS {
         for name in names {
             if map.value_at(name.as_str()).is_some() {
@@ -142,49 +138,25 @@ fn look_up_in(rt: &HostRuntime, map: &Value, names: &[String]) -> Option<Duratio
             }
         }
     }
-    let time = start.elapsed(rt).ok()?;
-    if found == LOOK_UPS { Some(time) } else { None }
+    time_since(rt, start, found == LOOK_UPS)
 }
 
-fn add_up(rt: &HostRuntime) -> Option<Duration> {
-    add_up_to(rt, &mut Value::from_int(0), &Value::from_int(1))
-}
-
-fn add_up_to(rt: &HostRuntime, sum: &mut Value, one: &Value) -> Option<Duration> {
-    let start = Instant::now(rt).ok()?;
+fn add_up(rt: &HostRuntime, sum: &mut Value, one: &Value) -> Option<Duration> {
+    let start = Instant::now(rt).ok();
     for _ in 0..ADDITIONS {
         *sum = add(rt.alloc(), sum, one).ok()?;
     }
-    let time = start.elapsed(rt).ok()?;
-    if sum.as_int() == Some(i128::from(ADDITIONS)) {
-        Some(time)
-    } else {
-        None
-    }
+    time_since(rt, start, sum.as_int() == Some(i128::from(ADDITIONS)))
 }
 
-fn copy(rt: &HostRuntime) -> Option<Duration> {
-    copies_of(rt, &list(rt.alloc())?)
-}
-
-// The list of the numbers from 0 to `KEYS`.
-fn list(alloc: Global) -> Option<Value> {
-    let mut items = Vec::new(alloc);
-    for number in 0..KEYS {
-        items.push(Value::from_int(i128::from(number))).ok()?;
-    }
-    Value::from_list(alloc, items).ok()
-}
-
-fn copies_of(rt: &HostRuntime, list: &Value) -> Option<Duration> {
+fn copy(rt: &HostRuntime, list: &Value) -> Option<Duration> {
     let mut copied = 0u32;
-    let start = Instant::now(rt).ok()?;
+    let start = Instant::now(rt).ok();
     for _ in 0..COPIES {
         let copy = list.copy().ok()?;
         if copy.levels() == 1 {
             copied = copied.wrapping_add(1);
         }
     }
-    let time = start.elapsed(rt).ok()?;
-    if copied == COPIES { Some(time) } else { None }
+    time_since(rt, start, copied == COPIES)
 }

@@ -1,9 +1,9 @@
 //! Calls of values, by name.
 use crate::constructors::{owned, text_of};
 use crate::errors::error_of;
+use crate::large::{digest, nested, numbered_names, numbers, octets};
 use crate::modes::{behavior_named, escape_named};
 use crate::scene::{STATE, Scene};
-use crate::sizes::{digest, nested, numbered_names, numbers, octets};
 use std::alloc::Global;
 use std::collections::BTreeSet;
 use template_values::*;
@@ -48,54 +48,42 @@ pub(crate) fn of_one(
     }
 }
 
-// The text of a value, or what else the call of that name gives.
+// The text of a value, plain or under an escape, or what else the call of that name gives.
 fn written(alloc: Global, scene: &Scene, name: &str, value: &Value) -> Result<Value, Error> {
-    match text_from(alloc, scene, name, value)? {
-        Some(text) => Value::from_text(text),
-        None => made(alloc, scene, name, value),
+    match (name, escape_named(name)) {
+        ("print", _) => text_behind(alloc, scene, value, None),
+        (_, None) => made(alloc, scene, name, value),
+        (_, escape) => text_behind(alloc, scene, value, escape),
     }
 }
 
 // The value as it prints, or under an escape. A refusal that does not leave the text before it as it was
 // is told as `BadStream`.
-fn text_from(
+fn text_behind(
     alloc: Global,
     scene: &Scene,
-    name: &str,
     value: &Value,
-) -> Result<Option<String>, Error> {
+    escape: Option<AutoEscape>,
+) -> Result<Value, Error> {
     let mut text = String::from_str(alloc, BEFORE)?;
-    match write_behind(scene, name, value, &mut text) {
-        Ok(true) => Ok(Some(behind(alloc, text.as_str())?)),
-        Ok(false) => Ok(None),
-        Err(refused) if text.as_str() == BEFORE => Err(refused),
-        Err(_) => Err(Error::new(ErrorKind::BadStream)),
+    let written = write_to(value, escape, scene, &mut text);
+    match (text.as_str().strip_prefix(BEFORE), written) {
+        (Some(text), Ok(())) => Value::from_str(alloc, text),
+        (Some(""), Err(refused)) => Err(refused),
+        _ => Err(Error::new(ErrorKind::BadStream)),
     }
 }
 
-// Whether there is a call of that name; if so, the text has behind it what the call writes.
-fn write_behind(
-    scene: &Scene,
-    name: &str,
+/// Writes the value as it prints, or under an escape.
+pub(crate) fn write_to(
     value: &Value,
+    escape: Option<AutoEscape>,
+    scene: &Scene,
     text: &mut String,
-) -> Result<bool, Error> {
-    if name == "print" {
-        print_to(value, scene, text)?;
-        return Ok(true);
-    }
-    match escape_named(name) {
-        Some(escape) => escape_to(value, escape, scene, text)?,
-        None => return Ok(false),
-    }
-    Ok(true)
-}
-
-// What was written behind the text that stood before.
-fn behind(alloc: Global, text: &str) -> Result<String, Error> {
-    match text.strip_prefix(BEFORE) {
-        Some(written) => Ok(String::from_str(alloc, written)?),
-        None => Err(Error::new(ErrorKind::BadStream)),
+) -> Result<(), Error> {
+    match escape {
+        Some(escape) => escape_to(value, escape, scene, text),
+        None => print_to(value, scene, text),
     }
 }
 
@@ -187,9 +175,7 @@ fn compare(alloc: Global, name: &str, left: &Value, right: &Value) -> Result<boo
         "equal" => Ok(left == right),
         "less" => Ok(left < right),
         "same_error" => same_error(alloc, left, right),
-        "same_escape" => Ok(same_escape(text_of(left)?, text_of(right)?)),
-        "same_behavior" => Ok(same_behavior(text_of(left)?, text_of(right)?)),
-        _ => Err(unknown()),
+        _ => same_named(name, text_of(left)?, text_of(right)?),
     }
 }
 
@@ -198,12 +184,12 @@ fn same_error(alloc: Global, left: &Value, right: &Value) -> Result<bool, Error>
     Ok(left == error_of(alloc, right)?)
 }
 
-fn same_escape(left: &str, right: &str) -> bool {
-    escape_named(left) == escape_named(right)
-}
-
-fn same_behavior(left: &str, right: &str) -> bool {
-    behavior_named(left) == behavior_named(right)
+fn same_named(name: &str, left: &str, right: &str) -> Result<bool, Error> {
+    match name {
+        "same_escape" => Ok(escape_named(left) == escape_named(right)),
+        "same_behavior" => Ok(behavior_named(left) == behavior_named(right)),
+        _ => Err(unknown()),
+    }
 }
 
 fn unknown() -> Error {

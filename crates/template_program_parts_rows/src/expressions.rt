@@ -7,53 +7,29 @@ use serde_json::Value as Json;
 use std::alloc::Global;
 use template_values::{Error, ErrorKind, Value, print_to, slice};
 
-/// What the expression has, as containers print it. A call that wants memory is made a second time.
-pub(crate) fn answer(alloc: Global, expression: &str) -> Result<String, Error> {
-    let answered = answer_once(alloc, expression);
-    if wants_memory(&answered) {
-        return answer_once(alloc, expression);
-    }
-    answered
-}
-
-fn wants_memory(answered: &Result<String, Error>) -> bool {
-    match answered {
-        Ok(_text) => false,
-        Err(refused) => refused.kind() == ErrorKind::OutOfMemory,
+/// What the expression has, as containers print it, or the kind of the refusal.
+pub(crate) fn answer_expression(alloc: Global, expression: Json) -> Result<String, Error> {
+    match Scene::new(alloc) {
+        Ok(scene) => answer_in(alloc, &scene, expression),
+        Err(error) => Err(error),
     }
 }
 
-fn answer_once(alloc: Global, expression: &str) -> Result<String, Error> {
-    answer_in(alloc, &Scene::new(alloc)?, expression)
-}
-
-fn answer_in(alloc: Global, scene: &Scene, expression: &str) -> Result<String, Error> {
-    match Json::from_str(alloc, expression) {
-        Ok(expression) => shown(alloc, scene, value_of(alloc, scene, expression)?),
-        Err(error) => Err(refusal(error)),
+fn answer_in(alloc: Global, scene: &Scene, expression: Json) -> Result<String, Error> {
+    match list_of_one(alloc, scene, expression) {
+        Ok(list) => shown(alloc, scene, &list),
+        Err(error) => Ok(String::from_str(alloc, error.kind().name())?),
     }
 }
 
-fn refusal(error: serde_json::Error) -> Error {
-    if error.is_memory() {
-        Error::new(ErrorKind::OutOfMemory)
-    } else {
-        Error::new(ErrorKind::SyntaxError)
-    }
-}
-
-// As the item of a list, without the list's brackets.
-fn shown(alloc: Global, scene: &Scene, value: Value) -> Result<String, Error> {
-    shown_within(alloc, scene, &list_of_one(alloc, value)?)
-}
-
-fn list_of_one(alloc: Global, value: Value) -> Result<Value, Error> {
+fn list_of_one(alloc: Global, scene: &Scene, expression: Json) -> Result<Value, Error> {
     let mut items = Vec::new(alloc);
-    items.push(value)?;
+    items.push(value_of(alloc, scene, expression)?)?;
     Value::from_list(alloc, items)
 }
 
-fn shown_within(alloc: Global, scene: &Scene, list: &Value) -> Result<String, Error> {
+// As the item of a list, without the list's brackets.
+fn shown(alloc: Global, scene: &Scene, list: &Value) -> Result<String, Error> {
     let mut text = String::new(alloc);
     print_to(list, scene, &mut text)?;
     Ok(String::from_str(alloc, without_brackets(text.as_str()))?)
