@@ -44,8 +44,8 @@ fn measure(rt: &HostRuntime, task: &str) -> Option<Duration> {
         "escape-json" => write(rt, LINE, LINES, Some(AutoEscape::Json)),
         "sort-map" => sort_map(rt),
         "look-up" => look_up(rt),
-        "add" => add_up(rt, &mut Value::from_int(0), &Value::from_int(1)),
-        "copy" => copy(rt, &numbers(rt.alloc(), KEYS as usize).ok()?),
+        "add" => add_up(rt),
+        "copy" => copy(rt),
         _ => None,
     }
 }
@@ -58,15 +58,24 @@ fn time_since(rt: &HostRuntime, start: Option<Instant>, is_done: bool) -> Option
     }
 }
 
-// A text, so many times, as it prints or under an escape.
+// A text, so many times.
+fn repeated(alloc: Global, text: &str, times: usize) -> Option<Value> {
+    Value::from_text(text.repeat(alloc, times).ok()?).ok()
+}
+
+// The same, as it prints or under an escape.
 fn write(
     rt: &HostRuntime,
     text: &str,
     times: usize,
     escape: Option<AutoEscape>,
 ) -> Option<Duration> {
-    let text = Value::from_text(text.repeat(rt.alloc(), times).ok()?).ok()?;
-    write_value(rt, &Scene::new(rt.alloc()).ok()?, &text, escape)
+    write_value(
+        rt,
+        &Scene::new(rt.alloc()).ok()?,
+        &repeated(rt.alloc(), text, times)?,
+        escape,
+    )
 }
 
 fn write_value(
@@ -141,7 +150,11 @@ fn look_up_in(rt: &HostRuntime, map: &Value, names: &[String]) -> Option<Duratio
     time_since(rt, start, found == LOOK_UPS)
 }
 
-fn add_up(rt: &HostRuntime, sum: &mut Value, one: &Value) -> Option<Duration> {
+fn add_up(rt: &HostRuntime) -> Option<Duration> {
+    add_up_to(rt, &mut Value::from_int(0), &Value::from_int(1))
+}
+
+fn add_up_to(rt: &HostRuntime, sum: &mut Value, one: &Value) -> Option<Duration> {
     let start = Instant::now(rt).ok();
     for _ in 0..ADDITIONS {
         *sum = add(rt.alloc(), sum, one).ok()?;
@@ -149,7 +162,11 @@ fn add_up(rt: &HostRuntime, sum: &mut Value, one: &Value) -> Option<Duration> {
     time_since(rt, start, sum.as_int() == Some(i128::from(ADDITIONS)))
 }
 
-fn copy(rt: &HostRuntime, list: &Value) -> Option<Duration> {
+fn copy(rt: &HostRuntime) -> Option<Duration> {
+    copies_of(rt, &numbers(rt.alloc(), KEYS as usize).ok()?)
+}
+
+fn copies_of(rt: &HostRuntime, list: &Value) -> Option<Duration> {
     let mut copied = 0u32;
     let start = Instant::now(rt).ok();
     for _ in 0..COPIES {
