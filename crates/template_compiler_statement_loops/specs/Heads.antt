@@ -1,6 +1,6 @@
 -- The heads of loops and of conditions, of `with`, `autoescape` and filter blocks, up to the ends of their tags: what the reader
 -- reads of them before the body.
-use Rattle.std.specs.Prelude.{Bool, codes, List, Ok}
+use Rattle.std.specs.Prelude.{Bool, false, codes, List, Ok}
 use Rattle.template_tree.specs.Tree.{Expression, Optional, absent, given, Statement, Assignments, for_loop}
 use Rattle.template_compiler_tokens.specs.Token.{Token}
 use Rattle.template_compiler_reading.specs.Steps.{Read, and_then}
