@@ -2,10 +2,11 @@
 use crate::calls::ask;
 use crate::case::{Case, Escapes, Setting};
 use crate::escapes::{NumberedRule, ShortNames};
+use crate::report::Report;
 use crate::steps::Step;
 use std::alloc::Global;
 use std::borrow::CowStr;
-use template_compiler_syntax::SyntaxConfig;
+use template_compiler_syntax::{SyntaxConfig, SyntaxConfigBuilder};
 use template_environment::Environment;
 use template_machine_escape::AutoEscapeRule;
 use template_machine_ids::StateIds;
@@ -13,51 +14,50 @@ use template_values_errors::Error;
 
 /// What comes of the case, in one line.
 pub(crate) fn answer(alloc: Global, case: &Case<'_>) -> Result<String, Error> {
+    let mut ids = StateIds::new(0);
     match case.setting.escapes {
-        Escapes::ByName => answer_by_name(alloc, case),
-        Escapes::Never => answer_without_escapes(alloc, case),
-        Escapes::Shorter(length) => answer_by_length(alloc, case, length),
+        Escapes::ByName => {
+            let environment = Environment::new(alloc, &mut ids);
+            answer_in(alloc, environment, &mut ids, case)
+        }
+        Escapes::Never => {
+            let environment = Environment::empty(alloc, &mut ids);
+            answer_in(alloc, environment, &mut ids, case)
+        }
+        Escapes::Shorter(length) => {
+            let rule = ShortNames::shorter_than(length);
+            let environment = Environment::with_auto_escape_callback(alloc, rule, &mut ids);
+            answer_in(alloc, environment, &mut ids, case)
+        }
     }
-}
-
-fn answer_by_name(alloc: Global, case: &Case<'_>) -> Result<String, Error> {
-    let mut ids = StateIds::new(0);
-    let mut environment = Environment::new(alloc, &mut ids)?;
-    answer_in(alloc, &mut environment, &mut ids, case)
-}
-
-fn answer_without_escapes(alloc: Global, case: &Case<'_>) -> Result<String, Error> {
-    let mut ids = StateIds::new(0);
-    let mut environment = Environment::empty(alloc, &mut ids)?;
-    answer_in(alloc, &mut environment, &mut ids, case)
-}
-
-fn answer_by_length(alloc: Global, case: &Case<'_>, length: usize) -> Result<String, Error> {
-    let mut ids = StateIds::new(0);
-    let rule = ShortNames::shorter_than(length);
-    let mut environment = Environment::with_auto_escape_callback(alloc, rule, &mut ids)?;
-    answer_in(alloc, &mut environment, &mut ids, case)
 }
 
 fn answer_in<'line, R: NumberedRule>(
     alloc: Global,
-    environment: &mut Environment<'line, R>,
+    environment: Result<Environment<'line, R>, Error>,
     ids: &mut StateIds,
     case: &Case<'line>,
 ) -> Result<String, Error> {
+    let mut environment = environment?;
+    let mut report = Report::new(alloc);
+    tell(alloc, &mut environment, ids, case, &mut report);
+    report.finish()
+}
+
+fn tell<'line, R: NumberedRule>(
+    alloc: Global,
+    environment: &mut Environment<'line, R>,
+    ids: &mut StateIds,
+    case: &Case<'line>,
+    out: &mut Report,
+) {
     set(environment, &case.setting);
-    let mut out = String::new(alloc);
-    if take_all(alloc, environment, case, &mut out)? {
-        ask(
-            alloc,
-            environment,
-            ids,
-            case.subject,
-            &case.setting,
-            &mut out,
-        )?;
+    if take_all(alloc, environment, case, out) {
+        match case.context.copy() {
+            Ok(context) => ask(environment, ids, case, context, out),
+            Err(error) => out.refuse(error.kind()),
+        }
     }
-    Ok(out)
 }
 
 fn set<R: AutoEscapeRule>(environment: &mut Environment<'_, R>, setting: &Setting) {
@@ -68,23 +68,23 @@ fn set<R: AutoEscapeRule>(environment: &mut Environment<'_, R>, setting: &Settin
     }
 }
 
-// Takes the steps, writes which additions are refused, and tells whether the case goes on behind them.
+// Takes the steps, tells which additions are refused, and whether the case goes on behind them.
 fn take_all<'line, R: NumberedRule>(
     alloc: Global,
     environment: &mut Environment<'line, R>,
     case: &Case<'line>,
-    out: &mut String,
-) -> Result<bool, Error> {
+    out: &mut Report,
+) -> bool {
     for step in &case.steps {
         if let Err(error) = take(alloc, environment, case.setting.is_owned, *step) {
-            write_refusal(*step, &error, out)?;
+            tell_refusal(*step, &error, out);
             if !case.setting.skips_refusals {
-                return Ok(false);
+                return false;
             }
-            out.push_str(", ")?;
+            out.push_str(", ");
         }
     }
-    Ok(true)
+    true
 }
 
 fn take<'line, R: NumberedRule>(
@@ -122,16 +122,25 @@ fn add_owned<R: AutoEscapeRule>(
 }
 
 fn prefixed(alloc: Global, statement: &str, comment: &str) -> Result<SyntaxConfig, Error> {
-    let mut builder = SyntaxConfig::builder(alloc);
+    with_prefixes(&mut SyntaxConfig::builder(alloc), statement, comment)
+}
+
+fn with_prefixes(
+    builder: &mut SyntaxConfigBuilder,
+    statement: &str,
+    comment: &str,
+) -> Result<SyntaxConfig, Error> {
     builder.line_statement_prefix(statement)?;
     builder.line_comment_prefix(comment)?;
     builder.build()
 }
 
 // Additions alone are refused.
-fn write_refusal(step: Step<'_>, error: &Error, out: &mut String) -> Result<(), Error> {
+fn tell_refusal(step: Step<'_>, error: &Error, out: &mut Report) {
     if let Step::Add { name, .. } = step {
-        write!(out, "- {name} ! {error}")?;
+        out.push_str("- ");
+        out.push_str(name);
+        out.push(' ');
+        out.fault(error);
     }
-    Ok(())
 }

@@ -33,10 +33,11 @@ pub(crate) struct Case<'line> {
     pub(crate) steps: Vec<Step<'line>>,
     pub(crate) subject: Subject<'line>,
     pub(crate) setting: Setting,
+    pub(crate) context: Value,
 }
 
-/// What a case says besides its texts.
-#[derive(Drop)]
+/// What a case says besides its texts and its context.
+#[derive(Clone, Copy)]
 pub(crate) struct Setting {
     pub(crate) call: Call,
     pub(crate) place: Place,
@@ -47,7 +48,6 @@ pub(crate) struct Setting {
     pub(crate) is_owned: bool,
     pub(crate) tells_state: bool,
     pub(crate) skips_refusals: bool,
-    pub(crate) context: Value,
 }
 
 /// What is rendered, or evaluated.
@@ -56,13 +56,15 @@ pub(crate) enum Subject<'line> {
     /// The template that stands under a name.
     Main(&'line str),
     /// A source that does not stand.
-    Source(&'line str),
-    /// The same under a name.
-    Named {
-        name: &'line str,
-        source: &'line str,
-    },
+    Source(Source<'line>),
     Expression(&'line str),
+}
+
+/// A source that does not stand, and the name that it has, where it has one.
+#[derive(Clone, Copy)]
+pub(crate) struct Source<'line> {
+    pub(crate) name: Option<&'line str>,
+    pub(crate) text: &'line str,
 }
 
 /// What is asked of it.
@@ -105,17 +107,19 @@ impl<'line> Case<'line> {
         entries: &'line Map<String, Json>,
     ) -> Result<Case<'line>, Error> {
         expect_names(entries, &KNOWN)?;
+        let setting = Setting::read(entries)?;
         let steps = steps_of(alloc, entries.get("templates"))?;
         Ok(Case {
             subject: subject_of(entries, steps.as_slice())?,
-            setting: Setting::read(alloc, entries)?,
+            setting,
+            context: context_of(alloc, entries.get("context"))?,
             steps,
         })
     }
 }
 
 impl Setting {
-    fn read(alloc: Global, entries: &Map<String, Json>) -> Result<Setting, Error> {
+    fn read(entries: &Map<String, Json>) -> Result<Setting, Error> {
         Ok(Setting {
             call: call_of(entries)?,
             place: place_of(entries.get("room"))?,
@@ -126,7 +130,6 @@ impl Setting {
             is_owned: truth_of(entries.get("owned"))?,
             tells_state: truth_of(entries.get("state"))?,
             skips_refusals: truth_of(entries.get("skip"))?,
-            context: context_of(alloc, entries.get("context"))?,
         })
     }
 }
@@ -145,7 +148,10 @@ fn subject_of<'line>(
 
 fn source_of(source: &Json) -> Result<Subject<'_>, Error> {
     match source {
-        Json::String(source) => Ok(Subject::Source(source.as_str())),
+        Json::String(source) => Ok(Subject::Source(Source {
+            name: None,
+            text: source.as_str(),
+        })),
         Json::Array(pair) => named_source(pair.as_slice()),
         _ => unreadable(),
     }
@@ -153,10 +159,10 @@ fn source_of(source: &Json) -> Result<Subject<'_>, Error> {
 
 fn named_source(pair: &[Json]) -> Result<Subject<'_>, Error> {
     match pair {
-        [Json::String(name), Json::String(source)] => Ok(Subject::Named {
-            name: name.as_str(),
-            source: source.as_str(),
-        }),
+        [Json::String(name), Json::String(source)] => Ok(Subject::Source(Source {
+            name: Some(name.as_str()),
+            text: source.as_str(),
+        })),
         _ => unreadable(),
     }
 }

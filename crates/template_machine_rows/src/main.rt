@@ -41,6 +41,9 @@
 //!   its number, with `, fuel N + M` before `exports` under a fuel: what was consumed, and what remains;
 //! - `? Kind` where the line is no case.
 //!
+//! A time: `time`, the name of a task of additions and renders of templates. It gives the microseconds that its calls took,
+//! without what was made ready for them. These are no part of the stored run.
+//!
 //! A line that begins with `#` is a heading. The stored run is the table of the language's cases, written from the
 //! language's description; to add one, write its line into `stdout`, and what stands before the last ` = ` into
 //! `stdin`.
@@ -51,37 +54,54 @@ mod calls;
 mod case;
 mod escapes;
 mod renders;
+mod report;
 mod steps;
 mod tellings;
+mod times;
 
 use crate::answers::answer;
 use crate::case::Case;
-use serde_json::Value as Json;
-use std::alloc::Global;
+use crate::times::answer_time;
+use serde_json::{Map, Value as Json};
 use std::io;
+use template_rows::unreadable;
 use template_values_errors::{Error, ErrorKind};
 
 fn main(rt: HostRuntime) -> io::Result<()> {
-    let alloc = rt.alloc();
-    for line in rt.lines(alloc) {
-        let line = line?;
-        if line.starts_with('#') || line.is_empty() {
-            println!(rt; "{line}")?;
-            continue;
-        }
-        match answer_of_line(alloc, line.as_str()) {
-            Ok(text) => println!(rt; "{line} = {text}")?,
-            Err(error) => println!(rt; "{line} = ? {error}")?,
-        }
+    for line in rt.lines(rt.alloc()) {
+        write_line(&rt, line?.as_str())?;
     }
     Ok(())
 }
 
-// What comes of the case that stands in a line of JSON.
-fn answer_of_line(alloc: Global, line: &str) -> Result<String, Error> {
-    match Json::from_str(alloc, line).map_err(refusal)? {
-        Json::Object(entries) => answer(alloc, &Case::read(alloc, &entries)?),
-        _ => Err(Error::new(ErrorKind::SyntaxError)),
+fn write_line(rt: &HostRuntime, line: &str) -> io::Result<()> {
+    if line.starts_with('#') || line.is_empty() {
+        println!(rt; "{line}")
+    } else {
+        write_answer(rt, line, &answer_of_line(rt, line))
+    }
+}
+
+fn write_answer(rt: &HostRuntime, line: &str, answer: &Result<String, Error>) -> io::Result<()> {
+    match answer {
+        Ok(text) => println!(rt; "{line} = {text}"),
+        Err(error) => println!(rt; "{line} = ? {error}"),
+    }
+}
+
+// What comes of a line of JSON.
+fn answer_of_line(rt: &HostRuntime, line: &str) -> Result<String, Error> {
+    match Json::from_str(rt.alloc(), line).map_err(refusal)? {
+        Json::Object(entries) => answer_of_entries(rt, &entries),
+        _ => unreadable(),
+    }
+}
+
+// The time of a task, or what comes of the case.
+fn answer_of_entries(rt: &HostRuntime, entries: &Map<String, Json>) -> Result<String, Error> {
+    match entries.get("time") {
+        Some(Json::String(task)) => answer_time(rt, task.as_str()),
+        _ => answer(rt.alloc(), &Case::read(rt.alloc(), entries)?),
     }
 }
 

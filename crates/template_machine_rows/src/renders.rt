@@ -1,67 +1,80 @@
 //! Renders, by the place that their text goes to.
 use crate::case::{Place, Setting};
-use crate::tellings::{write_quoted, write_refused, write_state};
-use std::alloc::Global;
+use crate::report::Report;
+use crate::tellings::tell_state;
 use template_environment::{Captured, Template};
 use template_machine_escape::AutoEscapeRule;
 use template_machine_ids::StateIds;
 use template_machine_output::{NullWriter, WriteWrapper};
 use template_values_core::Value;
-use template_values_errors::Error;
+use template_values_errors::{Error, ErrorKind};
 
-/// Renders into the place of the setting, and writes the text that it has taken.
-pub(crate) fn write_render<R: AutoEscapeRule>(
-    alloc: Global,
+/// Renders into the place of the setting, and tells the text that it has taken.
+pub(crate) fn tell_render<R: AutoEscapeRule>(
     template: &Template<'_, '_, R>,
     ids: &mut StateIds,
     setting: &Setting,
-    out: &mut String,
-) -> Result<(), Error> {
+    context: Value,
+    out: &mut Report,
+) {
     match setting.place {
-        Place::Text => write_whole(alloc, template, ids, setting, out),
-        Place::Room(room) => write_room(alloc, template, ids, setting, room, out),
-        Place::Nowhere => write_nowhere(template, ids, setting, out),
+        Place::Text => tell_text(template, ids, setting, context, out),
+        Place::Room(room) => tell_room(template, ids, setting, context, room, out),
+        Place::Nowhere => tell_nowhere(template, ids, setting, context, out),
     }
 }
 
-fn write_nowhere<R: AutoEscapeRule>(
+fn tell_nowhere<R: AutoEscapeRule>(
     template: &Template<'_, '_, R>,
     ids: &mut StateIds,
     setting: &Setting,
-    out: &mut String,
-) -> Result<(), Error> {
-    out.push('_')?;
-    let ended = template.render_captured_to(ids, setting.context.copy()?, &mut NullWriter);
-    write_end(&ended, setting, out)
+    context: Value,
+    out: &mut Report,
+) {
+    let ended = template.render_captured_to(ids, context, &mut NullWriter);
+    out.push('_');
+    tell_end(&ended, setting, out);
 }
 
-fn write_whole<R: AutoEscapeRule>(
-    alloc: Global,
+fn tell_text<R: AutoEscapeRule>(
     template: &Template<'_, '_, R>,
     ids: &mut StateIds,
     setting: &Setting,
-    out: &mut String,
-) -> Result<(), Error> {
-    let mut text = String::new(alloc);
-    let ended = template.render_captured_to(ids, setting.context.copy()?, &mut text);
-    write_taken(alloc, text, &ended, setting, out)
+    context: Value,
+    out: &mut Report,
+) {
+    let mut text = String::new(out.alloc());
+    let ended = template.render_captured_to(ids, context, &mut text);
+    out.quoted(text.as_bytes());
+    tell_end(&ended, setting, out);
 }
 
-fn write_room<R: AutoEscapeRule>(
-    alloc: Global,
+fn tell_room<R: AutoEscapeRule>(
     template: &Template<'_, '_, R>,
     ids: &mut StateIds,
     setting: &Setting,
+    context: Value,
     room: usize,
-    out: &mut String,
-) -> Result<(), Error> {
-    let mut bytes = vec![in alloc; 0u8; room]?;
-    let (left, ended) = fill(template, ids, setting.context.copy()?, bytes.as_mut_slice());
-    let taken = bytes.get(..room.saturating_sub(left)).unwrap_or(b"");
-    match String::from_utf8_lossy(alloc, taken) {
-        Ok(text) => write_taken(alloc, text, &ended, setting, out),
-        Err(error) => Err(Error::from(error)),
+    out: &mut Report,
+) {
+    match vec![in out.alloc(); 0u8; room] {
+        Ok(mut bytes) => tell_filled(template, ids, setting, context, bytes.as_mut_slice(), out),
+        Err(_refused) => out.refuse(ErrorKind::OutOfMemory),
     }
+}
+
+fn tell_filled<R: AutoEscapeRule>(
+    template: &Template<'_, '_, R>,
+    ids: &mut StateIds,
+    setting: &Setting,
+    context: Value,
+    bytes: &mut [u8],
+    out: &mut Report,
+) {
+    let (left, ended) = fill(template, ids, context, bytes);
+    let taken = bytes.len().saturating_sub(left);
+    out.quoted(bytes.get(..taken).unwrap_or(b""));
+    tell_end(&ended, setting, out);
 }
 
 // Renders into the bytes, and tells how many of them are left.
@@ -76,78 +89,49 @@ fn fill<'template, 'line, R: AutoEscapeRule>(
     (sink.w.len(), ended)
 }
 
-// The text that the render's place took, and how it ended.
-fn write_taken<R: AutoEscapeRule>(
-    alloc: Global,
-    text: String,
-    ended: &Result<Captured<'_, '_, R>, Error>,
-    setting: &Setting,
-    out: &mut String,
-) -> Result<(), Error> {
-    write_quoted(alloc, text, out)?;
-    write_end(ended, setting, out)
-}
-
 // What follows the text: what the render took of its fuel and left, or how it ended.
-fn write_end<R: AutoEscapeRule>(
+fn tell_end<R: AutoEscapeRule>(
     ended: &Result<Captured<'_, '_, R>, Error>,
     setting: &Setting,
-    out: &mut String,
-) -> Result<(), Error> {
+    out: &mut Report,
+) {
     match ended {
-        Ok(captured) => write_left(captured, setting, out),
-        Err(error) => Ok(write!(out, " ! {error}")?),
+        Ok(captured) => tell_left(captured, setting, out),
+        Err(error) => {
+            out.push(' ');
+            out.fault(error);
+        }
     }
 }
 
 // What a render took of its fuel, where one is set, and the state that it left, where the setting tells it.
-fn write_left<R: AutoEscapeRule>(
+fn tell_left<R: AutoEscapeRule>(
     captured: &Captured<'_, '_, R>,
     setting: &Setting,
-    out: &mut String,
-) -> Result<(), Error> {
+    out: &mut Report,
+) {
     if let Some((consumed, _)) = captured.fuel_levels() {
-        write!(out, " price {consumed}")?;
+        out.tell(" price ", &consumed);
     }
     if setting.tells_state {
-        out.push(' ')?;
-        write_state(captured.state(), out)?;
+        out.push(' ');
+        tell_state(captured.state(), out);
     }
-    Ok(())
 }
 
 /// Renders into a text that is kept beside the state.
-pub(crate) fn write_captured<R: AutoEscapeRule>(
-    alloc: Global,
+pub(crate) fn tell_captured<R: AutoEscapeRule>(
     template: &Template<'_, '_, R>,
     ids: &mut StateIds,
     setting: &Setting,
-    out: &mut String,
-) -> Result<(), Error> {
-    match template.render_captured(ids, setting.context.copy()?) {
-        Ok(captured) => write_output(alloc, &captured, setting, out),
-        Err(error) => write_refused(&error, out),
-    }
-}
-
-fn write_output<R: AutoEscapeRule>(
-    alloc: Global,
-    captured: &Captured<'_, '_, R>,
-    setting: &Setting,
-    out: &mut String,
-) -> Result<(), Error> {
-    write_quoted(alloc, String::from_str(alloc, captured.output())?, out)?;
-    write_left(captured, setting, out)
-}
-
-/// Writes a text, or why there is none.
-pub(crate) fn write_text(
-    alloc: Global,
-    text: Result<String, Error>,
-    out: &mut String,
-) -> Result<(), Error> {
-    match text {
-        Ok(text) => write_quoted(alloc, text, out),
-        Err(error) => write_refused(&error, out),
+    context: Value,
+    out: &mut Report,
+) {
+    match template.render_captured(ids, context) {
+        Ok(captured) => {
+            out.quoted(captured.output().as_bytes());
+            tell_left(&captured, setting, out);
+        }
+        Err(error) => out.fault(&error),
     }
 }

@@ -1,7 +1,7 @@
 //! What comes of requests.
-use crate::requests::DEFAULT_LIMIT;
+use crate::works::DEFAULT_LIMIT;
 use serde_json::{Map, Value as Json};
-use std::alloc::Global;
+use std::alloc::{AllocError, Global};
 use template_machine_ids::StateIds;
 use template_program_run::{Command, Outcome, Request, run};
 use template_rows::{
@@ -39,22 +39,35 @@ fn answer(
     let context = text_of(entries.get("context"))?.unwrap_or("{}");
     let mut ids = StateIds::new(number_of(entries.get("first_id"))?.unwrap_or(0));
     let request = request_of(alloc, first_name(templates), entries)?;
+    answer_over(alloc, &request, templates, context.as_bytes(), &mut ids)
+}
+
+// The same over the bytes of a context.
+fn answer_over(
+    alloc: Global,
+    request: &Request,
+    templates: &[(String, String)],
+    context: &[u8],
+    ids: &mut StateIds,
+) -> Result<String, Error> {
     let mut out = String::new(alloc);
-    let json = Some(context.as_bytes());
-    let outcome = run(alloc, &request, templates, json, &mut ids, &mut out);
-    let mut answer = quoted(alloc, out.as_bytes())?;
-    write_end(&outcome, &mut answer)?;
+    let outcome = run(alloc, request, templates, Some(context), ids, &mut out);
+    ended(alloc, out.as_bytes(), &outcome)
+}
+
+fn ended(alloc: Global, written: &[u8], outcome: &Outcome) -> Result<String, Error> {
+    let mut answer = quoted(alloc, written)?;
+    write_end(outcome, &mut answer)?;
     Ok(answer)
 }
 
-fn write_end(outcome: &Outcome, answer: &mut String) -> Result<(), Error> {
+fn write_end(outcome: &Outcome, answer: &mut String) -> Result<(), AllocError> {
     match outcome {
-        Outcome::Done => {}
-        Outcome::Render(error) => write!(answer, " ! render {error}")?,
-        Outcome::Context(error) => write!(answer, " ! context {error}")?,
-        Outcome::Template(error) => write!(answer, " ! template {error}")?,
+        Outcome::Done => Ok(()),
+        Outcome::Render(error) => write!(answer, " ! render {error}"),
+        Outcome::Context(error) => write!(answer, " ! context {error}"),
+        Outcome::Template(error) => write!(answer, " ! template {error}"),
     }
-    Ok(())
 }
 
 fn request_of(alloc: Global, main: &str, entries: &Map<String, Json>) -> Result<Request, Error> {

@@ -25,9 +25,6 @@
 //!
 //! Requests at size: `size`, the name of a work. It gives how many bytes came out, and whether they are the right ones.
 //!
-//! A time: `time`, the name of a task of additions and renders of templates. It gives the microseconds that its calls took,
-//! without what was made ready for them. These are no part of the stored run.
-//!
 //! The line is written as it stands, then ` = `, then what came of it, or `? ` and a word where the line is of no kind, or
 //! where memory is refused. A line that begins with `#` is a heading. To add a row, write its line into `stdout`, and the
 //! object that it begins with into `stdin`.
@@ -35,18 +32,14 @@
 
 mod answers;
 mod files;
-mod renders;
-mod requests;
 mod sizes;
 mod starts;
-mod tasks;
 mod works;
 
 use crate::answers::answer_request;
 use crate::files::{remove_files, write_files};
 use crate::sizes::answer_size;
 use crate::starts::answer_start;
-use crate::tasks::answer_time;
 use anyhow::bail;
 use serde_json::{Map, Value as Json};
 use std::io;
@@ -92,15 +85,9 @@ fn answer_among_files(rt: &HostRuntime, entries: &Map<String, Json>) -> anyhow::
 
 // The entry that only lines of one kind have tells the kind.
 fn answer(rt: &HostRuntime, entries: &Map<String, Json>) -> Result<String, Error> {
-    match (entries.get("size"), entries.get("time")) {
-        (Some(Json::String(work)), None) => answer_size(rt.alloc(), work.as_str()),
-        (None, Some(Json::String(task))) => answer_time(rt, task.as_str()),
-        _ => answer_of_run(rt, entries),
+    if let Some(Json::String(work)) = entries.get("size") {
+        return answer_size(rt.alloc(), work.as_str());
     }
-}
-
-// What comes of a run of the program's body, or of a request.
-fn answer_of_run(rt: &HostRuntime, entries: &Map<String, Json>) -> Result<String, Error> {
     if let Some(words) = entries.get("words") {
         return answer_start(rt, words, entries);
     }

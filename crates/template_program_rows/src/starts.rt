@@ -24,9 +24,38 @@ pub(crate) fn answer_start(
             "flush_fails",
         ],
     )?;
-    let mut output = output_of(rt.alloc(), entries)?;
+    let words = texts_of(rt.alloc(), words)?;
+    start_over(rt, words.as_slice(), entries)
+}
+
+// A run over the input that the entries tell.
+fn start_over(
+    rt: &HostRuntime,
+    words: &[&str],
+    entries: &Map<String, Json>,
+) -> Result<String, Error> {
+    let fails = kind_of(entries.get("input_fails"))?;
+    let bytes = match entries.get("input") {
+        None => Vec::new(rt.alloc()),
+        Some(bytes) => bytes_of(rt.alloc(), bytes)?,
+    };
+    let mut input = Input {
+        bytes: bytes.as_slice(),
+        fails,
+    };
+    start_into(rt, words, &mut input, entries)
+}
+
+// A run over the input, into the output that the entries tell.
+fn start_into(
+    rt: &HostRuntime,
+    words: &[&str],
+    input: &mut Input<'_>,
+    entries: &Map<String, Json>,
+) -> Result<String, Error> {
     let mut told = Vec::with_capacity(rt.alloc(), READY)?;
-    let status = run_with(rt, words, entries, &mut output, &mut told)?;
+    let mut output = output_of(rt.alloc(), entries)?;
+    let status = start(rt, words, input, &mut output, &mut told);
     ended(rt.alloc(), output.bytes.as_slice(), status, told.as_slice())
 }
 
@@ -36,27 +65,6 @@ fn output_of(alloc: Global, entries: &Map<String, Json>) -> Result<Output, Error
     let mut output = Output::new(alloc, room)?;
     output.flush_fails = flush_fails;
     Ok(output)
-}
-
-// The status of a run, which writes to the output, and tells what it refuses.
-fn run_with(
-    rt: &HostRuntime,
-    words: &Json,
-    entries: &Map<String, Json>,
-    output: &mut Output,
-    told: &mut Vec<u8>,
-) -> Result<u8, Error> {
-    let fails = kind_of(entries.get("input_fails"))?;
-    let words = texts_of(rt.alloc(), words)?;
-    let bytes = match entries.get("input") {
-        None => Vec::new(rt.alloc()),
-        Some(bytes) => bytes_of(rt.alloc(), bytes)?,
-    };
-    let mut input = Input {
-        bytes: bytes.as_slice(),
-        fails,
-    };
-    Ok(start(rt, words.as_slice(), &mut input, output, told))
 }
 
 fn ended(alloc: Global, written: &[u8], status: u8, told: &[u8]) -> Result<String, Error> {

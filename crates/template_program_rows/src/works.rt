@@ -1,65 +1,115 @@
 //! The works: requests with long sources, and with many statements, templates, names, definitions, rounds and includes.
-use crate::requests::{
-    MAIN, answered, main_template, pair, refused, rendered, rendered_among, rendered_under,
-    request_of,
-};
-use crate::sizes::Came;
 use std::alloc::{AllocError, Global};
-use template_program_run::Command;
-use template_values_errors::Error;
+use template_program_run::{Command, Request};
+use template_values_modes::UndefinedBehavior;
+
+// The name of the main template, but where a work names another.
+const MAIN: &str = "t.txt";
+
+/// How deep a render may be where nothing is told.
+pub(crate) const DEFAULT_LIMIT: usize = 500;
 
 const MANY: usize = 1000;
 
 // How many is many, for items.
 const ITEMS: usize = 100_000;
 
+/// A request at size, and what it is to write.
+#[derive(Drop)]
+pub(crate) struct Work {
+    pub(crate) templates: Vec<(String, String)>,
+    pub(crate) request: Request,
+    /// The JSON of the context; empty where there is none.
+    pub(crate) context: String,
+    pub(crate) wanted: String,
+    /// Whether the main template is to be refused as none of the grammar.
+    pub(crate) is_refused: bool,
+}
+
+impl Work {
+    /// A render without templates, which is to write nothing.
+    pub(crate) fn new(alloc: Global) -> Result<Work, AllocError> {
+        Ok(Work {
+            request: render_of(String::from_str(alloc, MAIN)?, Vec::new(alloc)),
+            templates: Vec::new(alloc),
+            context: String::new(alloc),
+            wanted: String::new(alloc),
+            is_refused: false,
+        })
+    }
+
+    // Adds the main template, of that source.
+    fn add_main(&mut self, source: String) -> Result<(), AllocError> {
+        let name = String::from_str(*source.allocator(), MAIN)?;
+        Ok(self.templates.push((name, source))?)
+    }
+}
+
+fn render_of(main: String, texts: Vec<(String, String)>) -> Request {
+    Request {
+        main,
+        texts,
+        fuel: None,
+        limit: DEFAULT_LIMIT,
+        undefined: UndefinedBehavior::Lenient,
+        command: Command::Render,
+    }
+}
+
+// Adds a name with a text, as templates and definitions have them.
+fn add(
+    alloc: Global,
+    name: &str,
+    text: &str,
+    pairs: &mut Vec<(String, String)>,
+) -> Result<(), AllocError> {
+    let name = String::from_str(alloc, name)?;
+    let text = String::from_str(alloc, text)?;
+    Ok(pairs.push((name, text))?)
+}
+
 /// A source without markers gives itself.
-pub(crate) fn one_text(alloc: Global, text: &str) -> Result<Came, Error> {
-    rendered(alloc, text, None, text)
+pub(crate) fn one_text(
+    alloc: Global,
+    text: &str,
+    times: usize,
+    work: &mut Work,
+) -> Result<(), AllocError> {
+    work.add_main(text.repeat(alloc, times)?)?;
+    work.wanted = text.repeat(alloc, times)?;
+    Ok(())
 }
 
 /// Texts and prints of one name, in turn.
-pub(crate) fn many_prints(alloc: Global) -> Result<Came, Error> {
-    let source = "line {{ x }}".repeat(alloc, 5000)?;
-    let wanted = "line é".repeat(alloc, 5000)?;
-    let mut definitions = Vec::new(alloc);
-    definitions.push(pair(alloc, "x", "é")?)?;
-    rendered_under(alloc, source.as_str(), definitions, wanted.as_str())
+pub(crate) fn many_prints(alloc: Global, work: &mut Work) -> Result<(), AllocError> {
+    work.add_main("line {{ x }}".repeat(alloc, 5000)?)?;
+    add(alloc, "x", "é", &mut work.request.texts)?;
+    work.wanted = "line é".repeat(alloc, 5000)?;
+    Ok(())
 }
 
 /// Templates that each write their own name, of which the last one is rendered.
-pub(crate) fn many_templates(alloc: Global) -> Result<Came, Error> {
-    let templates = named_templates(alloc)?;
-    let request = request_of(alloc, Command::Render, "t999.txt", Vec::new(alloc))?;
-    answered(
-        alloc,
-        &request,
-        templates.as_slice(),
-        None,
-        "This is t999.txt",
-    )
-}
-
-fn named_templates(alloc: Global) -> Result<Vec<(String, String)>, Error> {
-    let mut templates = Vec::with_capacity(alloc, MANY)?;
+pub(crate) fn many_templates(alloc: Global, work: &mut Work) -> Result<(), AllocError> {
     for number in 0..MANY {
-        templates.push(named_template(alloc, number)?)?;
+        add_named_template(alloc, number, work)?;
     }
-    Ok(templates)
+    work.request.main = String::from_str(alloc, "t999.txt")?;
+    work.wanted = String::from_str(alloc, "This is t999.txt")?;
+    Ok(())
 }
 
-fn named_template(alloc: Global, number: usize) -> Result<(String, String), AllocError> {
+fn add_named_template(alloc: Global, number: usize, work: &mut Work) -> Result<(), AllocError> {
     let name = format!(in alloc; "t{number}.txt")?;
-    Ok((name, format!(in alloc; "This is t{number}.txt")?))
+    let source = format!(in alloc; "This is {name}")?;
+    add(alloc, name.as_str(), source.as_str(), &mut work.templates)
 }
 
 /// A template that prints a thousand names, which are told.
-pub(crate) fn many_names(alloc: Global) -> Result<Came, Error> {
-    let source = printed_names(alloc)?;
-    let wanted = told_names(alloc)?;
-    let templates = main_template(alloc, source.as_str())?;
-    let request = request_of(alloc, Command::Names, MAIN, Vec::new(alloc))?;
-    answered(alloc, &request, templates.as_slice(), None, wanted.as_str())
+pub(crate) fn many_names(alloc: Global, work: &mut Work) -> Result<(), AllocError> {
+    work.add_main(printed_names(alloc)?)?;
+    work.request.command = Command::Names;
+    work.wanted = told_names(alloc)?;
+    Ok(())
 }
 
 fn printed_names(alloc: Global) -> Result<String, AllocError> {
@@ -80,31 +130,19 @@ fn told_names(alloc: Global) -> Result<String, AllocError> {
 }
 
 /// A template that prints a thousand names, of which each has a definition.
-pub(crate) fn many_definitions(alloc: Global) -> Result<Came, Error> {
-    let source = printed_names(alloc)?;
-    let wanted = defined_texts(alloc)?;
-    rendered_under(alloc, source.as_str(), named_texts(alloc)?, wanted.as_str())
-}
-
-fn named_texts(alloc: Global) -> Result<Vec<(String, String)>, Error> {
-    let mut texts = Vec::with_capacity(alloc, MANY)?;
+pub(crate) fn many_definitions(alloc: Global, work: &mut Work) -> Result<(), AllocError> {
+    work.add_main(printed_names(alloc)?)?;
     for number in 0..MANY {
-        texts.push(named_text(alloc, number)?)?;
+        add_definition(alloc, number, work)?;
     }
-    Ok(texts)
+    Ok(())
 }
 
-fn named_text(alloc: Global, number: usize) -> Result<(String, String), AllocError> {
+fn add_definition(alloc: Global, number: usize, work: &mut Work) -> Result<(), AllocError> {
     let name = format!(in alloc; "n{:03}", number)?;
-    Ok((name, format!(in alloc; "<{number}>")?))
-}
-
-fn defined_texts(alloc: Global) -> Result<String, AllocError> {
-    let mut texts = String::new(alloc);
-    for number in 0..MANY {
-        write!(texts, "<{number}>")?;
-    }
-    Ok(texts)
+    let text = format!(in alloc; "<{number}>")?;
+    work.wanted.push_str(text.as_str())?;
+    add(alloc, name.as_str(), text.as_str(), &mut work.request.texts)
 }
 
 // The context `{"x": [0, 0, ..]}`.
@@ -120,46 +158,44 @@ fn printed_zeros(alloc: Global) -> Result<String, AllocError> {
 }
 
 /// A print of a list with many items, which the context has.
-pub(crate) fn many_items(alloc: Global) -> Result<Came, Error> {
-    let context = zeros(alloc, ITEMS)?;
-    let wanted = printed_zeros(alloc)?;
-    rendered(alloc, "{{ x }}", Some(context.as_str()), wanted.as_str())
+pub(crate) fn many_items(alloc: Global, work: &mut Work) -> Result<(), AllocError> {
+    add(alloc, MAIN, "{{ x }}", &mut work.templates)?;
+    work.context = zeros(alloc, ITEMS)?;
+    work.wanted = printed_zeros(alloc)?;
+    Ok(())
 }
 
 /// A loop over a list with many items.
-pub(crate) fn many_rounds(alloc: Global) -> Result<Came, Error> {
+pub(crate) fn many_rounds(alloc: Global, work: &mut Work) -> Result<(), AllocError> {
     let source = "{% for y in x %}{{ y + 1 }},{% endfor %}";
-    let context = zeros(alloc, ITEMS)?;
-    let wanted = "1,".repeat(alloc, ITEMS)?;
-    rendered(alloc, source, Some(context.as_str()), wanted.as_str())
+    add(alloc, MAIN, source, &mut work.templates)?;
+    work.context = zeros(alloc, ITEMS)?;
+    work.wanted = "1,".repeat(alloc, ITEMS)?;
+    Ok(())
 }
 
 /// A loop that includes another template in each round.
-pub(crate) fn many_includes(alloc: Global) -> Result<Came, Error> {
-    let context = zeros(alloc, MANY)?;
-    let wanted = "<0>".repeat(alloc, MANY)?;
-    let templates = with_part(alloc)?;
-    let context = Some(context.as_str());
-    rendered_among(alloc, templates.as_slice(), context, wanted.as_str())
-}
-
-fn with_part(alloc: Global) -> Result<Vec<(String, String)>, Error> {
+pub(crate) fn many_includes(alloc: Global, work: &mut Work) -> Result<(), AllocError> {
     let source = "{% for y in x %}{% include 'part' %}{% endfor %}";
-    let mut templates = main_template(alloc, source)?;
-    templates.push(pair(alloc, "part", "<{{ y }}>")?)?;
-    Ok(templates)
+    add(alloc, MAIN, source, &mut work.templates)?;
+    add(alloc, "part", "<{{ y }}>", &mut work.templates)?;
+    work.context = zeros(alloc, MANY)?;
+    work.wanted = "<0>".repeat(alloc, MANY)?;
+    Ok(())
 }
 
 /// Braces alone begin a print and never end it, so the source is refused, and nothing is written.
-pub(crate) fn many_braces(alloc: Global) -> Result<Came, Error> {
-    refused(alloc, "{".repeat(alloc, 1_000_000)?.as_str())
+pub(crate) fn many_braces(alloc: Global, work: &mut Work) -> Result<(), AllocError> {
+    work.is_refused = true;
+    work.add_main("{".repeat(alloc, 1_000_000)?)
 }
 
 /// A list of many parts, each of them a name.
-pub(crate) fn many_parts(alloc: Global) -> Result<Came, Error> {
-    let source = print_of_parts(alloc)?;
-    let wanted = printed_zeros(alloc)?;
-    rendered(alloc, source.as_str(), Some("{\"y\": 0}"), wanted.as_str())
+pub(crate) fn many_parts(alloc: Global, work: &mut Work) -> Result<(), AllocError> {
+    work.add_main(print_of_parts(alloc)?)?;
+    work.context = String::from_str(alloc, "{\"y\": 0}")?;
+    work.wanted = printed_zeros(alloc)?;
+    Ok(())
 }
 
 fn print_of_parts(alloc: Global) -> Result<String, AllocError> {
@@ -168,26 +204,25 @@ fn print_of_parts(alloc: Global) -> Result<String, AllocError> {
 }
 
 /// A print of a name of ten thousand letters.
-pub(crate) fn long_name(alloc: Global) -> Result<Came, Error> {
-    let name = "n".repeat(alloc, 10_000)?;
-    let source = format!(in alloc; "{{{{ {name} }}}}")?;
-    let context = format!(in alloc; "{{\"{name}\": 1}}")?;
-    rendered(alloc, source.as_str(), Some(context.as_str()), "1")
+pub(crate) fn long_name(alloc: Global, work: &mut Work) -> Result<(), AllocError> {
+    print_name(alloc, "n".repeat(alloc, 10_000)?.as_str(), work)
+}
+
+fn print_name(alloc: Global, name: &str, work: &mut Work) -> Result<(), AllocError> {
+    work.add_main(format!(in alloc; "{{{{ {name} }}}}")?)?;
+    work.context = format!(in alloc; "{{\"{name}\": 1}}")?;
+    work.wanted = String::from_str(alloc, "1")?;
+    Ok(())
 }
 
 /// A loop over a list with many items, ten times in a loop.
-pub(crate) fn many_rounds_in_rounds(alloc: Global) -> Result<Came, Error> {
+pub(crate) fn many_rounds_in_rounds(alloc: Global, work: &mut Work) -> Result<(), AllocError> {
     let source =
         "{% for z in [0, 1, 2, 3, 4, 5, 6, 7, 8, 9] %}{% for y in x %}{{ z }}{% endfor %}{% endfor %}";
-    let context = zeros(alloc, ITEMS)?;
-    let wanted = rounds_of_digits(alloc)?;
-    rendered(alloc, source, Some(context.as_str()), wanted.as_str())
-}
-
-fn rounds_of_digits(alloc: Global) -> Result<String, AllocError> {
-    let mut rounds = String::new(alloc);
+    add(alloc, MAIN, source, &mut work.templates)?;
+    work.context = zeros(alloc, ITEMS)?;
     for digit in ["0", "1", "2", "3", "4", "5", "6", "7", "8", "9"] {
-        rounds.push_str(digit.repeat(alloc, ITEMS)?.as_str())?;
+        work.wanted.push_str(digit.repeat(alloc, ITEMS)?.as_str())?;
     }
-    Ok(rounds)
+    Ok(())
 }
