@@ -1,5 +1,0 @@
-pub mod Bare
-pub mod Erased
-mod Stops
-pub mod Complete
-mod Laws

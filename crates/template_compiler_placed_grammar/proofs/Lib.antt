@@ -1,0 +1,9 @@
+pub mod Bare
+pub mod Erased
+mod Stops
+pub mod Complete
+mod Laws
+mod TemplateEnds
+pub mod TemplatesErased
+pub mod TemplatesComplete
+mod TemplateLaws

@@ -1,0 +1,4 @@
+pub mod Nodes
+pub mod Reader
+pub mod TemplateNodes
+pub mod TemplateReader

@@ -1,0 +1,102 @@
+-- Statements with their places, and what productions put together of them.
+use Rattle.std.specs.Prelude.{List, [], ◌∷◌, ◌++◌, Result, Ok, Err}
+use Rattle.template_tree.specs.declared.span.Span.{Span}
+use Rattle.template_tree.specs.Tree.{Expression, Statement, if_condition, Statements, no_statements, Assignments, no_assignments, Imports, no_imports}
+use Rattle.template_tree_places.specs.Places.{Places, at, Parts, no_parts, parts_more, one, and_parts}
+use Rattle.template_compiler_token_places.specs.Tokens.{until}
+use Rattle.template_compiler_tokens.specs.Token.{TokenFault}
+use Rattle.template_compiler_grammar_places.specs.Nodes.{and_place, PairedPlaces}
+use Rattle.template_compiler_grammar_places.specs.Parts.{alone_or}
+use Rattle.template_compiler_placed_grammar.specs.Nodes.{Placed, placed, Node, Nodes, OptionalNode}
+use Rattle.template_compiler_statements.specs.Trees.{and_statement, and_assignment, and_import, unpacked, together, Branches, no_branches, and_branch, branched, Parameters, no_parameters, and_plain, and_default}
+
+-- targets and values: one is itself, several are a node
+abbrev pub unpacked_node : Nodes → Span → Node
+unpacked_node es span = placed (unpacked es.tree) (alone_or span es.places)
+
+abbrev pub together_node : Nodes → Span → Node
+together_node es span = placed (together es.tree) (alone_or span es.places)
+
+abbrev pub PlacedAssignments : Type 0
+PlacedAssignments = Placed Assignments Parts
+
+abbrev pub no_placed_assignments : PlacedAssignments
+no_placed_assignments = placed no_assignments no_parts
+
+abbrev pub and_placed_assignment : PlacedAssignments → Node → Node → PlacedAssignments
+and_placed_assignment gs t e = placed (and_assignment gs.tree t.tree e.tree) (and_parts gs.places (parts_more t.places (one e.places)))
+
+abbrev pub PlacedImports : Type 0
+PlacedImports = Placed Imports Parts
+
+abbrev pub no_placed_imports : PlacedImports
+no_placed_imports = placed no_imports no_parts
+
+abbrev pub and_placed_import : PlacedImports → Node → OptionalNode → PlacedImports
+and_placed_import is n a = placed (and_import is.tree n.tree a.tree) (and_parts is.places (parts_more n.places a.places))
+
+-- the arguments of a macro, and the defaults
+abbrev pub PlacedParameters : Type 0
+PlacedParameters = Placed Parameters PairedPlaces
+
+abbrev pub no_placed_parameters : PlacedParameters
+no_placed_parameters = placed no_parameters (no_parts, no_parts)
+
+abbrev pub and_placed_plain : PlacedParameters → Node → PlacedParameters
+and_placed_plain p a = placed (and_plain p.tree a.tree) (and_place p.places.0 a.places, p.places.1)
+
+abbrev pub and_placed_default : PlacedParameters → Node → Node → PlacedParameters
+and_placed_default p a e = placed (and_default p.tree a.tree e.tree) (and_place p.places.0 a.places, and_place p.places.1 e.places)
+
+-- those in order
+abbrev pub in_row : PairedPlaces → Parts
+in_row places = and_parts places.0 places.1
+
+-- a statement, and those behind one another
+abbrev pub PlacedStatement : Type 0
+PlacedStatement = Placed Statement Places
+
+abbrev pub statement_node : Statement → Span → Parts → PlacedStatement
+statement_node s span parts = placed s (at span parts)
+
+abbrev pub PlacedStatements : Type 0
+PlacedStatements = Placed Statements Parts
+
+abbrev pub no_placed_statements : PlacedStatements
+no_placed_statements = placed no_statements no_parts
+
+abbrev pub and_placed_statement : PlacedStatements → PlacedStatement → PlacedStatements
+and_placed_statement ss s = placed (and_statement ss.tree s.tree) (and_place ss.places s.places)
+
+-- a condition and its body
+abbrev pub PlacedBranch : Type 0
+PlacedBranch = Placed (Expression × Statements) Parts
+
+-- the branches behind the first one, each with where it starts
+abbrev pub PlacedBranches : Type 0
+PlacedBranches = Placed Branches (List (Span × Parts))
+
+abbrev pub no_placed_branches : PlacedBranches
+no_placed_branches = placed no_branches []
+
+abbrev pub and_placed_branch : PlacedBranches → Span → PlacedBranch → PlacedBranches
+and_placed_branch bs start b = placed (and_branch bs.tree b.tree.0 b.tree.1) (bs.places ++ (start, b.places) ∷ [])
+
+-- each is the one statement of the part before it, up to the end of the whole
+abbrev pub branched_at : Span → List (Span × Parts) → Parts → Parts
+branched_at whole [] last = last
+branched_at whole (b ∷ bs) last = one (at (until b.0 whole) (and_parts b.1 (branched_at whole bs last)))
+
+abbrev pub if_node : PlacedBranch → PlacedBranches → PlacedStatements → Span → PlacedStatement
+if_node b bs other whole =
+    statement_node (if_condition b.tree.0 b.tree.1 (branched bs.tree other.tree)) whole
+    (and_parts b.places (branched_at whole bs.places other.places))
+
+-- a whole template
+abbrev pub PlacedTemplate : Type 0
+PlacedTemplate = Placed Statements Places
+
+-- and without its places
+unfoldable pub bare_template : Result PlacedTemplate TokenFault → Result Statements TokenFault
+bare_template (Ok ss) = Ok ss.tree
+bare_template (Err f) = Err f

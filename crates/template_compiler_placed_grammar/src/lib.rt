@@ -1,0 +1,37 @@
+//! The reading of expressions and of templates with the places of their nodes, from left to right, and its laws.
+//!
+//! These are the readers of `template_compiler_expressions` and `template_compiler_statements` again, where each tree has its
+//! places. Here is no code but laws.
+#![tactic(auto)]
+
+ghost use Rattle.std.specs.Prelude.{◌≡◌, ℕ, List, Ok};
+ghost use Rattle.template_compiler_expressions.specs.Ends.{Ends};
+ghost use Rattle.template_compiler_expressions.specs.Grammar.{IsExpression};
+ghost use Rattle.template_compiler_expressions.specs.Reader as plain;
+ghost use Rattle.template_compiler_grammar_places.specs.Expressions.{expression_places};
+ghost use Rattle.template_compiler_placed_grammar.specs.Nodes.{Node, bare, placed};
+ghost use Rattle.template_compiler_placed_grammar.specs.Reader.{expression_at};
+ghost use Rattle.template_compiler_tokens.specs.Token.{Token};
+ghost use Rattle.template_tree.specs.Tree.{Expression};
+ghost use Rattle.template_tree.specs.declared.span.Span.{Span};
+
+mod templates;
+
+pub use templates::{templates_read_with_places, templates_stand_once};
+
+/// A law, as the contract of a function that does nothing: without its places, what is read with places is what the reader
+/// reads; what has a tree is read with the places that the grammar has for it, and all that is read has these.
+pub fn reads_with_places()
+    ensures erased { (spans : List Span) (d : ℕ) (ts : List Token) → bare (expression_at spans d ts) ≡ plain.expression_at d ts }
+    ensures complete { (spans : List Span) (d : ℕ) (ts us : List Token) (e : Expression) → (read : IsExpression d ts e us) → Ends us →
+        expression_at spans d ts ≡ Ok (placed e (expression_places spans read), us) }
+    ensures sound { (spans : List Span) (d : ℕ) (ts us : List Token) (e : Node) → expression_at spans d ts ≡ Ok (e, us) → Ends us →
+        (read : IsExpression d ts e.tree us) × (e.places ≡ expression_places spans read) }
+{}
+
+/// A law, as the contract of a function that does nothing: however an expression is derived from its tokens, its nodes stand
+/// in the same places.
+pub fn stands_once()
+    ensures { (spans : List Span) (d : ℕ) (ts us : List Token) (e : Expression) → (read other : IsExpression d ts e us) → Ends us →
+        expression_places spans read ≡ expression_places spans other }
+{}

@@ -1,4 +1,0 @@
-mod Ends
-pub mod Erased
-pub mod Complete
-mod Laws
