@@ -1,2 +1,1 @@
 mod Wholes
-mod Last

@@ -3,8 +3,8 @@
 //! The definition is the places of a derivation of the grammar, one line a production. Here is no code but laws.
 #![tactic(auto)]
 
-ghost use Rattle.std.specs.Prelude.{◌≡◌, ◌<◌, ◌∷◌, ℕ, List, length, suc};
-ghost use Rattle.template_compiler_token_places.specs.Tokens.{last_span, next_span, stretch, token_count};
+ghost use Rattle.std.specs.Prelude.{◌≡◌, ℕ, List};
+ghost use Rattle.template_compiler_token_places.specs.Tokens.{stretch};
 ghost use Rattle.template_compiler_grammar_places.specs.Statements.{statement_places};
 ghost use Rattle.template_compiler_statements.specs.Grammar.{Around, IsStatement};
 ghost use Rattle.template_compiler_tokens.specs.Token.{Token};
@@ -16,13 +16,4 @@ ghost use Rattle.template_tree_places.specs.Places.{span_at};
 pub fn stands_whole()
     ensures { (spans : List Span) (d : ℕ) (around : Around) (ts us : List Token) (s : Statement) →
         (read : IsStatement d around ts s us) → span_at (statement_places spans read) ≡ stretch spans ts us }
-{}
-
-/// A law, as the contract of a function that does nothing: a token that is passed is the last one, and what it is alone stands
-/// where it stood as the next one, if there is a span for each token that is left.
-pub fn stands_alone()
-    ensures last { (spans : List Span) (t : Token) (ts : List Token) → token_count (t ∷ ts) ≡ suc (token_count ts) →
-        token_count ts < length spans → last_span spans ts ≡ next_span spans (t ∷ ts) }
-    ensures alone { (spans : List Span) (t : Token) (ts : List Token) → token_count (t ∷ ts) ≡ suc (token_count ts) →
-        token_count ts < length spans → stretch spans (t ∷ ts) ts ≡ next_span spans (t ∷ ts) }
 {}
