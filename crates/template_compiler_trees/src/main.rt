@@ -39,7 +39,7 @@ use crate::expressions::expression;
 use crate::forms::Form;
 use crate::questions::{callee, statement_count};
 use crate::statements::statement;
-use crate::syntax::syntax_of;
+use crate::syntax::set_all;
 use serde_json::{Map, Value as Json};
 use std::alloc::Global;
 use std::io;
@@ -133,8 +133,15 @@ fn text_in<'line>(entries: &'line Map<String, Json>, name: &str) -> Option<&'lin
     }
 }
 
+// What is refused of the syntax comes first.
 fn about_source(alloc: Global, source: &str, entries: &Map<String, Json>, out: &mut Form) {
-    match syntax_of(alloc, entries) {
+    let mut builder = SyntaxConfig::builder(alloc);
+    set_all(&mut builder, entries, out);
+    about_built(alloc, source, builder.build(), out);
+}
+
+fn about_built(alloc: Global, source: &str, syntax: Result<SyntaxConfig, Error>, out: &mut Form) {
+    match syntax {
         Ok(syntax) => about_template(alloc, source, syntax, Asked::Form, out),
         Err(error) => out.refuse(error.kind()),
     }
@@ -188,53 +195,50 @@ fn about_expr(expr: &Expr<'_>, ask: Option<&str>, out: &mut Form) {
     }
 }
 
+// The text is written as a form is, which keeps what is refused.
 fn about_texts(alloc: Global, entries: &Map<String, Json>, out: &mut Form) {
-    match repeated(alloc, entries.get("repeat")) {
-        Ok(source) => {
-            about_template(
-                alloc,
-                source.as_str(),
-                SyntaxConfig::new(),
-                Asked::Count,
-                out,
-            )
-        }
-        Err(error) => out.refuse(error.kind()),
+    let mut source = Form::new(alloc);
+    push_repeated(entries.get("repeat"), &mut source);
+    match source.refused {
+        None => about_count(alloc, source.text.as_str(), out),
+        Some(kind) => out.refuse(kind),
     }
 }
 
-// The text that repeats each text so many times.
-fn repeated(alloc: Global, parts: Option<&Json>) -> Result<String, Error> {
-    let mut source = String::new(alloc);
+fn about_count(alloc: Global, source: &str, out: &mut Form) {
+    about_template(alloc, source, SyntaxConfig::new(), Asked::Count, out);
+}
+
+// Each text so many times.
+fn push_repeated(parts: Option<&Json>, source: &mut Form) {
     match parts {
-        Some(Json::Array(parts)) => push_parts(parts.as_slice(), &mut source)?,
-        _ => unreadable()?,
+        Some(Json::Array(parts)) => push_parts(parts.as_slice(), source),
+        _ => source.refuse(ErrorKind::SyntaxError),
     }
-    Ok(source)
 }
 
-fn push_parts(parts: &[Json], source: &mut String) -> Result<(), Error> {
+fn push_parts(parts: &[Json], source: &mut Form) {
     for part in parts {
         match part {
-            Json::Array(pair) => push_pair(pair.as_slice(), source)?,
-            _ => unreadable()?,
+            Json::Array(pair) => push_pair(pair.as_slice(), source),
+            _ => source.refuse(ErrorKind::SyntaxError),
         }
     }
-    Ok(())
 }
 
-fn push_pair(pair: &[Json], source: &mut String) -> Result<(), Error> {
+fn push_pair(pair: &[Json], source: &mut Form) {
     match pair {
-        [Json::String(text), times] => {
-            for _ in 0..times.as_u64().unwrap_or(0) {
-                source.push_str(text.as_str())?;
-            }
-            Ok(())
-        }
-        _ => unreadable(),
+        [Json::String(text), times] => push_times(
+            text.as_str(),
+            times.as_u64().unwrap_or(0),
+            source,
+        ),
+        _ => source.refuse(ErrorKind::SyntaxError),
     }
 }
 
-fn unreadable() -> Result<(), Error> {
-    Err(Error::new(ErrorKind::SyntaxError))
+fn push_times(text: &str, times: u64, source: &mut Form) {
+    for _ in 0..times {
+        source.push_str(text);
+    }
 }

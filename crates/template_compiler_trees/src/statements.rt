@@ -2,8 +2,9 @@
 use crate::expressions::{optional, part};
 use crate::forms::{Form, open, word, word_if};
 use crate::leaves::{assignments, leaf, open_call, parts};
+use template_tree::Expr;
 use template_tree_statements::{
-    AutoEscape, Block, CallBlock, FilterBlock, ForLoop, IfCond, Macro, SetBlock, Stmt, WithBlock,
+    Block, CallBlock, ForLoop, IfCond, Macro, SetBlock, Stmt, WithBlock,
 };
 use template_values_errors::ErrorKind;
 
@@ -36,8 +37,20 @@ fn node(stmt: &Stmt, out: &mut Form, left: u32) {
 fn with_head(stmt: &Stmt, out: &mut Form, left: u32) {
     match stmt {
         Stmt::SetBlock(n) => set_block(&n.node, out, left),
-        Stmt::AutoEscape(n) => auto_escape(&n.node, out, left),
-        Stmt::FilterBlock(n) => filter_block(&n.node, out, left),
+        Stmt::AutoEscape(n) => with_part(
+            "autoescape",
+            &n.node.enabled,
+            n.node.body.as_slice(),
+            out,
+            left,
+        ),
+        Stmt::FilterBlock(n) => with_part(
+            "filter-block",
+            &n.node.filter,
+            n.node.body.as_slice(),
+            out,
+            left,
+        ),
         Stmt::Block(n) => block(&n.node, out, left),
         _ => leaf(stmt, out, left),
     }
@@ -104,18 +117,12 @@ fn set_block(set_block: &SetBlock, out: &mut Form, left: u32) {
     last_body(set_block.body.as_slice(), out, left);
 }
 
+// A head with one part and a body.
 #[cycle(statements)]
-fn auto_escape(auto_escape: &AutoEscape, out: &mut Form, left: u32) {
-    open("autoescape", out);
-    part(&auto_escape.enabled, out, left);
-    last_body(auto_escape.body.as_slice(), out, left);
-}
-
-#[cycle(statements)]
-fn filter_block(filter_block: &FilterBlock, out: &mut Form, left: u32) {
-    open("filter-block", out);
-    part(&filter_block.filter, out, left);
-    last_body(filter_block.body.as_slice(), out, left);
+fn with_part(head: &str, expr: &Expr, body: &[Stmt], out: &mut Form, left: u32) {
+    open(head, out);
+    part(expr, out, left);
+    last_body(body, out, left);
 }
 
 #[cycle(statements)]

@@ -1,26 +1,22 @@
 //! A syntax from the entries of an object.
-use crate::unreadable;
+use crate::forms::Form;
 use serde_json::{Map, Value as Json};
-use std::alloc::Global;
-use template_compiler_syntax::{SyntaxConfig, SyntaxConfigBuilder};
-use template_values_errors::Error;
+use template_compiler_syntax::SyntaxConfigBuilder;
+use template_values_errors::{Error, ErrorKind};
 
-/// The default syntax with what the entries change, `source` and `places` aside. An entry of another name or kind
-/// is a SyntaxError.
-pub(crate) fn syntax_of(alloc: Global, entries: &Map<String, Json>) -> Result<SyntaxConfig, Error> {
-    let mut builder = SyntaxConfig::builder(alloc);
-    set_all(&mut builder, entries)?;
-    builder.build()
-}
-
-fn set_all(builder: &mut SyntaxConfigBuilder, entries: &Map<String, Json>) -> Result<(), Error> {
+/// Changes the default syntax by the entries, `source` and `places` aside. An entry of another name or kind is refused as
+/// a SyntaxError.
+pub(crate) fn set_all(
+    builder: &mut SyntaxConfigBuilder,
+    entries: &Map<String, Json>,
+    out: &mut Form,
+) {
     for (name, value) in entries {
-        match name.as_str() {
-            "source" | "places" => {}
-            name => set(builder, name, value)?,
+        if !["source", "places"].contains(&name.as_str()) {
+            let set = set(builder, name.as_str(), value);
+            out.keep(set);
         }
     }
-    Ok(())
 }
 
 fn set(builder: &mut SyntaxConfigBuilder, name: &str, value: &Json) -> Result<(), Error> {
@@ -71,4 +67,8 @@ fn set_option(builder: &mut SyntaxConfigBuilder, name: &str, yes: bool) -> Resul
         _ => return unreadable(),
     }
     Ok(())
+}
+
+fn unreadable() -> Result<(), Error> {
+    Err(Error::new(ErrorKind::SyntaxError))
 }

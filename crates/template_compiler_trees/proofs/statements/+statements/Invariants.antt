@@ -31,11 +31,8 @@ decreases-with_block l = 10 * l.left + 4
 abbrev pub decreases-set_block : goal.decreases-set_block
 decreases-set_block l = 10 * l.left + 4
 
-abbrev pub decreases-auto_escape : goal.decreases-auto_escape
-decreases-auto_escape l = 10 * l.left + 4
-
-abbrev pub decreases-filter_block : goal.decreases-filter_block
-decreases-filter_block l = 10 * l.left + 4
+abbrev pub decreases-with_part : goal.decreases-with_part
+decreases-with_part l = 10 * l.left + 4
 
 abbrev pub decreases-block : goal.decreases-block
 decreases-block l = 10 * l.left + 4
