@@ -35,11 +35,10 @@ fn generate<'line>(
     out: &mut String,
 ) -> Result<(), Error> {
     let mut generator = CodeGenerator::new(alloc, NAME, "");
-    make_all(&mut generator, tree, calls, out)?;
-    if generator.is_closed() {
-        write_generated(&generator.finish(), places, out)
-    } else {
-        unreadable()
+    match make_all(&mut generator, tree, calls, out) {
+        Ok(()) if generator.is_closed() => write_generated(&generator.finish(), places, out),
+        Ok(()) => unreadable(),
+        Err(error) => Err(error),
     }
 }
 
@@ -142,23 +141,21 @@ fn make_of_text<'line>(
     call: &str,
     name: &'line str,
 ) -> Result<(), Error> {
-    let variable = Expr::variable(name, Span::default());
     match call {
         "lookup" => add(generator, Instruction::Lookup(CowStr::Borrowed(name))),
-        "expression" => make_expression(generator, &variable),
-        "target" => generator.compile_assignment(&variable),
-        _ => unreadable(),
+        _ => make_of_variable(generator, call, &Expr::variable(name, Span::default())),
     }
 }
 
-fn make_expression<'line>(
+fn make_of_variable<'line>(
     generator: &mut CodeGenerator<'line>,
-    expr: &Expr<'line>,
+    call: &str,
+    variable: &Expr<'line>,
 ) -> Result<(), Error> {
-    if is_runnable_expr(expr) {
-        generator.compile_expr(expr)
-    } else {
-        unreadable()
+    match call {
+        "expression" if is_runnable_expr(variable) => generator.compile_expr(variable),
+        "target" => generator.compile_assignment(variable),
+        _ => unreadable(),
     }
 }
 

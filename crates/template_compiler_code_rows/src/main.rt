@@ -44,15 +44,21 @@ use template_values_errors::{Error, ErrorKind};
 const NAME: &str = "<string>";
 
 fn main(rt: HostRuntime) -> io::Result<()> {
-    let alloc = rt.alloc();
-    for line in rt.lines(alloc) {
-        let line = line?;
-        match answer(alloc, line.as_str()) {
-            Ok(text) => println!(rt; "{line}{text}")?,
-            Err(error) => println!(rt; "{line} = {}", error.kind().name())?,
-        }
+    for line in rt.lines(rt.alloc()) {
+        write_line(&rt, line?.as_str())?;
     }
     Ok(())
+}
+
+fn write_line(rt: &HostRuntime, line: &str) -> io::Result<()> {
+    write_answer(rt, line, &answer(rt.alloc(), line))
+}
+
+fn write_answer(rt: &HostRuntime, line: &str, answer: &Result<String, Error>) -> io::Result<()> {
+    match answer {
+        Ok(text) => println!(rt; "{line}{text}"),
+        Err(error) => println!(rt; "{line} = {}", error.kind().name()),
+    }
 }
 
 // What stands behind a line: nothing behind a heading, else what comes of the JSON in it.
