@@ -1,5 +1,4 @@
 //! Instructions that are listed one by one, and where they come from.
-use crate::forms::Form;
 use crate::unreadable;
 use serde_json::Value as Json;
 use std::alloc::Global;
@@ -12,7 +11,7 @@ pub(crate) fn listed(
     alloc: Global,
     steps: &[Json],
     places: &[Json],
-    out: &mut Form,
+    out: &mut String,
 ) -> Result<(), Error> {
     match copied(alloc, steps) {
         Ok(code) => write_places(&code, places, out),
@@ -52,25 +51,29 @@ pub(crate) fn added(place: Result<u32, Error>) -> Result<(), Error> {
     }
 }
 
-// A line. A number that is none is line 0.
-fn line_in(number: &Json) -> u16 {
+/// A line. A number that is none is line 0.
+pub(crate) fn line_in(number: &Json) -> u16 {
     u16::try_from(number.as_u64().unwrap_or(0)).unwrap_or(0)
 }
 
-// A span that starts in a line, and has nothing else.
-fn span_from(line: u16) -> Span {
+/// A span that starts in a line, and has nothing else.
+pub(crate) fn span_from(line: u16) -> Span {
     Span {
         start_line: line,
         ..Span::default()
     }
 }
 
-// The line and the span of the instructions at some places.
-fn write_places(code: &Instructions<'_>, places: &[Json], out: &mut Form) -> Result<(), Error> {
+/// The line and the span of the instructions at some places.
+pub(crate) fn write_places(
+    code: &Instructions<'_>,
+    places: &[Json],
+    out: &mut String,
+) -> Result<(), Error> {
     for place in places {
         let place = u32::from(line_in(place));
         let (line, span) = (code.get_line(place), code.get_span(place));
-        write!(out.text, "{line:?} {span:?};")?;
+        write!(out, "{line:?} {span:?};")?;
     }
     Ok(())
 }

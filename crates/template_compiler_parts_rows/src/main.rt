@@ -1,8 +1,9 @@
-//! What stands below the parser, as rows. Each line of standard input is a JSON object; it is written as it stands, then
-//! ` = `, then what comes of it, or the kind of the refusal. A line that begins with `#` is a heading.
+//! What stands below the parser, and what is made of trees, as rows. Each line of standard input is a JSON object; it is
+//! written as it stands, then ` = `, then what comes of it, or the kind of the refusal. A line that begins with `#` is a
+//! heading.
 //!
-//! An object with `source` and `ask` is a source under the default syntax with what the entries of a syntax change. Its
-//! `ask` is one of these:
+//! An object with `source` has an entry `ask`. With one of these the source is under the default syntax with what the
+//! entries of a syntax change:
 //!
 //! - `tokens`: its tokens, as `Debug` shows them, each with its place where there is an entry `places`, and ` ! Kind`
 //!   where none stands; `stream`: the same, as a stream shows them before it passes them, behind the name and the text
@@ -10,8 +11,23 @@
 //! - `syntax`: what the syntax has: the delimiters of blocks, prints and comments, the prefixes of line statements and
 //!   line comments, and the answers to `trim_blocks`, `lstrip_blocks` and `keep_trailing_newline`.
 //!
-//! An object with `expression` is the text of an expression, whose `calls` the stream of its tokens answers in turn, with
-//! a `;` behind each answer. A call is one of these, or an array of a word, which it passes where that stands next:
+//! With one of these it is a template under the default syntax:
+//!
+//! - `code`: the template's instructions, `?` for one that has no word here; `owned`: the same of a template with texts of
+//!   its own, behind its name and its source;
+//! - `runs`: where its instructions come from, as `(line count "text")` for each run of them that come from one place;
+//! - `references`: the names that the instructions up to each one refer to, and up to one past the last, the latest
+//!   first, as `(index name ..)`;
+//! - `runnable`: whether all of its constructs run; `names`: the names that it uses; `nested`: the same, each with the
+//!   dotted names that stand directly behind it;
+//! - `generated`, with two more entries, `calls` of a generator and `places`: how many instructions come of the calls, the
+//!   hint of room for them and where those at the places come from, each with a `;` behind it, and then the instructions.
+//!   A call is its name, or an array of its name and a text, a line, or the line that a span starts in; `template`
+//!   compiles the source.
+//!
+//! An object with `expression` is the text of an expression. Where its `ask` is `value`, what it prints is told, if it is
+//! constant, else `-`. Else the stream of its tokens answers its `calls` in turn, with a `;` behind each answer. A call
+//! is one of these, or an array of a word, which it passes where that stands next:
 //!
 //! - `(`, `)`, `factor`, `term`, `dotted`, `keyword`: passes what it says, where that stands next; `text`: the same,
 //!   behind what it passed;
@@ -30,23 +46,30 @@
 //! - `many` and `pairs`, two counts: how many numbers lie on one another, from 0 on, and how many values or pairs of them
 //!   are taken: what was taken, the lowest first, then the number on top, if there is one, each with a `;` behind it;
 //! - `stream`, an array of instructions, words or words with the place to which they lead: of what it is a stream, or
-//!   why it is none, and how many instructions come back.
+//!   why it is none, and how many instructions come back;
+//! - `names`, two sources: the names that they use, put into one set;
+//! - `standing`, two sources that are put under one name: what stands there then, and what after it is removed.
 //!
-//! A place is `@line:column:offset-line:column:offset`. The stored run is the table of their cases, with answers that
-//! were written by hand. To add a case, write its line into `stdout`, and what stands before the last ` = ` into
+//! A place is `@line:column:offset-line:column:offset`; texts are as `Debug` shows them. The stored run is the table of
+//! their cases, with answers that were written by hand. To add a case, write its line into `stdout`, and what stands before the last ` = ` into
 //! `stdin`.
 #![tactic(auto)]
 
 mod calls;
+mod code;
 mod forms;
+mod generated;
 mod listed;
 mod made;
 mod operands;
+mod runs;
 mod streams;
 mod syntax;
 mod tokens;
+mod trees;
 
 use crate::calls::answers_of_stream;
+use crate::code::{about_code, standing};
 use crate::forms::Form;
 use crate::listed::listed;
 use crate::made::{chain, write_description};
@@ -54,6 +77,7 @@ use crate::operands::about_operands;
 use crate::streams::verified;
 use crate::syntax::{parts_of_syntax, syntax_of};
 use crate::tokens::{first_token, place_behind, streamed_tokens, tokens_of};
+use crate::trees::{about_template, names_of_both, value};
 use serde_json::{Map, Value as Json};
 use std::alloc::Global;
 use std::io;
@@ -121,22 +145,22 @@ fn about_json(alloc: Global, json: &Json, out: &mut Form) -> Result<(), Error> {
 
 fn about_entries(alloc: Global, entries: &Map<String, Json>, out: &mut Form) -> Result<(), Error> {
     out.with_places = entries.get("places").is_some();
+    let ask = text_in(entries, "ask").unwrap_or("");
     match text_in(entries, "source") {
-        Some(source) => {
-            let ask = text_in(entries, "ask").unwrap_or("");
-            about_source(alloc, source, syntax_of(alloc, entries)?, ask, out)
-        }
-        None => about_expression(alloc, entries, out),
+        Some(source) => about_source(alloc, source, ask, entries, out),
+        None => about_expression(alloc, entries, ask, out),
     }
 }
 
-// The calls of an expression's stream, where there is an expression.
+// What is asked of an expression, where there is one: its value, or the calls of its stream.
 fn about_expression(
     alloc: Global,
     entries: &Map<String, Json>,
+    ask: &str,
     out: &mut Form,
 ) -> Result<(), Error> {
     match (text_in(entries, "expression"), entries.get("calls")) {
+        (Some(source), None) if ask == "value" => value(alloc, source, &mut out.text),
         (Some(source), Some(Json::Array(calls))) => {
             answers_of_stream(alloc, source, calls.as_slice(), out)
         }
@@ -151,7 +175,23 @@ fn text_in<'line>(entries: &'line Map<String, Json>, name: &str) -> Option<&'lin
     }
 }
 
-fn about_source(
+fn about_source<'line>(
+    alloc: Global,
+    source: &'line str,
+    ask: &str,
+    entries: &'line Map<String, Json>,
+    out: &mut Form,
+) -> Result<(), Error> {
+    match ask {
+        "syntax" | "tokens" | "stream" => {
+            about_tokens(alloc, source, syntax_of(alloc, entries)?, ask, out)
+        }
+        "code" | "owned" | "runs" | "references" => about_code(alloc, source, ask, &mut out.text),
+        _ => about_template(alloc, source, ask, entries, &mut out.text),
+    }
+}
+
+fn about_tokens(
     alloc: Global,
     source: &str,
     syntax: SyntaxConfig,
@@ -161,8 +201,7 @@ fn about_source(
     match ask {
         "syntax" => parts_of_syntax(alloc, &syntax, out),
         "tokens" => tokens_of(alloc, source, syntax, out),
-        "stream" => streamed_tokens(alloc, source, syntax, out),
-        _ => unreadable(),
+        _ => streamed_tokens(alloc, source, syntax, out),
     }
 }
 
@@ -193,7 +232,7 @@ fn about_parts(alloc: Global, name: &str, parts: &[Json], out: &mut Form) -> Res
             about_texts(alloc, name, first.as_str(), second.as_str(), out)
         }
         [Json::Array(steps), Json::Array(places)] if name == "listed" => {
-            listed(alloc, steps.as_slice(), places.as_slice(), out)
+            listed(alloc, steps.as_slice(), places.as_slice(), &mut out.text)
         }
         _ => unreadable(),
     }
@@ -210,6 +249,8 @@ fn about_texts(
         "places" => place_behind(first, second, out),
         "difference" => write_description(difference(alloc, first, second), out),
         "one_entry" => write_description(one_entry(alloc, first, second), out),
+        "names" => names_of_both(alloc, first, second, &mut out.text),
+        "standing" => standing(alloc, first, second, &mut out.text),
         _ => unreadable(),
     }
 }

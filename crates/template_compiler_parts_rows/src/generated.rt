@@ -1,5 +1,6 @@
 //! Instructions that calls of a generator make, one behind the other.
 use crate::code::write_instructions;
+use crate::listed::{added, line_in, span_from, write_places};
 use crate::{NAME, unreadable};
 use serde_json::{Map, Value as Json};
 use std::alloc::Global;
@@ -35,11 +36,10 @@ fn generate<'line>(
     out: &mut String,
 ) -> Result<(), Error> {
     let mut generator = CodeGenerator::new(alloc, NAME, "");
-    make_all(&mut generator, tree, calls, out)?;
-    if generator.is_closed() {
-        write_generated(&generator.finish(), places, out)
-    } else {
-        unreadable()
+    match make_all(&mut generator, tree, calls, out) {
+        Ok(()) if generator.is_closed() => write_generated(&generator.finish(), places, out),
+        Ok(()) => unreadable(),
+        Err(error) => Err(error),
     }
 }
 
@@ -80,9 +80,9 @@ fn make_tree<'line>(generator: &mut CodeGenerator<'line>, tree: &Stmt<'line>) ->
 
 fn make_plain(generator: &mut CodeGenerator<'_>, name: &str) -> Result<(), Error> {
     match name {
-        "emit" => add(generator, Instruction::Emit),
-        "with" => add(generator, Instruction::PushWith),
-        "end_frame" => add(generator, Instruction::PopFrame),
+        "emit" => added(generator.add(Instruction::Emit)),
+        "with" => added(generator.add(Instruction::PushWith)),
+        "end_frame" => added(generator.add(Instruction::PopFrame)),
         "if" => generator.start_if(),
         "loop" => generator.start_for_loop(true, false),
         "choice" => generator.start_sc_bool(),
@@ -91,16 +91,6 @@ fn make_plain(generator: &mut CodeGenerator<'_>, name: &str) -> Result<(), Error
             Ok(())
         }
         _ => make_inside(generator, name),
-    }
-}
-
-fn add<'line>(
-    generator: &mut CodeGenerator<'line>,
-    instruction: Instruction<'line>,
-) -> Result<(), Error> {
-    match generator.add(instruction) {
-        Ok(_place) => Ok(()),
-        Err(error) => Err(error),
     }
 }
 
@@ -142,23 +132,21 @@ fn make_of_text<'line>(
     call: &str,
     name: &'line str,
 ) -> Result<(), Error> {
-    let variable = Expr::variable(name, Span::default());
     match call {
-        "lookup" => add(generator, Instruction::Lookup(CowStr::Borrowed(name))),
-        "expression" => make_expression(generator, &variable),
-        "target" => generator.compile_assignment(&variable),
-        _ => unreadable(),
+        "lookup" => added(generator.add(Instruction::Lookup(CowStr::Borrowed(name)))),
+        _ => make_of_variable(generator, call, &Expr::variable(name, Span::default())),
     }
 }
 
-fn make_expression<'line>(
+fn make_of_variable<'line>(
     generator: &mut CodeGenerator<'line>,
-    expr: &Expr<'line>,
+    call: &str,
+    variable: &Expr<'line>,
 ) -> Result<(), Error> {
-    if is_runnable_expr(expr) {
-        generator.compile_expr(expr)
-    } else {
-        unreadable()
+    match call {
+        "expression" if is_runnable_expr(variable) => generator.compile_expr(variable),
+        "target" => generator.compile_assignment(variable),
+        _ => unreadable(),
     }
 }
 
@@ -168,30 +156,10 @@ fn make_at(generator: &mut CodeGenerator<'_>, name: &str, line: u16) -> Result<(
         "line" => generator.set_line(line),
         "line_of_span" => generator.set_line_from_span(span_from(line)),
         "span" => return generator.push_span(span_from(line)),
-        "emit" => return emit_from(generator, span_from(line)),
+        "emit" => return added(generator.add_with_span(Instruction::Emit, span_from(line))),
         _ => return unreadable(),
     }
     Ok(())
-}
-
-fn emit_from(generator: &mut CodeGenerator<'_>, span: Span) -> Result<(), Error> {
-    match generator.add_with_span(Instruction::Emit, span) {
-        Ok(_place) => Ok(()),
-        Err(error) => Err(error),
-    }
-}
-
-// A number that is no line is line 0.
-fn line_in(number: &Json) -> u16 {
-    u16::try_from(number.as_u64().unwrap_or(0)).unwrap_or(0)
-}
-
-// A span that starts in a line, and has nothing else.
-fn span_from(line: u16) -> Span {
-    Span {
-        start_line: line,
-        ..Span::default()
-    }
 }
 
 fn write_generated(
@@ -201,14 +169,4 @@ fn write_generated(
 ) -> Result<(), Error> {
     write_places(code, places, out)?;
     write_instructions(code, out)
-}
-
-// The line and the span of the instructions at some places.
-fn write_places(code: &Instructions<'_>, places: &[Json], out: &mut String) -> Result<(), Error> {
-    for place in places {
-        let place = u32::from(line_in(place));
-        let (line, span) = (code.get_line(place), code.get_span(place));
-        write!(out, "{line:?} {span:?};")?;
-    }
-    Ok(())
 }

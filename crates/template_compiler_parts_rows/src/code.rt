@@ -154,10 +154,28 @@ pub(crate) fn standing(
     second: &str,
     out: &mut String,
 ) -> Result<(), Error> {
-    let mut templates = CompiledTemplates::new(alloc);
-    put(alloc, &mut templates, first)?;
-    put(alloc, &mut templates, second)?;
-    write_replaced(&mut templates, out)
+    replace(
+        alloc,
+        &mut CompiledTemplates::new(alloc),
+        first,
+        second,
+        out,
+    )
+}
+
+fn replace<'source>(
+    alloc: Global,
+    templates: &mut CompiledTemplates<'source>,
+    first: &'source str,
+    second: &'source str,
+    out: &mut String,
+) -> Result<(), Error> {
+    put(alloc, templates, first)?;
+    put(alloc, templates, second)?;
+    write_standing(templates, out)?;
+    templates.remove(NAME);
+    out.push(' ')?;
+    write_standing(templates, out)
 }
 
 fn put<'source>(
@@ -169,13 +187,6 @@ fn put<'source>(
         Ok(template) => templates.insert(alloc, template),
         Err(error) => Err(error),
     }
-}
-
-fn write_replaced(templates: &mut CompiledTemplates<'_>, out: &mut String) -> Result<(), Error> {
-    write_standing(templates, out)?;
-    templates.remove(NAME);
-    out.push(' ')?;
-    write_standing(templates, out)
 }
 
 fn write_standing(templates: &CompiledTemplates<'_>, out: &mut String) -> Result<(), Error> {
