@@ -24,45 +24,45 @@ blocks_of body = blocks_among (statements_in body)
 pub template_blocks : (n : Spanned TemplateNode) → blocks_in (statement_of (Template n)) ≡ blocks_of n.node.children.items
 template_blocks n = search (rules, the_lemmas, statements_row)
 
-pub for_blocks : (n : Spanned (Box ForLoopNode Global)) → blocks_in (statement_of (ForLoop n))
-    ≡ blocks_of n.node.value.body.items ++ blocks_of n.node.value.else_body.items
+pub for_blocks : (n : Box (Spanned ForLoopNode) Global) → blocks_in (statement_of (ForLoop n))
+    ≡ blocks_of n.value.node.body.items ++ blocks_of n.value.node.else_body.items
 for_blocks n = search (rules, the_lemmas, statements_row)
 
-pub if_blocks : (n : Spanned (Box IfCondNode Global)) → blocks_in (statement_of (IfCond n))
-    ≡ blocks_of n.node.value.true_body.items ++ blocks_of n.node.value.false_body.items
+pub if_blocks : (n : Box (Spanned IfCondNode) Global) → blocks_in (statement_of (IfCond n))
+    ≡ blocks_of n.value.node.true_body.items ++ blocks_of n.value.node.false_body.items
 if_blocks n = search (rules, the_lemmas, statements_row)
 
-pub with_blocks : (n : Spanned (Box WithBlockNode Global)) → blocks_in (statement_of (WithBlock n)) ≡ blocks_of n.node.value.body.items
+pub with_blocks : (n : Box (Spanned WithBlockNode) Global) → blocks_in (statement_of (WithBlock n)) ≡ blocks_of n.value.node.body.items
 with_blocks n = search (rules, the_lemmas, statements_row)
 
-pub set_blocks : (n : Spanned (Box SetBlockNode Global)) → blocks_in (statement_of (SetBlock n)) ≡ blocks_of n.node.value.body.items
+pub set_blocks : (n : Box (Spanned SetBlockNode) Global) → blocks_in (statement_of (SetBlock n)) ≡ blocks_of n.value.node.body.items
 set_blocks n = search (rules, the_lemmas, statements_row)
 
-pub escape_blocks : (n : Spanned (Box AutoEscapeNode Global)) → blocks_in (statement_of (AutoEscape n)) ≡ blocks_of n.node.value.body.items
+pub escape_blocks : (n : Box (Spanned AutoEscapeNode) Global) → blocks_in (statement_of (AutoEscape n)) ≡ blocks_of n.value.node.body.items
 escape_blocks n = search (rules, the_lemmas, statements_row)
 
-pub filter_blocks : (n : Spanned (Box FilterBlockNode Global)) → blocks_in (statement_of (FilterBlock n)) ≡ blocks_of n.node.value.body.items
+pub filter_blocks : (n : Box (Spanned FilterBlockNode) Global) → blocks_in (statement_of (FilterBlock n)) ≡ blocks_of n.value.node.body.items
 filter_blocks n = search (rules, the_lemmas, statements_row)
 
-pub block_blocks : (n : Spanned (Box BlockNode Global)) → blocks_in (statement_of (Block n))
-    ≡ (n.node.value.name.now ∷ []) ++ blocks_of n.node.value.body.items
+pub block_blocks : (n : Box (Spanned BlockNode) Global) → blocks_in (statement_of (Block n))
+    ≡ (n.value.node.name.now ∷ []) ++ blocks_of n.value.node.body.items
 block_blocks n = search (rules, the_lemmas, statements_row)
 
-pub macro_blocks : (n : Spanned (Box MacroNode Global)) → blocks_in (statement_of (Macro n)) ≡ blocks_of n.node.value.body.items
+pub macro_blocks : (n : Box (Spanned MacroNode) Global) → blocks_in (statement_of (Macro n)) ≡ blocks_of n.value.node.body.items
 macro_blocks n = search (rules, the_lemmas, statements_row)
 
-with_value : Spanned (Box CallBlockNode Global) → CallBlockNode → Spanned (Box CallBlockNode Global)
-with_value n v = record { node = record { ptr = n.node.ptr; alloc = n.node.alloc; value = v }; span = n.span }
+with_value : Box (Spanned CallBlockNode) Global → CallBlockNode → Box (Spanned CallBlockNode) Global
+with_value n v = record { ptr = n.ptr; alloc = n.alloc; value = record { node = v; span = n.value.span } }
 
-call_by : (n : Spanned (Box CallBlockNode Global)) (v : CallBlockNode) → blocks_in (statement_of (CallBlock (with_value n v)))
-    ≡ blocks_of (out-CallBlock v).macro_decl.node.value.body.items
+call_by : (n : Box (Spanned CallBlockNode) Global) (v : CallBlockNode) → blocks_in (statement_of (CallBlock (with_value n v)))
+    ≡ blocks_of (out-CallBlock v).macro_decl.value.node.body.items
 unfolding with_value out-CallBlock
 call_by n (called call q name args defaults shape body inner) = search (rules, the_lemmas, statements_row)
 
-pub call_blocks : (n : Spanned (Box CallBlockNode Global)) → blocks_in (statement_of (CallBlock n))
-    ≡ blocks_of (out-CallBlock n.node.value).macro_decl.node.value.body.items
+pub call_blocks : (n : Box (Spanned CallBlockNode) Global) → blocks_in (statement_of (CallBlock n))
+    ≡ blocks_of (out-CallBlock n.value.node).macro_decl.value.node.body.items
 unfolding with_value
-call_blocks n = call_by n n.node.value
+call_blocks n = call_by n n.value.node
 
 -- what is still to be taken: a statement's parts, the parts behind one that is taken, and a body to its end
 pub parts : {bs : List (List ℕ)} (ns : List (List ℕ)) {s x : Stmt} {all : List (List ℕ)} → s ≡ x → blocks_in (statement_of x) ≡ bs →
@@ -92,10 +92,10 @@ only_blocks [] s one read = absurd (omega (arith, one))
 only_blocks (x ∷ []) s one read = ap (λ (y : Stmt). blocks_in (statement_of y)) read ∙ sym (append-nil (blocks_in (statement_of x)))
 only_blocks (x ∷ y ∷ body) s one read = absurd (omega (arith, one))
 
-else_below : (n : Spanned (Box IfCondNode Global)) (i : ℕ) (d : Stmt) → i < length n.node.value.false_body.items
-    → size-Stmt (get_or n.node.value.false_body.items i d) < size-Stmt (IfCond n)
+else_below : (n : Box (Spanned IfCondNode) Global) (i : ℕ) (d : Stmt) → i < length n.value.node.false_body.items
+    → size-Stmt (get_or n.value.node.false_body.items i d) < size-Stmt (IfCond n)
 else_below n i d within = search (rules, the_lemmas)
 
-pub else_smaller : (s : Stmt) (n : Spanned (Box IfCondNode Global)) (i : ℕ) (d : Stmt) → s ≡ IfCond n → i < length n.node.value.false_body.items
-    → size-Stmt (get_or n.node.value.false_body.items i d) ≤ size-Stmt s
+pub else_smaller : (s : Stmt) (n : Box (Spanned IfCondNode) Global) (i : ℕ) (d : Stmt) → s ≡ IfCond n → i < length n.value.node.false_body.items
+    → size-Stmt (get_or n.value.node.false_body.items i d) ≤ size-Stmt s
 else_smaller s n i d node within = rw node (let less = else_below n i d within in omega (arith, less))

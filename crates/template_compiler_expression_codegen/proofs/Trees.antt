@@ -14,104 +14,104 @@ use Rattle.template_tree.specs.declared.expressions.Tuple.{Tuple as TupleNode}
 use Rattle.template_tree.proofs.Rows.{expressions_row, links_row}
 use Rattle.template_compiler_expression_codegen.proofs.Sizes.{items_below, items_deep, links_below, links_deep}
 
-pub slice_tree : (n : Spanned (Box SliceNode Global)) → expression_of (Slice n)
-    ≡ slice (expression_of n.node.value.expr) (optional_in n.node.value.start) (optional_in n.node.value.stop) (optional_in n.node.value.step)
+pub slice_tree : (n : Box (Spanned SliceNode) Global) → expression_of (Slice n)
+    ≡ slice (expression_of n.value.node.expr) (optional_in n.value.node.start) (optional_in n.value.node.stop) (optional_in n.value.node.step)
 slice_tree n = search (rules, the_lemmas)
 
-pub choice_tree : (n : Spanned (Box IfExprNode Global)) → expression_of (IfExpr n)
-    ≡ conditional (expression_of n.node.value.test_expr) (expression_of n.node.value.true_expr) (optional_in n.node.value.false_expr)
+pub choice_tree : (n : Box (Spanned IfExprNode) Global) → expression_of (IfExpr n)
+    ≡ conditional (expression_of n.value.node.test_expr) (expression_of n.value.node.true_expr) (optional_in n.value.node.false_expr)
 choice_tree n = search (rules, the_lemmas)
 
-pub list_tree : (n : Spanned (Box ListNode Global)) → expression_of (List n) ≡ list_literal (expressions_in n.node.value.items.items)
+pub list_tree : (n : Box (Spanned ListNode) Global) → expression_of (List n) ≡ list_literal (expressions_in n.value.node.items.items)
 list_tree n = search (rules, the_lemmas, expressions_row)
 
-pub tuple_tree : (n : Spanned (Box TupleNode Global)) → expression_of (Tuple n) ≡ tuple_literal (expressions_in n.node.value.items.items)
+pub tuple_tree : (n : Box (Spanned TupleNode) Global) → expression_of (Tuple n) ≡ tuple_literal (expressions_in n.value.node.items.items)
 tuple_tree n = search (rules, the_lemmas, expressions_row)
 
-pub map_tree : (n : Spanned (Box MapNode Global)) → expression_of (Map n)
-    ≡ map_literal (expressions_in n.node.value.keys.items) (expressions_in n.node.value.values.items)
+pub map_tree : (n : Box (Spanned MapNode) Global) → expression_of (Map n)
+    ≡ map_literal (expressions_in n.value.node.keys.items) (expressions_in n.value.node.values.items)
 map_tree n = search (rules, the_lemmas, expressions_row)
 
 pub chain_tree : (c : Compare) → chain_of c ≡ chain (expression_of (out-Compare c).expr) (links_in (out-Compare c).ops.items)
 chain_tree (compared expr shape ops) = search (rules, the_lemmas, links_row)
 
 -- parts are smaller than the node
-list_smaller : (n : Spanned (Box ListNode Global)) (i : ℕ) (d : Expr) → i < length n.node.value.items.items
-    → size-Expr (get_or n.node.value.items.items i d) < size-Expr (List n)
+list_smaller : (n : Box (Spanned ListNode) Global) (i : ℕ) (d : Expr) → i < length n.value.node.items.items
+    → size-Expr (get_or n.value.node.items.items i d) < size-Expr (List n)
 list_smaller n i d h = search (rules, the_lemmas)
 
-list_positive : (n : Spanned (Box ListNode Global)) → 0 < size-Expr (List n)
+list_positive : (n : Box (Spanned ListNode) Global) → 0 < size-Expr (List n)
 list_positive n = search (rules, the_lemmas)
 
-tuple_smaller : (n : Spanned (Box TupleNode Global)) (i : ℕ) (d : Expr) → i < length n.node.value.items.items
-    → size-Expr (get_or n.node.value.items.items i d) < size-Expr (Tuple n)
+tuple_smaller : (n : Box (Spanned TupleNode) Global) (i : ℕ) (d : Expr) → i < length n.value.node.items.items
+    → size-Expr (get_or n.value.node.items.items i d) < size-Expr (Tuple n)
 tuple_smaller n i d h = search (rules, the_lemmas)
 
-tuple_positive : (n : Spanned (Box TupleNode Global)) → 0 < size-Expr (Tuple n)
+tuple_positive : (n : Box (Spanned TupleNode) Global) → 0 < size-Expr (Tuple n)
 tuple_positive n = search (rules, the_lemmas)
 
-key_smaller : (n : Spanned (Box MapNode Global)) (i : ℕ) (d : Expr) → i < length n.node.value.keys.items
-    → size-Expr (get_or n.node.value.keys.items i d) < size-Expr (Map n)
+key_smaller : (n : Box (Spanned MapNode) Global) (i : ℕ) (d : Expr) → i < length n.value.node.keys.items
+    → size-Expr (get_or n.value.node.keys.items i d) < size-Expr (Map n)
 key_smaller n i d h = search (rules, the_lemmas)
 
-value_smaller : (n : Spanned (Box MapNode Global)) (i : ℕ) (d : Expr) → i < length n.node.value.values.items
-    → size-Expr (get_or n.node.value.values.items i d) < size-Expr (Map n)
+value_smaller : (n : Box (Spanned MapNode) Global) (i : ℕ) (d : Expr) → i < length n.value.node.values.items
+    → size-Expr (get_or n.value.node.values.items i d) < size-Expr (Map n)
 value_smaller n i d h = search (rules, the_lemmas)
 
-map_positive : (n : Spanned (Box MapNode Global)) → 0 < size-Expr (Map n)
+map_positive : (n : Box (Spanned MapNode) Global) → 0 < size-Expr (Map n)
 map_positive n = search (rules, the_lemmas)
 
-link_smaller : (n : Spanned (Box Compare Global)) (i : ℕ) (d : CompareOp) → i < length (out-Compare n.node.value).ops.items
-    → size-Expr (get_or (out-Compare n.node.value).ops.items i d).expr < size-Expr (CompareNode n)
+link_smaller : (n : Box (Spanned Compare) Global) (i : ℕ) (d : CompareOp) → i < length (out-Compare n.value.node).ops.items
+    → size-Expr (get_or (out-Compare n.value.node).ops.items i d).expr < size-Expr (CompareNode n)
 link_smaller n i d h = search (rules, the_lemmas)
 
-chain_positive : (n : Spanned (Box Compare Global)) → 0 < size-Expr (CompareNode n)
+chain_positive : (n : Box (Spanned Compare) Global) → 0 < size-Expr (CompareNode n)
 chain_positive n = search (rules, the_lemmas)
 
 -- a list, a tuple, a map, a chain: its tree, and how deep its parts are
-pub list_is : (e : Expr) (n : Spanned (Box ListNode Global)) (items : Items Expr) → e ≡ List n → items ≡ n.node.value.items.items
+pub list_is : (e : Expr) (n : Box (Spanned ListNode) Global) (items : Items Expr) → e ≡ List n → items ≡ n.value.node.items.items
     → expression_of e ≡ list_literal (expressions_in items)
 list_is e n items node read =
     ap (λ (x : Expr). expression_of x) node ∙ list_tree n ∙ ap (λ (es : Items Expr). list_literal (expressions_in es)) (sym read)
 
-pub list_deep : (e : Expr) (n : Spanned (Box ListNode Global)) (items : Items Expr) → e ≡ List n → items ≡ n.node.value.items.items
+pub list_deep : (e : Expr) (n : Box (Spanned ListNode) Global) (items : Items Expr) → e ≡ List n → items ≡ n.value.node.items.items
     → items_deep items < size-Expr e
 list_deep e n items node read =
-    rw (node, read) (items_below n.node.value.items.items (size-Expr (List n)) (list_positive n) (list_smaller n))
+    rw (node, read) (items_below n.value.node.items.items (size-Expr (List n)) (list_positive n) (list_smaller n))
 
-pub tuple_is : (e : Expr) (n : Spanned (Box TupleNode Global)) (items : Items Expr) → e ≡ Tuple n → items ≡ n.node.value.items.items
+pub tuple_is : (e : Expr) (n : Box (Spanned TupleNode) Global) (items : Items Expr) → e ≡ Tuple n → items ≡ n.value.node.items.items
     → expression_of e ≡ tuple_literal (expressions_in items)
 tuple_is e n items node read =
     ap (λ (x : Expr). expression_of x) node ∙ tuple_tree n ∙ ap (λ (es : Items Expr). tuple_literal (expressions_in es)) (sym read)
 
-pub tuple_deep : (e : Expr) (n : Spanned (Box TupleNode Global)) (items : Items Expr) → e ≡ Tuple n → items ≡ n.node.value.items.items
+pub tuple_deep : (e : Expr) (n : Box (Spanned TupleNode) Global) (items : Items Expr) → e ≡ Tuple n → items ≡ n.value.node.items.items
     → items_deep items < size-Expr e
 tuple_deep e n items node read =
-    rw (node, read) (items_below n.node.value.items.items (size-Expr (Tuple n)) (tuple_positive n) (tuple_smaller n))
+    rw (node, read) (items_below n.value.node.items.items (size-Expr (Tuple n)) (tuple_positive n) (tuple_smaller n))
 
-pub map_is : (e : Expr) (n : Spanned (Box MapNode Global)) (keys values : Items Expr) → e ≡ Map n → keys ≡ n.node.value.keys.items
-    → values ≡ n.node.value.values.items → expression_of e ≡ map_literal (expressions_in keys) (expressions_in values)
+pub map_is : (e : Expr) (n : Box (Spanned MapNode) Global) (keys values : Items Expr) → e ≡ Map n → keys ≡ n.value.node.keys.items
+    → values ≡ n.value.node.values.items → expression_of e ≡ map_literal (expressions_in keys) (expressions_in values)
 map_is e n keys values node first second =
     ap (λ (x : Expr). expression_of x) node ∙ map_tree n ∙
-    ap (λ (es : Items Expr). map_literal (expressions_in es) (expressions_in n.node.value.values.items)) (sym first) ∙
+    ap (λ (es : Items Expr). map_literal (expressions_in es) (expressions_in n.value.node.values.items)) (sym first) ∙
     ap (λ (es : Items Expr). map_literal (expressions_in keys) (expressions_in es)) (sym second)
 
-pub keys_deep : (e : Expr) (n : Spanned (Box MapNode Global)) (keys : Items Expr) → e ≡ Map n → keys ≡ n.node.value.keys.items
+pub keys_deep : (e : Expr) (n : Box (Spanned MapNode) Global) (keys : Items Expr) → e ≡ Map n → keys ≡ n.value.node.keys.items
     → items_deep keys < size-Expr e
-keys_deep e n keys node read = rw (node, read) (items_below n.node.value.keys.items (size-Expr (Map n)) (map_positive n) (key_smaller n))
+keys_deep e n keys node read = rw (node, read) (items_below n.value.node.keys.items (size-Expr (Map n)) (map_positive n) (key_smaller n))
 
-pub values_deep : (e : Expr) (n : Spanned (Box MapNode Global)) (values : Items Expr) → e ≡ Map n → values ≡ n.node.value.values.items
+pub values_deep : (e : Expr) (n : Box (Spanned MapNode) Global) (values : Items Expr) → e ≡ Map n → values ≡ n.value.node.values.items
     → items_deep values < size-Expr e
 values_deep e n values node read =
-    rw (node, read) (items_below n.node.value.values.items (size-Expr (Map n)) (map_positive n) (value_smaller n))
+    rw (node, read) (items_below n.value.node.values.items (size-Expr (Map n)) (map_positive n) (value_smaller n))
 
-pub chain_is : (e : Expr) (n : Spanned (Box Compare Global)) (links : Items CompareOp) → e ≡ CompareNode n → links ≡ (out-Compare n.node.value).ops.items
-    → expression_of e ≡ chain (expression_of (out-Compare n.node.value).expr) (links_in links)
+pub chain_is : (e : Expr) (n : Box (Spanned Compare) Global) (links : Items CompareOp) → e ≡ CompareNode n → links ≡ (out-Compare n.value.node).ops.items
+    → expression_of e ≡ chain (expression_of (out-Compare n.value.node).expr) (links_in links)
 chain_is e n links node read =
-    ap (λ (x : Expr). expression_of x) node ∙ chain_tree n.node.value ∙
-    ap (λ (ls : Items CompareOp). chain (expression_of (out-Compare n.node.value).expr) (links_in ls)) (sym read)
+    ap (λ (x : Expr). expression_of x) node ∙ chain_tree n.value.node ∙
+    ap (λ (ls : Items CompareOp). chain (expression_of (out-Compare n.value.node).expr) (links_in ls)) (sym read)
 
-pub chain_deep : (e : Expr) (n : Spanned (Box Compare Global)) (links : Items CompareOp) → e ≡ CompareNode n → links ≡ (out-Compare n.node.value).ops.items
+pub chain_deep : (e : Expr) (n : Box (Spanned Compare) Global) (links : Items CompareOp) → e ≡ CompareNode n → links ≡ (out-Compare n.value.node).ops.items
     → links_deep links < size-Expr e
 chain_deep e n links node read =
-    rw (node, read) (links_below (out-Compare n.node.value).ops.items (size-Expr (CompareNode n)) (chain_positive n) (link_smaller n))
+    rw (node, read) (links_below (out-Compare n.value.node).ops.items (size-Expr (CompareNode n)) (chain_positive n) (link_smaller n))

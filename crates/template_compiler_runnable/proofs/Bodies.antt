@@ -24,42 +24,42 @@ none_of : {A : Type 0} (o : Option A) → is_some o ≡ false → o ≡ None
 none_of None h = refl
 none_of (Some x) h = cc
 
-pub for_runs : (looping : Bool) (s : Stmt) (n : Spanned (Box ForLoopNode Global)) → s ≡ ForLoop n →
-    is_some n.node.value.filter_expr ≡ false → n.node.value.recursive ≡ false → statement_runs looping (statement_of s)
-    ≡ (is_target (expression_of n.node.value.target) && (runs (expression_of n.node.value.iter) &&
-    (statements_run true (statements_in n.node.value.body.items) && statements_run looping (statements_in n.node.value.else_body.items))))
+pub for_runs : (looping : Bool) (s : Stmt) (n : Box (Spanned ForLoopNode) Global) → s ≡ ForLoop n →
+    is_some n.value.node.filter_expr ≡ false → n.value.node.recursive ≡ false → statement_runs looping (statement_of s)
+    ≡ (is_target (expression_of n.value.node.target) && (runs (expression_of n.value.node.iter) &&
+    (statements_run true (statements_in n.value.node.body.items) && statements_run looping (statements_in n.value.node.else_body.items))))
 for_runs looping s n node filter recursive =
-    let none = none_of n.node.value.filter_expr filter in
+    let none = none_of n.value.node.filter_expr filter in
     ap (λ (x : Stmt). statement_runs looping (statement_of x)) node ∙
     ap (λ (t : Statement). statement_runs looping t) (for_tree n) ∙ rw (none, recursive) refl
 
-pub if_runs : (looping : Bool) (s : Stmt) (n : Spanned (Box IfCondNode Global)) → s ≡ IfCond n → statement_runs looping (statement_of s)
-    ≡ (runs (expression_of n.node.value.expr) && (statements_run looping (statements_in n.node.value.true_body.items)
-    && statements_run looping (statements_in n.node.value.false_body.items)))
+pub if_runs : (looping : Bool) (s : Stmt) (n : Box (Spanned IfCondNode) Global) → s ≡ IfCond n → statement_runs looping (statement_of s)
+    ≡ (runs (expression_of n.value.node.expr) && (statements_run looping (statements_in n.value.node.true_body.items)
+    && statements_run looping (statements_in n.value.node.false_body.items)))
 if_runs looping s n node =
     ap (λ (x : Stmt). statement_runs looping (statement_of x)) node ∙ ap (λ (t : Statement). statement_runs looping t) (if_tree n)
 
-pub with_runs : (looping : Bool) (s : Stmt) (n : Spanned (Box WithBlockNode Global)) → s ≡ WithBlock n → statement_runs looping (statement_of s)
-    ≡ (assignments_run (assignments_in n.node.value.assignments.items) && statements_run looping (statements_in n.node.value.body.items))
+pub with_runs : (looping : Bool) (s : Stmt) (n : Box (Spanned WithBlockNode) Global) → s ≡ WithBlock n → statement_runs looping (statement_of s)
+    ≡ (assignments_run (assignments_in n.value.node.assignments.items) && statements_run looping (statements_in n.value.node.body.items))
 with_runs looping s n node =
     ap (λ (x : Stmt). statement_runs looping (statement_of x)) node ∙ ap (λ (t : Statement). statement_runs looping t) (with_tree n)
 
-pub escape_runs : (looping : Bool) (s : Stmt) (n : Spanned (Box AutoEscapeNode Global)) → s ≡ AutoEscape n → statement_runs looping (statement_of s)
-    ≡ (runs (expression_of n.node.value.enabled) && statements_run looping (statements_in n.node.value.body.items))
+pub escape_runs : (looping : Bool) (s : Stmt) (n : Box (Spanned AutoEscapeNode) Global) → s ≡ AutoEscape n → statement_runs looping (statement_of s)
+    ≡ (runs (expression_of n.value.node.enabled) && statements_run looping (statements_in n.value.node.body.items))
 escape_runs looping s n node =
     ap (λ (x : Stmt). statement_runs looping (statement_of x)) node ∙ ap (λ (t : Statement). statement_runs looping t) (escape_tree n)
 
 -- no block of a call runs
-with_value : Spanned (Box CallBlock Global) → CallBlock → Spanned (Box CallBlock Global)
-with_value n v = record { node = record { ptr = n.node.ptr; alloc = n.node.alloc; value = v }; span = n.span }
+with_value : Box (Spanned CallBlock) Global → CallBlock → Box (Spanned CallBlock) Global
+with_value n v = record { ptr = n.ptr; alloc = n.alloc; value = record { node = v; span = n.value.span } }
 
-call_by : (looping : Bool) (n : Spanned (Box CallBlock Global)) (v : CallBlock) → false ≡ statement_runs looping (statement_of (calls (with_value n v)))
+call_by : (looping : Bool) (n : Box (Spanned CallBlock) Global) (v : CallBlock) → false ≡ statement_runs looping (statement_of (calls (with_value n v)))
 unfolding with_value
 call_by looping n (called call q name args defaults shape body inner) = refl
 
-pub no_call : (looping : Bool) (s : Stmt) (n : Spanned (Box CallBlock Global)) → s ≡ calls n → false ≡ statement_runs looping (statement_of s)
+pub no_call : (looping : Bool) (s : Stmt) (n : Box (Spanned CallBlock) Global) → s ≡ calls n → false ≡ statement_runs looping (statement_of s)
 unfolding with_value
-no_call looping s n node = call_by looping n n.node.value ∙ ap (λ (x : Stmt). statement_runs looping (statement_of x)) (sym node)
+no_call looping s n node = call_by looping n n.value.node ∙ ap (λ (x : Stmt). statement_runs looping (statement_of x)) (sym node)
 
 -- a body of one statement
 and_true : (b : Bool) → (b && true) ≡ b
@@ -73,12 +73,12 @@ only_runs looping (x ∷ []) s one read =
     and_true (statement_runs looping (statement_of x)) ∙ ap (λ (y : Stmt). statement_runs looping (statement_of y)) (sym read)
 only_runs looping (x ∷ y ∷ ss) s one read = absurd (omega (arith, one))
 
-else_below : (n : Spanned (Box IfCondNode Global)) (i : ℕ) (d : Stmt) → i < length n.node.value.false_body.items
-    → size-Stmt (get_or n.node.value.false_body.items i d) < size-Stmt (IfCond n)
+else_below : (n : Box (Spanned IfCondNode) Global) (i : ℕ) (d : Stmt) → i < length n.value.node.false_body.items
+    → size-Stmt (get_or n.value.node.false_body.items i d) < size-Stmt (IfCond n)
 else_below n i d within = search (rules, the_lemmas)
 
-pub else_smaller : (s : Stmt) (n : Spanned (Box IfCondNode Global)) (i : ℕ) (d : Stmt) → s ≡ IfCond n → i < length n.node.value.false_body.items
-    → size-Stmt (get_or n.node.value.false_body.items i d) ≤ size-Stmt s
+pub else_smaller : (s : Stmt) (n : Box (Spanned IfCondNode) Global) (i : ℕ) (d : Stmt) → s ≡ IfCond n → i < length n.value.node.false_body.items
+    → size-Stmt (get_or n.value.node.false_body.items i d) ≤ size-Stmt s
 else_smaller s n i d node within = rw node (let less = else_below n i d within in omega (arith, less))
 
 -- a whole template
@@ -92,11 +92,11 @@ whole_runs s n r node is =
 pub no_whole : (s x : Stmt) → s ≡ x → (RunsWhole (statement_of x) → ⊥) → Decides false (RunsWhole (statement_of s))
 no_whole s x is none = (λ h. cc, λ h. absurd (none (subst (λ (y : Stmt). RunsWhole (statement_of y)) is h)))
 
-whole_call_by : (n : Spanned (Box CallBlock Global)) (v : CallBlock) → RunsWhole (statement_of (calls (with_value n v))) → ⊥
+whole_call_by : (n : Box (Spanned CallBlock) Global) (v : CallBlock) → RunsWhole (statement_of (calls (with_value n v))) → ⊥
 unfolding with_value
 whole_call_by n (called call q name args defaults shape body inner) h = h
 
-pub no_whole_call : (s : Stmt) (n : Spanned (Box CallBlock Global)) → s ≡ calls n → Decides false (RunsWhole (statement_of s))
+pub no_whole_call : (s : Stmt) (n : Box (Spanned CallBlock) Global) → s ≡ calls n → Decides false (RunsWhole (statement_of s))
 unfolding with_value
 no_whole_call s n node =
-    (λ h. cc, λ h. absurd (whole_call_by n n.node.value (subst (λ (x : Stmt). RunsWhole (statement_of x)) node h)))
+    (λ h. cc, λ h. absurd (whole_call_by n n.value.node (subst (λ (x : Stmt). RunsWhole (statement_of x)) node h)))

@@ -56,21 +56,21 @@ pub stops_beside : (t : Expression) → runs_beside t ≡ false → false ≡ ru
 stops_beside t beside =
     and_false (before runs true (left_of t)) ∙ ap (λ b. before runs true (left_of t) && b) (sym beside) ∙ sym (parted t)
 
-pub chain_target : (e : Expr) (n : Spanned (Box Compare Global)) → e ≡ CompareNode n → false ≡ is_target (expression_of e)
-chain_target e n node = sym (ap (λ (x : Expr). is_target (expression_of x)) node ∙ ap (λ (t : Expression). is_target t) (chain_tree n.node.value))
+pub chain_target : (e : Expr) (n : Box (Spanned Compare) Global) → e ≡ CompareNode n → false ≡ is_target (expression_of e)
+chain_target e n node = sym (ap (λ (x : Expr). is_target (expression_of x)) node ∙ ap (λ (t : Expression). is_target t) (chain_tree n.value.node))
 
 -- what expressions hold beside their left parts
-pub slice_beside : (e : Expr) (n : Spanned (Box SliceNode Global)) → e ≡ Slice n → runs_beside (expression_of e)
-    ≡ (runs_if_given (optional_in n.node.value.start) && (runs_if_given (optional_in n.node.value.stop) && runs_if_given (optional_in n.node.value.step)))
+pub slice_beside : (e : Expr) (n : Box (Spanned SliceNode) Global) → e ≡ Slice n → runs_beside (expression_of e)
+    ≡ (runs_if_given (optional_in n.value.node.start) && (runs_if_given (optional_in n.value.node.stop) && runs_if_given (optional_in n.value.node.step)))
 slice_beside e n node = ap (λ (x : Expr). runs_beside (expression_of x)) node ∙ ap (λ (t : Expression). runs_beside t) (slice_tree n)
 
-pub map_beside : (e : Expr) (n : Spanned (Box MapNode Global)) → e ≡ Map n → runs_beside (expression_of e)
-    ≡ (all_run (expressions_in n.node.value.keys.items) && all_run (expressions_in n.node.value.values.items))
+pub map_beside : (e : Expr) (n : Box (Spanned MapNode) Global) → e ≡ Map n → runs_beside (expression_of e)
+    ≡ (all_run (expressions_in n.value.node.keys.items) && all_run (expressions_in n.value.node.values.items))
 map_beside e n node = ap (λ (x : Expr). runs_beside (expression_of x)) node ∙ ap (λ (t : Expression). runs_beside t) (map_tree n)
 
-pub chain_beside : (e : Expr) (n : Spanned (Box Compare Global)) → e ≡ CompareNode n → runs_beside (expression_of e)
-    ≡ chain_runs (links_in (out-Compare n.node.value).ops.items)
-chain_beside e n node = ap (λ (x : Expr). runs_beside (expression_of x)) node ∙ ap (λ (t : Expression). runs_beside t) (chain_tree n.node.value)
+pub chain_beside : (e : Expr) (n : Box (Spanned Compare) Global) → e ≡ CompareNode n → runs_beside (expression_of e)
+    ≡ chain_runs (links_in (out-Compare n.value.node).ops.items)
+chain_beside e n node = ap (λ (x : Expr). runs_beside (expression_of x)) node ∙ ap (λ (t : Expression). runs_beside t) (chain_tree n.value.node)
 
 -- one part after the other
 pub first_fails : {x a : Bool} (b : Bool) → x ≡ (a && b) → a ≡ false → false ≡ x

@@ -18,87 +18,87 @@ use Rattle.template_compiler_statement_codegen.specs.Listed.{IsRunnableTree, bod
 use Rattle.template_compiler_statement_codegen.proofs.Bodies.{body_below}
 
 -- a call's block is no runnable statement
-with_value : Spanned (Box CallBlockNode Global) → CallBlockNode → Spanned (Box CallBlockNode Global)
-with_value n v = record { node = record { ptr = n.node.ptr; alloc = n.node.alloc; value = v }; span = n.span }
+with_value : Box (Spanned CallBlockNode) Global → CallBlockNode → Box (Spanned CallBlockNode) Global
+with_value n v = record { ptr = n.ptr; alloc = n.alloc; value = record { node = v; span = n.value.span } }
 
-tree_by : (n : Spanned (Box CallBlockNode Global)) (v : CallBlockNode) → IsRunnableTree (statement_of (CallBlock (with_value n v))) → ⊥
+tree_by : (n : Box (Spanned CallBlockNode) Global) (v : CallBlockNode) → IsRunnableTree (statement_of (CallBlock (with_value n v))) → ⊥
 unfolding with_value
 tree_by n (called call q name args defaults shape body inner) h = h
 
-pub call_no_tree : (n : Spanned (Box CallBlockNode Global)) → IsRunnableTree (statement_of (CallBlock n)) → ⊥
+pub call_no_tree : (n : Box (Spanned CallBlockNode) Global) → IsRunnableTree (statement_of (CallBlock n)) → ⊥
 unfolding with_value
-call_no_tree n h = tree_by n n.node.value h
+call_no_tree n h = tree_by n n.value.node h
 
-statement_by : (n : Spanned (Box CallBlockNode Global)) (v : CallBlockNode) → IsRunnableStatement true (statement_of (CallBlock (with_value n v))) → ⊥
+statement_by : (n : Box (Spanned CallBlockNode) Global) (v : CallBlockNode) → IsRunnableStatement true (statement_of (CallBlock (with_value n v))) → ⊥
 unfolding with_value
 statement_by n (called call q name args defaults shape body inner) h = h
 
-pub call_no_statement : (n : Spanned (Box CallBlockNode Global)) → IsRunnableStatement true (statement_of (CallBlock n)) → ⊥
+pub call_no_statement : (n : Box (Spanned CallBlockNode) Global) → IsRunnableStatement true (statement_of (CallBlock n)) → ⊥
 unfolding with_value
-call_no_statement n h = statement_by n n.node.value h
+call_no_statement n h = statement_by n n.value.node h
 
 -- bodies are smaller than the node
-true_body_smaller : (n : Spanned (Box IfCondNode Global)) (i : ℕ) (d : Stmt) → i < length n.node.value.true_body.items
-    → size-Stmt (get_or n.node.value.true_body.items i d) < size-Stmt (IfCond n)
+true_body_smaller : (n : Box (Spanned IfCondNode) Global) (i : ℕ) (d : Stmt) → i < length n.value.node.true_body.items
+    → size-Stmt (get_or n.value.node.true_body.items i d) < size-Stmt (IfCond n)
 true_body_smaller n i d h = search (rules, the_lemmas)
 
-false_body_smaller : (n : Spanned (Box IfCondNode Global)) (i : ℕ) (d : Stmt) → i < length n.node.value.false_body.items
-    → size-Stmt (get_or n.node.value.false_body.items i d) < size-Stmt (IfCond n)
+false_body_smaller : (n : Box (Spanned IfCondNode) Global) (i : ℕ) (d : Stmt) → i < length n.value.node.false_body.items
+    → size-Stmt (get_or n.value.node.false_body.items i d) < size-Stmt (IfCond n)
 false_body_smaller n i d h = search (rules, the_lemmas)
 
-condition_positive : (n : Spanned (Box IfCondNode Global)) → 0 < size-Stmt (IfCond n)
+condition_positive : (n : Box (Spanned IfCondNode) Global) → 0 < size-Stmt (IfCond n)
 condition_positive n = search (rules, the_lemmas)
 
-pub condition_smaller : (n : Spanned (Box IfCondNode Global)) → condition_deep n.node.value < size-Stmt (IfCond n)
+pub condition_smaller : (n : Box (Spanned IfCondNode) Global) → condition_deep n.value.node < size-Stmt (IfCond n)
 condition_smaller n =
     omega (
       arith,
-      body_below n.node.value.true_body.items (size-Stmt (IfCond n)) (condition_positive n) (true_body_smaller n),
-      body_below n.node.value.false_body.items (size-Stmt (IfCond n)) (condition_positive n) (false_body_smaller n),
+      body_below n.value.node.true_body.items (size-Stmt (IfCond n)) (condition_positive n) (true_body_smaller n),
+      body_below n.value.node.false_body.items (size-Stmt (IfCond n)) (condition_positive n) (false_body_smaller n),
     )
 
-loop_body_smaller : (n : Spanned (Box ForLoopNode Global)) (i : ℕ) (d : Stmt) → i < length n.node.value.body.items
-    → size-Stmt (get_or n.node.value.body.items i d) < size-Stmt (ForLoop n)
+loop_body_smaller : (n : Box (Spanned ForLoopNode) Global) (i : ℕ) (d : Stmt) → i < length n.value.node.body.items
+    → size-Stmt (get_or n.value.node.body.items i d) < size-Stmt (ForLoop n)
 loop_body_smaller n i d h = search (rules, the_lemmas)
 
-loop_other_smaller : (n : Spanned (Box ForLoopNode Global)) (i : ℕ) (d : Stmt) → i < length n.node.value.else_body.items
-    → size-Stmt (get_or n.node.value.else_body.items i d) < size-Stmt (ForLoop n)
+loop_other_smaller : (n : Box (Spanned ForLoopNode) Global) (i : ℕ) (d : Stmt) → i < length n.value.node.else_body.items
+    → size-Stmt (get_or n.value.node.else_body.items i d) < size-Stmt (ForLoop n)
 loop_other_smaller n i d h = search (rules, the_lemmas)
 
-loop_positive : (n : Spanned (Box ForLoopNode Global)) → 0 < size-Stmt (ForLoop n)
+loop_positive : (n : Box (Spanned ForLoopNode) Global) → 0 < size-Stmt (ForLoop n)
 loop_positive n = search (rules, the_lemmas)
 
-pub loop_deep : (s : Stmt) (n : Spanned (Box ForLoopNode Global)) (body : List Stmt) → s ≡ ForLoop n → body ≡ n.node.value.body.items
+pub loop_deep : (s : Stmt) (n : Box (Spanned ForLoopNode) Global) (body : List Stmt) → s ≡ ForLoop n → body ≡ n.value.node.body.items
     → body_deep body < size-Stmt s
-loop_deep s n body node read = rw (node, read) (body_below n.node.value.body.items (size-Stmt (ForLoop n)) (loop_positive n) (loop_body_smaller n))
+loop_deep s n body node read = rw (node, read) (body_below n.value.node.body.items (size-Stmt (ForLoop n)) (loop_positive n) (loop_body_smaller n))
 
-pub loop_other_deep : (s : Stmt) (n : Spanned (Box ForLoopNode Global)) (body : List Stmt) → s ≡ ForLoop n → body ≡ n.node.value.else_body.items
+pub loop_other_deep : (s : Stmt) (n : Box (Spanned ForLoopNode) Global) (body : List Stmt) → s ≡ ForLoop n → body ≡ n.value.node.else_body.items
     → body_deep body < size-Stmt s
 loop_other_deep s n body node read =
-    rw (node, read) (body_below n.node.value.else_body.items (size-Stmt (ForLoop n)) (loop_positive n) (loop_other_smaller n))
+    rw (node, read) (body_below n.value.node.else_body.items (size-Stmt (ForLoop n)) (loop_positive n) (loop_other_smaller n))
 
-with_body_smaller : (n : Spanned (Box WithBlockNode Global)) (i : ℕ) (d : Stmt) → i < length n.node.value.body.items
-    → size-Stmt (get_or n.node.value.body.items i d) < size-Stmt (WithBlock n)
+with_body_smaller : (n : Box (Spanned WithBlockNode) Global) (i : ℕ) (d : Stmt) → i < length n.value.node.body.items
+    → size-Stmt (get_or n.value.node.body.items i d) < size-Stmt (WithBlock n)
 with_body_smaller n i d h = search (rules, the_lemmas)
 
-with_positive : (n : Spanned (Box WithBlockNode Global)) → 0 < size-Stmt (WithBlock n)
+with_positive : (n : Box (Spanned WithBlockNode) Global) → 0 < size-Stmt (WithBlock n)
 with_positive n = search (rules, the_lemmas)
 
-pub with_deep : (s : Stmt) (n : Spanned (Box WithBlockNode Global)) (body : List Stmt) → s ≡ WithBlock n → body ≡ n.node.value.body.items
+pub with_deep : (s : Stmt) (n : Box (Spanned WithBlockNode) Global) (body : List Stmt) → s ≡ WithBlock n → body ≡ n.value.node.body.items
     → body_deep body < size-Stmt s
-with_deep s n body node read = rw (node, read) (body_below n.node.value.body.items (size-Stmt (WithBlock n)) (with_positive n) (with_body_smaller n))
+with_deep s n body node read = rw (node, read) (body_below n.value.node.body.items (size-Stmt (WithBlock n)) (with_positive n) (with_body_smaller n))
 
-escape_body_smaller : (n : Spanned (Box AutoEscapeNode Global)) (i : ℕ) (d : Stmt) → i < length n.node.value.body.items
-    → size-Stmt (get_or n.node.value.body.items i d) < size-Stmt (AutoEscape n)
+escape_body_smaller : (n : Box (Spanned AutoEscapeNode) Global) (i : ℕ) (d : Stmt) → i < length n.value.node.body.items
+    → size-Stmt (get_or n.value.node.body.items i d) < size-Stmt (AutoEscape n)
 escape_body_smaller n i d h = search (rules, the_lemmas)
 
-escape_positive : (n : Spanned (Box AutoEscapeNode Global)) → 0 < size-Stmt (AutoEscape n)
+escape_positive : (n : Box (Spanned AutoEscapeNode) Global) → 0 < size-Stmt (AutoEscape n)
 escape_positive n = search (rules, the_lemmas)
 
-pub escape_deep : (s : Stmt) (n : Spanned (Box AutoEscapeNode Global)) (body : List Stmt) → s ≡ AutoEscape n → body ≡ n.node.value.body.items
+pub escape_deep : (s : Stmt) (n : Box (Spanned AutoEscapeNode) Global) (body : List Stmt) → s ≡ AutoEscape n → body ≡ n.value.node.body.items
     → body_deep body < size-Stmt s
 escape_deep s n body node read =
-    rw (node, read) (body_below n.node.value.body.items (size-Stmt (AutoEscape n)) (escape_positive n) (escape_body_smaller n))
+    rw (node, read) (body_below n.value.node.body.items (size-Stmt (AutoEscape n)) (escape_positive n) (escape_body_smaller n))
 
 -- an else part that is one condition alone
 alone_as : (ss : List Stmt) (s d : Stmt) → length ss ≡ 1 → s ≡ get_or ss 0 d → ss ≡ s ∷ []
@@ -106,28 +106,28 @@ alone_as [] s d one read = cc
 alone_as (x ∷ []) s d one read = ap (λ (y : Stmt). y ∷ []) (sym read)
 alone_as (x ∷ y ∷ ss) s d one read = absurd (omega (arith, one))
 
-pub elif_tree : (ss : List Stmt) (s : Stmt) (n : Spanned (Box IfCondNode Global)) (c : IfCondNode) → length ss ≡ 1 → s ≡ get_or ss 0 s → s ≡ IfCond n
-    → c ≡ n.node.value → statements_in ss ≡ statements_more (condition_of c) no_statements
+pub elif_tree : (ss : List Stmt) (s : Stmt) (n : Box (Spanned IfCondNode) Global) (c : IfCondNode) → length ss ≡ 1 → s ≡ get_or ss 0 s → s ≡ IfCond n
+    → c ≡ n.value.node → statements_in ss ≡ statements_more (condition_of c) no_statements
 elif_tree ss s n c one read node value =
     ap (λ (l : List Stmt). statements_in l) (alone_as ss s s one read) ∙
     ap (λ (x : Stmt). statements_more (statement_of x) no_statements) node ∙
     ap (λ (x : Statement). statements_more x no_statements) (if_tree n) ∙
     ap (λ (x : IfCondNode). statements_more (condition_of x) no_statements) (sym value)
 
-pub elif_smaller : (ss : List Stmt) (s : Stmt) (n : Spanned (Box IfCondNode Global)) (c : IfCondNode) → length ss ≡ 1 → s ≡ get_or ss 0 s → s ≡ IfCond n
-    → c ≡ n.node.value → condition_deep c < body_deep ss
+pub elif_smaller : (ss : List Stmt) (s : Stmt) (n : Box (Spanned IfCondNode) Global) (c : IfCondNode) → length ss ≡ 1 → s ≡ get_or ss 0 s → s ≡ IfCond n
+    → c ≡ n.value.node → condition_deep c < body_deep ss
 elif_smaller ss s n c one read node value =
     let whole : body_deep ss ≡ body_deep (IfCond n ∷ []) =
     ap (λ (l : List Stmt). body_deep l) (alone_as ss s s one read) ∙ ap (λ (x : Stmt). body_deep (x ∷ [])) node in
-    let same : condition_deep c ≡ condition_deep n.node.value = ap (λ (x : IfCondNode). condition_deep x) value in
+    let same : condition_deep c ≡ condition_deep n.value.node = ap (λ (x : IfCondNode). condition_deep x) value in
     omega (arith, condition_smaller n, whole, same)
 
 -- a condition, a loop, a body in a frame, a body with an escape: their trees from what a node holds
-pub condition_is : (s : Stmt) (n : Spanned (Box IfCondNode Global)) (c : IfCondNode) → s ≡ IfCond n → c ≡ n.node.value → statement_of s ≡ condition_of c
+pub condition_is : (s : Stmt) (n : Box (Spanned IfCondNode) Global) (c : IfCondNode) → s ≡ IfCond n → c ≡ n.value.node → statement_of s ≡ condition_of c
 condition_is s n c node read =
     ap (λ (x : Stmt). statement_of x) node ∙ if_tree n ∙ ap (λ (x : IfCondNode). condition_of x) (sym read)
 
-pub condition_within : (s : Stmt) (n : Spanned (Box IfCondNode Global)) (c : IfCondNode) → s ≡ IfCond n → c ≡ n.node.value → condition_deep c < size-Stmt s
+pub condition_within : (s : Stmt) (n : Box (Spanned IfCondNode) Global) (c : IfCondNode) → s ≡ IfCond n → c ≡ n.value.node → condition_deep c < size-Stmt s
 condition_within s n c node read = rw (node, read) (condition_smaller n)
 
 -- a loop that runs has neither a filter nor a call of itself
@@ -138,11 +138,11 @@ loop_plain target e absent false body otherwise h = refl
 loop_plain target e absent true body otherwise h = absurd h
 loop_plain target e (given f) recursive body otherwise h = absurd h
 
-pub loop_is : (s : Stmt) (n : Spanned (Box ForLoopNode Global)) (target e : Expr) (body otherwise : List Stmt) → IsRunnableStatement true (statement_of s)
-    → s ≡ ForLoop n → target ≡ n.node.value.target → e ≡ n.node.value.iter → body ≡ n.node.value.body.items → otherwise ≡ n.node.value.else_body.items
+pub loop_is : (s : Stmt) (n : Box (Spanned ForLoopNode) Global) (target e : Expr) (body otherwise : List Stmt) → IsRunnableStatement true (statement_of s)
+    → s ≡ ForLoop n → target ≡ n.value.node.target → e ≡ n.value.node.iter → body ≡ n.value.node.body.items → otherwise ≡ n.value.node.else_body.items
     → statement_of s ≡ for_loop (expression_of target) (expression_of e) absent false (statements_in body) (statements_in otherwise)
 loop_is s n target e body otherwise h node t i b o =
-    let l = n.node.value in
+    let l = n.value.node in
     let tree : statement_of s ≡ for_loop (expression_of l.target) (expression_of l.iter) (optional_in l.filter_expr) l.recursive (statements_in l.body.items)
     (statements_in l.else_body.items) = ap (λ (x : Stmt). statement_of x) node ∙ for_tree n in
     tree ∙
@@ -150,17 +150,17 @@ loop_is s n target e body otherwise h node t i b o =
     (statements_in l.else_body.items) (subst (λ (x : Statement). IsRunnableStatement true x) tree h) ∙
     rw (t, i, b, o) refl
 
-pub with_is : (s : Stmt) (n : Spanned (Box WithBlockNode Global)) (pairs : List (Expr × Expr)) (body : List Stmt) → s ≡ WithBlock n
-    → pairs ≡ n.node.value.assignments.items → body ≡ n.node.value.body.items
+pub with_is : (s : Stmt) (n : Box (Spanned WithBlockNode) Global) (pairs : List (Expr × Expr)) (body : List Stmt) → s ≡ WithBlock n
+    → pairs ≡ n.value.node.assignments.items → body ≡ n.value.node.body.items
     → statement_of s ≡ with_block (assignments_in pairs) (statements_in body)
 with_is s n pairs body node p b =
     ap (λ (x : Stmt). statement_of x) node ∙ with_tree n ∙
-    ap (λ (x : List (Expr × Expr)). with_block (assignments_in x) (statements_in n.node.value.body.items)) (sym p) ∙
+    ap (λ (x : List (Expr × Expr)). with_block (assignments_in x) (statements_in n.value.node.body.items)) (sym p) ∙
     ap (λ (x : List Stmt). with_block (assignments_in pairs) (statements_in x)) (sym b)
 
-pub escape_is : (s : Stmt) (n : Spanned (Box AutoEscapeNode Global)) (enabled : Expr) (body : List Stmt) → s ≡ AutoEscape n
-    → enabled ≡ n.node.value.enabled → body ≡ n.node.value.body.items → statement_of s ≡ auto_escape (expression_of enabled) (statements_in body)
+pub escape_is : (s : Stmt) (n : Box (Spanned AutoEscapeNode) Global) (enabled : Expr) (body : List Stmt) → s ≡ AutoEscape n
+    → enabled ≡ n.value.node.enabled → body ≡ n.value.node.body.items → statement_of s ≡ auto_escape (expression_of enabled) (statements_in body)
 escape_is s n enabled body node e b =
     ap (λ (x : Stmt). statement_of x) node ∙ escape_tree n ∙
-    ap (λ (x : Expr). auto_escape (expression_of x) (statements_in n.node.value.body.items)) (sym e) ∙
+    ap (λ (x : Expr). auto_escape (expression_of x) (statements_in n.value.node.body.items)) (sym e) ∙
     ap (λ (x : List Stmt). auto_escape (expression_of enabled) (statements_in x)) (sym b)

@@ -51,8 +51,8 @@ target_at (x ∷ es) zero e h within read = subst (λ (y : Expr). IsTarget (expr
 target_at (x ∷ es) (suc i) e h within read = target_at es i e h.1 (omega (arith, within)) read
 
 -- no comparison is a target
-chain_by : (n : Spanned (Box Compare Global)) (v : Compare) → IsTarget (chain_of v) → ⊥
+chain_by : (n : Box (Spanned Compare) Global) (v : Compare) → IsTarget (chain_of v) → ⊥
 chain_by n (compared expr shape ops) h = h
 
-pub chain_no_target : (n : Spanned (Box Compare Global)) → IsTarget (expression_of (CompareNode n)) → ⊥
-chain_no_target n h = chain_by n n.node.value h
+pub chain_no_target : (n : Box (Spanned Compare) Global) → IsTarget (expression_of (CompareNode n)) → ⊥
+chain_no_target n h = chain_by n n.value.node h

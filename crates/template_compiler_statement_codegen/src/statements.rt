@@ -356,10 +356,10 @@ fn compile_condition<'source>(
     alloc: Global,
     code: &mut Instructions<'source>,
     round: &mut Round,
-    first: &Spanned<Box<IfCond<'source>>>,
+    first: &Box<Spanned<IfCond<'source>>>,
 ) -> Result<(), Error>
-    requires { IsRunnableStatement true (condition_of first.now.node.value) }
-    ensures lowered { OnOk result (LowersStatement (condition_of first.now.node.value) code.old code.new round.old round.new) }
+    requires { IsRunnableStatement true (condition_of first.now.value.node) }
+    ensures lowered { OnOk result (LowersStatement (condition_of first.now.value.node) code.old code.new round.old round.new) }
     ensures refused { IfErr result (TakesNoMore (code_in code.new)) }
 {
     let mut ends = Vec::new(alloc);
@@ -374,12 +374,12 @@ fn compile_chain<'source>(
     alloc: Global,
     code: &mut Instructions<'source>,
     round: &mut Round,
-    first: &Spanned<Box<IfCond<'source>>>,
+    first: &Box<Spanned<IfCond<'source>>>,
     ends: &mut Vec<u32>,
 ) -> Result<(), Error>
-    requires runs { IsRunnableStatement true (condition_of first.now.node.value) }
+    requires runs { IsRunnableStatement true (condition_of first.now.value.node) }
     requires none { ends.old.items ≡ [] }
-    ensures lowered { OnOk result (LowersChain first.now.node.value ends.new.items code.old code.new round.old round.new) }
+    ensures lowered { OnOk result (LowersChain first.now.value.node ends.new.items code.old code.new round.old round.new) }
     ensures refused { IfErr result (TakesNoMore (code_in code.new)) }
 {
     let mut at = first;

@@ -56,7 +56,7 @@ call_head r ts =
 
 abbrev pub call_of : CallHead → Parameters × Expression × Arguments
 call_of head =
-    (parameters_of head.parameters, expression_of head.call.node.value.expr, arguments_in head.call.node.value.args.items)
+    (parameters_of head.parameters, expression_of head.call.value.node.expr, arguments_in head.call.value.node.args.items)
 
 -- a `set` with its values, or a set block: its target and its filters
 pub data SetRead : Type 0 where

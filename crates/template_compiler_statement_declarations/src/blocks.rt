@@ -59,7 +59,7 @@ pub fn read_block_end<'source>(
     head: BlockHead<'source>,
     body: Vec<Stmt<'source>>,
     span: Span,
-) -> Result<Spanned<Box<Block<'source>>>, Refusal>
+) -> Result<Box<Spanned<Block<'source>>>, Refusal>
     ensures { ParsedAs (λ n. statement_of (statements.Block n))
         (ended_block (block_of head.entry) (statements_in body.entry.items) tokens.old.left) tokens.new.left result }
 {

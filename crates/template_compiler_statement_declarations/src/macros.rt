@@ -29,7 +29,7 @@ pub struct MacroHead<'source> {
 #[derive(Drop)]
 pub struct CallHead<'source> {
     pub parameters: Parameters<'source>,
-    pub call: Spanned<Box<Call<'source>>>,
+    pub call: Box<Spanned<Call<'source>>>,
 }
 
 /// Reads the head of a macro.
@@ -106,7 +106,7 @@ pub fn macro_block<'source>(
     head: MacroHead<'source>,
     body: Vec<Stmt<'source>>,
     span: Span,
-) -> Result<Spanned<Box<Macro<'source>>>, AllocError>
+) -> Result<Box<Spanned<Macro<'source>>>, AllocError>
     ensures { let h = macro_of head.entry in IfOk result (λ n. statement_of (statements.Macro n) ≡
         tree.macro h.1 h.0.0 h.0.1 (statements_in body.entry.items)) }
 {
@@ -126,7 +126,7 @@ pub fn call_block<'source>(
     head: CallHead<'source>,
     body: Vec<Stmt<'source>>,
     span: Span,
-) -> Result<Spanned<Box<CallBlock<'source>>>, AllocError>
+) -> Result<Box<Spanned<CallBlock<'source>>>, AllocError>
     ensures { let h = call_of head.entry in IfOk result (λ n. statement_of (statements.CallBlock n) ≡
         tree.call_block h.1 h.2 h.0.0 h.0.1 (statements_in body.entry.items)) }
 {

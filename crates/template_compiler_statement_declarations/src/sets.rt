@@ -20,9 +20,9 @@ use template_tree_statements::{Set, SetBlock};
 #[derive(Drop)]
 pub enum SetHead<'source> {
     /// `{% set target = expr %}`, whole.
-    Values(Spanned<Box<Set<'source>>>),
+    Values(Box<Spanned<Set<'source>>>),
     /// `{% set target filter %}`, with no body yet.
-    Block(Spanned<Box<SetBlock<'source>>>),
+    Block(Box<Spanned<SetBlock<'source>>>),
 }
 
 /// Reads a `set` with its values, or the head of a set block.
@@ -56,7 +56,7 @@ fn read_set_targets<'source, R: ReadsExpressions>(
     first: Expr<'source>,
     start: Span,
     span: Span,
-) -> Result<Spanned<Box<Set<'source>>>, Refusal>
+) -> Result<Box<Spanned<Set<'source>>>, Refusal>
     ensures { ParsedAs (λ n. statement_of (statements.Set n))
         (set_targets (here left) (expression_of first.entry) tokens.old.left) tokens.new.left result }
 {
@@ -72,7 +72,7 @@ fn read_set_value<'source, R: ReadsExpressions>(
     left: u32,
     target: Expr<'source>,
     span: Span,
-) -> Result<Spanned<Box<Set<'source>>>, Refusal>
+) -> Result<Box<Spanned<Set<'source>>>, Refusal>
     ensures { ParsedAs (λ n. statement_of (statements.Set n))
         (set_values (here left) (expression_of target.entry) tokens.old.left) tokens.new.left result }
 {
@@ -93,7 +93,7 @@ fn read_set_block<'source, R: ReadsExpressions>(
     left: u32,
     target: Expr<'source>,
     span: Span,
-) -> Result<Spanned<Box<SetBlock<'source>>>, Refusal>
+) -> Result<Box<Spanned<SetBlock<'source>>>, Refusal>
     ensures { ParsedAs set_block_of (set_block_head (here left) (expression_of target.entry) tokens.old.left) tokens.new.left result }
 {
     let filter = R::read_filter_chain(alloc, tokens, left, None)?;

@@ -25,7 +25,7 @@ pub fn read_import<'source, R: ReadsExpressions>(
     tokens: &mut TokenStream<'source>,
     left: u32,
     span: Span,
-) -> Result<Spanned<Box<Import<'source>>>, Refusal>
+) -> Result<Box<Spanned<Import<'source>>>, Refusal>
     ensures { ParsedAs (λ n. statement_of (statements.Import n)) (import_statement_by (here left) tokens.old.left) tokens.new.left result }
 {
     let expr = R::read_expression(alloc, tokens, left)?;
@@ -48,7 +48,7 @@ pub fn read_from<'source, R: ReadsExpressions>(
     tokens: &mut TokenStream<'source>,
     left: u32,
     span: Span,
-) -> Result<Spanned<Box<FromImport<'source>>>, Refusal>
+) -> Result<Box<Spanned<FromImport<'source>>>, Refusal>
     ensures { ParsedAs (λ n. statement_of (statements.FromImport n)) (from_by (here left) tokens.old.left) tokens.new.left result }
 {
     let expr = R::read_expression(alloc, tokens, left)?;
@@ -71,12 +71,12 @@ pub fn read_extends<'source, R: ReadsExpressions>(
     tokens: &mut TokenStream<'source>,
     left: u32,
     span: Span,
-) -> Result<Spanned<Extends<'source>>, Refusal>
+) -> Result<Box<Spanned<Extends<'source>>>, Refusal>
     ensures { ParsedAs (λ n. statement_of (statements.Extends n)) (extends_by (here left) tokens.old.left) tokens.new.left result }
 {
     let name = R::read_expression(alloc, tokens, left)?;
     expect_tag_end(tokens)?;
-    Ok(Spanned::new(Extends { name }, tokens.expand_span(span)))
+    Ok(Spanned::boxed(alloc, Extends { name }, tokens.expand_span(span))?)
 }
 
 /// Reads an `include`.
@@ -90,7 +90,7 @@ pub fn read_include<'source, R: ReadsExpressions>(
     tokens: &mut TokenStream<'source>,
     left: u32,
     span: Span,
-) -> Result<Spanned<Box<Include<'source>>>, Refusal>
+) -> Result<Box<Spanned<Include<'source>>>, Refusal>
     ensures { ParsedAs (λ n. statement_of (statements.Include n)) (include_by (here left) tokens.old.left) tokens.new.left result }
 {
     let name = R::read_expression(alloc, tokens, left)?;

@@ -39,9 +39,9 @@ pub fn read_auto_escape<'source, R: ReadsExpressions>(
     tokens: &mut TokenStream<'source>,
     left: u32,
     span: Span,
-) -> Result<Spanned<Box<AutoEscape<'source>>>, Refusal>
-    ensures read { ParsedAs (λ n. expression_of n.node.value.enabled) (expression_head (here left) tokens.old.left) tokens.new.left result }
-    ensures empty { IfOk result (λ n. n.node.value.body.items ≡ []) }
+) -> Result<Box<Spanned<AutoEscape<'source>>>, Refusal>
+    ensures read { ParsedAs (λ n. expression_of n.value.node.enabled) (expression_head (here left) tokens.old.left) tokens.new.left result }
+    ensures empty { IfOk result (λ n. n.value.node.body.items ≡ []) }
 {
     let enabled = read_only_expression::<R>(alloc, tokens, left)?;
     let node = AutoEscape {
@@ -61,10 +61,10 @@ pub fn read_branch<'source, R: ReadsExpressions>(
     tokens: &mut TokenStream<'source>,
     left: u32,
     span: Span,
-) -> Result<Spanned<Box<IfCond<'source>>>, Refusal>
-    ensures read { ParsedAs (λ n. expression_of n.node.value.expr) (expression_head (here left) tokens.old.left) tokens.new.left result }
-    ensures empty { IfOk result (λ n. n.node.value.true_body.items ≡ []) }
-    ensures no_other { IfOk result (λ n. n.node.value.false_body.items ≡ []) }
+) -> Result<Box<Spanned<IfCond<'source>>>, Refusal>
+    ensures read { ParsedAs (λ n. expression_of n.value.node.expr) (expression_head (here left) tokens.old.left) tokens.new.left result }
+    ensures empty { IfOk result (λ n. n.value.node.true_body.items ≡ []) }
+    ensures no_other { IfOk result (λ n. n.value.node.false_body.items ≡ []) }
 {
     let expr = read_only_expression::<R>(alloc, tokens, left)?;
     let node = IfCond {
@@ -86,10 +86,10 @@ pub fn read_filter_block<'source, R: ReadsExpressions>(
     tokens: &mut TokenStream<'source>,
     left: u32,
     span: Span,
-) -> Result<Spanned<Box<FilterBlock<'source>>>, Refusal>
-    ensures read { ParsedAs (λ n. given (expression_of n.node.value.filter)) (filter_head (here left) tokens.old.left)
+) -> Result<Box<Spanned<FilterBlock<'source>>>, Refusal>
+    ensures read { ParsedAs (λ n. given (expression_of n.value.node.filter)) (filter_head (here left) tokens.old.left)
         tokens.new.left result }
-    ensures empty { IfOk result (λ n. n.node.value.body.items ≡ []) }
+    ensures empty { IfOk result (λ n. n.value.node.body.items ≡ []) }
 {
     let first = R::read_filter(alloc, tokens, left, None)?;
     match R::read_filter_chain(alloc, tokens, left, Some(first))? {

@@ -24,10 +24,10 @@ pub fn read_for<'source, R: ReadsExpressions>(
     tokens: &mut TokenStream<'source>,
     left: u32,
     span: Span,
-) -> Result<Spanned<Box<ForLoop<'source>>>, Refusal>
+) -> Result<Box<Spanned<ForLoop<'source>>>, Refusal>
     ensures read { ParsedAs loop_head (for_head (here left) tokens.old.left) tokens.new.left result }
-    ensures empty { IfOk result (λ n. n.node.value.body.items ≡ []) }
-    ensures no_other { IfOk result (λ n. n.node.value.else_body.items ≡ []) }
+    ensures empty { IfOk result (λ n. n.value.node.body.items ≡ []) }
+    ensures no_other { IfOk result (λ n. n.value.node.else_body.items ≡ []) }
 {
     let target = read_targets(alloc, tokens, left, false)?;
     expect_word(tokens, "in")?;
@@ -42,10 +42,10 @@ fn read_in<'source, R: ReadsExpressions>(
     left: u32,
     target: Expr<'source>,
     span: Span,
-) -> Result<Spanned<Box<ForLoop<'source>>>, Refusal>
+) -> Result<Box<Spanned<ForLoop<'source>>>, Refusal>
     ensures read { ParsedAs loop_head (in_head (here left) (expression_of target.entry) tokens.old.left) tokens.new.left result }
-    ensures empty { IfOk result (λ n. n.node.value.body.items ≡ []) }
-    ensures no_other { IfOk result (λ n. n.node.value.else_body.items ≡ []) }
+    ensures empty { IfOk result (λ n. n.value.node.body.items ≡ []) }
+    ensures no_other { IfOk result (λ n. n.value.node.else_body.items ≡ []) }
 {
     let iter = R::read_condition(alloc, tokens, left)?;
     let filter_expr = read_loop_filter::<R>(alloc, tokens, left)?;

@@ -8,10 +8,10 @@ use Rattle.template_tree_statements.specs.declared.statements.ForLoop.{ForLoop}
 use Rattle.template_tree_statements.specs.declared.statements.SetBlock.{SetBlock}
 
 -- a loop: its target, what it goes over, the condition on its items, and whether it is recursive
-abbrev pub loop_head : Spanned (Box ForLoop) → Expression × Expression × Optional × Bool
+abbrev pub loop_head : Box (Spanned ForLoop) → Expression × Expression × Optional × Bool
 loop_head n =
-    (expression_of n.node.value.target, expression_of n.node.value.iter, optional_in n.node.value.filter_expr, n.node.value.recursive)
+    (expression_of n.value.node.target, expression_of n.value.node.iter, optional_in n.value.node.filter_expr, n.value.node.recursive)
 
 -- a set block: its target and its filters
-abbrev pub set_block_of : Spanned (Box SetBlock) → Expression × Optional
-set_block_of n = (expression_of n.node.value.target, optional_in n.node.value.filter)
+abbrev pub set_block_of : Box (Spanned SetBlock) → Expression × Optional
+set_block_of n = (expression_of n.value.node.target, optional_in n.value.node.filter)

@@ -9,9 +9,9 @@ use Rattle.template_compiler_statement_makers.specs.Listed.{statements_in}
 use Rattle.template_compiler_statements.specs.Trees.{Branches, no_branches, branches_more}
 
 -- a condition with its body; what stands for the other case comes later
-abbrev pub branch_in : Spanned (Box IfCond) → Expression × Statements
-branch_in b = (expression_of b.node.value.expr, statements_in b.node.value.true_body.items)
+abbrev pub branch_in : Box (Spanned IfCond) → Expression × Statements
+branch_in b = (expression_of b.value.node.expr, statements_in b.value.node.true_body.items)
 
-abbrev pub branches_in : List (Spanned (Box IfCond)) → Branches
+abbrev pub branches_in : List (Box (Spanned IfCond)) → Branches
 branches_in [] = no_branches
 branches_in (b ∷ rest) = branches_more (branch_in b).0 (branch_in b).1 (branches_in rest)

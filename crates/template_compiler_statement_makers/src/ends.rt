@@ -18,17 +18,17 @@ use template_tree_statements::{AutoEscape, FilterBlock, ForLoop, IfCond, SetBloc
 /// A loop with its bodies.
 #[tactic(auto, using(crate::proofs::Rows::statements_row))]
 pub fn for_loop<'source>(
-    head: Spanned<Box<ForLoop<'source>>>,
+    head: Box<Spanned<ForLoop<'source>>>,
     body: Vec<Stmt<'source>>,
     else_body: Vec<Stmt<'source>>,
     span: Span,
-) -> Spanned<Box<ForLoop<'source>>>
+) -> Box<Spanned<ForLoop<'source>>>
     ensures { let h = loop_head head.entry in statement_of (statements.ForLoop result) ≡
         tree.for_loop h.0 h.1 h.2 h.3 (statements_in body.entry.items) (statements_in else_body.entry.items) }
 {
     let mut node = head;
-    node.node.body = body;
-    node.node.else_body = else_body;
+    put(&mut node.node.body, body);
+    put(&mut node.node.else_body, else_body);
     node.span = span;
     node
 }
@@ -36,15 +36,15 @@ pub fn for_loop<'source>(
 /// An `autoescape` with its body.
 #[tactic(auto, using(crate::proofs::Rows::statements_row))]
 pub fn auto_escape<'source>(
-    head: Spanned<Box<AutoEscape<'source>>>,
+    head: Box<Spanned<AutoEscape<'source>>>,
     body: Vec<Stmt<'source>>,
     span: Span,
-) -> Spanned<Box<AutoEscape<'source>>>
+) -> Box<Spanned<AutoEscape<'source>>>
     ensures { statement_of (statements.AutoEscape result) ≡
-        tree.auto_escape (expression_of head.entry.node.value.enabled) (statements_in body.entry.items) }
+        tree.auto_escape (expression_of head.entry.value.node.enabled) (statements_in body.entry.items) }
 {
     let mut node = head;
-    node.node.body = body;
+    put(&mut node.node.body, body);
     node.span = span;
     node
 }
@@ -52,15 +52,15 @@ pub fn auto_escape<'source>(
 /// A filter block with its body.
 #[tactic(auto, using(crate::proofs::Rows::statements_row))]
 pub fn filter_block<'source>(
-    head: Spanned<Box<FilterBlock<'source>>>,
+    head: Box<Spanned<FilterBlock<'source>>>,
     body: Vec<Stmt<'source>>,
     span: Span,
-) -> Spanned<Box<FilterBlock<'source>>>
+) -> Box<Spanned<FilterBlock<'source>>>
     ensures { statement_of (statements.FilterBlock result) ≡
-        tree.filter_block (expression_of head.entry.node.value.filter) (statements_in body.entry.items) }
+        tree.filter_block (expression_of head.entry.value.node.filter) (statements_in body.entry.items) }
 {
     let mut node = head;
-    node.node.body = body;
+    put(&mut node.node.body, body);
     node.span = span;
     node
 }
@@ -68,28 +68,28 @@ pub fn filter_block<'source>(
 /// A set block with its body.
 #[tactic(auto, using(crate::proofs::Rows::statements_row))]
 pub fn set_block<'source>(
-    head: Spanned<Box<SetBlock<'source>>>,
+    head: Box<Spanned<SetBlock<'source>>>,
     body: Vec<Stmt<'source>>,
     span: Span,
-) -> Spanned<Box<SetBlock<'source>>>
+) -> Box<Spanned<SetBlock<'source>>>
     ensures { let h = set_block_of head.entry in
         statement_of (statements.SetBlock result) ≡ tree.set_block h.0 h.1 (statements_in body.entry.items) }
 {
     let mut node = head;
-    node.node.body = body;
+    put(&mut node.node.body, body);
     node.span = span;
     node
 }
 
 /// A condition with its body; what stands for the other case comes later.
 pub fn branch<'source>(
-    head: Spanned<Box<IfCond<'source>>>,
+    head: Box<Spanned<IfCond<'source>>>,
     body: Vec<Stmt<'source>>,
-) -> Spanned<Box<IfCond<'source>>>
-    ensures { branch_in result ≡ (expression_of head.entry.node.value.expr, statements_in body.entry.items) }
+) -> Box<Spanned<IfCond<'source>>>
+    ensures { branch_in result ≡ (expression_of head.entry.value.node.expr, statements_in body.entry.items) }
 {
     let mut node = head;
-    node.node.true_body = body;
+    put(&mut node.node.true_body, body);
     node
 }
 
@@ -97,7 +97,7 @@ pub fn branch<'source>(
 #[tactic(auto, using(crate::proofs::Branches::branched_last))]
 pub fn branched<'source>(
     alloc: Global,
-    branches: Vec<Spanned<Box<IfCond<'source>>>>,
+    branches: Vec<Box<Spanned<IfCond<'source>>>>,
     last: Vec<Stmt<'source>>,
     whole: Span,
 ) -> Result<Vec<Stmt<'source>>, AllocError>
@@ -112,4 +112,11 @@ pub fn branched<'source>(
         body.push(Stmt::IfCond(node))?;
     }
     Ok(body)
+}
+
+// A body takes the place of another one.
+pub(crate) fn put<'source>(place: &mut Vec<Stmt<'source>>, body: Vec<Stmt<'source>>)
+    ensures { place.new ≡ body.entry }
+{
+    *place = body;
 }

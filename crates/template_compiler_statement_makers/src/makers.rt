@@ -7,6 +7,7 @@ ghost use Rattle.template_tree_statements.specs.declared.statements.Stmt.TheVari
 ghost use Rattle.template_compiler_statement_makers.specs.Listed.{statements_in};
 ghost use Rattle.template_tree.specs.Tree as tree;
 
+use crate::ends::put;
 use std::alloc::{AllocError, Global};
 use template_tree::{Call, Expr, Span, Spanned};
 use template_tree_statements::{Block, CallBlock, IfCond, Macro, Stmt, WithBlock};
@@ -14,16 +15,16 @@ use template_tree_statements::{Block, CallBlock, IfCond, Macro, Stmt, WithBlock}
 /// `{% if expr %}true_body{% else %}false_body{% endif %}`: a condition with its body gets what stands for the other case.
 #[tactic(auto, using(crate::proofs::Rows::statements_row))]
 pub fn otherwise<'source>(
-    node: Spanned<Box<IfCond<'source>>>,
+    node: Box<Spanned<IfCond<'source>>>,
     false_body: Vec<Stmt<'source>>,
     span: Span,
-) -> Spanned<Box<IfCond<'source>>>
+) -> Box<Spanned<IfCond<'source>>>
     ensures { statement_of (statements.IfCond result) ≡
-        tree.if_condition (expression_of node.entry.node.value.expr) (statements_in node.entry.node.value.true_body.items)
+        tree.if_condition (expression_of node.entry.value.node.expr) (statements_in node.entry.value.node.true_body.items)
         (statements_in false_body.entry.items) }
 {
     let mut node = node;
-    node.node.false_body = false_body;
+    put(&mut node.node.false_body, false_body);
     node.span = span;
     node
 }
@@ -35,7 +36,7 @@ pub fn with_block<'source>(
     assignments: Vec<(Expr<'source>, Expr<'source>)>,
     body: Vec<Stmt<'source>>,
     span: Span,
-) -> Result<Spanned<Box<WithBlock<'source>>>, AllocError>
+) -> Result<Box<Spanned<WithBlock<'source>>>, AllocError>
     ensures { IfOk result (λ n. statement_of (statements.WithBlock n) ≡
         tree.with_block (assignments_in assignments.entry.items) (statements_in body.entry.items)) }
 {
@@ -50,7 +51,7 @@ pub fn block<'source>(
     required: bool,
     body: Vec<Stmt<'source>>,
     span: Span,
-) -> Result<Spanned<Box<Block<'source>>>, AllocError>
+) -> Result<Box<Spanned<Block<'source>>>, AllocError>
     ensures { IfOk result (λ n. statement_of (statements.Block n) ≡ tree.block name.now required (statements_in body.entry.items)) }
 {
     let node = Block {
@@ -67,7 +68,7 @@ pub fn macro_declared<'source>(
     alloc: Global,
     node: Macro<'source>,
     span: Span,
-) -> Result<Spanned<Box<Macro<'source>>>, AllocError>
+) -> Result<Box<Spanned<Macro<'source>>>, AllocError>
     ensures { IfOk result (λ n. statement_of (statements.Macro n) ≡
         tree.macro node.entry.name.now (expressions_in node.entry.args.items) (expressions_in node.entry.defaults.items)
         (statements_in node.entry.body.items)) }
@@ -79,12 +80,12 @@ pub fn macro_declared<'source>(
 #[tactic(auto, using(crate::proofs::Rows::statements_row))]
 pub fn call_block<'source>(
     alloc: Global,
-    call: Spanned<Box<Call<'source>>>,
+    call: Box<Spanned<Call<'source>>>,
     node: Macro<'source>,
     span: Span,
-) -> Result<Spanned<Box<CallBlock<'source>>>, AllocError>
+) -> Result<Box<Spanned<CallBlock<'source>>>, AllocError>
     ensures { IfOk result (λ n. statement_of (statements.CallBlock n) ≡
-        tree.call_block (expression_of call.entry.node.value.expr) (arguments_in call.entry.node.value.args.items)
+        tree.call_block (expression_of call.entry.value.node.expr) (arguments_in call.entry.value.node.args.items)
         (expressions_in node.entry.args.items) (expressions_in node.entry.defaults.items)
         (statements_in node.entry.body.items)) }
 {

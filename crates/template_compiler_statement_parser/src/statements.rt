@@ -226,7 +226,7 @@ fn for_loop<'source, R: ReadsExpressions>(
     left: u32,
     around: Around,
     span: Span,
-) -> Result<Spanned<Box<ForLoop<'source>>>, Refusal>
+) -> Result<Box<Spanned<ForLoop<'source>>>, Refusal>
     ensures { ParsedAs (λ n. statement_of (statements.ForLoop n))
         (for_by (here left) (around_of around) tokens.old.left) tokens.new.left result }
 {
@@ -244,7 +244,7 @@ fn if_condition<'source, R: ReadsExpressions>(
     left: u32,
     around: Around,
     span: Span,
-) -> Result<Spanned<Box<IfCond<'source>>>, Refusal>
+) -> Result<Box<Spanned<IfCond<'source>>>, Refusal>
     ensures { ParsedAs (λ n. statement_of (statements.IfCond n))
         (if_by (here left) (around_of around) tokens.old.left) tokens.new.left result }
 {
@@ -264,7 +264,7 @@ fn read_branch<'source, R: ReadsExpressions>(
     left: u32,
     around: Around,
     span: Span,
-) -> Result<Spanned<Box<IfCond<'source>>>, Refusal>
+) -> Result<Box<Spanned<IfCond<'source>>>, Refusal>
     ensures { ParsedAs branch_in (branch_by (here left) (around_of around) tokens.old.left) tokens.new.left result }
 {
     let head = loops::read_branch::<R>(alloc, tokens, left, span)?;
@@ -279,7 +279,7 @@ fn branches<'source, R: ReadsExpressions>(
     tokens: &mut TokenStream<'source>,
     left: u32,
     around: Around,
-) -> Result<Vec<Spanned<Box<IfCond<'source>>>>, Refusal>
+) -> Result<Vec<Box<Spanned<IfCond<'source>>>>, Refusal>
     ensures { ParsedAs (λ v. branches_in v.items) (all (branch_step (here left) (around_of around)) no_branches tokens.old.left)
         tokens.new.left result }
 {
@@ -300,7 +300,7 @@ fn next_branch<'source, R: ReadsExpressions>(
     tokens: &mut TokenStream<'source>,
     left: u32,
     around: Around,
-    branches: &mut Vec<Spanned<Box<IfCond<'source>>>>,
+    branches: &mut Vec<Box<Spanned<IfCond<'source>>>>,
 ) -> Result<bool, Refusal>
     ensures { SteppedTo (branch_step (here left) (around_of around) (branches_in branches.old.items) tokens.old.left)
         (branches_in branches.old.items) tokens.old.left (branches_in branches.new.items) tokens.new.left result }
@@ -323,7 +323,7 @@ fn with_block<'source, R: ReadsExpressions>(
     left: u32,
     around: Around,
     span: Span,
-) -> Result<Spanned<Box<WithBlock<'source>>>, Refusal>
+) -> Result<Box<Spanned<WithBlock<'source>>>, Refusal>
     ensures { ParsedAs (λ n. statement_of (statements.WithBlock n))
         (with_by (here left) (around_of around) tokens.old.left) tokens.new.left result }
 {
@@ -357,9 +357,9 @@ fn set_block<'source, R: ReadsExpressions>(
     tokens: &mut TokenStream<'source>,
     left: u32,
     around: Around,
-    head: Spanned<Box<SetBlock<'source>>>,
+    head: Box<Spanned<SetBlock<'source>>>,
     span: Span,
-) -> Result<Spanned<Box<SetBlock<'source>>>, Refusal>
+) -> Result<Box<Spanned<SetBlock<'source>>>, Refusal>
     ensures { ParsedAs (λ n. statement_of (statements.SetBlock n))
         (set_rest (here left) (around_of around) (set_over (set_block_of head.entry)) tokens.old.left) tokens.new.left result }
 {
@@ -374,7 +374,7 @@ fn auto_escape<'source, R: ReadsExpressions>(
     left: u32,
     around: Around,
     span: Span,
-) -> Result<Spanned<Box<AutoEscape<'source>>>, Refusal>
+) -> Result<Box<Spanned<AutoEscape<'source>>>, Refusal>
     ensures { ParsedAs (λ n. statement_of (statements.AutoEscape n))
         (autoescape_by (here left) (around_of around) tokens.old.left) tokens.new.left result }
 {
@@ -390,7 +390,7 @@ fn filter_block<'source, R: ReadsExpressions>(
     left: u32,
     around: Around,
     span: Span,
-) -> Result<Spanned<Box<FilterBlock<'source>>>, Refusal>
+) -> Result<Box<Spanned<FilterBlock<'source>>>, Refusal>
     ensures { ParsedAs (λ n. statement_of (statements.FilterBlock n))
         (filter_block_by (here left) (around_of around) tokens.old.left) tokens.new.left result }
 {
@@ -406,7 +406,7 @@ fn block<'source, R: ReadsExpressions>(
     left: u32,
     around: Around,
     span: Span,
-) -> Result<Spanned<Box<Block<'source>>>, Refusal>
+) -> Result<Box<Spanned<Block<'source>>>, Refusal>
     ensures { ParsedAs (λ n. statement_of (statements.Block n))
         (block_by (here left) (around_of around) tokens.old.left) tokens.new.left result }
 {
@@ -421,7 +421,7 @@ fn macro_block<'source, R: ReadsExpressions>(
     tokens: &mut TokenStream<'source>,
     left: u32,
     span: Span,
-) -> Result<Spanned<Box<Macro<'source>>>, Refusal>
+) -> Result<Box<Spanned<Macro<'source>>>, Refusal>
     ensures { ParsedAs (λ n. statement_of (statements.Macro n)) (macro_by (here left) tokens.old.left) tokens.new.left result }
 {
     let head = declarations::read_macro::<R>(alloc, tokens, left)?;
@@ -435,7 +435,7 @@ fn call_block<'source, R: ReadsExpressions>(
     tokens: &mut TokenStream<'source>,
     left: u32,
     span: Span,
-) -> Result<Spanned<Box<CallBlock<'source>>>, Refusal>
+) -> Result<Box<Spanned<CallBlock<'source>>>, Refusal>
     ensures { ParsedAs (λ n. statement_of (statements.CallBlock n)) (call_by (here left) tokens.old.left) tokens.new.left result }
 {
     let head = declarations::read_call::<R>(alloc, tokens, left)?;

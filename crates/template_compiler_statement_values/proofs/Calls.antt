@@ -10,8 +10,8 @@ use Rattle.template_compiler_tokens.specs.Token.{Token, bad_syntax}
 use Rattle.template_compiler_reading.specs.Steps.{Read}
 use Rattle.template_compiler_statements.specs.Reader.{only_call}
 
-pub call_here : {A : Type 0} (go : Expression → Arguments → List Token → Read A) (o : Option (Expression × Arguments)) (n : Spanned (Box Call)) (ts : List Token) →
-    call_in (Some n) ≡ o → only_call go o ts ≡ go (expression_of n.node.value.expr) (arguments_in n.node.value.args.items) ts
+pub call_here : {A : Type 0} (go : Expression → Arguments → List Token → Read A) (o : Option (Expression × Arguments)) (n : Box (Spanned Call)) (ts : List Token) →
+    call_in (Some n) ≡ o → only_call go o ts ≡ go (expression_of n.value.node.expr) (arguments_in n.value.node.args.items) ts
 unfolding only_call
 call_here go o n ts h = ap (λ o. only_call go o ts) (sym h)
 

@@ -56,7 +56,7 @@ fn do_call(do_call: &Do, out: &mut Form, left: u32) {
 }
 
 /// A head with a call, before what else is in it.
-pub(crate) fn open_call(head: &str, called: &Spanned<Box<Call>>, out: &mut Form, left: u32) {
+pub(crate) fn open_call(head: &str, called: &Box<Spanned<Call>>, out: &mut Form, left: u32) {
     open(head, out);
     out.push(' ');
     call(&called.node, out, left);

@@ -8,8 +8,8 @@ use Rattle.template_tree.specs.declared.expressions.Expr.{Expr, GetAttr, Compare
 use Rattle.template_names_state.specs.Dotted.{fields_left}
 
 -- no dotted names stand before an expression that is no attribute
-pub no_fields : (fields : Items (Items ℕ)) (e : Expr) → ((x : Spanned (Box Attribute Global)) → e ≡ GetAttr x → ⊥) → [] ≡ fields_left (expression_of e) fields
+pub no_fields : (fields : Items (Items ℕ)) (e : Expr) → ((x : Box (Spanned Attribute) Global) → e ≡ GetAttr x → ⊥) → [] ≡ fields_left (expression_of e) fields
 no_fields fields (GetAttr' p expr name span) other =
-    absurd (other record { node = record { ptr = p.ptr; alloc = p.alloc; value = record { expr = expr; name = name } }; span = span } refl)
+    absurd (other record { ptr = p.ptr; alloc = p.alloc; value = record { node = record { expr = expr; name = name }; span = span } } refl)
 no_fields fields (Compare' p (compared expr shape ops) span) other = refl
 no_fields fields _ other = refl

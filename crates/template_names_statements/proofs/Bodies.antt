@@ -33,38 +33,38 @@ pub at_tree : {T E : Type 0} {u : Places → Bool} {k : Among} (s : Stmt) (t : S
 at_tree s t a b r tree uses stores goes =
     goes_on a b r (λ q. uses q ∙ ap (λ (x : Statement). place_by q x) (sym tree)) (λ q. stores q ∙ ap (λ (x : Statement). is_stored_by q x) (sym tree)) goes
 
-pub set_block_tree : (n : Spanned (Box SetBlockNode Global)) → statement_of (SetBlock n)
-    ≡ set_block (expression_of n.node.value.target) (optional_in n.node.value.filter) (statements_in n.node.value.body.items)
+pub set_block_tree : (n : Box (Spanned SetBlockNode) Global) → statement_of (SetBlock n)
+    ≡ set_block (expression_of n.value.node.target) (optional_in n.value.node.filter) (statements_in n.value.node.body.items)
 set_block_tree n = search (rules, the_lemmas, statements_row)
 
-pub filter_block_tree : (n : Spanned (Box FilterBlockNode Global)) → statement_of (FilterBlock n)
-    ≡ filter_block (expression_of n.node.value.filter) (statements_in n.node.value.body.items)
+pub filter_block_tree : (n : Box (Spanned FilterBlockNode) Global) → statement_of (FilterBlock n)
+    ≡ filter_block (expression_of n.value.node.filter) (statements_in n.value.node.body.items)
 filter_block_tree n = search (rules, the_lemmas, statements_row)
 
-pub block_tree : (n : Spanned (Box BlockNode Global)) → statement_of (Block n)
-    ≡ block n.node.value.name.now n.node.value.required (statements_in n.node.value.body.items)
+pub block_tree : (n : Box (Spanned BlockNode) Global) → statement_of (Block n)
+    ≡ block n.value.node.name.now n.value.node.required (statements_in n.value.node.body.items)
 block_tree n = search (rules, the_lemmas, statements_row)
 
-pub macro_tree : (n : Spanned (Box MacroNode Global)) → statement_of (Macro n)
-    ≡ macro n.node.value.name.now (expressions_in n.node.value.args.items) (expressions_in n.node.value.defaults.items) (statements_in n.node.value.body.items)
+pub macro_tree : (n : Box (Spanned MacroNode) Global) → statement_of (Macro n)
+    ≡ macro n.value.node.name.now (expressions_in n.value.node.args.items) (expressions_in n.value.node.defaults.items) (statements_in n.value.node.body.items)
 macro_tree n = search (rules, the_lemmas, statements_row)
 
-with_value : Spanned (Box CallBlock Global) → CallBlock → Spanned (Box CallBlock Global)
-with_value n v = record { node = record { ptr = n.node.ptr; alloc = n.node.alloc; value = v }; span = n.span }
+with_value : Box (Spanned CallBlock) Global → CallBlock → Box (Spanned CallBlock) Global
+with_value n v = record { ptr = n.ptr; alloc = n.alloc; value = record { node = v; span = n.value.span } }
 
-call_by : (n : Spanned (Box CallBlock Global)) (v : CallBlock) → statement_of (calls (with_value n v))
-    ≡ call_block (expression_of (out-CallBlock v).call.node.value.expr) (arguments_in (out-CallBlock v).call.node.value.args.items)
-    (expressions_in (out-CallBlock v).macro_decl.node.value.args.items) (expressions_in (out-CallBlock v).macro_decl.node.value.defaults.items)
-    (statements_in (out-CallBlock v).macro_decl.node.value.body.items)
+call_by : (n : Box (Spanned CallBlock) Global) (v : CallBlock) → statement_of (calls (with_value n v))
+    ≡ call_block (expression_of (out-CallBlock v).call.value.node.expr) (arguments_in (out-CallBlock v).call.value.node.args.items)
+    (expressions_in (out-CallBlock v).macro_decl.value.node.args.items) (expressions_in (out-CallBlock v).macro_decl.value.node.defaults.items)
+    (statements_in (out-CallBlock v).macro_decl.value.node.body.items)
 unfolding with_value out-CallBlock
 call_by n (called call q name args defaults shape body inner) = search (rules, the_lemmas, statements_row)
 
-pub call_tree : (n : Spanned (Box CallBlock Global)) → statement_of (calls n)
-    ≡ call_block (expression_of (out-CallBlock n.node.value).call.node.value.expr) (arguments_in (out-CallBlock n.node.value).call.node.value.args.items)
-    (expressions_in (out-CallBlock n.node.value).macro_decl.node.value.args.items) (expressions_in (out-CallBlock n.node.value).macro_decl.node.value.defaults.items)
-    (statements_in (out-CallBlock n.node.value).macro_decl.node.value.body.items)
+pub call_tree : (n : Box (Spanned CallBlock) Global) → statement_of (calls n)
+    ≡ call_block (expression_of (out-CallBlock n.value.node).call.value.node.expr) (arguments_in (out-CallBlock n.value.node).call.value.node.args.items)
+    (expressions_in (out-CallBlock n.value.node).macro_decl.value.node.args.items) (expressions_in (out-CallBlock n.value.node).macro_decl.value.node.defaults.items)
+    (statements_in (out-CallBlock n.value.node).macro_decl.value.node.body.items)
 unfolding with_value
-call_tree n = call_by n n.node.value
+call_tree n = call_by n n.value.node
 
 -- a macro, by the lists that are read from its node
 pub macro_reads : (q : Places) {body body' : Items Stmt} {arguments arguments' defaults defaults' : Items Expr} →

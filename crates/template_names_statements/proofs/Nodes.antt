@@ -25,58 +25,58 @@ use Rattle.template_names.specs.Names.{Places, place_before, place_in, place_if_
 use Rattle.template_names_state.specs.Dotted.{fields_left}
 use Rattle.template_names_statements.specs.Parts.{left_deep, left_place, place_beside}
 
-filter_beside : (q : Places) (fields : Items (Items ℕ)) (n : Spanned (Box FilterNode Global)) →
-    place_beside q fields (expression_of (Filter n)) ≡ place_in_arguments q (arguments_in n.node.value.args.items)
+filter_beside : (q : Places) (fields : Items (Items ℕ)) (n : Box (Spanned FilterNode) Global) →
+    place_beside q fields (expression_of (Filter n)) ≡ place_in_arguments q (arguments_in n.value.node.args.items)
 filter_beside q fields n = search (rules, the_lemmas, arguments_row)
 
-test_beside : (q : Places) (fields : Items (Items ℕ)) (n : Spanned (Box TestNode Global)) →
-    place_beside q fields (expression_of (Test n)) ≡ place_in_arguments q (arguments_in n.node.value.args.items)
+test_beside : (q : Places) (fields : Items (Items ℕ)) (n : Box (Spanned TestNode) Global) →
+    place_beside q fields (expression_of (Test n)) ≡ place_in_arguments q (arguments_in n.value.node.args.items)
 test_beside q fields n = search (rules, the_lemmas, arguments_row)
 
-call_beside : (q : Places) (fields : Items (Items ℕ)) (n : Spanned (Box CallNode Global)) →
-    place_beside q fields (expression_of (Call n)) ≡ place_in_arguments q (arguments_in n.node.value.args.items)
+call_beside : (q : Places) (fields : Items (Items ℕ)) (n : Box (Spanned CallNode) Global) →
+    place_beside q fields (expression_of (Call n)) ≡ place_in_arguments q (arguments_in n.value.node.args.items)
 call_beside q fields n = search (rules, the_lemmas, arguments_row)
 
-pub in_filter : (q : Places) (fields : Items (Items ℕ)) (e : Expr) (n : Spanned (Box FilterNode Global)) → e ≡ Filter n →
-    place_in_arguments q (arguments_in n.node.value.args.items) ≡ place_beside q fields (expression_of e)
+pub in_filter : (q : Places) (fields : Items (Items ℕ)) (e : Expr) (n : Box (Spanned FilterNode) Global) → e ≡ Filter n →
+    place_in_arguments q (arguments_in n.value.node.args.items) ≡ place_beside q fields (expression_of e)
 in_filter q fields e n node = sym (ap (λ (x : Expr). place_beside q fields (expression_of x)) node ∙ filter_beside q fields n)
 
-pub in_test : (q : Places) (fields : Items (Items ℕ)) (e : Expr) (n : Spanned (Box TestNode Global)) → e ≡ Test n →
-    place_in_arguments q (arguments_in n.node.value.args.items) ≡ place_beside q fields (expression_of e)
+pub in_test : (q : Places) (fields : Items (Items ℕ)) (e : Expr) (n : Box (Spanned TestNode) Global) → e ≡ Test n →
+    place_in_arguments q (arguments_in n.value.node.args.items) ≡ place_beside q fields (expression_of e)
 in_test q fields e n node = sym (ap (λ (x : Expr). place_beside q fields (expression_of x)) node ∙ test_beside q fields n)
 
-pub in_call : (q : Places) (fields : Items (Items ℕ)) (e : Expr) (n : Spanned (Box CallNode Global)) → e ≡ Call n →
-    place_in_arguments q (arguments_in n.node.value.args.items) ≡ place_beside q fields (expression_of e)
+pub in_call : (q : Places) (fields : Items (Items ℕ)) (e : Expr) (n : Box (Spanned CallNode) Global) → e ≡ Call n →
+    place_in_arguments q (arguments_in n.value.node.args.items) ≡ place_beside q fields (expression_of e)
 in_call q fields e n node = sym (ap (λ (x : Expr). place_beside q fields (expression_of x)) node ∙ call_beside q fields n)
 
-pub in_list : (q : Places) (fields : Items (Items ℕ)) (e : Expr) (n : Spanned (Box ListNode Global)) → e ≡ List n →
-    place_in_one q (expressions_in n.node.value.items.items) ≡ place_beside q fields (expression_of e)
+pub in_list : (q : Places) (fields : Items (Items ℕ)) (e : Expr) (n : Box (Spanned ListNode) Global) → e ≡ List n →
+    place_in_one q (expressions_in n.value.node.items.items) ≡ place_beside q fields (expression_of e)
 in_list q fields e n node =
     sym (ap (λ (x : Expr). place_beside q fields (expression_of x)) node ∙ ap (λ (t : Expression). place_beside q fields t) (list_tree n))
 
-pub in_tuple : (q : Places) (fields : Items (Items ℕ)) (e : Expr) (n : Spanned (Box TupleNode Global)) → e ≡ Tuple n →
-    place_in_one q (expressions_in n.node.value.items.items) ≡ place_beside q fields (expression_of e)
+pub in_tuple : (q : Places) (fields : Items (Items ℕ)) (e : Expr) (n : Box (Spanned TupleNode) Global) → e ≡ Tuple n →
+    place_in_one q (expressions_in n.value.node.items.items) ≡ place_beside q fields (expression_of e)
 in_tuple q fields e n node =
     sym (ap (λ (x : Expr). place_beside q fields (expression_of x)) node ∙ ap (λ (t : Expression). place_beside q fields t) (tuple_tree n))
 
-pub in_map : (q : Places) (fields : Items (Items ℕ)) (e : Expr) (n : Spanned (Box MapNode Global)) → e ≡ Map n →
-    (place_in_one q (expressions_in n.node.value.keys.items) || place_in_one q (expressions_in n.node.value.values.items)) ≡ place_beside q fields (expression_of e)
+pub in_map : (q : Places) (fields : Items (Items ℕ)) (e : Expr) (n : Box (Spanned MapNode) Global) → e ≡ Map n →
+    (place_in_one q (expressions_in n.value.node.keys.items) || place_in_one q (expressions_in n.value.node.values.items)) ≡ place_beside q fields (expression_of e)
 in_map q fields e n node =
     sym (ap (λ (x : Expr). place_beside q fields (expression_of x)) node ∙ ap (λ (t : Expression). place_beside q fields t) (map_tree n))
 
-pub in_chain : (q : Places) (fields : Items (Items ℕ)) (e : Expr) (n : Spanned (Box Compare Global)) → e ≡ CompareNode n →
-    place_in_links q (links_in (out-Compare n.node.value).ops.items) ≡ place_beside q fields (expression_of e)
+pub in_chain : (q : Places) (fields : Items (Items ℕ)) (e : Expr) (n : Box (Spanned Compare) Global) → e ≡ CompareNode n →
+    place_in_links q (links_in (out-Compare n.value.node).ops.items) ≡ place_beside q fields (expression_of e)
 in_chain q fields e n node =
-    sym (ap (λ (x : Expr). place_beside q fields (expression_of x)) node ∙ ap (λ (t : Expression). place_beside q fields t) (chain_tree n.node.value))
+    sym (ap (λ (x : Expr). place_beside q fields (expression_of x)) node ∙ ap (λ (t : Expression). place_beside q fields t) (chain_tree n.value.node))
 
-pub in_slice : (q : Places) (fields : Items (Items ℕ)) (e : Expr) (n : Spanned (Box SliceNode Global)) → e ≡ Slice n →
-    ((place_if_given q (optional_in n.node.value.start) || place_if_given q (optional_in n.node.value.stop)) || place_if_given q (optional_in n.node.value.step))
+pub in_slice : (q : Places) (fields : Items (Items ℕ)) (e : Expr) (n : Box (Spanned SliceNode) Global) → e ≡ Slice n →
+    ((place_if_given q (optional_in n.value.node.start) || place_if_given q (optional_in n.value.node.stop)) || place_if_given q (optional_in n.value.node.step))
     ≡ place_beside q fields (expression_of e)
 in_slice q fields e n node =
     sym (ap (λ (x : Expr). place_beside q fields (expression_of x)) node ∙ ap (λ (t : Expression). place_beside q fields t) (slice_tree n))
 
-pub in_condition : (q : Places) (fields : Items (Items ℕ)) (e : Expr) (n : Spanned (Box IfExprNode Global)) → e ≡ IfExpr n →
-    ((place_in q (expression_of n.node.value.test_expr) || place_in q (expression_of n.node.value.true_expr)) || place_if_given q (optional_in n.node.value.false_expr))
+pub in_condition : (q : Places) (fields : Items (Items ℕ)) (e : Expr) (n : Box (Spanned IfExprNode) Global) → e ≡ IfExpr n →
+    ((place_in q (expression_of n.value.node.test_expr) || place_in q (expression_of n.value.node.true_expr)) || place_if_given q (optional_in n.value.node.false_expr))
     ≡ place_beside q fields (expression_of e)
 in_condition q fields e n node =
     sym (ap (λ (x : Expr). place_beside q fields (expression_of x)) node ∙ ap (λ (t : Expression). place_beside q fields t) (choice_tree n))

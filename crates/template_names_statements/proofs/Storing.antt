@@ -17,23 +17,23 @@ use Rattle.template_names_statements.specs.Stores.{backwards, place_in_first, is
 use Rattle.template_names_state.proofs.Laws.{goes_as, goes_nowhere, goes_then, or_assoc, or_false}
 
 -- a list of targets, and an expression that is no target
-pub stored_list : (q : Items ℕ) (e : Expr) (n : Spanned (Box ListNode Global)) → e ≡ List n →
-    is_stored_in_one q (expressions_in n.node.value.items.items) ≡ is_stored_in q (expression_of e)
+pub stored_list : (q : Items ℕ) (e : Expr) (n : Box (Spanned ListNode) Global) → e ≡ List n →
+    is_stored_in_one q (expressions_in n.value.node.items.items) ≡ is_stored_in q (expression_of e)
 stored_list q e n node =
     sym (ap (λ (x : Expr). is_stored_in q (expression_of x)) node ∙ ap (λ (t : Expression). is_stored_in q t) (list_tree n))
 
-pub used_list : (q : Places) (e : Expr) (n : Spanned (Box ListNode Global)) → e ≡ List n →
-    place_in_targets q (expressions_in n.node.value.items.items) ≡ place_in_target q (expression_of e)
+pub used_list : (q : Places) (e : Expr) (n : Box (Spanned ListNode) Global) → e ≡ List n →
+    place_in_targets q (expressions_in n.value.node.items.items) ≡ place_in_target q (expression_of e)
 used_list q e n node =
     sym (ap (λ (x : Expr). place_in_target q (expression_of x)) node ∙ ap (λ (t : Expression). place_in_target q t) (list_tree n))
 
-pub stored_chain : (q : Items ℕ) (e : Expr) (n : Spanned (Box Compare Global)) → e ≡ CompareNode n → false ≡ is_stored_in q (expression_of e)
+pub stored_chain : (q : Items ℕ) (e : Expr) (n : Box (Spanned Compare) Global) → e ≡ CompareNode n → false ≡ is_stored_in q (expression_of e)
 stored_chain q e n node =
-    sym (ap (λ (x : Expr). is_stored_in q (expression_of x)) node ∙ ap (λ (t : Expression). is_stored_in q t) (chain_tree n.node.value))
+    sym (ap (λ (x : Expr). is_stored_in q (expression_of x)) node ∙ ap (λ (t : Expression). is_stored_in q t) (chain_tree n.value.node))
 
-pub used_chain : (q : Places) (e : Expr) (n : Spanned (Box Compare Global)) → e ≡ CompareNode n → false ≡ place_in_target q (expression_of e)
+pub used_chain : (q : Places) (e : Expr) (n : Box (Spanned Compare) Global) → e ≡ CompareNode n → false ≡ place_in_target q (expression_of e)
 used_chain q e n node =
-    sym (ap (λ (x : Expr). place_in_target q (expression_of x)) node ∙ ap (λ (t : Expression). place_in_target q t) (chain_tree n.node.value))
+    sym (ap (λ (x : Expr). place_in_target q (expression_of x)) node ∙ ap (λ (t : Expression). place_in_target q t) (chain_tree n.value.node))
 
 pub none_used : (s : Bool) → (false || (not s && false)) ≡ false
 none_used true = refl

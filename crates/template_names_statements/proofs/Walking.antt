@@ -34,24 +34,24 @@ macro_uses q arguments defaults u =
     sym (used_by_arguments q xs ds (not (bytes_eq q.name (codes "caller")) && u))
 
 -- chains of `elif`
-if_uses : (q : Places) (n : Spanned (Box IfCondNode Global)) →
-    ((place_in q (expression_of n.node.value.expr) || place_within q (statements_in n.node.value.true_body.items)) ||
-    place_within q (statements_in n.node.value.false_body.items)) ≡ place_by q (choice_of n)
+if_uses : (q : Places) (n : Box (Spanned IfCondNode) Global) →
+    ((place_in q (expression_of n.value.node.expr) || place_within q (statements_in n.value.node.true_body.items)) ||
+    place_within q (statements_in n.value.node.false_body.items)) ≡ place_by q (choice_of n)
 if_uses q n = ap (λ (t : Statement). place_by q t) (sym (if_tree n))
 
-abbrev pub Tested : Spanned (Box IfCondNode Global) → Names → Names → Type 0
+abbrev pub Tested : Box (Spanned IfCondNode) Global → Names → Names → Type 0
 Tested n a b =
-    Goes (λ q. place_in q (expression_of n.node.value.expr) || place_within q (statements_in n.node.value.true_body.items)) nothing a b
+    Goes (λ q. place_in q (expression_of n.value.node.expr) || place_within q (statements_in n.value.node.true_body.items)) nothing a b
 
-pub chain_end : {T E : Type 0} {G : Names → Type 0} (n : Spanned (Box IfCondNode Global)) (read : Items Stmt) (a b c : Names) (r : Result T E) →
-    ((d : Names) → Goes (λ q. place_by q (choice_of n)) nothing a d → G d) → Tested n a b → read ≡ n.node.value.false_body.items →
+pub chain_end : {T E : Type 0} {G : Names → Type 0} (n : Box (Spanned IfCondNode) Global) (read : Items Stmt) (a b c : Names) (r : Result T E) →
+    ((d : Names) → Goes (λ q. place_by q (choice_of n)) nothing a d → G d) → Tested n a b → read ≡ n.value.node.false_body.items →
     OnOk r (Goes (λ q. place_within q (statements_in read)) nothing b c) → OnOk r (G c)
 chain_end n read a b c (Ok value) ends step same rest =
     ends c (uses_as (λ q. if_uses q n)
     (uses_then a b c step (uses_as (λ q. ap (λ (ss : Items Stmt). place_within q (statements_in ss)) same) rest)))
 chain_end n read a b c (Err error) ends step same rest = tt
 
-only_place : (q : Places) (body : Items Stmt) (m : Spanned (Box IfCondNode Global)) (s : Stmt) → length body ≡ 1 → s ≡ get_or body 0 s → s ≡ IfCond m →
+only_place : (q : Places) (body : Items Stmt) (m : Box (Spanned IfCondNode) Global) (s : Stmt) → length body ≡ 1 → s ≡ get_or body 0 s → s ≡ IfCond m →
     place_by q (choice_of m) ≡ place_within q (statements_in body)
 only_place q [] m s one read is = absurd (omega (arith, one))
 only_place q (x ∷ []) m s one read is =
@@ -59,25 +59,25 @@ only_place q (x ∷ []) m s one read is =
     sym (ap (λ b. place_by q (statement_of x) || b) (and_false (not (is_stored_by q.name (statement_of x)))) ∙ or_false (place_by q (statement_of x)))
 only_place q (x ∷ y ∷ body) m s one read is = absurd (omega (arith, one))
 
-pub chain_goes : {G : Names → Type 0} (n m : Spanned (Box IfCondNode Global)) (s : Stmt) (a b : Names) → length n.node.value.false_body.items ≡ 1 →
-    s ≡ get_or n.node.value.false_body.items 0 s → s ≡ IfCond m → ((c : Names) → Goes (λ q. place_by q (choice_of n)) nothing a c → G c) → Tested n a b →
+pub chain_goes : {G : Names → Type 0} (n m : Box (Spanned IfCondNode) Global) (s : Stmt) (a b : Names) → length n.value.node.false_body.items ≡ 1 →
+    s ≡ get_or n.value.node.false_body.items 0 s → s ≡ IfCond m → ((c : Names) → Goes (λ q. place_by q (choice_of n)) nothing a c → G c) → Tested n a b →
     (c : Names) → Goes (λ q. place_by q (choice_of m)) nothing b c → G c
 chain_goes n m s a b one read is ends step c rest =
     ends c (uses_as
     (λ q.
-    ap (λ x. (place_in q (expression_of n.node.value.expr) || place_within q (statements_in n.node.value.true_body.items)) || x)
-    (only_place q n.node.value.false_body.items m s one read is) ∙ if_uses q n)
+    ap (λ x. (place_in q (expression_of n.value.node.expr) || place_within q (statements_in n.value.node.true_body.items)) || x)
+    (only_place q n.value.node.false_body.items m s one read is) ∙ if_uses q n)
     (uses_then a b c step rest))
 
-body_below : (n : Spanned (Box IfCondNode Global)) (i : ℕ) (d : Stmt) → i < length n.node.value.false_body.items
-    → size-Stmt (get_or n.node.value.false_body.items i d) < size-Stmt (IfCond n)
+body_below : (n : Box (Spanned IfCondNode) Global) (i : ℕ) (d : Stmt) → i < length n.value.node.false_body.items
+    → size-Stmt (get_or n.value.node.false_body.items i d) < size-Stmt (IfCond n)
 body_below n i d within = search (rules, the_lemmas)
 
-pub else_below : (n m : Spanned (Box IfCondNode Global)) (s : Stmt) → length n.node.value.false_body.items ≡ 1 →
-    s ≡ get_or n.node.value.false_body.items 0 s → s ≡ IfCond m → size-Stmt (IfCond m) < size-Stmt (IfCond n)
+pub else_below : (n m : Box (Spanned IfCondNode) Global) (s : Stmt) → length n.value.node.false_body.items ≡ 1 →
+    s ≡ get_or n.value.node.false_body.items 0 s → s ≡ IfCond m → size-Stmt (IfCond m) < size-Stmt (IfCond n)
 else_below n m s one read is =
     let less = body_below n 0 s (omega (arith, one)) in
-    let same : size-Stmt (get_or n.node.value.false_body.items 0 s) ≡ size-Stmt (IfCond m) = ap (λ (x : Stmt). size-Stmt x) (sym read ∙ is) in
+    let same : size-Stmt (get_or n.value.node.false_body.items 0 s) ≡ size-Stmt (IfCond m) = ap (λ (x : Stmt). size-Stmt x) (sym read ∙ is) in
     omega (arith, less, same)
 
 -- a loop: its list, and what stands before its body there, the body and the else part

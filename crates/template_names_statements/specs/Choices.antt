@@ -8,11 +8,11 @@ use Rattle.template_tree_statements.specs.declared.statements.IfCond.{IfCond as 
 use Rattle.template_tree_statements.specs.declared.statements.WithBlock.{WithBlock as WithBlockNode}
 use Rattle.template_tree_statements.specs.declared.statements.Stmt.{ForLoop, IfCond, WithBlock}
 
-abbrev pub loop_of : Spanned (Box ForLoopNode) → Statement
+abbrev pub loop_of : Box (Spanned ForLoopNode) → Statement
 loop_of n = statement_of (ForLoop n)
 
-abbrev pub with_of : Spanned (Box WithBlockNode) → Statement
+abbrev pub with_of : Box (Spanned WithBlockNode) → Statement
 with_of n = statement_of (WithBlock n)
 
-abbrev pub choice_of : Spanned (Box IfCondNode) → Statement
+abbrev pub choice_of : Box (Spanned IfCondNode) → Statement
 choice_of n = statement_of (IfCond n)

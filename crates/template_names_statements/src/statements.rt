@@ -46,7 +46,7 @@ fn use_region<'source>(names: &mut Names<'source>, body: &[Stmt<'source>]) -> Re
 #[cycle(statement)]
 fn use_loop<'source>(
     names: &mut Names<'source>,
-    node: &Spanned<Box<ForLoop<'source>>>,
+    node: &Box<Spanned<ForLoop<'source>>>,
 ) -> Result<(), AllocError>
     ensures { OnOk result (Goes (λ places. place_by places (loop_of node.now)) nothing names.old names.new) }
 {
@@ -62,7 +62,7 @@ fn use_loop<'source>(
 #[cycle(statement)]
 fn use_chain<'source>(
     names: &mut Names<'source>,
-    first: &Spanned<Box<IfCond<'source>>>,
+    first: &Box<Spanned<IfCond<'source>>>,
 ) -> Result<(), AllocError>
     ensures { OnOk result (Goes (λ places. place_by places (choice_of first.now)) nothing names.old names.new) }
 {
@@ -86,7 +86,7 @@ fn use_chain<'source>(
 #[cycle(statement)]
 fn use_with<'source>(
     names: &mut Names<'source>,
-    node: &Spanned<Box<WithBlock<'source>>>,
+    node: &Box<Spanned<WithBlock<'source>>>,
 ) -> Result<(), AllocError>
     ensures { OnOk result (Goes (λ places. place_by places (with_of node.now)) nothing names.old names.new) }
 {

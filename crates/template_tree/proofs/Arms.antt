@@ -24,11 +24,11 @@ other_than_name (Compare' p (compared expr shape ops) span) h = refl
 other_than_name _ h = refl
 
 pub other_callee : (e : Expr) (args : Arguments) →
-    ((x : Spanned Name) → e ≡ Var x → ⊥) → ((x : Spanned (Box Attribute Global)) → e ≡ GetAttr x → ⊥) →
+    ((x : Spanned Name) → e ≡ Var x → ⊥) → ((x : Box (Spanned Attribute) Global) → e ≡ GetAttr x → ⊥) →
     calls_value (expression_of e) ≡ called_by (expression_of e) args
 other_callee (Var n) args h k = absurd (h n refl)
 other_callee (GetAttr' p expr name span) args h k =
-    absurd (k record { node = record { ptr = p.ptr; alloc = p.alloc; value = record { expr = expr; name = name } }; span = span } refl)
+    absurd (k record { ptr = p.ptr; alloc = p.alloc; value = record { node = record { expr = expr; name = name }; span = span } } refl)
 other_callee (Compare' p (compared expr shape ops) span) args h k = refl
 other_callee _ args h k = refl
 

@@ -15,6 +15,6 @@ called (Method expr name) = calls_method (expression_of expr.now) name.now
 called (Block name) = calls_block name.now
 called (Object expr) = calls_value (expression_of expr.now)
 
-abbrev pub call_in : Option (Spanned (Box Call)) → Option (Expression × Arguments)
+abbrev pub call_in : Option (Box (Spanned Call)) → Option (Expression × Arguments)
 call_in None = None
-call_in (Some n) = Some (expression_of n.node.value.expr, arguments_in n.node.value.args.items)
+call_in (Some n) = Some (expression_of n.value.node.expr, arguments_in n.value.node.args.items)

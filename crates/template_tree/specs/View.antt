@@ -10,7 +10,7 @@ use Rattle.template_tree.specs.declared.calls.CallArg.{CallArg, Pos, Kwarg, PosS
 abbrev mutual
   pub expression_of : Expr → Expression
   expression_of (Var n) = variable n.node.id.now
-  expression_of (Const n) = constant n.node.value.value
+  expression_of (Const n) = constant n.value.node.value
   expression_of (Slice' p expr start stop step span) =
       slice (expression_of expr) (optional_of start) (optional_of stop) (optional_of step)
   expression_of (UnaryOp' p op expr span) = unary op (expression_of expr)

@@ -14,33 +14,33 @@ pub enum Expr<'source> {
     /// A name: `user`.
     Var(Spanned<Var<'source>>),
     /// A literal: `42`, `"text"`, `true`, `none`.
-    Const(Spanned<Box<Const>>),
+    Const(Box<Spanned<Const>>),
     /// A part of a list or a text: `items[1:3]`.
-    Slice(Spanned<Box<Slice<'source>>>),
+    Slice(Box<Spanned<Slice<'source>>>),
     /// An operator with one operand: `not ready`, `-x`.
-    UnaryOp(Spanned<Box<UnaryOp<'source>>>),
+    UnaryOp(Box<Spanned<UnaryOp<'source>>>),
     /// An operator with two operands: `a + b`.
-    BinOp(Spanned<Box<BinOp<'source>>>),
+    BinOp(Box<Spanned<BinOp<'source>>>),
     /// A chain of comparisons: `0 < x <= 9`.
-    Compare(Spanned<Box<Compare<'source>>>),
+    Compare(Box<Spanned<Compare<'source>>>),
     /// A choice: `a if ready else b`.
-    IfExpr(Spanned<Box<IfExpr<'source>>>),
+    IfExpr(Box<Spanned<IfExpr<'source>>>),
     /// A filter: `name|upper`.
-    Filter(Spanned<Box<Filter<'source>>>),
+    Filter(Box<Spanned<Filter<'source>>>),
     /// A test: `x is defined`.
-    Test(Spanned<Box<Test<'source>>>),
+    Test(Box<Spanned<Test<'source>>>),
     /// An attribute: `user.name`.
-    GetAttr(Spanned<Box<GetAttr<'source>>>),
+    GetAttr(Box<Spanned<GetAttr<'source>>>),
     /// An item: `items[0]`.
-    GetItem(Spanned<Box<GetItem<'source>>>),
+    GetItem(Box<Spanned<GetItem<'source>>>),
     /// A call: `range(9)`.
-    Call(Spanned<Box<Call<'source>>>),
+    Call(Box<Spanned<Call<'source>>>),
     /// A list: `[1, x]`.
-    List(Spanned<Box<List<'source>>>),
+    List(Box<Spanned<List<'source>>>),
     /// A tuple: `(1, x)`.
-    Tuple(Spanned<Box<Tuple<'source>>>),
+    Tuple(Box<Spanned<Tuple<'source>>>),
     /// A map: `{"a": x}`.
-    Map(Spanned<Box<Map<'source>>>),
+    Map(Box<Spanned<Map<'source>>>),
 }
 
 /// A name.
@@ -222,7 +222,7 @@ impl<'source> Expr<'source> {
     ghost use Rattle.template_tree.specs.CallView.{call_in};
 
     /// The call that this expression is, or none where it is another one.
-    pub fn into_call(self) -> Option<Spanned<Box<Call<'source>>>>
+    pub fn into_call(self) -> Option<Box<Spanned<Call<'source>>>>
         ensures { call_in result ≡ call_parts (expression_of self.entry) }
     {
         match self {
@@ -289,19 +289,19 @@ impl<'source> Expr<'source> {
     {
         match self {
             Expr::UnaryOp(n) => {
-                let UnaryOp { expr, .. } = Box::into_inner(n.node);
+                let UnaryOp { expr, .. } = Box::into_inner(n).into_node();
                 Some(expr)
             }
             Expr::BinOp(n) => {
-                let BinOp { left, .. } = Box::into_inner(n.node);
+                let BinOp { left, .. } = Box::into_inner(n).into_node();
                 Some(left)
             }
             Expr::GetAttr(n) => {
-                let GetAttr { expr, .. } = Box::into_inner(n.node);
+                let GetAttr { expr, .. } = Box::into_inner(n).into_node();
                 Some(expr)
             }
             Expr::GetItem(n) => {
-                let GetItem { expr, .. } = Box::into_inner(n.node);
+                let GetItem { expr, .. } = Box::into_inner(n).into_node();
                 Some(expr)
             }
             expr => expr.into_first_part(),
@@ -316,27 +316,27 @@ impl<'source> Expr<'source> {
     {
         match self {
             Expr::Slice(n) => {
-                let Slice { expr, .. } = Box::into_inner(n.node);
+                let Slice { expr, .. } = Box::into_inner(n).into_node();
                 Some(expr)
             }
             Expr::Compare(n) => {
-                let Compare { expr, .. } = Box::into_inner(n.node);
+                let Compare { expr, .. } = Box::into_inner(n).into_node();
                 Some(expr)
             }
             Expr::IfExpr(n) => {
-                let IfExpr { true_expr, .. } = Box::into_inner(n.node);
+                let IfExpr { true_expr, .. } = Box::into_inner(n).into_node();
                 Some(true_expr)
             }
             Expr::Filter(n) => {
-                let Filter { expr, .. } = Box::into_inner(n.node);
+                let Filter { expr, .. } = Box::into_inner(n).into_node();
                 expr
             }
             Expr::Test(n) => {
-                let Test { expr, .. } = Box::into_inner(n.node);
+                let Test { expr, .. } = Box::into_inner(n).into_node();
                 Some(expr)
             }
             Expr::Call(n) => {
-                let Call { expr, .. } = Box::into_inner(n.node);
+                let Call { expr, .. } = Box::into_inner(n).into_node();
                 Some(expr)
             }
             Expr::Var(_) => None,

@@ -32,18 +32,25 @@ impl<T> Spanned<T> {
     {
         Spanned { node, span }
     }
+
+    /// The node, without its place.
+    pub fn into_node(self) -> T
+        ensures { result ≡ self.node }
+    {
+        self.node
+    }
 }
 
-impl<T: Drop> Spanned<Box<T>> {
+impl<T: Drop> Spanned<T> {
     /// A node in a box of its own, at a stretch of the source.
     ///
     /// # Errors
     ///
     /// The box's memory is refused; the node is dropped.
-    pub fn boxed(alloc: Global, node: T, span: Span) -> Result<Spanned<Box<T>>, AllocError>
-        ensures node { IfOk result (λ n. n.node.value ≡ node) }
-        ensures span { IfOk result (λ n. n.span ≡ span) }
+    pub fn boxed(alloc: Global, node: T, span: Span) -> Result<Box<Spanned<T>>, AllocError>
+        ensures node { IfOk result (λ n. n.value.node ≡ node) }
+        ensures span { IfOk result (λ n. n.value.span ≡ span) }
     {
-        Ok(Spanned::new(Box::new(alloc, node)?, span))
+        Ok(Box::new(alloc, Spanned::new(node, span))?)
     }
 }

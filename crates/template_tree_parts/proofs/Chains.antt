@@ -15,7 +15,7 @@ pub chain_spine : (c : Compare) → spine_of (chain_of c) ≡ spine_of (expressi
 unfolding out-Compare out
 chain_spine (compared expr shape ops) = refl
 
-pub filter_spine : (n : Spanned (Box FilterNode Global)) (e : Expr) → n.node.value.expr ≡ Some e →
+pub filter_spine : (n : Box (Spanned FilterNode) Global) (e : Expr) → n.value.node.expr ≡ Some e →
     spine_of (expression_of (Filter n)) ≡ spine_of (expression_of e) ++ expression_of (Filter n) ∷ []
 filter_spine n e is = rw is refl
 

@@ -21,22 +21,22 @@ use Rattle.template_tree.proofs.Rows.{expressions_row, links_row}
 use Rattle.template_tree_parts.specs.Listed.{statements_in}
 use Rattle.template_tree_parts.proofs.Rows.{statements_row}
 
-pub slice_tree : (n : Spanned (Box SliceNode Global)) → expression_of (Slice n)
-    ≡ slice (expression_of n.node.value.expr) (optional_in n.node.value.start) (optional_in n.node.value.stop) (optional_in n.node.value.step)
+pub slice_tree : (n : Box (Spanned SliceNode) Global) → expression_of (Slice n)
+    ≡ slice (expression_of n.value.node.expr) (optional_in n.value.node.start) (optional_in n.value.node.stop) (optional_in n.value.node.step)
 slice_tree n = search (rules, the_lemmas)
 
-pub choice_tree : (n : Spanned (Box IfExprNode Global)) → expression_of (IfExpr n)
-    ≡ conditional (expression_of n.node.value.test_expr) (expression_of n.node.value.true_expr) (optional_in n.node.value.false_expr)
+pub choice_tree : (n : Box (Spanned IfExprNode) Global) → expression_of (IfExpr n)
+    ≡ conditional (expression_of n.value.node.test_expr) (expression_of n.value.node.true_expr) (optional_in n.value.node.false_expr)
 choice_tree n = search (rules, the_lemmas)
 
-pub list_tree : (n : Spanned (Box ListNode Global)) → expression_of (List n) ≡ list_literal (expressions_in n.node.value.items.items)
+pub list_tree : (n : Box (Spanned ListNode) Global) → expression_of (List n) ≡ list_literal (expressions_in n.value.node.items.items)
 list_tree n = search (rules, the_lemmas, expressions_row)
 
-pub tuple_tree : (n : Spanned (Box TupleNode Global)) → expression_of (Tuple n) ≡ tuple_literal (expressions_in n.node.value.items.items)
+pub tuple_tree : (n : Box (Spanned TupleNode) Global) → expression_of (Tuple n) ≡ tuple_literal (expressions_in n.value.node.items.items)
 tuple_tree n = search (rules, the_lemmas, expressions_row)
 
-pub map_tree : (n : Spanned (Box MapNode Global)) → expression_of (Map n)
-    ≡ map_literal (expressions_in n.node.value.keys.items) (expressions_in n.node.value.values.items)
+pub map_tree : (n : Box (Spanned MapNode) Global) → expression_of (Map n)
+    ≡ map_literal (expressions_in n.value.node.keys.items) (expressions_in n.value.node.values.items)
 map_tree n = search (rules, the_lemmas, expressions_row)
 
 pub chain_tree : (c : Compare) → chain_of c ≡ chain (expression_of (out-Compare c).expr) (links_in (out-Compare c).ops.items)
@@ -45,19 +45,19 @@ chain_tree (compared expr shape ops) = search (rules, the_lemmas, links_row)
 pub whole_tree : (n : Spanned TemplateNode) → statement_of (Template n) ≡ template (statements_in n.node.children.items)
 whole_tree n = search (rules, statement_lemmas, statements_row)
 
-pub for_tree : (n : Spanned (Box ForLoopNode Global)) → statement_of (ForLoop n)
-    ≡ for_loop (expression_of n.node.value.target) (expression_of n.node.value.iter) (optional_in n.node.value.filter_expr)
-    n.node.value.recursive (statements_in n.node.value.body.items) (statements_in n.node.value.else_body.items)
+pub for_tree : (n : Box (Spanned ForLoopNode) Global) → statement_of (ForLoop n)
+    ≡ for_loop (expression_of n.value.node.target) (expression_of n.value.node.iter) (optional_in n.value.node.filter_expr)
+    n.value.node.recursive (statements_in n.value.node.body.items) (statements_in n.value.node.else_body.items)
 for_tree n = search (rules, statement_lemmas, statements_row)
 
-pub if_tree : (n : Spanned (Box IfCondNode Global)) → statement_of (IfCond n)
-    ≡ if_condition (expression_of n.node.value.expr) (statements_in n.node.value.true_body.items) (statements_in n.node.value.false_body.items)
+pub if_tree : (n : Box (Spanned IfCondNode) Global) → statement_of (IfCond n)
+    ≡ if_condition (expression_of n.value.node.expr) (statements_in n.value.node.true_body.items) (statements_in n.value.node.false_body.items)
 if_tree n = search (rules, statement_lemmas, statements_row)
 
-pub with_tree : (n : Spanned (Box WithBlockNode Global)) → statement_of (WithBlock n)
-    ≡ with_block (assignments_in n.node.value.assignments.items) (statements_in n.node.value.body.items)
+pub with_tree : (n : Box (Spanned WithBlockNode) Global) → statement_of (WithBlock n)
+    ≡ with_block (assignments_in n.value.node.assignments.items) (statements_in n.value.node.body.items)
 with_tree n = search (rules, statement_lemmas, statements_row)
 
-pub escape_tree : (n : Spanned (Box AutoEscapeNode Global)) → statement_of (AutoEscape n)
-    ≡ auto_escape (expression_of n.node.value.enabled) (statements_in n.node.value.body.items)
+pub escape_tree : (n : Box (Spanned AutoEscapeNode) Global) → statement_of (AutoEscape n)
+    ≡ auto_escape (expression_of n.value.node.enabled) (statements_in n.value.node.body.items)
 escape_tree n = search (rules, statement_lemmas, statements_row)

@@ -26,29 +26,29 @@ abbrev mutual
       at span (parts_more (places_of expr) (and_parts (statements_places body) (statements_places else_body)))
   statement_places (WithBlock' p assignments shape body span) =
       at span (and_parts (places_of_assignments assignments.items) (statements_places body))
-  statement_places (Set n) = at n.span (parts_more (places_of n.node.value.target) (one (places_of n.node.value.expr)))
+  statement_places (Set n) = at n.value.span (parts_more (places_of n.value.node.target) (one (places_of n.value.node.expr)))
   statement_places (SetBlock' p target filter shape body span) =
       at span (parts_more (places_of target) (and_parts (places_optional filter) (statements_places body)))
   statement_places (AutoEscape' p enabled shape body span) = at span (parts_more (places_of enabled) (statements_places body))
   statement_places (FilterBlock' p filter shape body span) = at span (parts_more (places_of filter) (statements_places body))
   statement_places (Block' p name required shape body span) = at span (statements_places body)
-  statement_places (Import n) = at n.span (parts_more (places_of n.node.value.expr) (one (places_of n.node.value.name)))
-  statement_places (FromImport n) = at n.span (parts_more (places_of n.node.value.expr) (places_of_imports n.node.value.names.items))
-  statement_places (Extends n) = at n.span (one (places_of n.node.name))
-  statement_places (Include n) = at n.span (one (places_of n.node.value.name))
+  statement_places (Import n) = at n.value.span (parts_more (places_of n.value.node.expr) (one (places_of n.value.node.name)))
+  statement_places (FromImport n) = at n.value.span (parts_more (places_of n.value.node.expr) (places_of_imports n.value.node.names.items))
+  statement_places (Extends n) = at n.value.span (one (places_of n.value.node.name))
+  statement_places (Include n) = at n.value.span (one (places_of n.value.node.name))
   statement_places (Macro' p name args defaults shape body span) =
       at span (and_parts (places_in args.items) (and_parts (places_in defaults.items) (statements_places body)))
   statement_places (CallBlock' p n span) = at span (places_called n)
   statement_places (Continue n) = at n.span no_parts
   statement_places (Break n) = at n.span no_parts
   statement_places (Do n) =
-      at n.span (one (at n.node.call.span (parts_more (places_of n.node.call.node.value.expr)
-      (places_in_arguments n.node.call.node.value.args.items))))
+      at n.span (one (at n.node.call.value.span (parts_more (places_of n.node.call.value.node.expr)
+      (places_in_arguments n.node.call.value.node.args.items))))
 
   -- the call, and the macro that the body is
   places_called : CallBlock → Parts
   places_called (called call p name args defaults shape body span) =
-      parts_more (at call.span (parts_more (places_of call.node.value.expr) (places_in_arguments call.node.value.args.items)))
+      parts_more (at call.value.span (parts_more (places_of call.value.node.expr) (places_in_arguments call.value.node.args.items)))
       (one (at span (and_parts (places_in args.items) (and_parts (places_in defaults.items) (statements_places body)))))
 
   pub statements_places : {n : _} → Row_of-Stmt n → Parts

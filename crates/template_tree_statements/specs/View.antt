@@ -27,26 +27,26 @@ abbrev mutual
       if_condition (expression_of expr) (statements_of body) (statements_of else_body)
   statement_of (WithBlock' p assignments shape body span) =
       with_block (assignments_in assignments.items) (statements_of body)
-  statement_of (Set n) = set (expression_of n.node.value.target) (expression_of n.node.value.expr)
+  statement_of (Set n) = set (expression_of n.value.node.target) (expression_of n.value.node.expr)
   statement_of (SetBlock' p target filter shape body span) =
       set_block (expression_of target) (optional_in filter) (statements_of body)
   statement_of (AutoEscape' p enabled shape body span) = auto_escape (expression_of enabled) (statements_of body)
   statement_of (FilterBlock' p filter shape body span) = filter_block (expression_of filter) (statements_of body)
   statement_of (Block' p name required shape body span) = block name.now required (statements_of body)
-  statement_of (Import n) = import (expression_of n.node.value.expr) (expression_of n.node.value.name)
-  statement_of (FromImport n) = from_import (expression_of n.node.value.expr) (imports_in n.node.value.names.items)
-  statement_of (Extends n) = extends (expression_of n.node.name)
-  statement_of (Include n) = include (expression_of n.node.value.name) n.node.value.ignore_missing
+  statement_of (Import n) = import (expression_of n.value.node.expr) (expression_of n.value.node.name)
+  statement_of (FromImport n) = from_import (expression_of n.value.node.expr) (imports_in n.value.node.names.items)
+  statement_of (Extends n) = extends (expression_of n.value.node.name)
+  statement_of (Include n) = include (expression_of n.value.node.name) n.value.node.ignore_missing
   statement_of (Macro' p name args defaults shape body span) =
       macro name.now (expressions_in args.items) (expressions_in defaults.items) (statements_of body)
   statement_of (CallBlock' p n span) = call_block_of n
   statement_of (Continue n) = continue_loop
   statement_of (Break n) = break_loop
-  statement_of (Do n) = do_call (expression_of n.node.call.node.value.expr) (arguments_in n.node.call.node.value.args.items)
+  statement_of (Do n) = do_call (expression_of n.node.call.value.node.expr) (arguments_in n.node.call.value.node.args.items)
 
   call_block_of : CallBlock → Statement
   call_block_of (called call p name args defaults shape body span) =
-      call_block (expression_of call.node.value.expr) (arguments_in call.node.value.args.items)
+      call_block (expression_of call.value.node.expr) (arguments_in call.value.node.args.items)
       (expressions_in args.items) (expressions_in defaults.items) (statements_of body)
 
   pub statements_of : {n : _} → Row_of-Stmt n → Statements

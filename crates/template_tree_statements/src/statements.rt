@@ -14,33 +14,33 @@ pub enum Stmt<'source> {
     /// A text of the template is written as it stands.
     EmitRaw(Spanned<EmitRaw<'source>>),
     /// `{% for .. %}`.
-    ForLoop(Spanned<Box<ForLoop<'source>>>),
+    ForLoop(Box<Spanned<ForLoop<'source>>>),
     /// `{% if .. %}` and `{% elif .. %}`.
-    IfCond(Spanned<Box<IfCond<'source>>>),
+    IfCond(Box<Spanned<IfCond<'source>>>),
     /// `{% with .. %}`.
-    WithBlock(Spanned<Box<WithBlock<'source>>>),
+    WithBlock(Box<Spanned<WithBlock<'source>>>),
     /// `{% set target = expr %}`.
-    Set(Spanned<Box<Set<'source>>>),
+    Set(Box<Spanned<Set<'source>>>),
     /// `{% set target %}..{% endset %}`.
-    SetBlock(Spanned<Box<SetBlock<'source>>>),
+    SetBlock(Box<Spanned<SetBlock<'source>>>),
     /// `{% autoescape .. %}`.
-    AutoEscape(Spanned<Box<AutoEscape<'source>>>),
+    AutoEscape(Box<Spanned<AutoEscape<'source>>>),
     /// `{% filter .. %}`.
-    FilterBlock(Spanned<Box<FilterBlock<'source>>>),
+    FilterBlock(Box<Spanned<FilterBlock<'source>>>),
     /// `{% block .. %}`.
-    Block(Spanned<Box<Block<'source>>>),
+    Block(Box<Spanned<Block<'source>>>),
     /// `{% import .. as .. %}`.
-    Import(Spanned<Box<Import<'source>>>),
+    Import(Box<Spanned<Import<'source>>>),
     /// `{% from .. import .. %}`.
-    FromImport(Spanned<Box<FromImport<'source>>>),
+    FromImport(Box<Spanned<FromImport<'source>>>),
     /// `{% extends .. %}`.
-    Extends(Spanned<Extends<'source>>),
+    Extends(Box<Spanned<Extends<'source>>>),
     /// `{% include .. %}`.
-    Include(Spanned<Box<Include<'source>>>),
+    Include(Box<Spanned<Include<'source>>>),
     /// `{% macro .. %}`.
-    Macro(Spanned<Box<Macro<'source>>>),
+    Macro(Box<Spanned<Macro<'source>>>),
     /// `{% call .. %}`.
-    CallBlock(Spanned<Box<CallBlock<'source>>>),
+    CallBlock(Box<Spanned<CallBlock<'source>>>),
     /// `{% continue %}`.
     Continue(Spanned<Continue>),
     /// `{% break %}`.
@@ -184,8 +184,8 @@ pub struct Macro<'source> {
 #[cycle(stmt)]
 #[derive(Drop)]
 pub struct CallBlock<'source> {
-    pub call: Spanned<Box<Call<'source>>>,
-    pub macro_decl: Spanned<Box<Macro<'source>>>,
+    pub call: Box<Spanned<Call<'source>>>,
+    pub macro_decl: Box<Spanned<Macro<'source>>>,
 }
 
 /// `{% continue %}`.
@@ -199,7 +199,7 @@ pub struct Break;
 /// `{% do call %}`.
 #[derive(Drop)]
 pub struct Do<'source> {
-    pub call: Spanned<Box<Call<'source>>>,
+    pub call: Box<Spanned<Call<'source>>>,
 }
 
 impl<'source> Stmt<'source> {
@@ -251,7 +251,7 @@ impl<'source> Stmt<'source> {
     // The condition that this statement is; another one is dropped. Most are texts.
     #[cycle(stmt)]
     #[inline(always)]
-    fn into_condition(self) -> Option<Spanned<Box<IfCond<'source>>>>
+    fn into_condition(self) -> Option<Box<Spanned<IfCond<'source>>>>
         ensures { IfSome result (λ n. size-Stmt (condition n) ≤ size-Stmt self.entry) }
     {
         match self {
@@ -280,10 +280,10 @@ impl<'source> Stmt<'source> {
 
     // The condition that ends the `false_body` of this one, such as an `elif`; all else that stands here is dropped.
     #[cycle(stmt)]
-    fn following(node: Spanned<Box<IfCond<'source>>>) -> Option<Spanned<Box<IfCond<'source>>>>
+    fn following(node: Box<Spanned<IfCond<'source>>>) -> Option<Box<Spanned<IfCond<'source>>>>
         ensures { IfSome result (λ n. size-Stmt (condition n) < size-Stmt (condition node.entry)) }
     {
-        let IfCond { mut false_body, .. } = Box::into_inner(node.node);
+        let IfCond { mut false_body, .. } = Box::into_inner(node).into_node();
         false_body.pop()?.into_condition()
     }
 }

@@ -6,7 +6,7 @@ use Rattle.template_compiler_constructs.proofs.Chains.{chain_walks}
 use Rattle.template_compiler_constructs.proofs.has_walk.Goals as goal
 
 pub returns-in-Compare : goal.returns-in-Compare
-returns-in-Compare c = chain_walks c.in-Compare.field-0.node.value ∙ ap (λ (x : Expr). has_walk (expression_of x)) (sym c.in-Compare.is)
+returns-in-Compare c = chain_walks c.in-Compare.field-0.value.node ∙ ap (λ (x : Expr). has_walk (expression_of x)) (sym c.in-Compare.is)
 
 pub returns-in-Var : goal.returns-in-Var
 returns-in-Var c = ap (λ (x : Expr). has_walk (expression_of x)) (sym c.in-Var.is)

@@ -7,7 +7,7 @@ use Rattle.template_tree_statements.specs.declared.statements.Stmt.{IfCond as co
 use Rattle.template_tree_statements.proofs.+stmt.Given as goal
 
 -- the size of the condition that is left, and one where one is left
-abbrev pub left_size : Option (Spanned (Box IfCond Global)) → ℕ
+abbrev pub left_size : Option (Box (Spanned IfCond) Global) → ℕ
 left_size None = 0
 left_size (Some n) = size-Stmt (condition n) + 1
 

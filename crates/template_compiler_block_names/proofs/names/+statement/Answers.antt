@@ -8,6 +8,7 @@ use Rattle.template_tree_statements.specs.declared.statements.IfCond.{IfCond as 
 use Rattle.template_tree_statements.specs.declared.statements.Macro.{Macro as MacroNode}
 use Rattle.template_tree_statements.specs.declared.statements.SetBlock.{SetBlock as SetBlockNode}
 use Rattle.template_tree_statements.specs.declared.statements.WithBlock.{WithBlock as WithBlockNode}
+use Rattle.template_tree.specs.declared.span.Spanned.{Spanned}
 use Rattle.template_tree_statements.specs.declared.statements.Stmt.{Stmt, size-Stmt}
 use Rattle.template_compiler_statement_makers.specs.Listed.{statements_in}
 use Rattle.template_compiler_statements.specs.Trees.{blocks_among}
@@ -24,83 +25,83 @@ take_names_of-returns-in-Template t c =
 
 pub take_names_of-returns-in-WithBlock : goal.take_names_of-returns-in-WithBlock
 take_names_of-returns-in-WithBlock t c =
-    let read = c.deref-in-WithBlock-2.ensures.value ∙ ap (λ (x : WithBlockNode). x.body.items) c.deref-in-WithBlock.ensures in
+    let read = c.deref-in-WithBlock-2.ensures.value ∙ ap (λ (x : Spanned WithBlockNode). x.node.body.items) c.deref-in-WithBlock.ensures in
     body_end _ _ c.take_names-in-WithBlock.result read c.take_names-in-WithBlock.ensures
     (parts (texts_in c.loop-at.names.items) c.in-WithBlock.is (with_blocks c.in-WithBlock.n) c.loop-at.invariant.taken)
 
 pub take_names_of-returns-in-SetBlock : goal.take_names_of-returns-in-SetBlock
 take_names_of-returns-in-SetBlock t c =
-    let read = c.deref-in-SetBlock-2.ensures.value ∙ ap (λ (x : SetBlockNode). x.body.items) c.deref-in-SetBlock.ensures in
+    let read = c.deref-in-SetBlock-2.ensures.value ∙ ap (λ (x : Spanned SetBlockNode). x.node.body.items) c.deref-in-SetBlock.ensures in
     body_end _ _ c.take_names-in-SetBlock.result read c.take_names-in-SetBlock.ensures
     (parts (texts_in c.loop-at.names.items) c.in-SetBlock.is (set_blocks c.in-SetBlock.n) c.loop-at.invariant.taken)
 
 pub take_names_of-returns-in-AutoEscape : goal.take_names_of-returns-in-AutoEscape
 take_names_of-returns-in-AutoEscape t c =
-    let read = c.deref-in-AutoEscape-2.ensures.value ∙ ap (λ (x : AutoEscapeNode). x.body.items) c.deref-in-AutoEscape.ensures in
+    let read = c.deref-in-AutoEscape-2.ensures.value ∙ ap (λ (x : Spanned AutoEscapeNode). x.node.body.items) c.deref-in-AutoEscape.ensures in
     body_end _ _ c.take_names-in-AutoEscape.result read c.take_names-in-AutoEscape.ensures
     (parts (texts_in c.loop-at.names.items) c.in-AutoEscape.is (escape_blocks c.in-AutoEscape.n) c.loop-at.invariant.taken)
 
 pub take_names_of-returns-in-FilterBlock : goal.take_names_of-returns-in-FilterBlock
 take_names_of-returns-in-FilterBlock t c =
-    let read = c.deref-in-FilterBlock-2.ensures.value ∙ ap (λ (x : FilterBlockNode). x.body.items) c.deref-in-FilterBlock.ensures in
+    let read = c.deref-in-FilterBlock-2.ensures.value ∙ ap (λ (x : Spanned FilterBlockNode). x.node.body.items) c.deref-in-FilterBlock.ensures in
     body_end _ _ c.take_names-in-FilterBlock.result read c.take_names-in-FilterBlock.ensures
     (parts (texts_in c.loop-at.names.items) c.in-FilterBlock.is (filter_blocks c.in-FilterBlock.n) c.loop-at.invariant.taken)
 
 pub take_names_of-returns-in-Macro : goal.take_names_of-returns-in-Macro
 take_names_of-returns-in-Macro t c =
-    let read = c.deref-in-Macro-2.ensures.value ∙ ap (λ (x : MacroNode). x.body.items) c.deref-in-Macro.ensures in
+    let read = c.deref-in-Macro-2.ensures.value ∙ ap (λ (x : Spanned MacroNode). x.node.body.items) c.deref-in-Macro.ensures in
     body_end _ _ c.take_names-in-Macro.result read c.take_names-in-Macro.ensures
     (parts (texts_in c.loop-at.names.items) c.in-Macro.is (macro_blocks c.in-Macro.n) c.loop-at.invariant.taken)
 
 pub take_names_of-returns-in-CallBlock : goal.take_names_of-returns-in-CallBlock
 take_names_of-returns-in-CallBlock t c =
-    let declared = ap (λ (x : CallBlockNode). (out-CallBlock x).macro_decl.node.value) c.deref-in-CallBlock.ensures in
-    let read = c.deref-in-CallBlock-3.ensures.value ∙ ap (λ (x : MacroNode). x.body.items) (c.deref-in-CallBlock-2.ensures ∙ declared) in
+    let declared = ap (λ (x : Spanned CallBlockNode). (out-CallBlock x.node).macro_decl.value) c.deref-in-CallBlock.ensures in
+    let read = c.deref-in-CallBlock-3.ensures.value ∙ ap (λ (x : Spanned MacroNode). x.node.body.items) (c.deref-in-CallBlock-2.ensures ∙ declared) in
     body_end _ _ c.take_names-in-CallBlock.result read c.take_names-in-CallBlock.ensures
     (parts (texts_in c.loop-at.names.items) c.in-CallBlock.is (call_blocks c.in-CallBlock.n) c.loop-at.invariant.taken)
 
 pub take_names_of-returns-in-Block : goal.take_names_of-returns-in-Block
 take_names_of-returns-in-Block t c =
-    let v = c.in-Block.n.node.value in
-    let name = c.deref-in-Block.result.now.name in
+    let v = c.in-Block.n.value.node in
+    let name = c.deref-in-Block.result.now.node.name in
     let pushed = ap texts_in c.in_ok-push-in-Block.ensures.items ∙ texts_push c.loop-at.names.items name ∙
-    ap (λ (x : BlockNode). texts_in c.loop-at.names.items ++ x.name.now ∷ []) c.deref-in-Block.ensures in
-    let read = c.deref-in-Block-3.ensures.value ∙ ap (λ (x : BlockNode). x.body.items) c.deref-in-Block-2.ensures in
+    ap (λ (x : Spanned BlockNode). texts_in c.loop-at.names.items ++ x.node.name.now ∷ []) c.deref-in-Block.ensures in
+    let read = c.deref-in-Block-3.ensures.value ∙ ap (λ (x : Spanned BlockNode). x.node.body.items) c.deref-in-Block-2.ensures in
     body_end _ _ c.take_names-in-Block.result read c.take_names-in-Block.ensures
     (behind _ _ (v.name.now ∷ []) (blocks_among (statements_in v.body.items)) pushed
     (parts (texts_in c.loop-at.names.items) c.in-Block.is (block_blocks c.in-Block.n) c.loop-at.invariant.taken))
 
 pub take_names_of-returns-in-ForLoop : goal.take_names_of-returns-in-ForLoop
 take_names_of-returns-in-ForLoop t c =
-    let v = c.in-ForLoop.n.node.value in
-    let body = c.deref-in-ForLoop-2.ensures.value ∙ ap (λ (x : ForLoopNode). x.body.items) c.deref-in-ForLoop.ensures in
-    let other = c.deref-in-ForLoop-4.ensures.value ∙ ap (λ (x : ForLoopNode). x.else_body.items) c.deref-in-ForLoop-3.ensures in
+    let v = c.in-ForLoop.n.value.node in
+    let body = c.deref-in-ForLoop-2.ensures.value ∙ ap (λ (x : Spanned ForLoopNode). x.node.body.items) c.deref-in-ForLoop.ensures in
+    let other = c.deref-in-ForLoop-4.ensures.value ∙ ap (λ (x : Spanned ForLoopNode). x.node.else_body.items) c.deref-in-ForLoop-3.ensures in
     body_end _ _ c.take_names-in-ForLoop-2.result other c.take_names-in-ForLoop-2.ensures
     (body_behind _ _ (blocks_among (statements_in v.else_body.items)) body c.in_ok-take_names-in-ForLoop.ensures
     (parts (texts_in c.loop-at.names.items) c.in-ForLoop.is (for_blocks c.in-ForLoop.n) c.loop-at.invariant.taken))
 
 pub take_names_of-returns-then-len-ne1 : goal.take_names_of-returns-then-len-ne1
 take_names_of-returns-then-len-ne1 t c =
-    let v = c.in-IfCond.n.node.value in
-    let body = c.deref-in-IfCond.ensures.value ∙ ap (λ (x : IfCondNode). x.true_body.items) c.deref.ensures in
-    let other = c.deref-then-len-ne1.ensures.value ∙ ap (λ (x : IfCondNode). x.false_body.items) c.deref-in-IfCond-2.ensures in
+    let v = c.in-IfCond.n.value.node in
+    let body = c.deref-in-IfCond.ensures.value ∙ ap (λ (x : Spanned IfCondNode). x.node.true_body.items) c.deref.ensures in
+    let other = c.deref-then-len-ne1.ensures.value ∙ ap (λ (x : Spanned IfCondNode). x.node.false_body.items) c.deref-in-IfCond-2.ensures in
     body_end _ _ c.take_names-then-len-ne1.result other c.take_names-then-len-ne1.ensures
     (body_behind _ _ (blocks_among (statements_in v.false_body.items)) body c.in_ok-take_names-in-IfCond.ensures
     (parts (texts_in c.loop-at.names.items) c.in-IfCond.is (if_blocks c.in-IfCond.n) c.loop-at.invariant.taken))
 
 pub take_names_of-loop-at-preserved : goal.take_names_of-loop-at-preserved
 take_names_of-loop-at-preserved t c =
-    let v = c.in-IfCond.n.node.value in
+    let v = c.in-IfCond.n.value.node in
     let items = v.false_body.items in
-    let body = c.deref-in-IfCond.ensures.value ∙ ap (λ (x : IfCondNode). x.true_body.items) c.deref.ensures in
+    let body = c.deref-in-IfCond.ensures.value ∙ ap (λ (x : Spanned IfCondNode). x.node.true_body.items) c.deref.ensures in
     let behind_it = body_behind _ _ (blocks_among (statements_in items)) body c.in_ok-take_names-in-IfCond.ensures
     (parts (texts_in c.loop-at.names.items) c.in-IfCond.is (if_blocks c.in-IfCond.n) c.loop-at.invariant.taken) in
-    let shared = ap (λ (x : IfCondNode). vec_len x.false_body) c.deref-in-IfCond-2.ensures in
+    let shared = ap (λ (x : Spanned IfCondNode). vec_len x.node.false_body) c.deref-in-IfCond-2.ensures in
     let counted = c.len.ensures in
     let tested = c.if-len-ne1.false in
     let one : length items ≡ 1 = omega (arith, shared, counted, tested, v.false_body.ok.0) in
     let at : c.index.result.now ≡ get_or items 0 c.index.result.now =
-    c.index.ensures ∙ ap (λ (x : IfCondNode). get_or x.false_body.items 0 c.index.result.now) c.deref-in-IfCond-2.ensures in
+    c.index.ensures ∙ ap (λ (x : Spanned IfCondNode). get_or x.node.false_body.items 0 c.index.result.now) c.deref-in-IfCond-2.ensures in
     let within = else_smaller c.loop-at.at.now c.in-IfCond.n 0 c.index.result.now c.in-IfCond.is (omega (arith, one)) in
     let same : size-Stmt c.index.result.now ≡ size-Stmt (get_or items 0 c.index.result.now) = ap (λ (s : Stmt). size-Stmt s) at in
     let deep : size-Stmt c.loop-at.at.now ≤ size-Stmt c.args.statement.now = c.loop-at.invariant.deep in

@@ -10,6 +10,7 @@ use Rattle.template_tree.specs.declared.expressions.Expr.{size-Expr}
 use Rattle.template_tree.specs.declared.expressions.List.{List as ListNode}
 use Rattle.template_tree.specs.declared.expressions.Map.{Map as MapNode}
 use Rattle.template_tree.specs.declared.expressions.Tuple.{Tuple as TupleNode}
+use Rattle.template_tree.specs.declared.span.Spanned.{Spanned}
 use Rattle.template_tree_parts.proofs.Walks.{walked}
 use Rattle.template_walk.specs.Constants.{chain_constant, constant_of}
 use Rattle.template_walk.specs.Runnable.{IsRunnable}
@@ -196,36 +197,36 @@ fold_tuple_literal-returns-in_ok-put-in-None-clause-put t c =
 
 pub fold_node-fold_list_literal-requires : goal.fold_node-fold_list_literal-requires
 fold_node-fold_list_literal-requires t c =
-    let read = c.deref-in-List-2.ensures.value ∙ ap (λ (l : ListNode). l.items.items) c.deref-in-List.ensures in
+    let read = c.deref-in-List-2.ensures.value ∙ ap (λ (l : Spanned ListNode). l.node.items.items) c.deref-in-List.ensures in
     let tree = list_is c.args.expr.now c.in-List.n c.deref-in-List-2.result.now c.in-List.is read in
     let runs : IsRunnable (list_literal (expressions_in c.deref-in-List-2.result.now)) = subst (λ (x : Expression). IsRunnable x) tree c.requires in
     (omega (arith, list_deep c.args.expr.now c.in-List.n c.deref-in-List-2.result.now c.in-List.is read, c.decreases), runs)
 
 pub fold_node-returns-in-List-clause-constant : goal.fold_node-returns-in-List-clause-constant
 fold_node-returns-in-List-clause-constant t c =
-    let tree = list_is c.args.expr.now c.in-List.n c.deref-in-List-2.result.now c.in-List.is (c.deref-in-List-2.ensures.value ∙ ap (λ (l : ListNode). l.items.items) c.deref-in-List.ensures) in
+    let tree = list_is c.args.expr.now c.in-List.n c.deref-in-List-2.result.now c.in-List.is (c.deref-in-List-2.ensures.value ∙ ap (λ (l : Spanned ListNode). l.node.items.items) c.deref-in-List.ensures) in
     rw tree c.fold_list_literal.ensures.constant
 
 pub fold_node-returns-in-List-clause-put : goal.fold_node-returns-in-List-clause-put
 fold_node-returns-in-List-clause-put t c =
-    let tree = list_is c.args.expr.now c.in-List.n c.deref-in-List-2.result.now c.in-List.is (c.deref-in-List-2.ensures.value ∙ ap (λ (l : ListNode). l.items.items) c.deref-in-List.ensures) in
+    let tree = list_is c.args.expr.now c.in-List.n c.deref-in-List-2.result.now c.in-List.is (c.deref-in-List-2.ensures.value ∙ ap (λ (l : Spanned ListNode). l.node.items.items) c.deref-in-List.ensures) in
     rw tree c.fold_list_literal.ensures.put
 
 pub fold_node-fold_tuple_literal-requires : goal.fold_node-fold_tuple_literal-requires
 fold_node-fold_tuple_literal-requires t c =
-    let read = c.deref-in-Tuple-2.ensures.value ∙ ap (λ (l : TupleNode). l.items.items) c.deref-in-Tuple.ensures in
+    let read = c.deref-in-Tuple-2.ensures.value ∙ ap (λ (l : Spanned TupleNode). l.node.items.items) c.deref-in-Tuple.ensures in
     let tree = tuple_is c.args.expr.now c.in-Tuple.n c.deref-in-Tuple-2.result.now c.in-Tuple.is read in
     let runs : IsRunnable (tuple_literal (expressions_in c.deref-in-Tuple-2.result.now)) = subst (λ (x : Expression). IsRunnable x) tree c.requires in
     (omega (arith, tuple_deep c.args.expr.now c.in-Tuple.n c.deref-in-Tuple-2.result.now c.in-Tuple.is read, c.decreases), runs)
 
 pub fold_node-returns-in-Tuple-clause-constant : goal.fold_node-returns-in-Tuple-clause-constant
 fold_node-returns-in-Tuple-clause-constant t c =
-    let tree = tuple_is c.args.expr.now c.in-Tuple.n c.deref-in-Tuple-2.result.now c.in-Tuple.is (c.deref-in-Tuple-2.ensures.value ∙ ap (λ (l : TupleNode). l.items.items) c.deref-in-Tuple.ensures) in
+    let tree = tuple_is c.args.expr.now c.in-Tuple.n c.deref-in-Tuple-2.result.now c.in-Tuple.is (c.deref-in-Tuple-2.ensures.value ∙ ap (λ (l : Spanned TupleNode). l.node.items.items) c.deref-in-Tuple.ensures) in
     rw tree c.fold_tuple_literal.ensures.constant
 
 pub fold_node-returns-in-Tuple-clause-put : goal.fold_node-returns-in-Tuple-clause-put
 fold_node-returns-in-Tuple-clause-put t c =
-    let tree = tuple_is c.args.expr.now c.in-Tuple.n c.deref-in-Tuple-2.result.now c.in-Tuple.is (c.deref-in-Tuple-2.ensures.value ∙ ap (λ (l : TupleNode). l.items.items) c.deref-in-Tuple.ensures) in
+    let tree = tuple_is c.args.expr.now c.in-Tuple.n c.deref-in-Tuple-2.result.now c.in-Tuple.is (c.deref-in-Tuple-2.ensures.value ∙ ap (λ (l : Spanned TupleNode). l.node.items.items) c.deref-in-Tuple.ensures) in
     rw tree c.fold_tuple_literal.ensures.put
 
 pub fold_node-fold_map_literal-requires : goal.fold_node-fold_map_literal-requires
@@ -234,23 +235,23 @@ fold_node-fold_map_literal-requires t c =
     let n = c.in-Map.n in
     let keys = c.deref-in-Map-2.result.now in
     let values = c.deref-in-Map-4.result.now in
-    let first = c.deref-in-Map-2.ensures.value ∙ ap (λ (m : MapNode). m.keys.items) c.deref-in-Map.ensures in
-    let second = c.deref-in-Map-4.ensures.value ∙ ap (λ (m : MapNode). m.values.items) c.deref-in-Map-3.ensures in
+    let first = c.deref-in-Map-2.ensures.value ∙ ap (λ (m : Spanned MapNode). m.node.keys.items) c.deref-in-Map.ensures in
+    let second = c.deref-in-Map-4.ensures.value ∙ ap (λ (m : Spanned MapNode). m.node.values.items) c.deref-in-Map-3.ensures in
     let tree = map_is e n keys values c.in-Map.is first second in
     let runs : IsRunnable (map_literal (expressions_in keys) (expressions_in values)) = subst (λ (x : Expression). IsRunnable x) tree c.requires in
     (omega (arith, keys_deep e n keys c.in-Map.is first, values_deep e n values c.in-Map.is second, c.decreases), (runs.0, runs.1))
 
 pub fold_node-returns-in-Map-clause-constant : goal.fold_node-returns-in-Map-clause-constant
 fold_node-returns-in-Map-clause-constant t c =
-    let first = c.deref-in-Map-2.ensures.value ∙ ap (λ (m : MapNode). m.keys.items) c.deref-in-Map.ensures in
-    let second = c.deref-in-Map-4.ensures.value ∙ ap (λ (m : MapNode). m.values.items) c.deref-in-Map-3.ensures in
+    let first = c.deref-in-Map-2.ensures.value ∙ ap (λ (m : Spanned MapNode). m.node.keys.items) c.deref-in-Map.ensures in
+    let second = c.deref-in-Map-4.ensures.value ∙ ap (λ (m : Spanned MapNode). m.node.values.items) c.deref-in-Map-3.ensures in
     let tree = map_is c.args.expr.now c.in-Map.n c.deref-in-Map-2.result.now c.deref-in-Map-4.result.now c.in-Map.is first second in
     rw tree c.fold_map_literal.ensures.constant
 
 pub fold_node-returns-in-Map-clause-put : goal.fold_node-returns-in-Map-clause-put
 fold_node-returns-in-Map-clause-put t c =
-    let first = c.deref-in-Map-2.ensures.value ∙ ap (λ (m : MapNode). m.keys.items) c.deref-in-Map.ensures in
-    let second = c.deref-in-Map-4.ensures.value ∙ ap (λ (m : MapNode). m.values.items) c.deref-in-Map-3.ensures in
+    let first = c.deref-in-Map-2.ensures.value ∙ ap (λ (m : Spanned MapNode). m.node.keys.items) c.deref-in-Map.ensures in
+    let second = c.deref-in-Map-4.ensures.value ∙ ap (λ (m : Spanned MapNode). m.node.values.items) c.deref-in-Map-3.ensures in
     let tree = map_is c.args.expr.now c.in-Map.n c.deref-in-Map-2.result.now c.deref-in-Map-4.result.now c.in-Map.is first second in
     rw tree c.fold_map_literal.ensures.put
 
@@ -259,20 +260,20 @@ fold_node-fold_chain-requires t c =
     let e = c.args.expr.now in
     let n = c.in-Compare.n in
     let links = c.deref-in-Compare-2.result.now in
-    let read = c.deref-in-Compare-2.ensures.value ∙ ap (λ (x : Compare). (out-Compare x).ops.items) c.deref-in-Compare.ensures in
+    let read = c.deref-in-Compare-2.ensures.value ∙ ap (λ (x : Spanned Compare). (out-Compare x.node).ops.items) c.deref-in-Compare.ensures in
     let tree = chain_is e n links c.in-Compare.is read in
-    let runs : IsRunnable (chain (expression_of (out-Compare n.node.value).expr) (links_in links)) = subst (λ (x : Expression). IsRunnable x) tree c.requires in
+    let runs : IsRunnable (chain (expression_of (out-Compare n.value.node).expr) (links_in links)) = subst (λ (x : Expression). IsRunnable x) tree c.requires in
     (omega (arith, chain_deep e n links c.in-Compare.is read, c.decreases), runs.1)
 
 pub fold_node-returns-in-Compare-clause-constant : goal.fold_node-returns-in-Compare-clause-constant
 fold_node-returns-in-Compare-clause-constant t c =
-    let read = c.deref-in-Compare-2.ensures.value ∙ ap (λ (x : Compare). (out-Compare x).ops.items) c.deref-in-Compare.ensures in
+    let read = c.deref-in-Compare-2.ensures.value ∙ ap (λ (x : Spanned Compare). (out-Compare x.node).ops.items) c.deref-in-Compare.ensures in
     let tree = chain_is c.args.expr.now c.in-Compare.n c.deref-in-Compare-2.result.now c.in-Compare.is read in
     rw tree c.fold_chain.ensures.constant
 
 pub fold_node-returns-in-Compare-clause-put : goal.fold_node-returns-in-Compare-clause-put
 fold_node-returns-in-Compare-clause-put t c =
-    let read = c.deref-in-Compare-2.ensures.value ∙ ap (λ (x : Compare). (out-Compare x).ops.items) c.deref-in-Compare.ensures in
+    let read = c.deref-in-Compare-2.ensures.value ∙ ap (λ (x : Spanned Compare). (out-Compare x.node).ops.items) c.deref-in-Compare.ensures in
     let tree = chain_is c.args.expr.now c.in-Compare.n c.deref-in-Compare-2.result.now c.in-Compare.is read in
     rw tree c.fold_chain.ensures.put
 

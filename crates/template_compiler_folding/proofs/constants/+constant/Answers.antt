@@ -6,6 +6,7 @@ use Rattle.template_tree.specs.declared.expressions.CompareOp.{CompareOp}
 use Rattle.template_tree.specs.declared.expressions.Expr.{Expr, the_lemmas}
 use Rattle.template_tree.proofs.Rows.{expressions_row}
 use Rattle.template_tree_parts.proofs.Trees.{chain_tree}
+use Rattle.template_tree.specs.declared.span.Spanned.{Spanned}
 use Rattle.template_tree_parts.proofs.Walks.{walked}
 use Rattle.template_walk.specs.Constants.{constant_of}
 use Rattle.template_compiler_folding.specs.Nodes.{node_constant}
@@ -21,9 +22,9 @@ as_const-returns-clause-constant t c =
 pub node_constant-returns-in-Compare-clause-constant : goal.node_constant-returns-in-Compare-clause-constant
 node_constant-returns-in-Compare-clause-constant t c =
     let n = c.in-Compare.n in
-    let read = c.deref-in-Compare-2.ensures.value ∙ ap (λ (x : Compare). (out-Compare x).ops.items) c.deref-in-Compare.ensures in
-    let tree = ap (λ (x : Expr). expression_of x) c.in-Compare.is ∙ chain_tree n.node.value ∙
-    ap (λ (ls : Items CompareOp). chain (expression_of (out-Compare n.node.value).expr) (links_in ls)) (sym read) in
+    let read = c.deref-in-Compare-2.ensures.value ∙ ap (λ (x : Spanned Compare). (out-Compare x.node).ops.items) c.deref-in-Compare.ensures in
+    let tree = ap (λ (x : Expr). expression_of x) c.in-Compare.is ∙ chain_tree n.value.node ∙
+    ap (λ (ls : Items CompareOp). chain (expression_of (out-Compare n.value.node).expr) (links_in ls)) (sym read) in
     rw tree c.chain_constant.ensures.constant
 
 pub node_constant-returns-in-List-clause-constant : goal.node_constant-returns-in-List-clause-constant

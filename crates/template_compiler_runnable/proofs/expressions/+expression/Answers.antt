@@ -5,6 +5,7 @@ use Rattle.template_tree.specs.declared.expressions.Compare.{Compare, out-Compar
 use Rattle.template_tree.specs.declared.expressions.Map.{Map as MapNode}
 use Rattle.template_tree.specs.declared.expressions.Slice.{Slice as SliceNode}
 use Rattle.template_tree.specs.declared.expressions.Expr.{Expr, size-Expr, the_lemmas}
+use Rattle.template_tree.specs.declared.span.Spanned.{Spanned}
 use Rattle.template_tree.proofs.Rows.{expressions_row}
 use Rattle.template_compiler_constructs.specs.Constructs.{has_walk}
 use Rattle.template_compiler_runnable.specs.Running.{all_run, chain_runs, left_deep, left_runs, runs_beside, runs_if_given}
@@ -29,8 +30,8 @@ expression_runs-loop-left_part-preserved t c =
 
 pub others_run-returns-in-Compare : goal.others_run-returns-in-Compare
 others_run-returns-in-Compare t c =
-    let read : c.deref-in-Compare-2.result.now ≡ (out-Compare c.in-Compare.n.node.value).ops.items =
-    c.deref-in-Compare-2.ensures.value ∙ ap (λ (x : Compare). (out-Compare x).ops.items) c.deref-in-Compare.ensures in
+    let read : c.deref-in-Compare-2.result.now ≡ (out-Compare c.in-Compare.n.value.node).ops.items =
+    c.deref-in-Compare-2.ensures.value ∙ ap (λ (x : Spanned Compare). (out-Compare x.node).ops.items) c.deref-in-Compare.ensures in
     c.chain_runs.ensures ∙ ap (λ (ls : Items CompareOp). chain_runs (links_in ls)) read ∙
     sym (chain_beside c.args.expr.now c.in-Compare.n c.in-Compare.is)
 
@@ -42,31 +43,31 @@ others_run-returns-in-Tuple t c = search (rules, the_lemmas, expressions_row)
 
 pub others_run-returns-then-not-optional_runs-2 : goal.others_run-returns-then-not-optional_runs-2
 others_run-returns-then-not-optional_runs-2 t c =
-    let start = c.optional_runs.ensures ∙ ap (λ (s : SliceNode). runs_if_given (optional_in s.start)) c.deref.ensures in
-    let stop = c.optional_runs-in-Slice.ensures ∙ ap (λ (s : SliceNode). runs_if_given (optional_in s.stop)) c.deref-in-Slice.ensures in
+    let start = c.optional_runs.ensures ∙ ap (λ (s : Spanned SliceNode). runs_if_given (optional_in s.node.start)) c.deref.ensures in
+    let stop = c.optional_runs-in-Slice.ensures ∙ ap (λ (s : Spanned SliceNode). runs_if_given (optional_in s.node.stop)) c.deref.ensures in
     first_fails _ (then _ (slice_beside c.args.expr.now c.in-Slice.n c.in-Slice.is) (sym start ∙ c.if-not-optional_runs.false))
     (sym stop ∙ c.if-not-optional_runs-2.true)
 
 pub others_run-returns-else-not-optional_runs-2 : goal.others_run-returns-else-not-optional_runs-2
 others_run-returns-else-not-optional_runs-2 t c =
-    let start = c.optional_runs.ensures ∙ ap (λ (s : SliceNode). runs_if_given (optional_in s.start)) c.deref.ensures in
-    let stop = c.optional_runs-in-Slice.ensures ∙ ap (λ (s : SliceNode). runs_if_given (optional_in s.stop)) c.deref-in-Slice.ensures in
-    let step = c.optional_runs-in-Slice-2.ensures ∙ ap (λ (s : SliceNode). runs_if_given (optional_in s.step)) c.deref-in-Slice-2.ensures in
+    let start = c.optional_runs.ensures ∙ ap (λ (s : Spanned SliceNode). runs_if_given (optional_in s.node.start)) c.deref.ensures in
+    let stop = c.optional_runs-in-Slice.ensures ∙ ap (λ (s : Spanned SliceNode). runs_if_given (optional_in s.node.stop)) c.deref.ensures in
+    let step = c.optional_runs-in-Slice-2.ensures ∙ ap (λ (s : Spanned SliceNode). runs_if_given (optional_in s.node.step)) c.deref.ensures in
     step ∙ sym (then _ (then _ (slice_beside c.args.expr.now c.in-Slice.n c.in-Slice.is) (sym start ∙ c.if-not-optional_runs.false))
     (sym stop ∙ c.if-not-optional_runs-2.false))
 
 pub others_run-returns-then-not-items_run : goal.others_run-returns-then-not-items_run
 others_run-returns-then-not-items_run t c =
     let keys = c.items_run-in-Map.ensures ∙ ap (λ (es : Items Expr). all_run (expressions_in es))
-    (c.deref-in-Map-2.ensures.value ∙ ap (λ (m : MapNode). m.keys.items) c.deref-in-Map.ensures) in
+    (c.deref-in-Map-2.ensures.value ∙ ap (λ (m : Spanned MapNode). m.node.keys.items) c.deref-in-Map.ensures) in
     first_fails _ (map_beside c.args.expr.now c.in-Map.n c.in-Map.is) (sym keys ∙ c.if-not-items_run.true)
 
 pub others_run-returns-else-not-items_run : goal.others_run-returns-else-not-items_run
 others_run-returns-else-not-items_run t c =
     let keys = c.items_run-in-Map.ensures ∙ ap (λ (es : Items Expr). all_run (expressions_in es))
-    (c.deref-in-Map-2.ensures.value ∙ ap (λ (m : MapNode). m.keys.items) c.deref-in-Map.ensures) in
+    (c.deref-in-Map-2.ensures.value ∙ ap (λ (m : Spanned MapNode). m.node.keys.items) c.deref-in-Map.ensures) in
     let values = c.items_run-in-Map-2.ensures ∙ ap (λ (es : Items Expr). all_run (expressions_in es))
-    (c.deref-in-Map-4.ensures.value ∙ ap (λ (m : MapNode). m.values.items) c.deref-in-Map-3.ensures) in
+    (c.deref-in-Map-4.ensures.value ∙ ap (λ (m : Spanned MapNode). m.node.values.items) c.deref-in-Map-3.ensures) in
     values ∙ sym (then _ (map_beside c.args.expr.now c.in-Map.n c.in-Map.is) (sym keys ∙ c.if-not-items_run.false))
 
 pub others_run-returns-in-Filter : goal.others_run-returns-in-Filter

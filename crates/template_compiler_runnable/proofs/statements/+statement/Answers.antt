@@ -6,6 +6,7 @@ use Rattle.template_tree_statements.specs.declared.statements.ForLoop.{ForLoop a
 use Rattle.template_tree_statements.specs.declared.statements.IfCond.{IfCond as IfCondNode}
 use Rattle.template_tree_statements.specs.declared.statements.WithBlock.{WithBlock as WithBlockNode}
 use Rattle.template_tree_statements.specs.declared.statements.Stmt.{Stmt, size-Stmt}
+use Rattle.template_tree.specs.declared.span.Spanned.{Spanned}
 use Rattle.template_tree_parts.specs.Listed.{statements_in}
 use Rattle.std.specs.Prelude.{is_some}
 use Rattle.template_compiler_runnable.specs.Running.{runs, is_target, assignments_run, statement_runs, statements_run}
@@ -15,71 +16,71 @@ use Rattle.template_compiler_runnable.proofs.statements.+statement.Goals as goal
 
 pub parts_run-returns-then-not-expression_runs : goal.parts_run-returns-then-not-expression_runs
 parts_run-returns-then-not-expression_runs t c =
-    let filter = ap (λ (f : ForLoopNode). is_some f.filter_expr) (sym c.deref.ensures) ∙ sym c.is_some.ensures ∙ c.if-is_some.false in
-    let recursive = ap (λ (f : ForLoopNode). f.recursive) (sym c.deref-in-ForLoop.ensures) ∙ c.if-deref.false in
-    let target = c.is_target.ensures ∙ ap (λ (f : ForLoopNode). is_target (expression_of f.target)) c.deref-in-ForLoop-2.ensures in
-    let iter = c.expression_runs-in-ForLoop.ensures ∙ ap (λ (f : ForLoopNode). runs (expression_of f.iter)) c.deref-in-ForLoop-3.ensures in
+    let filter = ap (λ (f : Spanned ForLoopNode). is_some f.node.filter_expr) (sym c.deref.ensures) ∙ sym c.is_some.ensures ∙ c.if-is_some.false in
+    let recursive = ap (λ (f : Spanned ForLoopNode). f.node.recursive) (sym c.deref.ensures) ∙ c.if-node.false in
+    let target = c.is_target.ensures ∙ ap (λ (f : Spanned ForLoopNode). is_target (expression_of f.node.target)) c.deref.ensures in
+    let iter = c.expression_runs-in-ForLoop.ensures ∙ ap (λ (f : Spanned ForLoopNode). runs (expression_of f.node.iter)) c.deref.ensures in
     let whole = for_runs c.args.looping c.args.statement.now c.in-ForLoop.n c.in-ForLoop.is filter recursive in
     first_fails _ (then _ whole (sym target ∙ c.if-not-is_target.false)) (sym iter ∙ c.if-not-expression_runs.true)
 
 pub parts_run-returns-then-not-statements_run : goal.parts_run-returns-then-not-statements_run
 parts_run-returns-then-not-statements_run t c =
-    let filter = ap (λ (f : ForLoopNode). is_some f.filter_expr) (sym c.deref.ensures) ∙ sym c.is_some.ensures ∙ c.if-is_some.false in
-    let recursive = ap (λ (f : ForLoopNode). f.recursive) (sym c.deref-in-ForLoop.ensures) ∙ c.if-deref.false in
-    let target = c.is_target.ensures ∙ ap (λ (f : ForLoopNode). is_target (expression_of f.target)) c.deref-in-ForLoop-2.ensures in
-    let iter = c.expression_runs-in-ForLoop.ensures ∙ ap (λ (f : ForLoopNode). runs (expression_of f.iter)) c.deref-in-ForLoop-3.ensures in
+    let filter = ap (λ (f : Spanned ForLoopNode). is_some f.node.filter_expr) (sym c.deref.ensures) ∙ sym c.is_some.ensures ∙ c.if-is_some.false in
+    let recursive = ap (λ (f : Spanned ForLoopNode). f.node.recursive) (sym c.deref.ensures) ∙ c.if-node.false in
+    let target = c.is_target.ensures ∙ ap (λ (f : Spanned ForLoopNode). is_target (expression_of f.node.target)) c.deref.ensures in
+    let iter = c.expression_runs-in-ForLoop.ensures ∙ ap (λ (f : Spanned ForLoopNode). runs (expression_of f.node.iter)) c.deref.ensures in
     let body = c.statements_run.ensures ∙ ap (λ (ss : List Stmt). statements_run true (statements_in ss))
-    (c.deref-in-ForLoop-5.ensures.value ∙ ap (λ (f : ForLoopNode). f.body.items) c.deref-in-ForLoop-4.ensures) in
+    (c.deref-in-ForLoop.ensures.value ∙ ap (λ (f : Spanned ForLoopNode). f.node.body.items) c.deref.ensures) in
     let whole = for_runs c.args.looping c.args.statement.now c.in-ForLoop.n c.in-ForLoop.is filter recursive in
     first_fails _ (then _ (then _ whole (sym target ∙ c.if-not-is_target.false)) (sym iter ∙ c.if-not-expression_runs.false))
     (sym body ∙ c.if-not-statements_run.true)
 
 pub parts_run-returns-else-not-statements_run : goal.parts_run-returns-else-not-statements_run
 parts_run-returns-else-not-statements_run t c =
-    let filter = ap (λ (f : ForLoopNode). is_some f.filter_expr) (sym c.deref.ensures) ∙ sym c.is_some.ensures ∙ c.if-is_some.false in
-    let recursive = ap (λ (f : ForLoopNode). f.recursive) (sym c.deref-in-ForLoop.ensures) ∙ c.if-deref.false in
-    let target = c.is_target.ensures ∙ ap (λ (f : ForLoopNode). is_target (expression_of f.target)) c.deref-in-ForLoop-2.ensures in
-    let iter = c.expression_runs-in-ForLoop.ensures ∙ ap (λ (f : ForLoopNode). runs (expression_of f.iter)) c.deref-in-ForLoop-3.ensures in
+    let filter = ap (λ (f : Spanned ForLoopNode). is_some f.node.filter_expr) (sym c.deref.ensures) ∙ sym c.is_some.ensures ∙ c.if-is_some.false in
+    let recursive = ap (λ (f : Spanned ForLoopNode). f.node.recursive) (sym c.deref.ensures) ∙ c.if-node.false in
+    let target = c.is_target.ensures ∙ ap (λ (f : Spanned ForLoopNode). is_target (expression_of f.node.target)) c.deref.ensures in
+    let iter = c.expression_runs-in-ForLoop.ensures ∙ ap (λ (f : Spanned ForLoopNode). runs (expression_of f.node.iter)) c.deref.ensures in
     let body = c.statements_run.ensures ∙ ap (λ (ss : List Stmt). statements_run true (statements_in ss))
-    (c.deref-in-ForLoop-5.ensures.value ∙ ap (λ (f : ForLoopNode). f.body.items) c.deref-in-ForLoop-4.ensures) in
+    (c.deref-in-ForLoop.ensures.value ∙ ap (λ (f : Spanned ForLoopNode). f.node.body.items) c.deref.ensures) in
     let other = c.statements_run-in-ForLoop.ensures ∙ ap (λ (ss : List Stmt). statements_run c.args.looping (statements_in ss))
-    (c.deref-in-ForLoop-7.ensures.value ∙ ap (λ (f : ForLoopNode). f.else_body.items) c.deref-in-ForLoop-6.ensures) in
+    (c.deref-in-ForLoop-2.ensures.value ∙ ap (λ (f : Spanned ForLoopNode). f.node.else_body.items) c.deref.ensures) in
     let whole = for_runs c.args.looping c.args.statement.now c.in-ForLoop.n c.in-ForLoop.is filter recursive in
     other ∙ sym (then _ (then _ (then _ whole (sym target ∙ c.if-not-is_target.false)) (sym iter ∙ c.if-not-expression_runs.false))
     (sym body ∙ c.if-not-statements_run.false))
 
 pub parts_run-returns-then-not-statements_run-2 : goal.parts_run-returns-then-not-statements_run-2
 parts_run-returns-then-not-statements_run-2 t c =
-    let test = c.expression_runs-in-IfCond.ensures ∙ ap (λ (f : IfCondNode). runs (expression_of f.expr)) c.deref-in-IfCond.ensures in
+    let test = c.expression_runs-in-IfCond.ensures ∙ ap (λ (f : Spanned IfCondNode). runs (expression_of f.node.expr)) c.deref-in-IfCond.ensures in
     let body = c.statements_run-in-IfCond.ensures ∙ ap (λ (ss : List Stmt). statements_run c.args.looping (statements_in ss))
-    (c.deref-in-IfCond-3.ensures.value ∙ ap (λ (f : IfCondNode). f.true_body.items) c.deref-in-IfCond-2.ensures) in
+    (c.deref-in-IfCond-2.ensures.value ∙ ap (λ (f : Spanned IfCondNode). f.node.true_body.items) c.deref-in-IfCond.ensures) in
     let whole = if_runs c.args.looping c.args.statement.now c.in-IfCond.n c.in-IfCond.is in
     first_fails _ (then _ whole (sym test ∙ c.if-not-expression_runs-2.false)) (sym body ∙ c.if-not-statements_run-2.true)
 
 pub parts_run-returns-else-not-statements_run-2 : goal.parts_run-returns-else-not-statements_run-2
 parts_run-returns-else-not-statements_run-2 t c =
-    let test = c.expression_runs-in-IfCond.ensures ∙ ap (λ (f : IfCondNode). runs (expression_of f.expr)) c.deref-in-IfCond.ensures in
+    let test = c.expression_runs-in-IfCond.ensures ∙ ap (λ (f : Spanned IfCondNode). runs (expression_of f.node.expr)) c.deref-in-IfCond.ensures in
     let body = c.statements_run-in-IfCond.ensures ∙ ap (λ (ss : List Stmt). statements_run c.args.looping (statements_in ss))
-    (c.deref-in-IfCond-3.ensures.value ∙ ap (λ (f : IfCondNode). f.true_body.items) c.deref-in-IfCond-2.ensures) in
+    (c.deref-in-IfCond-2.ensures.value ∙ ap (λ (f : Spanned IfCondNode). f.node.true_body.items) c.deref-in-IfCond.ensures) in
     let other = c.statements_run-in-IfCond-2.ensures ∙ ap (λ (ss : List Stmt). statements_run c.args.looping (statements_in ss))
-    (c.deref-in-IfCond-5.ensures.value ∙ ap (λ (f : IfCondNode). f.false_body.items) c.deref-in-IfCond-4.ensures) in
+    (c.deref-in-IfCond-3.ensures.value ∙ ap (λ (f : Spanned IfCondNode). f.node.false_body.items) c.deref-in-IfCond.ensures) in
     let whole = if_runs c.args.looping c.args.statement.now c.in-IfCond.n c.in-IfCond.is in
     other ∙ sym (then _ (then _ whole (sym test ∙ c.if-not-expression_runs-2.false)) (sym body ∙ c.if-not-statements_run-2.false))
 
 pub parts_run-returns-else-not-assignments_run : goal.parts_run-returns-else-not-assignments_run
 parts_run-returns-else-not-assignments_run t c =
     let pairs = c.assignments_run.ensures ∙ ap (λ ps. assignments_run (assignments_in ps))
-    (c.deref-in-WithBlock-2.ensures.value ∙ ap (λ (w : WithBlockNode). w.assignments.items) c.deref-in-WithBlock.ensures) in
+    (c.deref-in-WithBlock-2.ensures.value ∙ ap (λ (w : Spanned WithBlockNode). w.node.assignments.items) c.deref-in-WithBlock.ensures) in
     let body = c.statements_run-in-WithBlock.ensures ∙ ap (λ (ss : List Stmt). statements_run c.args.looping (statements_in ss))
-    (c.deref-in-WithBlock-4.ensures.value ∙ ap (λ (w : WithBlockNode). w.body.items) c.deref-in-WithBlock-3.ensures) in
+    (c.deref-in-WithBlock-4.ensures.value ∙ ap (λ (w : Spanned WithBlockNode). w.node.body.items) c.deref-in-WithBlock-3.ensures) in
     let whole = with_runs c.args.looping c.args.statement.now c.in-WithBlock.n c.in-WithBlock.is in
     body ∙ sym (then _ whole (sym pairs ∙ c.if-not-assignments_run.false))
 
 pub parts_run-returns-else-not-expression_runs-3 : goal.parts_run-returns-else-not-expression_runs-3
 parts_run-returns-else-not-expression_runs-3 t c =
-    let enabled = c.expression_runs-in-AutoEscape.ensures ∙ ap (λ (e : AutoEscapeNode). runs (expression_of e.enabled)) c.deref-in-AutoEscape.ensures in
+    let enabled = c.expression_runs-in-AutoEscape.ensures ∙ ap (λ (e : Spanned AutoEscapeNode). runs (expression_of e.node.enabled)) c.deref-in-AutoEscape.ensures in
     let body = c.statements_run-in-AutoEscape.ensures ∙ ap (λ (ss : List Stmt). statements_run c.args.looping (statements_in ss))
-    (c.deref-in-AutoEscape-3.ensures.value ∙ ap (λ (e : AutoEscapeNode). e.body.items) c.deref-in-AutoEscape-2.ensures) in
+    (c.deref-in-AutoEscape-3.ensures.value ∙ ap (λ (e : Spanned AutoEscapeNode). e.node.body.items) c.deref-in-AutoEscape-2.ensures) in
     let whole = escape_runs c.args.looping c.args.statement.now c.in-AutoEscape.n c.in-AutoEscape.is in
     body ∙ sym (then _ whole (sym enabled ∙ c.if-not-expression_runs-3.false))
 
@@ -88,27 +89,27 @@ parts_run-returns-in-CallBlock t c = no_call c.args.looping c.args.statement.now
 
 pub statement_runs-returns-then-not-statements_run : goal.statement_runs-returns-then-not-statements_run
 statement_runs-returns-then-not-statements_run t c =
-    let test = c.expression_runs.ensures ∙ ap (λ (f : IfCondNode). runs (expression_of f.expr)) c.deref-in-IfCond.ensures in
+    let test = c.expression_runs.ensures ∙ ap (λ (f : Spanned IfCondNode). runs (expression_of f.node.expr)) c.deref.ensures in
     let body = c.statements_run.ensures ∙ ap (λ (ss : List Stmt). statements_run c.args.looping (statements_in ss))
-    (c.deref-in-IfCond-3.ensures.value ∙ ap (λ (f : IfCondNode). f.true_body.items) c.deref-in-IfCond-2.ensures) in
+    (c.deref-in-IfCond.ensures.value ∙ ap (λ (f : Spanned IfCondNode). f.node.true_body.items) c.deref.ensures) in
     let whole = if_runs c.args.looping c.loop-at.at.now c.in-IfCond.n c.in-IfCond.is in
     first_fails _ (then _ (c.loop-at.invariant.decides ∙ whole) (sym test ∙ c.if-not-expression_runs.false)) (sym body ∙ c.if-not-statements_run.true)
 
 pub statement_runs-loop-at-preserved : goal.statement_runs-loop-at-preserved
 statement_runs-loop-at-preserved t c =
-    let test = c.expression_runs.ensures ∙ ap (λ (f : IfCondNode). runs (expression_of f.expr)) c.deref-in-IfCond.ensures in
+    let test = c.expression_runs.ensures ∙ ap (λ (f : Spanned IfCondNode). runs (expression_of f.node.expr)) c.deref.ensures in
     let body = c.statements_run.ensures ∙ ap (λ (ss : List Stmt). statements_run c.args.looping (statements_in ss))
-    (c.deref-in-IfCond-3.ensures.value ∙ ap (λ (f : IfCondNode). f.true_body.items) c.deref-in-IfCond-2.ensures) in
+    (c.deref-in-IfCond.ensures.value ∙ ap (λ (f : Spanned IfCondNode). f.node.true_body.items) c.deref.ensures) in
     let whole = if_runs c.args.looping c.loop-at.at.now c.in-IfCond.n c.in-IfCond.is in
     let others = then _ (then _ whole (sym test ∙ c.if-not-expression_runs.false)) (sym body ∙ c.if-not-statements_run.false) in
-    let v = c.in-IfCond.n.node.value in
+    let v = c.in-IfCond.n.value.node in
     let items = v.false_body.items in
-    let shared = ap (λ (f : IfCondNode). vec_len f.false_body) (sym c.deref.ensures) in
+    let shared = ap (λ (f : Spanned IfCondNode). vec_len f.node.false_body) (sym c.deref.ensures) in
     let counted = c.len.ensures in
     let tested = c.if-len-ne1.false in
     let one : length items ≡ 1 = omega (arith, shared, counted, tested, v.false_body.ok.0) in
     let at : c.index.result.now ≡ get_or items 0 c.index.result.now =
-    c.index.ensures ∙ ap (λ (f : IfCondNode). get_or f.false_body.items 0 c.index.result.now) c.deref-in-IfCond-4.ensures in
+    c.index.ensures ∙ ap (λ (f : Spanned IfCondNode). get_or f.node.false_body.items 0 c.index.result.now) c.deref.ensures in
     let within = else_smaller c.loop-at.at.now c.in-IfCond.n 0 c.index.result.now c.in-IfCond.is (omega (arith, one)) in
     let same : size-Stmt c.index.result.now ≡ size-Stmt (get_or items 0 c.index.result.now) = ap (λ (s : Stmt). size-Stmt s) at in
     let deep : size-Stmt c.loop-at.at.now ≤ size-Stmt c.args.statement.now = c.loop-at.invariant.deep in

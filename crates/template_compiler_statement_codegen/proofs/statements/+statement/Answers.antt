@@ -13,6 +13,7 @@ use Rattle.template_code.specs.Listing.{code_in}
 use Rattle.template_compiler_codegen.specs.Statements.{target_code}
 use Rattle.template_compiler_emission.specs.declared.leaps.Leap.TheVariants.{IfFalse}
 use Rattle.template_compiler_expression_codegen.proofs.Putting.{landed_at, puts_as}
+use Rattle.template_tree.specs.declared.span.Spanned.{Spanned}
 use Rattle.template_tree_parts.specs.Listed.{statements_in}
 use Rattle.template_compiler_statement_codegen.specs.Listed.{body_deep, condition_deep, condition_of}
 use Rattle.template_compiler_statement_codegen.specs.Rounds.{LowersBody, places_in, ways_of}
@@ -70,7 +71,7 @@ compile_condition-returns-clause-lowered t c = remains_told c.in_ok-compile_chai
 
 pub compile_chain-loop-end-init : goal.compile_chain-loop-end-init
 compile_chain-loop-end-init t c =
-    let first = c.args.first.now.node.value in
+    let first = c.args.first.now.value.node in
     let code = c.args.code.now in
     let round = c.args.round.now in
     record {
@@ -81,15 +82,15 @@ compile_chain-loop-end-init t c =
 
 pub compile_chain-compile_branch-requires : goal.compile_chain-compile_branch-requires
 compile_chain-compile_branch-requires t c =
-    let same = ap (λ (x : IfCondNode). condition_deep x) c.deref.ensures in (
+    let same = ap (λ (x : Spanned IfCondNode). condition_deep x.node) c.deref.ensures in (
       omega (arith, same, c.loop-end.invariant.deep, c.decreases),
-      subst (λ (x : IfCondNode). IsRunnableStatement true (condition_of x)) (sym c.deref.ensures) c.loop-end.invariant.runs,
+      subst (λ (x : Spanned IfCondNode). IsRunnableStatement true (condition_of x.node)) (sym c.deref.ensures) c.loop-end.invariant.runs,
     )
 
 pub compile_chain-compile_body-requires : goal.compile_chain-compile_body-requires
 compile_chain-compile_body-requires t c =
-    let at = c.loop-end.at.now.node.value in
-    let other = c.deref-then-len-ne1.ensures.value ∙ ap (λ (x : IfCondNode). x.false_body.items) c.deref-in-loop-end.ensures in
+    let at = c.loop-end.at.now.value.node in
+    let other = c.deref-then-len-ne1.ensures.value ∙ ap (λ (x : Spanned IfCondNode). x.node.false_body.items) c.deref.ensures in
     let same = ap (λ (ss : List Stmt). body_deep ss) other in (
       omega (arith, same, c.loop-end.invariant.deep, c.decreases),
       subst (λ (ss : List Stmt). AreRunnableStatements true (statements_in ss)) (sym other) c.loop-end.invariant.runs.2,
@@ -97,8 +98,8 @@ compile_chain-compile_body-requires t c =
 
 pub compile_chain-compile_body-requires-in_default : goal.compile_chain-compile_body-requires-in_default
 compile_chain-compile_body-requires-in_default t c =
-    let at = c.loop-end.at.now.node.value in
-    let other = c.deref-in_default.ensures.value ∙ ap (λ (x : IfCondNode). x.false_body.items) c.deref-in-loop-end.ensures in
+    let at = c.loop-end.at.now.value.node in
+    let other = c.deref-in_default.ensures.value ∙ ap (λ (x : Spanned IfCondNode). x.node.false_body.items) c.deref.ensures in
     let same = ap (λ (ss : List Stmt). body_deep ss) other in (
       omega (arith, same, c.loop-end.invariant.deep, c.decreases),
       subst (λ (ss : List Stmt). AreRunnableStatements true (statements_in ss)) (sym other) c.loop-end.invariant.runs.2,
@@ -106,42 +107,42 @@ compile_chain-compile_body-requires-in_default t c =
 
 pub compile_chain-returns-then-len-ne1-clause-lowered : goal.compile_chain-returns-then-len-ne1-clause-lowered
 compile_chain-returns-then-len-ne1-clause-lowered t c = on_ok_weaker c.compile_body.result (λ last.
-    chain_ends c.args.first.now.node.value c.loop-end.at.now.node.value c.deref.result.now c.deref-then-len-ne1.result.now c.loop-end.ends.items
-    (places_in c.in_ok-end.end) c.keep.new.places.items c.deref.ensures
-    (c.deref-then-len-ne1.ensures.value ∙ ap (λ (x : IfCondNode). x.false_body.items) c.deref-in-loop-end.ensures) c.in_ok-keep.ensures
+    chain_ends c.args.first.now.value.node c.loop-end.at.now.value.node c.deref.result.now.node c.deref-then-len-ne1.result.now c.loop-end.ends.items
+    (places_in c.in_ok-end.end) c.keep.new.places.items (ap (λ (x : Spanned IfCondNode). x.node) c.deref.ensures)
+    (c.deref-then-len-ne1.ensures.value ∙ ap (λ (x : Spanned IfCondNode). x.node.false_body.items) c.deref.ensures) c.in_ok-keep.ensures
     c.loop-end.invariant.chain c.in_ok-end.ensures.lowered last) c.compile_body.ensures.lowered
 
 pub compile_chain-returns-in_default-clause-lowered : goal.compile_chain-returns-in_default-clause-lowered
 compile_chain-returns-in_default-clause-lowered t c = on_ok_weaker c.compile_body-in_default.result (λ last.
-    chain_ends c.args.first.now.node.value c.loop-end.at.now.node.value c.deref.result.now c.deref-in_default.result.now c.loop-end.ends.items
-    (places_in c.in_ok-end.end) c.keep.new.places.items c.deref.ensures
-    (c.deref-in_default.ensures.value ∙ ap (λ (x : IfCondNode). x.false_body.items) c.deref-in-loop-end.ensures) c.in_ok-keep.ensures
+    chain_ends c.args.first.now.value.node c.loop-end.at.now.value.node c.deref.result.now.node c.deref-in_default.result.now c.loop-end.ends.items
+    (places_in c.in_ok-end.end) c.keep.new.places.items (ap (λ (x : Spanned IfCondNode). x.node) c.deref.ensures)
+    (c.deref-in_default.ensures.value ∙ ap (λ (x : Spanned IfCondNode). x.node.false_body.items) c.deref.ensures) c.in_ok-keep.ensures
     c.loop-end.invariant.chain c.in_ok-end.ensures.lowered last) c.compile_body-in_default.ensures.lowered
 
 pub compile_chain-loop-end-preserved : goal.compile_chain-loop-end-preserved
 compile_chain-loop-end-preserved t c =
-    let at = c.loop-end.at.now.node.value in
-    let later = c.in-IfCond.n.node.value in
-    let shared = ap (λ (x : IfCondNode). vec_len x.false_body) c.deref-in-loop-end.ensures in
+    let at = c.loop-end.at.now.value.node in
+    let later = c.in-IfCond.n.value.node in
+    let shared = ap (λ (x : Spanned IfCondNode). vec_len x.node.false_body) c.deref.ensures in
     let one : length at.false_body.items ≡ 1 = omega (arith, shared, c.len.ensures, c.if-len-ne1.false, at.false_body.ok.0) in
     let read : c.index.result.now ≡ get_or at.false_body.items 0 c.index.result.now =
-    c.index.ensures ∙ ap (λ (x : IfCondNode). get_or x.false_body.items 0 c.index.result.now) c.deref-in-loop-end.ensures in
+    c.index.ensures ∙ ap (λ (x : Spanned IfCondNode). get_or x.node.false_body.items 0 c.index.result.now) c.deref.ensures in
     let tree = elif_tree at.false_body.items c.index.result.now c.in-IfCond.n later one read c.in-IfCond.is refl in
     record {
-      chain = chain_next c.args.first.now.node.value at c.deref.result.now later c.loop-end.ends.items (places_in c.in_ok-end.end) c.keep.new.places.items
-          c.deref.ensures tree c.in_ok-keep.ensures c.loop-end.invariant.chain c.in_ok-end.ensures.lowered;
+      chain = chain_next c.args.first.now.value.node at c.deref.result.now.node later c.loop-end.ends.items (places_in c.in_ok-end.end) c.keep.new.places.items
+          (ap (λ (x : Spanned IfCondNode). x.node) c.deref.ensures) tree c.in_ok-keep.ensures c.loop-end.invariant.chain c.in_ok-end.ensures.lowered;
       runs = later_runs at later c.loop-end.invariant.runs tree;
       deep = omega (arith, elif_smaller at.false_body.items c.index.result.now c.in-IfCond.n later one read c.in-IfCond.is refl, c.loop-end.invariant.deep);
     }
 
 pub compile_chain-loop-end-smaller : goal.compile_chain-loop-end-smaller
 compile_chain-loop-end-smaller t c =
-    let at = c.loop-end.at.now.node.value in
-    let shared = ap (λ (x : IfCondNode). vec_len x.false_body) c.deref-in-loop-end.ensures in
+    let at = c.loop-end.at.now.value.node in
+    let shared = ap (λ (x : Spanned IfCondNode). vec_len x.node.false_body) c.deref.ensures in
     let one : length at.false_body.items ≡ 1 = omega (arith, shared, c.len.ensures, c.if-len-ne1.false, at.false_body.ok.0) in
     let read : c.index.result.now ≡ get_or at.false_body.items 0 c.index.result.now =
-    c.index.ensures ∙ ap (λ (x : IfCondNode). get_or x.false_body.items 0 c.index.result.now) c.deref-in-loop-end.ensures in
-    omega (arith, elif_smaller at.false_body.items c.index.result.now c.in-IfCond.n c.in-IfCond.n.node.value one read c.in-IfCond.is refl)
+    c.index.ensures ∙ ap (λ (x : Spanned IfCondNode). get_or x.node.false_body.items 0 c.index.result.now) c.deref.ensures in
+    omega (arith, elif_smaller at.false_body.items c.index.result.now c.in-IfCond.n c.in-IfCond.n.value.node one read c.in-IfCond.is refl)
 
 pub compile_loop_end-returns-clause-lowered : goal.compile_loop_end-returns-clause-lowered
 compile_loop_end-returns-clause-lowered t c =
@@ -167,28 +168,28 @@ pub compile_statement-compile_condition-requires : goal.compile_statement-compil
 compile_statement-compile_condition-requires t c =
     let s = c.args.statement.now in
     let n = c.in-IfCond.n in
-    let tree = condition_is s n n.node.value c.in-IfCond.is refl in (
-      omega (arith, condition_within s n n.node.value c.in-IfCond.is refl, c.decreases),
+    let tree = condition_is s n n.value.node c.in-IfCond.is refl in (
+      omega (arith, condition_within s n n.value.node c.in-IfCond.is refl, c.decreases),
       subst (λ (x : Statement). IsRunnableStatement true x) tree c.requires,
     )
 
 pub compile_statement-returns-in-IfCond-clause-lowered : goal.compile_statement-returns-in-IfCond-clause-lowered
 compile_statement-returns-in-IfCond-clause-lowered t c =
-    let tree = condition_is c.args.statement.now c.in-IfCond.n c.in-IfCond.n.node.value c.in-IfCond.is refl in
+    let tree = condition_is c.args.statement.now c.in-IfCond.n c.in-IfCond.n.value.node c.in-IfCond.is refl in
     rw tree c.compile_condition.ensures.lowered
 
 pub compile_statement-compile_loop-requires : goal.compile_statement-compile_loop-requires
 compile_statement-compile_loop-requires t c =
     let s = c.args.statement.now in
     let n = c.in-ForLoop.n in
-    let target = c.deref-in-ForLoop.result.now.target in
-    let e = c.deref-in-ForLoop-2.result.now.iter in
-    let body = c.deref-in-ForLoop-4.result.now in
-    let other = c.deref-in-ForLoop-6.result.now in
-    let body_is = c.deref-in-ForLoop-4.ensures.value ∙ ap (λ (l : ForLoopNode). l.body.items) c.deref-in-ForLoop-3.ensures in
-    let other_is = c.deref-in-ForLoop-6.ensures.value ∙ ap (λ (l : ForLoopNode). l.else_body.items) c.deref-in-ForLoop-5.ensures in
-    let tree = loop_is s n target e body other c.requires c.in-ForLoop.is (ap (λ (l : ForLoopNode). l.target) c.deref-in-ForLoop.ensures)
-    (ap (λ (l : ForLoopNode). l.iter) c.deref-in-ForLoop-2.ensures) body_is other_is in
+    let target = c.deref-in-ForLoop.result.now.node.target in
+    let e = c.deref-in-ForLoop.result.now.node.iter in
+    let body = c.deref-in-ForLoop-2.result.now in
+    let other = c.deref-in-ForLoop-3.result.now in
+    let body_is = c.deref-in-ForLoop-2.ensures.value ∙ ap (λ (l : Spanned ForLoopNode). l.node.body.items) c.deref-in-ForLoop.ensures in
+    let other_is = c.deref-in-ForLoop-3.ensures.value ∙ ap (λ (l : Spanned ForLoopNode). l.node.else_body.items) c.deref-in-ForLoop.ensures in
+    let tree = loop_is s n target e body other c.requires c.in-ForLoop.is (ap (λ (l : Spanned ForLoopNode). l.node.target) c.deref-in-ForLoop.ensures)
+    (ap (λ (l : Spanned ForLoopNode). l.node.iter) c.deref-in-ForLoop.ensures) body_is other_is in
     let runs : IsRunnableStatement true (for_loop (expression_of target) (expression_of e) absent false (statements_in body) (statements_in other)) =
     subst (λ (x : Statement). IsRunnableStatement true x) tree c.requires in (
       omega (arith, loop_deep s n body c.in-ForLoop.is body_is, loop_other_deep s n other c.in-ForLoop.is other_is, c.decreases),
@@ -197,11 +198,11 @@ compile_statement-compile_loop-requires t c =
 
 pub compile_statement-returns-in-ForLoop-clause-lowered : goal.compile_statement-returns-in-ForLoop-clause-lowered
 compile_statement-returns-in-ForLoop-clause-lowered t c =
-    let tree = loop_is c.args.statement.now c.in-ForLoop.n c.deref-in-ForLoop.result.now.target c.deref-in-ForLoop-2.result.now.iter
-    c.deref-in-ForLoop-4.result.now c.deref-in-ForLoop-6.result.now c.requires c.in-ForLoop.is
-    (ap (λ (l : ForLoopNode). l.target) c.deref-in-ForLoop.ensures) (ap (λ (l : ForLoopNode). l.iter) c.deref-in-ForLoop-2.ensures)
-    (c.deref-in-ForLoop-4.ensures.value ∙ ap (λ (l : ForLoopNode). l.body.items) c.deref-in-ForLoop-3.ensures)
-    (c.deref-in-ForLoop-6.ensures.value ∙ ap (λ (l : ForLoopNode). l.else_body.items) c.deref-in-ForLoop-5.ensures) in
+    let tree = loop_is c.args.statement.now c.in-ForLoop.n c.deref-in-ForLoop.result.now.node.target c.deref-in-ForLoop.result.now.node.iter
+    c.deref-in-ForLoop-2.result.now c.deref-in-ForLoop-3.result.now c.requires c.in-ForLoop.is
+    (ap (λ (l : Spanned ForLoopNode). l.node.target) c.deref-in-ForLoop.ensures) (ap (λ (l : Spanned ForLoopNode). l.node.iter) c.deref-in-ForLoop.ensures)
+    (c.deref-in-ForLoop-2.ensures.value ∙ ap (λ (l : Spanned ForLoopNode). l.node.body.items) c.deref-in-ForLoop.ensures)
+    (c.deref-in-ForLoop-3.ensures.value ∙ ap (λ (l : Spanned ForLoopNode). l.node.else_body.items) c.deref-in-ForLoop.ensures) in
     rw tree c.compile_loop.ensures.lowered
 
 pub compile_statement-compile_with-requires : goal.compile_statement-compile_with-requires
@@ -210,8 +211,8 @@ compile_statement-compile_with-requires t c =
     let n = c.in-WithBlock.n in
     let pairs = c.deref-in-WithBlock-2.result.now in
     let body = c.deref-in-WithBlock-4.result.now in
-    let pairs_are = c.deref-in-WithBlock-2.ensures.value ∙ ap (λ (w : WithBlockNode). w.assignments.items) c.deref-in-WithBlock.ensures in
-    let body_is = c.deref-in-WithBlock-4.ensures.value ∙ ap (λ (w : WithBlockNode). w.body.items) c.deref-in-WithBlock-3.ensures in
+    let pairs_are = c.deref-in-WithBlock-2.ensures.value ∙ ap (λ (w : Spanned WithBlockNode). w.node.assignments.items) c.deref-in-WithBlock.ensures in
+    let body_is = c.deref-in-WithBlock-4.ensures.value ∙ ap (λ (w : Spanned WithBlockNode). w.node.body.items) c.deref-in-WithBlock-3.ensures in
     let runs : IsRunnableStatement true (with_block (assignments_in pairs) (statements_in body)) =
     subst (λ (x : Statement). IsRunnableStatement true x) (with_is s n pairs body c.in-WithBlock.is pairs_are body_is) c.requires in (
       omega (arith, with_deep s n body c.in-WithBlock.is body_is, c.decreases),
@@ -221,29 +222,29 @@ compile_statement-compile_with-requires t c =
 pub compile_statement-returns-in-WithBlock-clause-lowered : goal.compile_statement-returns-in-WithBlock-clause-lowered
 compile_statement-returns-in-WithBlock-clause-lowered t c =
     let tree = with_is c.args.statement.now c.in-WithBlock.n c.deref-in-WithBlock-2.result.now c.deref-in-WithBlock-4.result.now c.in-WithBlock.is
-    (c.deref-in-WithBlock-2.ensures.value ∙ ap (λ (w : WithBlockNode). w.assignments.items) c.deref-in-WithBlock.ensures)
-    (c.deref-in-WithBlock-4.ensures.value ∙ ap (λ (w : WithBlockNode). w.body.items) c.deref-in-WithBlock-3.ensures) in
+    (c.deref-in-WithBlock-2.ensures.value ∙ ap (λ (w : Spanned WithBlockNode). w.node.assignments.items) c.deref-in-WithBlock.ensures)
+    (c.deref-in-WithBlock-4.ensures.value ∙ ap (λ (w : Spanned WithBlockNode). w.node.body.items) c.deref-in-WithBlock-3.ensures) in
     rw tree c.compile_with.ensures.lowered
 
 pub compile_statement-compile_auto_escape-requires : goal.compile_statement-compile_auto_escape-requires
 compile_statement-compile_auto_escape-requires t c =
     let s = c.args.statement.now in
     let n = c.in-AutoEscape.n in
-    let enabled = c.deref-in-AutoEscape.result.now.enabled in
+    let enabled = c.deref-in-AutoEscape.result.now.node.enabled in
     let body = c.deref-in-AutoEscape-3.result.now in
-    let body_is = c.deref-in-AutoEscape-3.ensures.value ∙ ap (λ (a : AutoEscapeNode). a.body.items) c.deref-in-AutoEscape-2.ensures in
+    let body_is = c.deref-in-AutoEscape-3.ensures.value ∙ ap (λ (a : Spanned AutoEscapeNode). a.node.body.items) c.deref-in-AutoEscape-2.ensures in
     let runs : IsRunnableStatement true (auto_escape (expression_of enabled) (statements_in body)) =
     subst (λ (x : Statement). IsRunnableStatement true x)
-    (escape_is s n enabled body c.in-AutoEscape.is (ap (λ (a : AutoEscapeNode). a.enabled) c.deref-in-AutoEscape.ensures) body_is) c.requires in (
+    (escape_is s n enabled body c.in-AutoEscape.is (ap (λ (a : Spanned AutoEscapeNode). a.node.enabled) c.deref-in-AutoEscape.ensures) body_is) c.requires in (
       omega (arith, escape_deep s n body c.in-AutoEscape.is body_is, c.decreases),
       (runs.0, runs.1),
     )
 
 pub compile_statement-returns-in-AutoEscape-clause-lowered : goal.compile_statement-returns-in-AutoEscape-clause-lowered
 compile_statement-returns-in-AutoEscape-clause-lowered t c =
-    let tree = escape_is c.args.statement.now c.in-AutoEscape.n c.deref-in-AutoEscape.result.now.enabled c.deref-in-AutoEscape-3.result.now c.in-AutoEscape.is
-    (ap (λ (a : AutoEscapeNode). a.enabled) c.deref-in-AutoEscape.ensures)
-    (c.deref-in-AutoEscape-3.ensures.value ∙ ap (λ (a : AutoEscapeNode). a.body.items) c.deref-in-AutoEscape-2.ensures) in
+    let tree = escape_is c.args.statement.now c.in-AutoEscape.n c.deref-in-AutoEscape.result.now.node.enabled c.deref-in-AutoEscape-3.result.now c.in-AutoEscape.is
+    (ap (λ (a : Spanned AutoEscapeNode). a.node.enabled) c.deref-in-AutoEscape.ensures)
+    (c.deref-in-AutoEscape-3.ensures.value ∙ ap (λ (a : Spanned AutoEscapeNode). a.node.body.items) c.deref-in-AutoEscape-2.ensures) in
     rw tree c.compile_auto_escape.ensures.lowered
 
 pub compile_loop-returns-clause-lowered : goal.compile_loop-returns-clause-lowered

@@ -32,10 +32,10 @@ abbrev pub decreases-compile_loop_end : goal.decreases-compile_loop_end
 decreases-compile_loop_end l = 8 * body_deep l.otherwise.now + 3
 
 abbrev pub decreases-compile_condition : goal.decreases-compile_condition
-decreases-compile_condition l = 8 * condition_deep l.first.now.node.value + 5
+decreases-compile_condition l = 8 * condition_deep l.first.now.value.node + 5
 
 abbrev pub decreases-compile_chain : goal.decreases-compile_chain
-decreases-compile_chain l = 8 * condition_deep l.first.now.node.value + 4
+decreases-compile_chain l = 8 * condition_deep l.first.now.value.node + 4
 
 abbrev pub decreases-compile_branch : goal.decreases-compile_branch
 decreases-compile_branch l = 8 * condition_deep l.condition.now + 3
@@ -45,11 +45,11 @@ invariant-compile_body-loop-statement l = RemainsFrom l.body l.statement-index l
 
 -- what is left of a chain
 abbrev pub decreases-compile_chain-loop-end : goal.decreases-compile_chain-loop-end
-decreases-compile_chain-loop-end l = condition_deep l.at.node.value
+decreases-compile_chain-loop-end l = condition_deep l.at.value.node
 
 abbrev pub invariant-compile_chain-loop-end : goal.invariant-compile_chain-loop-end
 invariant-compile_chain-loop-end l = record {
-  chain : RemainsAt l.fn.first.node.value l.at.node.value l.ends.items l.initial.code l.code l.initial.round l.round;
-  runs : IsRunnableStatement true (condition_of l.at.node.value);
-  deep : condition_deep l.at.node.value ≤ condition_deep l.fn.first.node.value;
+  chain : RemainsAt l.fn.first.value.node l.at.value.node l.ends.items l.initial.code l.code l.initial.round l.round;
+  runs : IsRunnableStatement true (condition_of l.at.value.node);
+  deep : condition_deep l.at.value.node ≤ condition_deep l.fn.first.value.node;
 }

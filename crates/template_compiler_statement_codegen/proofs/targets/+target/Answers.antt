@@ -2,6 +2,7 @@ use Rattle.std.proofs.Common.{◌<◌, length, ap, sym, subst, ◌∙◌, arith}
 use Rattle.template_tree.specs.Tree.{Expression, list_literal}
 use Rattle.template_tree.specs.View.{expression_of, expressions_in}
 use Rattle.template_tree.specs.declared.expressions.Expr.{Expr}
+use Rattle.template_tree.specs.declared.span.Spanned.{Spanned}
 use Rattle.template_tree.specs.declared.expressions.List.{List as ListNode}
 use Rattle.template_walk.specs.Runnable.{IsTarget}
 use Rattle.template_walk.specs.Statements.{number_of}
@@ -17,14 +18,14 @@ use Rattle.template_compiler_statement_codegen.proofs.targets.+target.Goals as g
 
 pub compile_assignment-compile_targets-requires : goal.compile_assignment-compile_targets-requires
 compile_assignment-compile_targets-requires t c =
-    let read = c.deref-in-List.ensures.value ∙ ap (λ (l : ListNode). l.items.items) c.deref.ensures in
+    let read = c.deref-in-List.ensures.value ∙ ap (λ (l : Spanned ListNode). l.node.items.items) c.deref.ensures in
     let tree = list_is c.args.target.now c.in-List.n c.deref-in-List.result.now c.in-List.is read in
     let targets : IsTarget (list_literal (expressions_in c.deref-in-List.result.now)) = subst (λ (x : Expression). IsTarget x) tree c.requires in
     (omega (arith, list_deep c.args.target.now c.in-List.n c.deref-in-List.result.now c.in-List.is read, c.decreases), targets)
 
 pub compile_assignment-returns-in-List-clause-put : goal.compile_assignment-returns-in-List-clause-put
 compile_assignment-returns-in-List-clause-put t c =
-    let read = c.deref-in-List.ensures.value ∙ ap (λ (l : ListNode). l.items.items) c.deref.ensures in
+    let read = c.deref-in-List.ensures.value ∙ ap (λ (l : Spanned ListNode). l.node.items.items) c.deref.ensures in
     let tree = list_is c.args.target.now c.in-List.n c.deref-in-List.result.now c.in-List.is read in
     rw tree c.compile_targets.ensures.put
 

@@ -11,6 +11,7 @@ use Rattle.template_tree.specs.declared.expressions.Map.{Map as MapNode}
 use Rattle.template_tree.specs.declared.expressions.Slice.{Slice as SliceNode}
 use Rattle.template_tree.specs.declared.expressions.Test.{Test as TestNode}
 use Rattle.template_tree.specs.declared.expressions.Tuple.{Tuple as TupleNode}
+use Rattle.template_tree.specs.declared.span.Spanned.{Spanned}
 use Rattle.template_tree.specs.declared.expressions.Expr.{Expr, size-Expr}
 use Rattle.template_names.specs.Names.{place_if_given, place_in, place_in_one, place_in_links, place_in_arguments, place_in_argument}
 use Rattle.template_names_state.specs.Dotted.{fields_of}
@@ -77,76 +78,76 @@ use_arguments-loop-argument-preserved t c =
 
 pub use_others-returns-in-Compare : goal.use_others-returns-in-Compare
 use_others-returns-in-Compare t c =
-    let read = c.deref-in-Compare-2.ensures.value ∙ ap (λ (x : Compare). (out-Compare x).ops.items) c.deref-in-Compare.ensures in
+    let read = c.deref-in-Compare-2.ensures.value ∙ ap (λ (x : Spanned Compare). (out-Compare x.node).ops.items) c.deref-in-Compare.ensures in
     uses_on c.args.names.now c.use_links.new.names c.use_links.result
     (λ q. ap (λ (ls : Items CompareOp). place_in_links q (links_in ls)) read ∙ in_chain q (fields_of c.args.behind.now) c.args.expr.now c.in-Compare.n c.in-Compare.is)
     c.use_links.ensures
 
 pub use_others-returns-in-Filter : goal.use_others-returns-in-Filter
 use_others-returns-in-Filter t c =
-    let read = c.deref-in-Filter-2.ensures.value ∙ ap (λ (x : FilterNode). x.args.items) c.deref-in-Filter.ensures in
+    let read = c.deref-in-Filter-2.ensures.value ∙ ap (λ (x : Spanned FilterNode). x.node.args.items) c.deref-in-Filter.ensures in
     uses_on c.args.names.now c.use_arguments.new.names c.use_arguments.result
     (λ q. ap (λ (ls : Items CallArg). place_in_arguments q (arguments_in ls)) read ∙ in_filter q (fields_of c.args.behind.now) c.args.expr.now c.in-Filter.n c.in-Filter.is)
     c.use_arguments.ensures
 
 pub use_others-returns-in-Test : goal.use_others-returns-in-Test
 use_others-returns-in-Test t c =
-    let read = c.deref-in-Test-2.ensures.value ∙ ap (λ (x : TestNode). x.args.items) c.deref-in-Test.ensures in
+    let read = c.deref-in-Test-2.ensures.value ∙ ap (λ (x : Spanned TestNode). x.node.args.items) c.deref-in-Test.ensures in
     uses_on c.args.names.now c.use_arguments-in-Test.new.names c.use_arguments-in-Test.result
     (λ q. ap (λ (ls : Items CallArg). place_in_arguments q (arguments_in ls)) read ∙ in_test q (fields_of c.args.behind.now) c.args.expr.now c.in-Test.n c.in-Test.is)
     c.use_arguments-in-Test.ensures
 
 pub use_others-returns-in-Call : goal.use_others-returns-in-Call
 use_others-returns-in-Call t c =
-    let read = c.deref-in-Call-2.ensures.value ∙ ap (λ (x : CallNode). x.args.items) c.deref-in-Call.ensures in
+    let read = c.deref-in-Call-2.ensures.value ∙ ap (λ (x : Spanned CallNode). x.node.args.items) c.deref-in-Call.ensures in
     uses_on c.args.names.now c.use_arguments-in-Call.new.names c.use_arguments-in-Call.result
     (λ q. ap (λ (ls : Items CallArg). place_in_arguments q (arguments_in ls)) read ∙ in_call q (fields_of c.args.behind.now) c.args.expr.now c.in-Call.n c.in-Call.is)
     c.use_arguments-in-Call.ensures
 
 pub use_others-returns-in-List : goal.use_others-returns-in-List
 use_others-returns-in-List t c =
-    let read = c.deref-in-List-2.ensures.value ∙ ap (λ (x : ListNode). x.items.items) c.deref-in-List.ensures in
+    let read = c.deref-in-List-2.ensures.value ∙ ap (λ (x : Spanned ListNode). x.node.items.items) c.deref-in-List.ensures in
     uses_on c.args.names.now c.use_items.new.names c.use_items.result
     (λ q. ap (λ (es : Items Expr). place_in_one q (expressions_in es)) read ∙ in_list q (fields_of c.args.behind.now) c.args.expr.now c.in-List.n c.in-List.is)
     c.use_items.ensures
 
 pub use_others-returns-in-Tuple : goal.use_others-returns-in-Tuple
 use_others-returns-in-Tuple t c =
-    let read = c.deref-in-Tuple-2.ensures.value ∙ ap (λ (x : TupleNode). x.items.items) c.deref-in-Tuple.ensures in
+    let read = c.deref-in-Tuple-2.ensures.value ∙ ap (λ (x : Spanned TupleNode). x.node.items.items) c.deref-in-Tuple.ensures in
     uses_on c.args.names.now c.use_items-in-Tuple.new.names c.use_items-in-Tuple.result
     (λ q. ap (λ (es : Items Expr). place_in_one q (expressions_in es)) read ∙ in_tuple q (fields_of c.args.behind.now) c.args.expr.now c.in-Tuple.n c.in-Tuple.is)
     c.use_items-in-Tuple.ensures
 
 pub use_others-returns-in_ok-use_items-in-Map : goal.use_others-returns-in_ok-use_items-in-Map
 use_others-returns-in_ok-use_items-in-Map t c =
-    let keys = c.deref-in-Map-2.ensures.value ∙ ap (λ (x : MapNode). x.keys.items) c.deref-in-Map.ensures in
-    let values = c.deref-in-Map-4.ensures.value ∙ ap (λ (x : MapNode). x.values.items) c.deref-in-Map-3.ensures in
+    let keys = c.deref-in-Map-2.ensures.value ∙ ap (λ (x : Spanned MapNode). x.node.keys.items) c.deref-in-Map.ensures in
+    let values = c.deref-in-Map-4.ensures.value ∙ ap (λ (x : Spanned MapNode). x.node.values.items) c.deref-in-Map-3.ensures in
     let first = uses_as (λ q. ap (λ (es : Items Expr). place_in_one q (expressions_in es)) keys) c.in_ok-use_items-in-Map.ensures in
     uses_then_on _ c.args.names.now c.use_items-in-Map.new.names c.use_items-in-Map-2.new.names c.use_items-in-Map-2.result first c.use_items-in-Map-2.ensures
     (λ q.
-    ap (λ (es : Items Expr). place_in_one q (expressions_in c.in-Map.n.node.value.keys.items) || place_in_one q (expressions_in es)) values ∙
+    ap (λ (es : Items Expr). place_in_one q (expressions_in c.in-Map.n.value.node.keys.items) || place_in_one q (expressions_in es)) values ∙
     in_map q (fields_of c.args.behind.now) c.args.expr.now c.in-Map.n c.in-Map.is)
 
 pub use_others-returns-in_ok-use_optional-in-Slice-2 : goal.use_others-returns-in_ok-use_optional-in-Slice-2
 use_others-returns-in_ok-use_optional-in-Slice-2 t c =
-    let v = c.in-Slice.n.node.value in
-    let start = uses_as (λ q. ap (λ (x : SliceNode). place_if_given q (optional_in x.start)) c.deref.ensures) c.in_ok-use_optional-in-Slice.ensures in
-    let stop = uses_as (λ q. ap (λ (x : SliceNode). place_if_given q (optional_in x.stop)) c.deref-in-Slice.ensures) c.in_ok-use_optional-in-Slice-2.ensures in
+    let v = c.in-Slice.n.value.node in
+    let start = uses_as (λ q. ap (λ (x : Spanned SliceNode). place_if_given q (optional_in x.node.start)) c.deref.ensures) c.in_ok-use_optional-in-Slice.ensures in
+    let stop = uses_as (λ q. ap (λ (x : Spanned SliceNode). place_if_given q (optional_in x.node.stop)) c.deref-in-Slice.ensures) c.in_ok-use_optional-in-Slice-2.ensures in
     let first = uses_then c.args.names.now c.use_optional.new.names c.use_optional-in-Slice.new.names start stop in
     uses_then_on _ c.args.names.now c.use_optional-in-Slice.new.names c.use_optional-in-Slice-2.new.names c.use_optional-in-Slice-2.result first
     c.use_optional-in-Slice-2.ensures
     (λ q.
-    ap (λ (x : SliceNode). (place_if_given q (optional_in v.start) || place_if_given q (optional_in v.stop)) || place_if_given q (optional_in x.step))
+    ap (λ (x : Spanned SliceNode). (place_if_given q (optional_in v.start) || place_if_given q (optional_in v.stop)) || place_if_given q (optional_in x.node.step))
     c.deref-in-Slice-2.ensures ∙ in_slice q (fields_of c.args.behind.now) c.args.expr.now c.in-Slice.n c.in-Slice.is)
 
 pub use_others-returns-in_ok-use_expression-in-IfExpr-2 : goal.use_others-returns-in_ok-use_expression-in-IfExpr-2
 use_others-returns-in_ok-use_expression-in-IfExpr-2 t c =
-    let v = c.in-IfExpr.n.node.value in
-    let test = uses_as (λ q. ap (λ (x : IfExprNode). place_in q (expression_of x.test_expr)) c.deref-in-IfExpr.ensures) c.in_ok-use_expression-in-IfExpr.ensures in
-    let branch = uses_as (λ q. ap (λ (x : IfExprNode). place_in q (expression_of x.true_expr)) c.deref-in-IfExpr-2.ensures) c.in_ok-use_expression-in-IfExpr-2.ensures in
+    let v = c.in-IfExpr.n.value.node in
+    let test = uses_as (λ q. ap (λ (x : Spanned IfExprNode). place_in q (expression_of x.node.test_expr)) c.deref-in-IfExpr.ensures) c.in_ok-use_expression-in-IfExpr.ensures in
+    let branch = uses_as (λ q. ap (λ (x : Spanned IfExprNode). place_in q (expression_of x.node.true_expr)) c.deref-in-IfExpr-2.ensures) c.in_ok-use_expression-in-IfExpr-2.ensures in
     let first = uses_then c.args.names.now c.use_expression-in-IfExpr.new.names c.use_expression-in-IfExpr-2.new.names test branch in
     uses_then_on _ c.args.names.now c.use_expression-in-IfExpr-2.new.names c.use_optional-in-IfExpr.new.names c.use_optional-in-IfExpr.result first
     c.use_optional-in-IfExpr.ensures
     (λ q.
-    ap (λ (x : IfExprNode). (place_in q (expression_of v.test_expr) || place_in q (expression_of v.true_expr)) || place_if_given q (optional_in x.false_expr))
+    ap (λ (x : Spanned IfExprNode). (place_in q (expression_of v.test_expr) || place_in q (expression_of v.true_expr)) || place_if_given q (optional_in x.node.false_expr))
     c.deref-in-IfExpr-3.ensures ∙ in_condition q (fields_of c.args.behind.now) c.args.expr.now c.in-IfExpr.n c.in-IfExpr.is)

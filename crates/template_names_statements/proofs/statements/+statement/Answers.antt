@@ -16,6 +16,7 @@ use Rattle.template_tree_statements.specs.declared.statements.FilterBlock.{Filte
 use Rattle.template_tree_statements.specs.declared.statements.ForLoop.{ForLoop as ForLoopNode}
 use Rattle.template_tree_statements.specs.declared.statements.Macro.{Macro as MacroNode}
 use Rattle.template_tree_statements.specs.declared.statements.SetBlock.{SetBlock as SetBlockNode}
+use Rattle.template_tree.specs.declared.span.Spanned.{Spanned}
 use Rattle.template_tree_statements.specs.declared.statements.WithBlock.{WithBlock as WithBlockNode}
 use Rattle.template_names_statements.proofs.Bodies.{at_node, at_tree, macro_reads, set_block_tree, filter_block_tree, block_tree, macro_tree, call_tree}
 use Rattle.template_names.specs.Names.{is_stored_by, is_stored_in, place_by, place_of_macro, place_in_target, place_from, place_within, place_if_given, place_in, place_in_arguments}
@@ -53,38 +54,38 @@ use_macro-returns t c =
 
 pub use_chain-returns-then-len-ne1 : goal.use_chain-returns-then-len-ne1
 use_chain-returns-then-len-ne1 t c =
-    let test = uses_as (λ q. ap (λ (x : IfCondNode). place_in q (expression_of x.expr)) c.deref.ensures) c.in_ok-use_expression.ensures in
-    let read = c.deref-in-loop-names-2.ensures.value ∙ ap (λ (x : IfCondNode). x.true_body.items) c.deref-in-loop-names.ensures in
+    let test = uses_as (λ q. ap (λ (x : Spanned IfCondNode). place_in q (expression_of x.node.expr)) c.deref.ensures) c.in_ok-use_expression.ensures in
+    let read = c.deref-in-loop-names.ensures.value ∙ ap (λ (x : Spanned IfCondNode). x.node.true_body.items) c.deref.ensures in
     let body = uses_as (λ q. ap (λ (ss : Items Stmt). place_within q (statements_in ss)) read) c.in_ok-use_region.ensures in
     let tested = uses_then c.loop-names.names c.use_expression.new.names c.use_region.new.names test body in
-    let other = c.deref-then-len-ne1.ensures.value ∙ ap (λ (x : IfCondNode). x.false_body.items) c.deref-in-loop-names-3.ensures in
+    let other = c.deref-then-len-ne1.ensures.value ∙ ap (λ (x : Spanned IfCondNode). x.node.false_body.items) c.deref.ensures in
     chain_end c.loop-names.at.now c.deref-then-len-ne1.result.now c.loop-names.names c.use_region.new.names c.use_region-then-len-ne1.new.names
     c.use_region-then-len-ne1.result c.loop-names.invariant.ends tested other c.use_region-then-len-ne1.ensures
 
 pub use_chain-returns-in_default : goal.use_chain-returns-in_default
 use_chain-returns-in_default t c =
-    let test = uses_as (λ q. ap (λ (x : IfCondNode). place_in q (expression_of x.expr)) c.deref.ensures) c.in_ok-use_expression.ensures in
-    let read = c.deref-in-loop-names-2.ensures.value ∙ ap (λ (x : IfCondNode). x.true_body.items) c.deref-in-loop-names.ensures in
+    let test = uses_as (λ q. ap (λ (x : Spanned IfCondNode). place_in q (expression_of x.node.expr)) c.deref.ensures) c.in_ok-use_expression.ensures in
+    let read = c.deref-in-loop-names.ensures.value ∙ ap (λ (x : Spanned IfCondNode). x.node.true_body.items) c.deref.ensures in
     let body = uses_as (λ q. ap (λ (ss : Items Stmt). place_within q (statements_in ss)) read) c.in_ok-use_region.ensures in
     let tested = uses_then c.loop-names.names c.use_expression.new.names c.use_region.new.names test body in
-    let other = c.deref-in_default.ensures.value ∙ ap (λ (x : IfCondNode). x.false_body.items) c.deref-in-loop-names-3.ensures in
+    let other = c.deref-in_default.ensures.value ∙ ap (λ (x : Spanned IfCondNode). x.node.false_body.items) c.deref.ensures in
     chain_end c.loop-names.at.now c.deref-in_default.result.now c.loop-names.names c.use_region.new.names c.use_region-in_default.new.names
     c.use_region-in_default.result c.loop-names.invariant.ends tested other c.use_region-in_default.ensures
 
 pub use_chain-loop-names-preserved : goal.use_chain-loop-names-preserved
 use_chain-loop-names-preserved t c =
     let n = c.loop-names.at.now in
-    let items = n.node.value.false_body.items in
-    let test = uses_as (λ q. ap (λ (x : IfCondNode). place_in q (expression_of x.expr)) c.deref.ensures) c.in_ok-use_expression.ensures in
-    let read = c.deref-in-loop-names-2.ensures.value ∙ ap (λ (x : IfCondNode). x.true_body.items) c.deref-in-loop-names.ensures in
+    let items = n.value.node.false_body.items in
+    let test = uses_as (λ q. ap (λ (x : Spanned IfCondNode). place_in q (expression_of x.node.expr)) c.deref.ensures) c.in_ok-use_expression.ensures in
+    let read = c.deref-in-loop-names.ensures.value ∙ ap (λ (x : Spanned IfCondNode). x.node.true_body.items) c.deref.ensures in
     let body = uses_as (λ q. ap (λ (ss : Items Stmt). place_within q (statements_in ss)) read) c.in_ok-use_region.ensures in
     let tested = uses_then c.loop-names.names c.use_expression.new.names c.use_region.new.names test body in
-    let shared = ap (λ (x : IfCondNode). vec_len x.false_body) c.deref-in-loop-names-3.ensures in
+    let shared = ap (λ (x : Spanned IfCondNode). vec_len x.node.false_body) c.deref.ensures in
     let counted = c.len.ensures in
     let alone = c.if-len-ne1.false in
-    let one : length items ≡ 1 = omega (arith, shared, counted, alone, n.node.value.false_body.ok.0) in
+    let one : length items ≡ 1 = omega (arith, shared, counted, alone, n.value.node.false_body.ok.0) in
     let at : c.index.result.now ≡ get_or items 0 c.index.result.now =
-    c.index.ensures ∙ ap (λ (x : IfCondNode). get_or x.false_body.items 0 c.index.result.now) c.deref-in-loop-names-3.ensures in
+    c.index.ensures ∙ ap (λ (x : Spanned IfCondNode). get_or x.node.false_body.items 0 c.index.result.now) c.deref.ensures in
     let less = else_below n c.in-IfCond.n c.index.result.now one at c.in-IfCond.is in
     let deep : size-Stmt (IfCond n) ≤ size-Stmt (IfCond c.args.first.now) = c.loop-names.invariant.deep in
     record {
@@ -116,17 +117,17 @@ use_statement-returns-in-WithBlock t c =
 pub use_loop-returns : goal.use_loop-returns
 use_loop-returns t c =
     let n = c.args.node.now in
-    let v = n.node.value in
-    let iter = uses_as (λ q. ap (λ (x : ForLoopNode). place_in q (expression_of x.iter)) c.deref.ensures) c.in_ok-use_expression.ensures in
+    let v = n.value.node in
+    let iter = uses_as (λ q. ap (λ (x : Spanned ForLoopNode). place_in q (expression_of x.node.iter)) c.deref.ensures) c.in_ok-use_expression.ensures in
     let head = goes_as
     (λ q.
-    ap (λ (x : ForLoopNode). place_in_target q (expression_of x.target) || not (is_stored_in q.name (expression_of x.target)) && place_if_given q (optional_in x.filter_expr))
+    ap (λ (x : Spanned ForLoopNode). place_in_target q (expression_of x.node.target) || not (is_stored_in q.name (expression_of x.node.target)) && place_if_given q (optional_in x.node.filter_expr))
     c.deref-2.ensures)
-    (λ q. ap (λ (x : ForLoopNode). is_stored_in q (expression_of x.target) || just (codes "loop") q) c.deref-2.ensures) c.in_ok-begin_loop.ensures in
-    let read = c.deref-4.ensures.value ∙ ap (λ (x : ForLoopNode). x.body.items) c.deref-3.ensures in
+    (λ q. ap (λ (x : Spanned ForLoopNode). is_stored_in q (expression_of x.node.target) || just (codes "loop") q) c.deref-2.ensures) c.in_ok-begin_loop.ensures in
+    let read = c.deref-4.ensures.value ∙ ap (λ (x : Spanned ForLoopNode). x.node.body.items) c.deref-3.ensures in
     let body = goes_as (λ q. ap (λ (ss : Items Stmt). place_within q (statements_in ss)) read) (λ q. ap (λ (ss : Items Stmt). is_stored_among q (statements_in ss)) read)
     c.in_ok-use_statements.ensures in
-    let other = c.deref-6.ensures.value ∙ ap (λ (x : ForLoopNode). x.else_body.items) c.deref-5.ensures in
+    let other = c.deref-6.ensures.value ∙ ap (λ (x : Spanned ForLoopNode). x.node.else_body.items) c.deref-5.ensures in
     let inside = goes_then c.open.new.self c.begin_loop.new.names c.use_statements.new.names head body in
     let region = goes_inside c.use_expression.new.names c.open.new.self c.use_statements.new.names c.close.new.self c.in_ok-open.ensures inside c.close.ensures in
     uses_then_on _ c.args.names.now c.close.new.self c.use_region.new.names c.use_region.result
@@ -143,10 +144,10 @@ use_loop-returns t c =
 pub use_with-returns : goal.use_with-returns
 use_with-returns t c =
     let n = c.args.node.now in
-    let assignments = assignments_in n.node.value.assignments.items in
-    let body = statements_in n.node.value.body.items in
-    let given = c.deref-2.ensures.value ∙ ap (λ (x : WithBlockNode). x.assignments.items) c.deref.ensures in
-    let read = c.deref-4.ensures.value ∙ ap (λ (x : WithBlockNode). x.body.items) c.deref-3.ensures in
+    let assignments = assignments_in n.value.node.assignments.items in
+    let body = statements_in n.value.node.body.items in
+    let given = c.deref-2.ensures.value ∙ ap (λ (x : Spanned WithBlockNode). x.node.assignments.items) c.deref.ensures in
+    let read = c.deref-4.ensures.value ∙ ap (λ (x : Spanned WithBlockNode). x.node.body.items) c.deref-3.ensures in
     let first = goes_as (λ q. ap (λ (xs : Items (Expr × Expr)). place_from q (assignments_in xs) false) given)
     (λ q. ap (λ (xs : Items (Expr × Expr)). is_assigned q (assignments_in xs)) given) c.in_ok-use_assignments.ensures in
     let behind = goes_as (λ q. ap (λ (ss : Items Stmt). place_within q (statements_in ss)) read) (λ q. ap (λ (ss : Items Stmt). is_stored_among q (statements_in ss)) read)
@@ -158,27 +159,27 @@ use_with-returns t c =
 pub use_statement-returns-in_ok-use_region-in-SetBlock : goal.use_statement-returns-in_ok-use_region-in-SetBlock
 use_statement-returns-in_ok-use_region-in-SetBlock t c =
     let n = c.in-SetBlock.n in
-    let v = n.node.value in
+    let v = n.value.node in
     let tree = ap (λ (x : Stmt). statement_of x) c.in-SetBlock.is ∙ set_block_tree n in
-    let read = c.deref-in-SetBlock-2.ensures.value ∙ ap (λ (x : SetBlockNode). x.body.items) c.deref-in-SetBlock.ensures in
+    let read = c.deref-in-SetBlock-2.ensures.value ∙ ap (λ (x : Spanned SetBlockNode). x.node.body.items) c.deref-in-SetBlock.ensures in
     let body = uses_as (λ q. ap (λ (ss : Items Stmt). place_within q (statements_in ss)) read) c.in_ok-use_region-in-SetBlock.ensures in
     at_tree c.args.statement.now (set_block (expression_of v.target) (optional_in v.filter) (statements_in v.body.items)) c.args.names.now
     c.end_set_block.new.names c.end_set_block.result tree (λ q. refl) (λ q. refl)
     (goes_then_on _ _ c.args.names.now c.use_region-in-SetBlock.new.names c.end_set_block.new.names c.end_set_block.result body c.end_set_block.ensures
     (λ q.
     let within = place_within q (statements_in v.body.items) in
-    ap (λ (x : SetBlockNode). within || (place_if_given q (optional_in x.filter) || place_in_target q (expression_of x.target))) c.deref-in-SetBlock-3.ensures ∙
+    ap (λ (x : Spanned SetBlockNode). within || (place_if_given q (optional_in x.node.filter) || place_in_target q (expression_of x.node.target))) c.deref-in-SetBlock-3.ensures ∙
     or_assoc within (place_if_given q (optional_in v.filter)) (place_in_target q (expression_of v.target)))
-    (λ q. ap (λ (x : SetBlockNode). is_stored_in q (expression_of x.target)) c.deref-in-SetBlock-3.ensures))
+    (λ q. ap (λ (x : Spanned SetBlockNode). is_stored_in q (expression_of x.node.target)) c.deref-in-SetBlock-3.ensures))
 
 pub use_statement-returns-in_ok-use_expression-in-AutoEscape : goal.use_statement-returns-in_ok-use_expression-in-AutoEscape
 use_statement-returns-in_ok-use_expression-in-AutoEscape t c =
     let n = c.in-AutoEscape.n in
-    let v = n.node.value in
+    let v = n.value.node in
     let tree = ap (λ (x : Stmt). statement_of x) c.in-AutoEscape.is ∙ escape_tree n in
-    let enabled = uses_as (λ q. ap (λ (x : AutoEscapeNode). place_in q (expression_of x.enabled)) c.deref-in-AutoEscape.ensures)
+    let enabled = uses_as (λ q. ap (λ (x : Spanned AutoEscapeNode). place_in q (expression_of x.node.enabled)) c.deref-in-AutoEscape.ensures)
     c.in_ok-use_expression-in-AutoEscape.ensures in
-    let read = c.deref-in-AutoEscape-3.ensures.value ∙ ap (λ (x : AutoEscapeNode). x.body.items) c.deref-in-AutoEscape-2.ensures in
+    let read = c.deref-in-AutoEscape-3.ensures.value ∙ ap (λ (x : Spanned AutoEscapeNode). x.node.body.items) c.deref-in-AutoEscape-2.ensures in
     at_tree c.args.statement.now (auto_escape (expression_of v.enabled) (statements_in v.body.items)) c.args.names.now
     c.use_region-in-AutoEscape.new.names c.use_region-in-AutoEscape.result tree (λ q. refl) (λ q. refl)
     (uses_then_on _ c.args.names.now c.use_expression-in-AutoEscape.new.names c.use_region-in-AutoEscape.new.names c.use_region-in-AutoEscape.result enabled
@@ -188,55 +189,55 @@ use_statement-returns-in_ok-use_expression-in-AutoEscape t c =
 pub use_statement-returns-in_ok-use_region-in-FilterBlock : goal.use_statement-returns-in_ok-use_region-in-FilterBlock
 use_statement-returns-in_ok-use_region-in-FilterBlock t c =
     let n = c.in-FilterBlock.n in
-    let v = n.node.value in
+    let v = n.value.node in
     let tree = ap (λ (x : Stmt). statement_of x) c.in-FilterBlock.is ∙ filter_block_tree n in
-    let read = c.deref-in-FilterBlock-2.ensures.value ∙ ap (λ (x : FilterBlockNode). x.body.items) c.deref-in-FilterBlock.ensures in
+    let read = c.deref-in-FilterBlock-2.ensures.value ∙ ap (λ (x : Spanned FilterBlockNode). x.node.body.items) c.deref-in-FilterBlock.ensures in
     let body = uses_as (λ q. ap (λ (ss : Items Stmt). place_within q (statements_in ss)) read) c.in_ok-use_region-in-FilterBlock.ensures in
     at_tree c.args.statement.now (filter_block (expression_of v.filter) (statements_in v.body.items)) c.args.names.now
     c.use_expression-in-FilterBlock.new.names c.use_expression-in-FilterBlock.result tree (λ q. refl) (λ q. refl)
     (uses_then_on _ c.args.names.now c.use_region-in-FilterBlock.new.names c.use_expression-in-FilterBlock.new.names c.use_expression-in-FilterBlock.result body
     c.use_expression-in-FilterBlock.ensures
-    (λ q. ap (λ (x : FilterBlockNode). place_within q (statements_in v.body.items) || place_in q (expression_of x.filter)) c.deref-in-FilterBlock-3.ensures))
+    (λ q. ap (λ (x : Spanned FilterBlockNode). place_within q (statements_in v.body.items) || place_in q (expression_of x.node.filter)) c.deref-in-FilterBlock-3.ensures))
 
 pub use_statement-returns-in-Block : goal.use_statement-returns-in-Block
 use_statement-returns-in-Block t c =
     let n = c.in-Block.n in
-    let v = n.node.value in
+    let v = n.value.node in
     let tree = ap (λ (x : Stmt). statement_of x) c.in-Block.is ∙ block_tree n in
-    let read = c.deref-in-Block-2.ensures.value ∙ ap (λ (x : BlockNode). x.body.items) c.deref-in-Block.ensures in
+    let read = c.deref-in-Block-2.ensures.value ∙ ap (λ (x : Spanned BlockNode). x.node.body.items) c.deref-in-Block.ensures in
     at_tree c.args.statement.now (block v.name.now v.required (statements_in v.body.items)) c.args.names.now c.use_region-in-Block.new.names
     c.use_region-in-Block.result tree (λ q. ap (λ (ss : Items Stmt). place_within q (statements_in ss)) read) (λ q. refl) c.use_region-in-Block.ensures
 
 pub use_statement-returns-in_ok-use_macro-in-Macro : goal.use_statement-returns-in_ok-use_macro-in-Macro
 use_statement-returns-in_ok-use_macro-in-Macro t c =
     let n = c.in-Macro.n in
-    let v = n.node.value in
+    let v = n.value.node in
     let tree = ap (λ (x : Stmt). statement_of x) c.in-Macro.is ∙ macro_tree n in
-    let body = c.deref-in-Macro-2.ensures.value ∙ ap (λ (x : MacroNode). x.body.items) c.deref-in-Macro.ensures in
-    let args = c.deref-in-Macro-4.ensures.value ∙ ap (λ (x : MacroNode). x.args.items) c.deref-in-Macro-3.ensures in
-    let defaults = c.deref-in-Macro-6.ensures.value ∙ ap (λ (x : MacroNode). x.defaults.items) c.deref-in-Macro-5.ensures in
+    let body = c.deref-in-Macro-2.ensures.value ∙ ap (λ (x : Spanned MacroNode). x.node.body.items) c.deref-in-Macro.ensures in
+    let args = c.deref-in-Macro-3.ensures.value ∙ ap (λ (x : Spanned MacroNode). x.node.args.items) c.deref-in-Macro.ensures in
+    let defaults = c.deref-in-Macro-4.ensures.value ∙ ap (λ (x : Spanned MacroNode). x.node.defaults.items) c.deref-in-Macro.ensures in
     let inside = uses_as (λ q. macro_reads q body args defaults) c.in_ok-use_macro-in-Macro.ensures in
     at_tree c.args.statement.now
     (macro v.name.now (expressions_in v.args.items) (expressions_in v.defaults.items) (statements_in v.body.items)) c.args.names.now c.store.new.self
     c.store.result tree (λ q. refl) (λ q. refl)
     (goes_then_on _ _ c.args.names.now c.use_macro.new.names c.store.new.self c.store.result inside c.store.ensures
     (λ q. or_false (place_of_macro q (expressions_in v.args.items) (expressions_in v.defaults.items) (place_within q (statements_in v.body.items))))
-    (λ q. ap (λ (x : MacroNode). just x.name.now q) c.deref-in-Macro-7.ensures))
+    (λ q. ap (λ (x : Spanned MacroNode). just x.node.name.now q) c.deref-in-Macro.ensures))
 
 pub use_statement-returns-in_ok-use_call-in-CallBlock : goal.use_statement-returns-in_ok-use_call-in-CallBlock
 use_statement-returns-in_ok-use_call-in-CallBlock t c =
     let n = c.in-CallBlock.n in
-    let v = out-CallBlock n.node.value in
-    let called = v.call.node.value in
-    let declared = v.macro_decl.node.value in
+    let v = out-CallBlock n.value.node in
+    let called = v.call.value.node in
+    let declared = v.macro_decl.value.node in
     let tree = ap (λ (x : Stmt). statement_of x) c.in-CallBlock.is ∙ call_tree n in
-    let call = ap (λ (x : CallBlockNode). (out-CallBlock x).call.node.value) c.deref-in-CallBlock.ensures in
-    let declaration = ap (λ (x : CallBlockNode). (out-CallBlock x).macro_decl.node.value) c.deref-in-CallBlock-3.ensures in
-    let first = uses_as (λ q. ap (λ (x : CallNode). place_in q (expression_of x.expr) || place_in_arguments q (arguments_in x.args.items)) (c.deref-in-CallBlock-2.ensures ∙ call))
+    let call = ap (λ (x : Spanned CallBlockNode). (out-CallBlock x.node).call.value) c.deref-in-CallBlock.ensures in
+    let declaration = ap (λ (x : Spanned CallBlockNode). (out-CallBlock x.node).macro_decl.value) c.deref-in-CallBlock-3.ensures in
+    let first = uses_as (λ q. ap (λ (x : Spanned CallNode). place_in q (expression_of x.node.expr) || place_in_arguments q (arguments_in x.node.args.items)) (c.deref-in-CallBlock-2.ensures ∙ call))
     c.in_ok-use_call-in-CallBlock.ensures in
-    let body = c.deref-in-CallBlock-5.ensures.value ∙ ap (λ (x : MacroNode). x.body.items) (c.deref-in-CallBlock-4.ensures ∙ declaration) in
-    let args = c.deref-in-CallBlock-7.ensures.value ∙ ap (λ (x : MacroNode). x.args.items) (c.deref-in-CallBlock-6.ensures ∙ declaration) in
-    let defaults = c.deref-in-CallBlock-9.ensures.value ∙ ap (λ (x : MacroNode). x.defaults.items) (c.deref-in-CallBlock-8.ensures ∙ declaration) in
+    let body = c.deref-in-CallBlock-5.ensures.value ∙ ap (λ (x : Spanned MacroNode). x.node.body.items) (c.deref-in-CallBlock-4.ensures ∙ declaration) in
+    let args = c.deref-in-CallBlock-6.ensures.value ∙ ap (λ (x : Spanned MacroNode). x.node.args.items) (c.deref-in-CallBlock-4.ensures ∙ declaration) in
+    let defaults = c.deref-in-CallBlock-7.ensures.value ∙ ap (λ (x : Spanned MacroNode). x.node.defaults.items) (c.deref-in-CallBlock-4.ensures ∙ declaration) in
     at_tree c.args.statement.now
     (call_block (expression_of called.expr) (arguments_in called.args.items) (expressions_in declared.args.items) (expressions_in declared.defaults.items)
     (statements_in declared.body.items)) c.args.names.now c.use_macro-in-CallBlock.new.names c.use_macro-in-CallBlock.result tree (λ q. refl) (λ q. refl)

@@ -1,6 +1,7 @@
 use Rattle.std.proofs.Common.{List as Items, arith, refl, ap, ◌∙◌}
 use Rattle.template_tree.specs.View.{expression_of, expressions_in}
 use Rattle.template_tree.specs.declared.expressions.List.{List as ListNode}
+use Rattle.template_tree.specs.declared.span.Spanned.{Spanned}
 use Rattle.template_tree.specs.declared.expressions.Expr.{Expr}
 use Rattle.template_names.specs.Names.{is_stored_in, is_stored_in_one, place_in_target, place_in_targets}
 use Rattle.template_names_state.proofs.Laws.{goes_as, goes_end, goes_item, goes_nowhere, goes_on}
@@ -9,7 +10,7 @@ use Rattle.template_names_statements.proofs.targets.+assigned.Goals as goal
 
 pub assign_target-returns-in-List : goal.assign_target-returns-in-List
 assign_target-returns-in-List t c =
-    let read = c.deref-in-List.ensures.value ∙ ap (λ (x : ListNode). x.items.items) c.deref.ensures in
+    let read = c.deref-in-List.ensures.value ∙ ap (λ (x : Spanned ListNode). x.node.items.items) c.deref.ensures in
     goes_on c.args.names.now c.assign_targets.new.names c.assign_targets.result
     (λ q. ap (λ (es : Items Expr). place_in_targets q (expressions_in es)) read ∙ used_list q c.args.target.now c.in-List.n c.in-List.is)
     (λ q. ap (λ (es : Items Expr). is_stored_in_one q (expressions_in es)) read ∙ stored_list q c.args.target.now c.in-List.n c.in-List.is)

@@ -1,6 +1,7 @@
 use Rattle.std.proofs.Common.{List as Items, arith, refl, ap, ◌∙◌}
 use Rattle.template_tree.specs.View.{expression_of, expressions_in}
 use Rattle.template_tree.specs.declared.expressions.List.{List as ListNode}
+use Rattle.template_tree.specs.declared.span.Spanned.{Spanned}
 use Rattle.template_tree.specs.declared.expressions.Expr.{Expr}
 use Rattle.template_names.specs.Names.{is_stored_in, is_stored_in_one}
 use Rattle.template_names_state.specs.Goes.{no_place}
@@ -10,7 +11,7 @@ use Rattle.template_names_statements.proofs.targets.+bound.Goals as goal
 
 pub bind_target-returns-in-List : goal.bind_target-returns-in-List
 bind_target-returns-in-List t c =
-    let read = c.deref-in-List.ensures.value ∙ ap (λ (x : ListNode). x.items.items) c.deref.ensures in
+    let read = c.deref-in-List.ensures.value ∙ ap (λ (x : Spanned ListNode). x.node.items.items) c.deref.ensures in
     goes_on c.args.names.now c.bind_targets.new.names c.bind_targets.result (λ q. refl)
     (λ q. ap (λ (es : Items Expr). is_stored_in_one q (expressions_in es)) read ∙ stored_list q c.args.target.now c.in-List.n c.in-List.is)
     c.bind_targets.ensures

@@ -2,11 +2,12 @@ use Rattle.std.proofs.Common.{rules, refl}
 use Rattle.template_tree_parts.proofs.Chains.{passed_more, passed_within, chain_spine, filter_spine}
 use Rattle.template_tree.specs.declared.expressions.Expr.{the_lemmas}
 use Rattle.template_tree.specs.declared.expressions.Compare.{out-Compare}
+use Rattle.template_tree.specs.declared.span.Spanned.{Spanned}
 use Rattle.template_tree_parts.proofs.spines.spine.Goals as goal
 
 pub loop-passed-preserved-in-Test : goal.loop-passed-preserved-in-Test
 loop-passed-preserved-in-Test c = record {
-  nodes = passed_more c.loop-passed.at.now c.deref-in-Test.result.now.expr c.loop-passed.passed.items c.push.new.self.items _ _
+  nodes = passed_more c.loop-passed.at.now c.deref-in-Test.result.now.node.expr c.loop-passed.passed.items c.push.new.self.items _ _
       refl c.in_ok-push.ensures.items (rw (c.in-Test.is, c.deref-in-Test.ensures) refl) c.loop-passed.invariant.nodes;
   depth = passed_within _ c.loop-passed.passed.items c.push.new.self.items _ c.in_ok-push.ensures.items c.loop-passed.invariant.here c.loop-passed.invariant.depth;
   here = search (rules, the_lemmas);
@@ -14,7 +15,7 @@ loop-passed-preserved-in-Test c = record {
 
 pub loop-passed-preserved-in-GetAttr : goal.loop-passed-preserved-in-GetAttr
 loop-passed-preserved-in-GetAttr c = record {
-  nodes = passed_more c.loop-passed.at.now c.deref-in-GetAttr.result.now.expr c.loop-passed.passed.items c.push.new.self.items _ _
+  nodes = passed_more c.loop-passed.at.now c.deref-in-GetAttr.result.now.node.expr c.loop-passed.passed.items c.push.new.self.items _ _
       refl c.in_ok-push.ensures.items (rw (c.in-GetAttr.is, c.deref-in-GetAttr.ensures) refl) c.loop-passed.invariant.nodes;
   depth = passed_within _ c.loop-passed.passed.items c.push.new.self.items _ c.in_ok-push.ensures.items c.loop-passed.invariant.here c.loop-passed.invariant.depth;
   here = search (rules, the_lemmas);
@@ -22,7 +23,7 @@ loop-passed-preserved-in-GetAttr c = record {
 
 pub loop-passed-preserved-in-GetItem : goal.loop-passed-preserved-in-GetItem
 loop-passed-preserved-in-GetItem c = record {
-  nodes = passed_more c.loop-passed.at.now c.deref-in-GetItem.result.now.expr c.loop-passed.passed.items c.push.new.self.items _ _
+  nodes = passed_more c.loop-passed.at.now c.deref-in-GetItem.result.now.node.expr c.loop-passed.passed.items c.push.new.self.items _ _
       refl c.in_ok-push.ensures.items (rw (c.in-GetItem.is, c.deref-in-GetItem.ensures) refl) c.loop-passed.invariant.nodes;
   depth = passed_within _ c.loop-passed.passed.items c.push.new.self.items _ c.in_ok-push.ensures.items c.loop-passed.invariant.here c.loop-passed.invariant.depth;
   here = search (rules, the_lemmas);
@@ -30,7 +31,7 @@ loop-passed-preserved-in-GetItem c = record {
 
 pub loop-passed-preserved : goal.loop-passed-preserved
 loop-passed-preserved c = record {
-  nodes = passed_more c.loop-passed.at.now c.deref-in-Call.result.now.expr c.loop-passed.passed.items c.push.new.self.items _ _
+  nodes = passed_more c.loop-passed.at.now c.deref-in-Call.result.now.node.expr c.loop-passed.passed.items c.push.new.self.items _ _
       refl c.in_ok-push.ensures.items (rw (c.in-Call.is, c.deref-in-Call.ensures) refl) c.loop-passed.invariant.nodes;
   depth = passed_within _ c.loop-passed.passed.items c.push.new.self.items _ c.in_ok-push.ensures.items c.loop-passed.invariant.here c.loop-passed.invariant.depth;
   here = search (rules, the_lemmas);
@@ -38,8 +39,8 @@ loop-passed-preserved c = record {
 
 pub loop-passed-preserved-in-Compare : goal.loop-passed-preserved-in-Compare
 loop-passed-preserved-in-Compare c = record {
-  nodes = passed_more c.loop-passed.at.now (out-Compare c.deref-in-Compare.result.now).expr c.loop-passed.passed.items c.push.new.self.items _ _
-      refl c.in_ok-push.ensures.items (rw (c.in-Compare.is, c.deref-in-Compare.ensures) (chain_spine c.in-Compare.n.node.value)) c.loop-passed.invariant.nodes;
+  nodes = passed_more c.loop-passed.at.now (out-Compare c.deref-in-Compare.result.now.node).expr c.loop-passed.passed.items c.push.new.self.items _ _
+      refl c.in_ok-push.ensures.items (rw (c.in-Compare.is, c.deref-in-Compare.ensures) (chain_spine c.in-Compare.n.value.node)) c.loop-passed.invariant.nodes;
   depth = passed_within _ c.loop-passed.passed.items c.push.new.self.items _ c.in_ok-push.ensures.items c.loop-passed.invariant.here c.loop-passed.invariant.depth;
   here = search (rules, the_lemmas);
 }
@@ -54,7 +55,7 @@ loop-passed-preserved-in-Some c = record {
 
 pub loop-passed-preserved-in-Slice : goal.loop-passed-preserved-in-Slice
 loop-passed-preserved-in-Slice c = record {
-  nodes = passed_more c.loop-passed.at.now c.deref.result.now.expr c.loop-passed.passed.items c.push.new.self.items _ _
+  nodes = passed_more c.loop-passed.at.now c.deref.result.now.node.expr c.loop-passed.passed.items c.push.new.self.items _ _
       refl c.in_ok-push.ensures.items (rw (c.in-Slice.is, c.deref.ensures) refl) c.loop-passed.invariant.nodes;
   depth = passed_within _ c.loop-passed.passed.items c.push.new.self.items _ c.in_ok-push.ensures.items c.loop-passed.invariant.here c.loop-passed.invariant.depth;
   here = search (rules, the_lemmas);
@@ -62,7 +63,7 @@ loop-passed-preserved-in-Slice c = record {
 
 pub loop-passed-preserved-in-BinOp : goal.loop-passed-preserved-in-BinOp
 loop-passed-preserved-in-BinOp c = record {
-  nodes = passed_more c.loop-passed.at.now c.deref-in-BinOp.result.now.left c.loop-passed.passed.items c.push.new.self.items _ _
+  nodes = passed_more c.loop-passed.at.now c.deref-in-BinOp.result.now.node.left c.loop-passed.passed.items c.push.new.self.items _ _
       refl c.in_ok-push.ensures.items (rw (c.in-BinOp.is, c.deref-in-BinOp.ensures) refl) c.loop-passed.invariant.nodes;
   depth = passed_within _ c.loop-passed.passed.items c.push.new.self.items _ c.in_ok-push.ensures.items c.loop-passed.invariant.here c.loop-passed.invariant.depth;
   here = search (rules, the_lemmas);
