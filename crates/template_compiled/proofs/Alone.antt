@@ -12,8 +12,8 @@ use Rattle.template_code.specs.Code.{Code}
 use Rattle.template_compiler_codegen.specs.Statements.{standalone_code}
 use Rattle.template_compiler_tokens.specs.Token.{Token}
 use Rattle.template_compiler_source_tokens.proofs.Spelling.{one_spelled, some_spelled}
-use Rattle.template_compiler_expressions.specs.Reader.{expression_at}
-use Rattle.template_compiler_expression_laws.proofs.Complete.{expression_complete}
+use Rattle.template_compiler_grammar.specs.Reader.{expression_at}
+use Rattle.template_compiler_grammar_laws.proofs.Complete.{expression_complete}
 use Rattle.template_compiler_sources.specs.Source.{IsExpressionSource, RefusesExpression, expression_source}
 use Rattle.template_compiled.specs.Expressions.{HasExpression, IsFaithfulExpression, expression_in, read_alone}
 

@@ -7,7 +7,7 @@ use Rattle.template_code.specs.Listing.{TakesNoMore}
 use Rattle.template_walk.specs.Runnable.{IsRunnableTemplate}
 use Rattle.template_compiler_segments.specs.Flat.{plain_tokens}
 use Rattle.template_compiler_segments.proofs.Theorems.{plain_text}
-use Rattle.template_compiler_statements.specs.Grammar.{IsTemplate, whole_template, statements_end, statements_next, text_statement}
+use Rattle.template_compiler_grammar.specs.TemplateGrammar.{IsTemplate, whole_template, statements_end, statements_next, text_statement}
 use Rattle.template_compiler_syntax.specs.Syntax.{Syntax, IsUsable}
 use Rattle.template_compiler_sources.specs.Source.{IsSource, RefusesSource, source_of}
 use Rattle.template_compiler_emission.specs.Puts.{NoRoom}

@@ -4,8 +4,8 @@ use Rattle.template_tree.specs.Tree.{Statements, template}
 use Rattle.template_compiler_tokens.specs.Token.{Token}
 use Rattle.template_compiler_syntax.specs.Syntax.{IsUsable}
 use Rattle.template_compiler_segments.proofs.Theorems.{one_tokens, some_tokens}
-use Rattle.template_compiler_statements.specs.Reader.{template_of}
-use Rattle.template_compiler_statement_laws.proofs.Complete.{template_complete}
+use Rattle.template_compiler_grammar.specs.TemplateReader.{template_of}
+use Rattle.template_compiler_grammar_laws.proofs.TemplatesComplete.{template_complete}
 use Rattle.template_compiler_sources.specs.Source.{IsSource, source_of}
 use Rattle.template_compiled.specs.Sources.{Source, read, tree_in}
 

@@ -5,8 +5,8 @@ use Rattle.template_values_errors.specs.declared.ErrorKind.TheVariants.{SyntaxEr
 use Rattle.template_values_model.specs.Val.{none}
 use Rattle.template_tree.specs.Tree.{Expression, constant}
 use Rattle.template_walk.specs.Runnable.{IsRunnable}
-use Rattle.template_compiler_reading.specs.Steps.{Read}
-use Rattle.template_compiler_expressions.specs.Reader.{expression_at}
+use Rattle.template_compiler_tokens.specs.Steps.{Read}
+use Rattle.template_compiler_grammar.specs.Reader.{expression_at}
 use Rattle.template_compiler_source_tokens.proofs.Spelling.{some_spelled}
 use Rattle.template_compiler_sources.specs.Source.{IsExpressionSource, RefusesExpression}
 use Rattle.template_compiler_emission.specs.Puts.{NoRoom}

@@ -8,7 +8,7 @@ use Rattle.template_walk.specs.Runnable.{IsRunnableTemplate}
 use Rattle.template_compiler_tokens.specs.Token.{TokenFault}
 use Rattle.template_compiler_syntax.specs.Syntax.{Syntax}
 use Rattle.template_compiler_segments.proofs.Theorems.{some_tokens}
-use Rattle.template_compiler_statements.specs.Reader.{template_of}
+use Rattle.template_compiler_grammar.specs.TemplateReader.{template_of}
 use Rattle.template_compiler_sources.specs.Source.{IsSource, RefusesSource}
 use Rattle.template_compiler_emission.specs.Puts.{NoRoom}
 use Rattle.template_machine_escape.specs.declared.EscapeRule.{EscapeRule}

@@ -20,10 +20,10 @@ pub use Rattle.template_tree_statements.specs.View
 pub use Rattle.template_tree.specs.CallView
 pub use Rattle.template_tree.specs.Kinds
 pub use Rattle.template_tree.specs.Places
-pub use Rattle.template_compiler_expressions.specs.Grammar as ExpressionGrammar
-pub use Rattle.template_compiler_statements.specs.Grammar
-pub use Rattle.template_compiler_statements.specs.Reader as StatementReader
-pub use Rattle.template_compiler_reading.specs.Blame
+pub use Rattle.template_compiler_grammar.specs.Grammar as ExpressionGrammar
+pub use Rattle.template_compiler_grammar.specs.TemplateGrammar
+pub use Rattle.template_compiler_grammar.specs.TemplateReader as StatementReader
+pub use Rattle.template_compiler_tokens.specs.Blame
 pub use Rattle.template_compiler_sources.specs.Source
 pub use Rattle.template_compiler_sources.specs.Parsers
 pub use Rattle.template_names.specs.Names as UsedNames

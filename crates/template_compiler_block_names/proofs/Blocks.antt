@@ -16,7 +16,7 @@ use Rattle.template_tree_statements.specs.declared.statements.WithBlock.{WithBlo
 use Rattle.template_tree_statements.specs.declared.statements.Stmt.{Stmt, size-Stmt, Template, ForLoop, IfCond, WithBlock, SetBlock, AutoEscape, FilterBlock, Block, Macro, CallBlock, the_lemmas}
 use Rattle.template_compiler_statement_makers.specs.Listed.{statements_in}
 use Rattle.template_compiler_statement_makers.proofs.Rows.{statements_row}
-use Rattle.template_compiler_statements.specs.Trees.{blocks_in, blocks_among}
+use Rattle.template_compiler_grammar.specs.TemplateTrees.{blocks_in, blocks_among}
 
 abbrev blocks_of : List Stmt → List (List ℕ)
 blocks_of body = blocks_among (statements_in body)

@@ -8,7 +8,7 @@ use Rattle.std.specs.BTreeSet.{BTreeSet}
 use Rattle.std.specs.Ordering.{nat_cmp}
 use Rattle.std.specs.Cmp.Lexicographic.{slice_cmp}
 use Rattle.template_compiler_block_names.specs.Seen.{has_seen}
-use Rattle.template_compiler_statements.specs.Trees.{are_distinct}
+use Rattle.template_compiler_grammar.specs.TemplateTrees.{are_distinct}
 use Rattle.template_compiler_block_names.specs.Waiting.{texts_in}
 
 exchanged : (a b c d : Bool) → ((a || b) || (c || d)) ≡ ((a || c) || (b || d))

@@ -2,7 +2,7 @@
 ghost use Rattle.std.specs.Prelude.{◌≡◌, ◌++◌, IfOk};
 ghost use Rattle.template_compiler_block_names.specs.Waiting.{texts_in};
 ghost use Rattle.template_compiler_statement_makers.specs.Listed.{statements_in};
-ghost use Rattle.template_compiler_statements.specs.Trees.{blocks_among, blocks_in};
+ghost use Rattle.template_compiler_grammar.specs.TemplateTrees.{blocks_among, blocks_in};
 ghost use Rattle.template_tree_statements.specs.View.{statement_of};
 
 use std::alloc::{AllocError, Global};

@@ -1,8 +1,12 @@
-//! What is asked of the places and the bytes of a source, whatever its syntax is.
+//! What is asked of the places and the bytes of a source, whatever its syntax is, and of the starts that a syntax names.
 #![tactic(auto)]
 
 ghost use Rattle.std.specs.Prelude.{◌≡◌, ◌↔◌, ◌<◌, ◌≤◌, ◌-◌, ◌⊎◌, IsTrue, SomeIff, drop, length, slice_index};
 ghost use Rattle.std.specs.Str.{trim_start};
+
+mod starts;
+
+pub use starts::are_apart;
 
 /// Whether what begins at a place and takes so many bytes goes before something else: it begins on its left, or where it
 /// begins and is no shorter.

@@ -5,11 +5,11 @@ use Rattle.template_tree.specs.Tree.{Expression, constant, unary, Links, no_link
 use Rattle.template_tree.specs.declared.expressions.Expr.{Expr}
 use Rattle.template_tree.specs.declared.operators.UnaryOpKind.TheVariants as unaries
 use Rattle.template_compiler_tokens.specs.Token.{Token, identifier, number, symbol, variable_end, block_end, comma, colon, paren_close, bracket_close, brace_close}
-use Rattle.template_compiler_expressions.specs.Words.{is_word, literal_word, Level, factors, texts, terms, conjunction, disjunction, operator}
-use Rattle.template_compiler_expressions.specs.Trees.{compared}
-use Rattle.template_compiler_reading.specs.Steps.{Read, and_then, stops, all}
-use Rattle.template_compiler_reading.proofs.Loops.{then_goes, all_stops}
-use Rattle.template_compiler_expressions.specs.Reader.{Deeper, nothing_deeper, word_tree, primary_by, part_step, parts_by, unary_by, filter_step, filtered_by, power_behind, power_by, operand_step, binary_of, terms_by, link_behind, link_step, comparison_by, negation_by, operand_by, binary_by}
+use Rattle.template_compiler_grammar.specs.Words.{is_word, literal_word, Level, factors, texts, terms, conjunction, disjunction, operator}
+use Rattle.template_compiler_grammar.specs.Trees.{compared}
+use Rattle.template_compiler_tokens.specs.Steps.{Read, and_then, stops, all}
+use Rattle.template_compiler_tokens.proofs.Loops.{then_goes, all_stops}
+use Rattle.template_compiler_grammar.specs.Reader.{Deeper, nothing_deeper, word_tree, primary_by, part_step, parts_by, unary_by, filter_step, filtered_by, power_behind, power_by, operand_step, binary_of, terms_by, link_behind, link_step, comparison_by, negation_by, operand_by, binary_by}
 use Rattle.template_compiler_stream.specs.Signs.{is_plain, is_end, begins_alone}
 use Rattle.template_compiler_stream.specs.declared.refusal.Refusal.{Refusal}
 use Rattle.template_compiler_expression_parts.specs.Parsed.{Parsed}

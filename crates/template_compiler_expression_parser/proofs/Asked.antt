@@ -2,7 +2,7 @@
 use Rattle.std.proofs.Common.{◌≡◌, codes, Bool, true, false, List, sym, ap, ◌∙◌}
 use Rattle.template_tree.specs.Tree.{Expression}
 use Rattle.template_compiler_tokens.specs.Token.{Token}
-use Rattle.template_compiler_expressions.specs.Reader.{Deeper, is_by, test_by}
+use Rattle.template_compiler_grammar.specs.Reader.{Deeper, is_by, test_by}
 use Rattle.template_compiler_stream.specs.Skips.{SkipsWord}
 use Rattle.template_compiler_expression_parts.proofs.Rounds.{is_not, is_plain}
 

@@ -2,8 +2,8 @@
 use Rattle.std.proofs.Common.{◌≡◌, ℕ, false, List, ◌∷◌, ◌<◌, length, Ok, refl}
 use Rattle.template_tree.specs.Tree.{Expression, Optional, given}
 use Rattle.template_compiler_tokens.specs.Token.{Token, symbol, pipe}
-use Rattle.template_compiler_reading.specs.Steps.{all}
-use Rattle.template_compiler_expressions.specs.Reader.{deeper, filter_by, chain_step}
+use Rattle.template_compiler_tokens.specs.Steps.{all}
+use Rattle.template_compiler_grammar.specs.Reader.{deeper, filter_by, chain_step}
 use Rattle.template_compiler_stream.specs.declared.refusal.Refusal.{Refusal}
 use Rattle.template_compiler_stream.specs.Refusals.{Refused}
 use Rattle.template_compiler_stream.specs.Signs.{begins_symbol}

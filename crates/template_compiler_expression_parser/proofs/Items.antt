@@ -2,9 +2,9 @@
 use Rattle.std.proofs.Common.{◌≡◌, true, false, if◌then◌else◌, List, Ok, sym, ap, ◌∙◌}
 use Rattle.template_tree.specs.Tree.{Expression, Expressions, Argument}
 use Rattle.template_compiler_tokens.specs.Token.{Token}
-use Rattle.template_compiler_reading.specs.Steps.{Read, and_then, Step, goes, stops, under}
-use Rattle.template_compiler_expressions.specs.Trees.{and_expression, Paired, and_pair, Written, and_written}
-use Rattle.template_compiler_expressions.specs.Reader.{argument_by, arguments_step, begins_closing, colon_end, items_step, pairs_step, separated, unless_closing}
+use Rattle.template_compiler_tokens.specs.Steps.{Read, and_then, Step, goes, stops, under}
+use Rattle.template_compiler_grammar.specs.Trees.{and_expression, Paired, and_pair, Written, and_written}
+use Rattle.template_compiler_grammar.specs.Reader.{argument_by, arguments_step, begins_closing, colon_end, items_step, pairs_step, separated, unless_closing}
 use Rattle.template_compiler_stream.specs.declared.refusal.Refusal.{Refusal}
 use Rattle.template_compiler_stream.specs.declared.refusal.Refusal.TheVariants as refusals
 use Rattle.template_compiler_stream.specs.Refusals.{Refused, fault_of}

@@ -2,11 +2,11 @@
 use Rattle.std.proofs.Common.{◌≡◌, ◌<◌, ◌≤◌, ℕ, Bool, true, false, if◌then◌else◌, List, [], ◌∷◌, length, Ok, Err, refl, ap, arith}
 use Rattle.template_tree.specs.Tree.{Expression, Optional, Expressions, Argument, positional, keyword, positional_spread, keyword_spread}
 use Rattle.template_compiler_tokens.specs.Token.{Token, TokenFault, symbol, identifier, mul, pow, comma, colon, assign, pipe}
-use Rattle.template_compiler_reading.specs.Steps.{Read, fault, and_then, Step, goes, stops, fails, under}
-use Rattle.template_compiler_expressions.specs.Trees.{and_expression, Paired, and_pair, Written, and_written}
-use Rattle.template_compiler_expressions.specs.Reader.{deeper, colon_end, begins_closing, separated, unless_closing, expression_by, expression_at, items_step, pairs_step, named_argument, argument_by, arguments_step, filter_by, filter_at, chain_step}
-use Rattle.template_compiler_expressions.proofs.Shrinks as shrinks
-use Rattle.template_compiler_expression_laws.proofs.Sound.{expression_sound, filter_sound}
+use Rattle.template_compiler_tokens.specs.Steps.{Read, fault, and_then, Step, goes, stops, fails, under}
+use Rattle.template_compiler_grammar.specs.Trees.{and_expression, Paired, and_pair, Written, and_written}
+use Rattle.template_compiler_grammar.specs.Reader.{deeper, colon_end, begins_closing, separated, unless_closing, expression_by, expression_at, items_step, pairs_step, named_argument, argument_by, arguments_step, filter_by, filter_at, chain_step}
+use Rattle.template_compiler_grammar.proofs.Shrinks as shrinks
+use Rattle.template_compiler_grammar_laws.proofs.Sound.{expression_sound, filter_sound}
 
 pub expression_takes : (d : ℕ) (e : Expression) (ts us : List Token) → expression_by (deeper d) ts ≡ Ok (e, us) → length us < length ts
 unfolding expression_at

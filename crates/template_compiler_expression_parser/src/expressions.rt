@@ -3,10 +3,10 @@ ghost use Rattle.std.specs.Prelude.{◌≡◌, true, false, Some, Ok, suc};
 ghost use Rattle.std.specs.Cow.{cow_str_bytes};
 ghost use Rattle.template_compiler_expression_parts.specs.Parsed.{Parsed, ParsedAs, ParsedOptional, Stepped, SteppedTo, WentOn, paired_in, unnamed_by, written_in};
 ghost use Rattle.template_compiler_stream.specs.Signs.{level_of};
-ghost use Rattle.template_compiler_expressions.specs.Reader.{link_behind, argument_by, arguments_by, arguments_step, binary_by, bound_by, colon_end, comparison_by, deeper, else_behind, expression_by, filter_by, filter_step, filtered_by, is_by, items_step, link_step, list_by, map_by, negation_by, not_in_link, operand_by, operand_step, optional_arguments_by, paren_by, paren_end, part_step, parts_by, pairs_step, power_by, primary_by, slice_by, step_by, subscript_by, terms_by, test_arguments_by, test_by, unary_by};
-ghost use Rattle.template_compiler_expressions.specs.Trees.{nothing_paired, nothing_written};
-ghost use Rattle.template_compiler_expressions.specs.Words.{disjunction};
-ghost use Rattle.template_compiler_reading.specs.Steps.{and_then, all, goes, under};
+ghost use Rattle.template_compiler_grammar.specs.Reader.{link_behind, argument_by, arguments_by, arguments_step, binary_by, bound_by, colon_end, comparison_by, deeper, else_behind, expression_by, filter_by, filter_step, filtered_by, is_by, items_step, link_step, list_by, map_by, negation_by, not_in_link, operand_by, operand_step, optional_arguments_by, paren_by, paren_end, part_step, parts_by, pairs_step, power_by, primary_by, slice_by, step_by, subscript_by, terms_by, test_arguments_by, test_by, unary_by};
+ghost use Rattle.template_compiler_grammar.specs.Trees.{nothing_paired, nothing_written};
+ghost use Rattle.template_compiler_grammar.specs.Words.{disjunction};
+ghost use Rattle.template_compiler_tokens.specs.Steps.{and_then, all, goes, under};
 ghost use Rattle.template_tree.specs.Tree.{call, expressions_more, given, no_expressions, no_links, tuple_literal};
 ghost use Rattle.template_tree.specs.View.{argument_of, arguments_in, expression_of, expressions_in, links_in, optional_in};
 
@@ -21,7 +21,7 @@ use template_tree::{BinOpKind, CallArg, CompareOp, CompareOpKind, Expr, Span, Un
 
 // An expression, with so many nesting levels left.
 #[cycle(parser)]
-#[tactic(auto, unfolding(template_compiler_reading::specs::Steps::and_then, template_compiler_expressions::specs::Reader::expression_by, template_compiler_expressions::specs::Reader::if_behind, template_compiler_expressions::specs::Reader::deeper))]
+#[tactic(auto, unfolding(template_compiler_tokens::specs::Steps::and_then, template_compiler_grammar::specs::Reader::expression_by, template_compiler_grammar::specs::Reader::if_behind, template_compiler_grammar::specs::Reader::deeper))]
 pub(crate) fn expression<'source>(
     alloc: Global,
     tokens: &mut TokenStream<'source>,
@@ -40,7 +40,7 @@ pub(crate) fn expression<'source>(
 
 // Behind `if`: the condition, and the other branch where there is one.
 #[cycle(parser)]
-#[tactic(auto, unfolding(template_compiler_reading::specs::Steps::and_then, template_compiler_expressions::specs::Reader::else_behind, template_compiler_expressions::specs::Reader::deeper))]
+#[tactic(auto, unfolding(template_compiler_tokens::specs::Steps::and_then, template_compiler_grammar::specs::Reader::else_behind, template_compiler_grammar::specs::Reader::deeper))]
 fn branches<'source>(
     alloc: Global,
     tokens: &mut TokenStream<'source>,
@@ -62,7 +62,7 @@ fn branches<'source>(
 
 // Operands with the operators of a level between them. Most are alone, and go through no level below.
 #[cycle(parser)]
-#[tactic(auto, unfolding(template_compiler_reading::specs::Steps::and_then, template_compiler_expressions::specs::Reader::binary_by, template_compiler_expressions::specs::Reader::binary_of))]
+#[tactic(auto, unfolding(template_compiler_tokens::specs::Steps::and_then, template_compiler_grammar::specs::Reader::binary_by, template_compiler_grammar::specs::Reader::binary_of))]
 pub(crate) fn binary<'source>(
     alloc: Global,
     tokens: &mut TokenStream<'source>,
@@ -102,7 +102,7 @@ fn operands<'source>(
 }
 
 #[cycle(parser)]
-#[tactic(auto, using(template_compiler_expression_parts::proofs::Rounds::operand_found, template_compiler_expression_parts::proofs::Rounds::operand_none), unfolding(template_compiler_reading::specs::Steps::under))]
+#[tactic(auto, using(template_compiler_expression_parts::proofs::Rounds::operand_found, template_compiler_expression_parts::proofs::Rounds::operand_none), unfolding(template_compiler_tokens::specs::Steps::under))]
 fn next_operand<'source>(
     alloc: Global,
     tokens: &mut TokenStream<'source>,
@@ -127,7 +127,7 @@ fn next_operand<'source>(
 }
 
 #[cycle(parser)]
-#[tactic(auto, unfolding(template_compiler_expressions::specs::Reader::operand_by, template_compiler_expressions::specs::Reader::binary_by))]
+#[tactic(auto, unfolding(template_compiler_grammar::specs::Reader::operand_by, template_compiler_grammar::specs::Reader::binary_by))]
 fn operand<'source>(
     alloc: Global,
     tokens: &mut TokenStream<'source>,
@@ -146,7 +146,7 @@ fn operand<'source>(
 }
 
 #[cycle(parser)]
-#[tactic(auto, unfolding(template_compiler_reading::specs::Steps::and_then, template_compiler_expressions::specs::Reader::negation_by, template_compiler_expressions::specs::Reader::deeper))]
+#[tactic(auto, unfolding(template_compiler_tokens::specs::Steps::and_then, template_compiler_grammar::specs::Reader::negation_by, template_compiler_grammar::specs::Reader::deeper))]
 fn negation<'source>(
     alloc: Global,
     tokens: &mut TokenStream<'source>,
@@ -165,7 +165,7 @@ fn negation<'source>(
 
 // A sum, with comparisons behind it.
 #[cycle(parser)]
-#[tactic(auto, unfolding(template_compiler_reading::specs::Steps::and_then, template_compiler_expressions::specs::Reader::comparison_by, template_compiler_expressions::specs::Reader::terms_by, template_compiler_expressions::specs::Reader::binary_by, template_compiler_expressions::specs::Reader::operand_by))]
+#[tactic(auto, unfolding(template_compiler_tokens::specs::Steps::and_then, template_compiler_grammar::specs::Reader::comparison_by, template_compiler_grammar::specs::Reader::terms_by, template_compiler_grammar::specs::Reader::binary_by, template_compiler_grammar::specs::Reader::operand_by))]
 fn comparison<'source>(
     alloc: Global,
     tokens: &mut TokenStream<'source>,
@@ -222,7 +222,7 @@ fn next_link<'source>(
 
 // Behind a comparison: its right side.
 #[cycle(parser)]
-#[tactic(auto, using(template_compiler_expression_parts::proofs::Pushes::links_push), unfolding(template_compiler_reading::specs::Steps::under, template_compiler_expressions::specs::Reader::link_behind, template_compiler_expressions::specs::Reader::terms_by, template_compiler_expressions::specs::Reader::binary_by, template_compiler_expressions::specs::Reader::operand_by))]
+#[tactic(auto, using(template_compiler_expression_parts::proofs::Pushes::links_push), unfolding(template_compiler_tokens::specs::Steps::under, template_compiler_grammar::specs::Reader::link_behind, template_compiler_grammar::specs::Reader::terms_by, template_compiler_grammar::specs::Reader::binary_by, template_compiler_grammar::specs::Reader::operand_by))]
 fn put_link<'source>(
     alloc: Global,
     tokens: &mut TokenStream<'source>,
@@ -243,7 +243,7 @@ fn put_link<'source>(
 
 // Behind the `not` of a `not in`.
 #[cycle(parser)]
-#[tactic(auto, unfolding(template_compiler_reading::specs::Steps::under, template_compiler_expressions::specs::Reader::link_behind, template_compiler_expressions::specs::Reader::not_in_link))]
+#[tactic(auto, unfolding(template_compiler_tokens::specs::Steps::under, template_compiler_grammar::specs::Reader::link_behind, template_compiler_grammar::specs::Reader::not_in_link))]
 fn next_not_in<'source>(
     alloc: Global,
     tokens: &mut TokenStream<'source>,
@@ -261,7 +261,7 @@ fn next_not_in<'source>(
 }
 
 #[cycle(parser)]
-#[tactic(auto, unfolding(template_compiler_reading::specs::Steps::and_then, template_compiler_expressions::specs::Reader::power_by, template_compiler_expressions::specs::Reader::power_behind, template_compiler_expressions::specs::Reader::deeper))]
+#[tactic(auto, unfolding(template_compiler_tokens::specs::Steps::and_then, template_compiler_grammar::specs::Reader::power_by, template_compiler_grammar::specs::Reader::power_behind, template_compiler_grammar::specs::Reader::deeper))]
 fn power<'source>(
     alloc: Global,
     tokens: &mut TokenStream<'source>,
@@ -287,7 +287,7 @@ fn power<'source>(
 
 // An unary, with filters and tests behind it.
 #[cycle(parser)]
-#[tactic(auto, unfolding(template_compiler_reading::specs::Steps::and_then, template_compiler_expressions::specs::Reader::filtered_by))]
+#[tactic(auto, unfolding(template_compiler_tokens::specs::Steps::and_then, template_compiler_grammar::specs::Reader::filtered_by))]
 fn filtered<'source>(
     alloc: Global,
     tokens: &mut TokenStream<'source>,
@@ -321,7 +321,7 @@ fn filters<'source>(
 }
 
 #[cycle(parser)]
-#[tactic(auto, using(template_compiler_expression_parts::proofs::Rounds::filter_none), unfolding(template_compiler_reading::specs::Steps::under, template_compiler_expressions::specs::Reader::filter_step))]
+#[tactic(auto, using(template_compiler_expression_parts::proofs::Rounds::filter_none), unfolding(template_compiler_tokens::specs::Steps::under, template_compiler_grammar::specs::Reader::filter_step))]
 fn next_filter<'source>(
     alloc: Global,
     tokens: &mut TokenStream<'source>,
@@ -343,7 +343,7 @@ fn next_filter<'source>(
 
 // Behind `|`: a filter, with the parts of its result.
 #[cycle(parser)]
-#[tactic(auto, unfolding(template_compiler_reading::specs::Steps::and_then, template_compiler_expressions::specs::Reader::parts_by))]
+#[tactic(auto, unfolding(template_compiler_tokens::specs::Steps::and_then, template_compiler_grammar::specs::Reader::parts_by))]
 fn piped<'source>(
     alloc: Global,
     tokens: &mut TokenStream<'source>,
@@ -360,7 +360,7 @@ fn piped<'source>(
 
 // A filter's name and its arguments.
 #[cycle(parser)]
-#[tactic(auto, unfolding(template_compiler_reading::specs::Steps::and_then, template_compiler_expressions::specs::Reader::filter_by))]
+#[tactic(auto, unfolding(template_compiler_tokens::specs::Steps::and_then, template_compiler_grammar::specs::Reader::filter_by))]
 pub(crate) fn filter<'source>(
     alloc: Global,
     tokens: &mut TokenStream<'source>,
@@ -377,7 +377,7 @@ pub(crate) fn filter<'source>(
 
 // Arguments in parentheses, where a `(` stands next.
 #[cycle(parser)]
-#[tactic(auto, using(template_compiler_expression_parts::proofs::Nothing::no_arguments_list), unfolding(template_compiler_expressions::specs::Reader::optional_arguments_by, template_compiler_expressions::specs::Reader::deeper))]
+#[tactic(auto, using(template_compiler_expression_parts::proofs::Nothing::no_arguments_list), unfolding(template_compiler_grammar::specs::Reader::optional_arguments_by, template_compiler_grammar::specs::Reader::deeper))]
 fn optional_arguments<'source>(
     alloc: Global,
     tokens: &mut TokenStream<'source>,
@@ -410,7 +410,7 @@ fn asked<'source>(
 
 // A test's name and its arguments, with the parts behind it.
 #[cycle(parser)]
-#[tactic(auto, unfolding(template_compiler_reading::specs::Steps::and_then, template_compiler_expressions::specs::Reader::test_by))]
+#[tactic(auto, unfolding(template_compiler_tokens::specs::Steps::and_then, template_compiler_grammar::specs::Reader::test_by))]
 fn test<'source>(
     alloc: Global,
     tokens: &mut TokenStream<'source>,
@@ -431,7 +431,7 @@ fn test<'source>(
 
 // A test with one argument, which stands without parentheses.
 #[cycle(parser)]
-#[tactic(auto, unfolding(template_compiler_reading::specs::Steps::and_then, template_compiler_expressions::specs::Reader::test_arguments_by))]
+#[tactic(auto, unfolding(template_compiler_tokens::specs::Steps::and_then, template_compiler_grammar::specs::Reader::test_arguments_by))]
 fn bare_test<'source>(
     alloc: Global,
     tokens: &mut TokenStream<'source>,
@@ -459,7 +459,7 @@ fn bare_test<'source>(
 
 // A test with arguments in parentheses, or with none.
 #[cycle(parser)]
-#[tactic(auto, unfolding(template_compiler_reading::specs::Steps::and_then, template_compiler_expressions::specs::Reader::test_arguments_by, template_compiler_expressions::specs::Reader::parts_by))]
+#[tactic(auto, unfolding(template_compiler_tokens::specs::Steps::and_then, template_compiler_grammar::specs::Reader::test_arguments_by, template_compiler_grammar::specs::Reader::parts_by))]
 fn plain_test<'source>(
     alloc: Global,
     tokens: &mut TokenStream<'source>,
@@ -486,7 +486,7 @@ fn plain_test<'source>(
 
 // A minus, or a primary with its parts.
 #[cycle(parser)]
-#[tactic(auto, unfolding(template_compiler_reading::specs::Steps::and_then, template_compiler_expressions::specs::Reader::unary_by, template_compiler_expressions::specs::Reader::parts_by, template_compiler_expressions::specs::Reader::deeper))]
+#[tactic(auto, unfolding(template_compiler_tokens::specs::Steps::and_then, template_compiler_grammar::specs::Reader::unary_by, template_compiler_grammar::specs::Reader::parts_by, template_compiler_grammar::specs::Reader::deeper))]
 fn unary<'source>(
     alloc: Global,
     tokens: &mut TokenStream<'source>,
@@ -525,7 +525,7 @@ fn parts<'source>(
 }
 
 #[cycle(parser)]
-#[tactic(auto, using(template_compiler_expression_parts::proofs::Rounds::part_none), unfolding(template_compiler_reading::specs::Steps::under, template_compiler_expressions::specs::Reader::part_step, template_compiler_expressions::specs::Reader::deeper))]
+#[tactic(auto, using(template_compiler_expression_parts::proofs::Rounds::part_none), unfolding(template_compiler_tokens::specs::Steps::under, template_compiler_grammar::specs::Reader::part_step, template_compiler_grammar::specs::Reader::deeper))]
 fn next_part<'source>(
     alloc: Global,
     tokens: &mut TokenStream<'source>,
@@ -549,7 +549,7 @@ fn next_part<'source>(
 
 // Behind the `(` of a call.
 #[cycle(parser)]
-#[tactic(auto, unfolding(template_compiler_reading::specs::Steps::under))]
+#[tactic(auto, unfolding(template_compiler_tokens::specs::Steps::under))]
 fn call<'source>(
     alloc: Global,
     tokens: &mut TokenStream<'source>,
@@ -566,7 +566,7 @@ fn call<'source>(
 
 // Behind the `[` of an item or a slice.
 #[cycle(parser)]
-#[tactic(auto, using(template_compiler_expression_parts::proofs::Nothing::a_key, template_compiler_expression_parts::proofs::Nothing::no_key), unfolding(template_compiler_reading::specs::Steps::and_then, template_compiler_expressions::specs::Reader::subscript_by, template_compiler_expressions::specs::Reader::subscript_behind))]
+#[tactic(auto, using(template_compiler_expression_parts::proofs::Nothing::a_key, template_compiler_expression_parts::proofs::Nothing::no_key), unfolding(template_compiler_tokens::specs::Steps::and_then, template_compiler_grammar::specs::Reader::subscript_by, template_compiler_grammar::specs::Reader::subscript_behind))]
 fn subscript<'source>(
     alloc: Global,
     tokens: &mut TokenStream<'source>,
@@ -589,7 +589,7 @@ fn subscript<'source>(
 
 // Behind the first colon of a slice.
 #[cycle(parser)]
-#[tactic(auto, unfolding(template_compiler_reading::specs::Steps::and_then, template_compiler_expressions::specs::Reader::slice_by))]
+#[tactic(auto, unfolding(template_compiler_tokens::specs::Steps::and_then, template_compiler_grammar::specs::Reader::slice_by))]
 fn slice<'source>(
     alloc: Global,
     tokens: &mut TokenStream<'source>,
@@ -609,7 +609,7 @@ fn slice<'source>(
 
 // A bound of a slice, where it is not left out.
 #[cycle(parser)]
-#[tactic(auto, unfolding(template_compiler_reading::specs::Steps::and_then, template_compiler_expressions::specs::Reader::bound_by))]
+#[tactic(auto, unfolding(template_compiler_tokens::specs::Steps::and_then, template_compiler_grammar::specs::Reader::bound_by))]
 fn bound<'source>(
     alloc: Global,
     tokens: &mut TokenStream<'source>,
@@ -626,7 +626,7 @@ fn bound<'source>(
 
 // The step of a slice, where a second colon stands next.
 #[cycle(parser)]
-#[tactic(auto, using(template_compiler_expression_parts::proofs::Nothing::no_step), unfolding(template_compiler_expressions::specs::Reader::step_by))]
+#[tactic(auto, using(template_compiler_expression_parts::proofs::Nothing::no_step), unfolding(template_compiler_grammar::specs::Reader::step_by))]
 fn step<'source>(
     alloc: Global,
     tokens: &mut TokenStream<'source>,
@@ -642,7 +642,7 @@ fn step<'source>(
 }
 
 #[cycle(parser)]
-#[tactic(auto, using(template_compiler_expression_parts::proofs::Nothing::no_bracket_opens), unfolding(template_compiler_expressions::specs::Reader::primary_by, template_compiler_expressions::specs::Reader::deeper))]
+#[tactic(auto, using(template_compiler_expression_parts::proofs::Nothing::no_bracket_opens), unfolding(template_compiler_grammar::specs::Reader::primary_by, template_compiler_grammar::specs::Reader::deeper))]
 fn primary<'source>(
     alloc: Global,
     tokens: &mut TokenStream<'source>,
@@ -664,7 +664,7 @@ fn primary<'source>(
 
 // Behind `(`.
 #[cycle(parser)]
-#[tactic(auto, using(template_compiler_expression_parts::proofs::Nothing::not_empty, template_compiler_expression_parts::proofs::Nothing::no_tuple), unfolding(template_compiler_reading::specs::Steps::and_then, template_compiler_expressions::specs::Reader::paren_by, template_compiler_expressions::specs::Reader::paren_behind, template_compiler_expressions::specs::Reader::items_by))]
+#[tactic(auto, using(template_compiler_expression_parts::proofs::Nothing::not_empty, template_compiler_expression_parts::proofs::Nothing::no_tuple), unfolding(template_compiler_tokens::specs::Steps::and_then, template_compiler_grammar::specs::Reader::paren_by, template_compiler_grammar::specs::Reader::paren_behind, template_compiler_grammar::specs::Reader::items_by))]
 fn paren<'source>(
     alloc: Global,
     tokens: &mut TokenStream<'source>,
@@ -686,7 +686,7 @@ fn paren<'source>(
 
 // Behind the first comma of a tuple.
 #[cycle(parser)]
-#[tactic(auto, unfolding(template_compiler_reading::specs::Steps::and_then))]
+#[tactic(auto, unfolding(template_compiler_tokens::specs::Steps::and_then))]
 fn tuple<'source>(
     alloc: Global,
     tokens: &mut TokenStream<'source>,
@@ -707,7 +707,7 @@ fn tuple<'source>(
 
 // Behind the `[` of a list.
 #[cycle(parser)]
-#[tactic(auto, unfolding(template_compiler_reading::specs::Steps::and_then, template_compiler_expressions::specs::Reader::list_by, template_compiler_expressions::specs::Reader::items_by))]
+#[tactic(auto, unfolding(template_compiler_tokens::specs::Steps::and_then, template_compiler_grammar::specs::Reader::list_by, template_compiler_grammar::specs::Reader::items_by))]
 fn list<'source>(
     alloc: Global,
     tokens: &mut TokenStream<'source>,
@@ -767,7 +767,7 @@ fn next_item<'source>(
 
 // Behind the `{` of a map.
 #[cycle(parser)]
-#[tactic(auto, unfolding(template_compiler_reading::specs::Steps::and_then, template_compiler_expressions::specs::Reader::map_by, template_compiler_expressions::specs::Reader::pairs_by))]
+#[tactic(auto, unfolding(template_compiler_tokens::specs::Steps::and_then, template_compiler_grammar::specs::Reader::map_by, template_compiler_grammar::specs::Reader::pairs_by))]
 fn map<'source>(
     alloc: Global,
     tokens: &mut TokenStream<'source>,
@@ -832,7 +832,7 @@ fn next_pair<'source>(
 
 // A key and the colon behind it.
 #[cycle(parser)]
-#[tactic(auto, unfolding(template_compiler_reading::specs::Steps::and_then))]
+#[tactic(auto, unfolding(template_compiler_tokens::specs::Steps::and_then))]
 fn key<'source>(
     alloc: Global,
     tokens: &mut TokenStream<'source>,
@@ -846,7 +846,7 @@ fn key<'source>(
 
 // Behind the `(` of arguments.
 #[cycle(parser)]
-#[tactic(auto, unfolding(template_compiler_reading::specs::Steps::and_then, template_compiler_expressions::specs::Reader::arguments_by))]
+#[tactic(auto, unfolding(template_compiler_tokens::specs::Steps::and_then, template_compiler_grammar::specs::Reader::arguments_by))]
 fn arguments<'source>(
     alloc: Global,
     tokens: &mut TokenStream<'source>,
@@ -905,7 +905,7 @@ fn next_argument<'source>(
 }
 
 #[cycle(parser)]
-#[tactic(auto, using(template_compiler_expression_parts::proofs::Nothing::not_named), unfolding(template_compiler_reading::specs::Steps::and_then, template_compiler_expressions::specs::Reader::argument_by, template_compiler_expressions::specs::Reader::named_argument))]
+#[tactic(auto, using(template_compiler_expression_parts::proofs::Nothing::not_named), unfolding(template_compiler_tokens::specs::Steps::and_then, template_compiler_grammar::specs::Reader::argument_by, template_compiler_grammar::specs::Reader::named_argument))]
 fn argument<'source>(
     alloc: Global,
     tokens: &mut TokenStream<'source>,
@@ -920,7 +920,7 @@ fn argument<'source>(
 }
 
 #[cycle(parser)]
-#[tactic(auto, using(template_compiler_expression_parts::proofs::Nothing::no_spread), unfolding(template_compiler_reading::specs::Steps::and_then, template_compiler_expression_parts::specs::Parsed::unnamed_by))]
+#[tactic(auto, using(template_compiler_expression_parts::proofs::Nothing::no_spread), unfolding(template_compiler_tokens::specs::Steps::and_then, template_compiler_expression_parts::specs::Parsed::unnamed_by))]
 fn unnamed<'source>(
     alloc: Global,
     tokens: &mut TokenStream<'source>,

@@ -1,7 +1,7 @@
 //! What the parser of statements reads of expressions. Each function takes the nesting levels that are left, and takes the
 //! tokens of what it reads off the stream. Where it refuses, nothing is said of the tokens that are left.
 ghost use Rattle.template_compiler_expression_parts.specs.Parsed.{Parsed, ParsedOptional};
-ghost use Rattle.template_compiler_expressions.specs.Reader.{expression_at, condition_at, filter_at, filter_chain_at};
+ghost use Rattle.template_compiler_grammar.specs.Reader.{expression_at, condition_at, filter_at, filter_chain_at};
 ghost use Rattle.template_tree.specs.View.{optional_in};
 
 use crate::expressions::{binary, expression, filter};
@@ -14,7 +14,7 @@ use template_tree::Expr;
 /// # Errors
 ///
 /// The fault of the token that does not fit, or want of memory.
-#[tactic(auto, unfolding(template_compiler_expressions::specs::Reader::expression_at))]
+#[tactic(auto, unfolding(template_compiler_grammar::specs::Reader::expression_at))]
 pub fn read_expression<'source>(
     alloc: Global,
     tokens: &mut TokenStream<'source>,
@@ -30,7 +30,7 @@ pub fn read_expression<'source>(
 /// # Errors
 ///
 /// The fault of the token that does not fit, or want of memory.
-#[tactic(auto, unfolding(template_compiler_expressions::specs::Reader::condition_at))]
+#[tactic(auto, unfolding(template_compiler_grammar::specs::Reader::condition_at))]
 pub fn read_condition<'source>(
     alloc: Global,
     tokens: &mut TokenStream<'source>,
@@ -46,7 +46,7 @@ pub fn read_condition<'source>(
 /// # Errors
 ///
 /// The fault of the token that does not fit, or want of memory.
-#[tactic(auto, unfolding(template_compiler_expressions::specs::Reader::filter_at))]
+#[tactic(auto, unfolding(template_compiler_grammar::specs::Reader::filter_at))]
 pub fn read_filter<'source>(
     alloc: Global,
     tokens: &mut TokenStream<'source>,
@@ -64,7 +64,7 @@ pub fn read_filter<'source>(
 /// # Errors
 ///
 /// The fault of the token that does not fit, or want of memory.
-#[tactic(auto, using(crate::proofs::Chains::chain_more, crate::proofs::Chains::chain_falls, crate::proofs::Chains::chain_ends, crate::proofs::Chains::chain_fails_at), unfolding(template_compiler_expressions::specs::Reader::filter_chain_at, template_compiler_expressions::specs::Reader::filter_chain_by))]
+#[tactic(auto, using(crate::proofs::Chains::chain_more, crate::proofs::Chains::chain_falls, crate::proofs::Chains::chain_ends, crate::proofs::Chains::chain_fails_at), unfolding(template_compiler_grammar::specs::Reader::filter_chain_at, template_compiler_grammar::specs::Reader::filter_chain_by))]
 pub fn read_filter_chain<'source>(
     alloc: Global,
     tokens: &mut TokenStream<'source>,

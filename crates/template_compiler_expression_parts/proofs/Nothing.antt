@@ -2,9 +2,9 @@
 use Rattle.std.proofs.Common.{◌≡◌, Bool, true, false, if◌then◌else◌, List, [], ◌∷◌, Result, Ok, Err, refl, sym, subst, ap, ◌∙◌}
 use Rattle.template_tree.specs.Tree.{Arguments, Expression, item, Optional, absent, given, no_arguments, positional}
 use Rattle.template_compiler_tokens.specs.Token.{Token, TokenFault, symbol, identifier, mul, pow, comma, colon, assign, bracket_open, bracket_close, paren_open, paren_close, brace_open, brace_close}
-use Rattle.template_compiler_reading.specs.Steps.{Read, fault, and_then, Step, goes, fails}
-use Rattle.template_compiler_expressions.specs.Reader.{Deeper, nothing_deeper, few_arguments, paren_end, bracket_end, brace_end, colon_end, begins_closing, separated, primary_by, optional_arguments_by, paren_behind, paren_by, step_by, subscript_behind, named_argument, argument_by}
-use Rattle.template_compiler_expressions.specs.Trees.{Written}
+use Rattle.template_compiler_tokens.specs.Steps.{Read, fault, and_then, Step, goes, fails}
+use Rattle.template_compiler_grammar.specs.Reader.{Deeper, nothing_deeper, few_arguments, paren_end, bracket_end, brace_end, colon_end, begins_closing, separated, primary_by, optional_arguments_by, paren_behind, paren_by, step_by, subscript_behind, named_argument, argument_by}
+use Rattle.template_compiler_grammar.specs.Trees.{Written}
 use Rattle.template_compiler_stream.specs.declared.refusal.Refusal.{Refusal}
 use Rattle.template_compiler_stream.specs.Signs.{begins_symbol}
 use Rattle.template_compiler_stream.specs.Skips.{begins_keyword}

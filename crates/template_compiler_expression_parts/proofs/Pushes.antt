@@ -3,13 +3,13 @@ use Rattle.std.proofs.Common.{◌≡◌, ℕ, ◌+◌, ◌<◌, ◌≤◌, Bool,
 use Rattle.std.specs.Prelude.{nat_le}
 use Rattle.std.proofs.lemmas.Bool.Decides.{nat_tests}
 use Rattle.template_compiler_tokens.specs.Token.{Token, bad_syntax}
-use Rattle.template_compiler_expressions.specs.Reader.{few_arguments}
+use Rattle.template_compiler_grammar.specs.Reader.{few_arguments}
 use Rattle.template_tree.specs.Tree.{Expression, Expressions, expressions_more, Links, links_more, chain, Arguments, arguments_more}
 use Rattle.template_tree.specs.View.{expression_of, expressions_in, links_in, argument_of, arguments_in}
 use Rattle.template_tree.specs.declared.calls.CallArg.{CallArg}
 use Rattle.template_tree.specs.declared.expressions.CompareOp.{CompareOp}
 use Rattle.template_tree.specs.declared.expressions.Expr.{Expr}
-use Rattle.template_compiler_expressions.specs.Trees.{and_expression, and_link, and_argument, compared, followed_by, argument_count, in_order, Written}
+use Rattle.template_compiler_grammar.specs.Trees.{and_expression, and_link, and_argument, compared, followed_by, argument_count, in_order, Written}
 
 pub expressions_push : (xs : List Expr) (x : Expr) → expressions_in (xs ++ x ∷ []) ≡ and_expression (expressions_in xs) (expression_of x)
 expressions_push [] x = refl

@@ -4,11 +4,11 @@ use Rattle.template_tree.specs.Tree.{Expression, binary, Optional, given}
 use Rattle.template_tree.specs.declared.operators.BinOpKind.{BinOpKind}
 use Rattle.template_tree.specs.declared.expressions.Expr.{Expr}
 use Rattle.template_compiler_tokens.specs.Token.{Token, TokenFault, bad, symbol, identifier, dot, pipe, bracket_open, paren_open}
-use Rattle.template_compiler_expressions.specs.Words.{begins_dotted, begins_word, word_not, Level, factors, texts, terms, conjunction, disjunction, operator}
-use Rattle.template_compiler_expressions.specs.Trees.{dotted}
-use Rattle.template_compiler_reading.specs.Steps.{Read, and_then, Step, goes, stops, fails, under, all}
-use Rattle.template_compiler_expressions.specs.Reader.{Deeper, deeper, dot_part, dotted_step, operand_by, operand_behind, operand_step, part_step, name_of, is_by, test_by, filter_by, filter_step, chain_step}
-use Rattle.template_compiler_reading.proofs.Loops.{Shrinks, all_goes, all_stops, all_fails}
+use Rattle.template_compiler_grammar.specs.Words.{begins_dotted, begins_word, word_not, Level, factors, texts, terms, conjunction, disjunction, operator}
+use Rattle.template_compiler_grammar.specs.Trees.{dotted}
+use Rattle.template_compiler_tokens.specs.Steps.{Read, and_then, Step, goes, stops, fails, under, all}
+use Rattle.template_compiler_grammar.specs.Reader.{Deeper, deeper, dot_part, dotted_step, operand_by, operand_behind, operand_step, part_step, name_of, is_by, test_by, filter_by, filter_step, chain_step}
+use Rattle.template_compiler_tokens.proofs.Loops.{Shrinks, all_goes, all_stops, all_fails}
 use Rattle.template_compiler_stream.specs.declared.refusal.Refusal.{Refusal}
 use Rattle.template_compiler_stream.specs.declared.refusal.Refusal.TheVariants as refusals
 use Rattle.template_compiler_stream.specs.Refusals.{Refused, fault_of}

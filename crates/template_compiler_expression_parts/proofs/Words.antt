@@ -1,8 +1,8 @@
 -- A primary that is a word.
 use Rattle.std.proofs.Common.{◌≡◌, ℕ, Ok, List, [], ◌∷◌, Some, refl, sym, ap}
 use Rattle.template_compiler_tokens.specs.Token.{Token, identifier}
-use Rattle.template_compiler_expressions.specs.Reader.{nothing_deeper, primary_by, word_tree}
-use Rattle.template_compiler_expressions.specs.Words.{literal_word}
+use Rattle.template_compiler_grammar.specs.Reader.{nothing_deeper, primary_by, word_tree}
+use Rattle.template_compiler_grammar.specs.Words.{literal_word}
 use Rattle.template_compiler_stream.specs.Left.{passed}
 use Rattle.template_compiler_stream.specs.Signs.{next_word}
 

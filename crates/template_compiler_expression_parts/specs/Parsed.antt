@@ -4,8 +4,8 @@ use Rattle.template_tree.specs.Tree.{Expression, Optional, Argument, positional,
 use Rattle.template_tree.specs.View.{expression_of, optional_in, expressions_in, arguments_in}
 use Rattle.template_tree.specs.declared.expressions.Expr.{Expr}
 use Rattle.template_compiler_tokens.specs.Token.{Token, symbol, mul, pow}
-use Rattle.template_compiler_reading.specs.Steps.{Read, and_then, Step, goes, stops, fails}
-use Rattle.template_compiler_expressions.specs.Trees as trees
+use Rattle.template_compiler_tokens.specs.Steps.{Read, and_then, Step, goes, stops, fails}
+use Rattle.template_compiler_grammar.specs.Trees as trees
 use Rattle.template_compiler_stream.specs.Refusals.{Refused, fault_of}
 use Rattle.template_compiler_expression_parts.specs.declared.behind.Behind.{Behind}
 use Rattle.template_compiler_expression_parts.specs.declared.behind.Behind.TheVariants.{Goes, Stops}

@@ -1,6 +1,6 @@
 //! What repetitions put together.
 ghost use Rattle.std.specs.Prelude.{◌≡◌, IfOk, [], ◌∷◌, ◌++◌};
-ghost use Rattle.template_compiler_expressions.specs.Trees.{and_pair, and_written};
+ghost use Rattle.template_compiler_grammar.specs.Trees.{and_pair, and_written};
 ghost use Rattle.template_compiler_expression_parts.specs.Parsed.{paired_in, written_in};
 ghost use Rattle.template_tree.specs.View.{argument_of, expression_of};
 

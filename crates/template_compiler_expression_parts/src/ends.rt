@@ -1,8 +1,8 @@
 //! What must stand behind something.
 ghost use Rattle.std.specs.Prelude.{◌≡◌, true, List};
 ghost use Rattle.template_compiler_expression_parts.specs.Parsed.{IsDeeper, Parsed, ParsedAs, Separated, written_in};
-ghost use Rattle.template_compiler_expressions.specs.Reader.{brace_end, bracket_end, colon_end, few_arguments, paren_end, separated};
-ghost use Rattle.template_compiler_reading.specs.Steps.{and_then};
+ghost use Rattle.template_compiler_grammar.specs.Reader.{brace_end, bracket_end, colon_end, few_arguments, paren_end, separated};
+ghost use Rattle.template_compiler_tokens.specs.Steps.{and_then};
 ghost use Rattle.template_compiler_tokens.specs.Token.{Token};
 ghost use Rattle.template_tree.specs.View.{arguments_in, expression_of};
 
@@ -29,7 +29,7 @@ pub fn deeper(left: u32) -> Result<u32, Refusal>
 }
 
 /// The value, behind which a `)` stands.
-#[tactic(auto, using(crate::proofs::Nothing::no_paren), unfolding(template_compiler_expressions::specs::Reader::paren_end))]
+#[tactic(auto, using(crate::proofs::Nothing::no_paren), unfolding(template_compiler_grammar::specs::Reader::paren_end))]
 pub fn in_parens<'source>(
     tokens: &mut TokenStream<'source>,
     value: Expr<'source>,
@@ -44,7 +44,7 @@ pub fn in_parens<'source>(
 }
 
 /// The value, behind which a `]` stands.
-#[tactic(auto, using(crate::proofs::Nothing::no_bracket), unfolding(template_compiler_expressions::specs::Reader::bracket_end))]
+#[tactic(auto, using(crate::proofs::Nothing::no_bracket), unfolding(template_compiler_grammar::specs::Reader::bracket_end))]
 pub fn in_brackets<'source>(
     tokens: &mut TokenStream<'source>,
     value: Expr<'source>,
@@ -59,7 +59,7 @@ pub fn in_brackets<'source>(
 }
 
 /// The value, behind which a `}` stands.
-#[tactic(auto, using(crate::proofs::Nothing::no_brace), unfolding(template_compiler_expressions::specs::Reader::brace_end))]
+#[tactic(auto, using(crate::proofs::Nothing::no_brace), unfolding(template_compiler_grammar::specs::Reader::brace_end))]
 pub fn in_braces<'source>(
     tokens: &mut TokenStream<'source>,
     value: Expr<'source>,
@@ -74,7 +74,7 @@ pub fn in_braces<'source>(
 }
 
 /// The key, behind which a `:` stands.
-#[tactic(auto, using(crate::proofs::Nothing::no_colon), unfolding(template_compiler_expressions::specs::Reader::colon_end))]
+#[tactic(auto, using(crate::proofs::Nothing::no_colon), unfolding(template_compiler_grammar::specs::Reader::colon_end))]
 pub fn before_colon<'source>(
     tokens: &mut TokenStream<'source>,
     key: Expr<'source>,
@@ -89,7 +89,7 @@ pub fn before_colon<'source>(
 }
 
 /// Passes the comma behind an item; a closing bracket may stand there too, and stays.
-#[tactic(auto, using(crate::proofs::Nothing::no_comma), unfolding(template_compiler_expressions::specs::Reader::separated))]
+#[tactic(auto, using(crate::proofs::Nothing::no_comma), unfolding(template_compiler_grammar::specs::Reader::separated))]
 pub fn separated(tokens: &mut TokenStream) -> Result<(), Refusal>
     ensures { Separated (separated true tokens.old.left) tokens.new.left result }
 {
@@ -101,7 +101,7 @@ pub fn separated(tokens: &mut TokenStream) -> Result<(), Refusal>
 }
 
 /// The arguments, behind which a `)` stands: those by place first, and not more than [`ARGUMENT_LIMIT`].
-#[tactic(auto, using(crate::proofs::Nothing::no_paren), unfolding(template_compiler_expressions::specs::Reader::paren_end, template_compiler_reading::specs::Steps::and_then))]
+#[tactic(auto, using(crate::proofs::Nothing::no_paren), unfolding(template_compiler_grammar::specs::Reader::paren_end, template_compiler_tokens::specs::Steps::and_then))]
 pub fn in_order<'source>(
     tokens: &mut TokenStream<'source>,
     written: Written<'source>,

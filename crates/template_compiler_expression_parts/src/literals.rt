@@ -3,10 +3,10 @@ ghost use Rattle.std.specs.Prelude.{◌≡◌, ◌∷◌, pos, IfOk, IfErr, List
 ghost use Rattle.std.specs.Cow.{cow_str_bytes};
 ghost use Rattle.template_compiler_expression_parts.specs.Parsed.{Parsed, ParsedAs, SteppedTo, WentOn};
 ghost use Rattle.template_compiler_stream.specs.declared.refusal.Refusal.TheVariants as refusals;
-ghost use Rattle.template_compiler_expressions.specs.Reader.{dot_part, dotted_step, name_of, nothing_deeper, primary_by, text_step, word_tree};
-ghost use Rattle.template_compiler_expressions.specs.Trees.{dotted};
-ghost use Rattle.template_compiler_expressions.specs.Words.{literal_word};
-ghost use Rattle.template_compiler_reading.specs.Steps.{all, and_then};
+ghost use Rattle.template_compiler_grammar.specs.Reader.{dot_part, dotted_step, name_of, nothing_deeper, primary_by, text_step, word_tree};
+ghost use Rattle.template_compiler_grammar.specs.Trees.{dotted};
+ghost use Rattle.template_compiler_grammar.specs.Words.{literal_word};
+ghost use Rattle.template_compiler_tokens.specs.Steps.{all, and_then};
 ghost use Rattle.template_compiler_tokens.specs.Token as lexed;
 ghost use Rattle.template_compiler_tokens.specs.View.{token_of};
 ghost use Rattle.template_tree.specs.Tree.{constant, item};
@@ -25,7 +25,7 @@ use template_values_core::Value;
 /// # Errors
 ///
 /// The fault of the token where no identifier stands, or want of memory.
-#[tactic(auto, using(crate::proofs::Rounds::name_more, crate::proofs::Rounds::name_alone), unfolding(template_compiler_expressions::specs::Reader::name_of))]
+#[tactic(auto, using(crate::proofs::Rounds::name_more, crate::proofs::Rounds::name_alone), unfolding(template_compiler_grammar::specs::Reader::name_of))]
 pub fn name<'source>(
     alloc: Global,
     tokens: &mut TokenStream<'source>,
@@ -76,7 +76,7 @@ fn parts(tokens: &mut TokenStream, name: String) -> Result<String, AllocError>
 /// # Errors
 ///
 /// The fault of the token that is none of these, or want of memory.
-#[tactic(auto, using(crate::proofs::Words::word_primary), unfolding(template_compiler_expressions::specs::Reader::primary_by))]
+#[tactic(auto, using(crate::proofs::Words::word_primary), unfolding(template_compiler_grammar::specs::Reader::primary_by))]
 #[inline(always)]
 pub fn literal<'source>(
     alloc: Global,
@@ -97,7 +97,7 @@ pub fn literal<'source>(
 }
 
 // The literal that begins with the token, behind which the tokens stand.
-#[tactic(auto, unfolding(template_compiler_expressions::specs::Reader::primary_by))]
+#[tactic(auto, unfolding(template_compiler_grammar::specs::Reader::primary_by))]
 fn literal_from<'source>(
     alloc: Global,
     tokens: &mut TokenStream<'source>,
@@ -156,7 +156,7 @@ fn whole(number: u128) -> Result<Value, Refusal>
 }
 
 // The text with those behind it.
-#[tactic(auto, unfolding(template_compiler_reading::specs::Steps::and_then))]
+#[tactic(auto, unfolding(template_compiler_tokens::specs::Steps::and_then))]
 fn texts<'source>(
     alloc: Global,
     tokens: &mut TokenStream<'source>,
@@ -190,7 +190,7 @@ fn adjacent(tokens: &mut TokenStream, first: String) -> Result<String, AllocErro
 /// # Errors
 ///
 /// The fault of the token that is neither a name nor a number, or want of memory.
-#[tactic(auto, unfolding(template_compiler_expressions::specs::Reader::dot_part))]
+#[tactic(auto, unfolding(template_compiler_grammar::specs::Reader::dot_part))]
 pub fn attribute<'source>(
     alloc: Global,
     tokens: &mut TokenStream<'source>,
@@ -208,7 +208,7 @@ pub fn attribute<'source>(
     }
 }
 
-#[tactic(auto, unfolding(template_compiler_expressions::specs::Reader::dot_part))]
+#[tactic(auto, unfolding(template_compiler_grammar::specs::Reader::dot_part))]
 fn attribute_from<'source>(
     alloc: Global,
     token: Token<'source>,

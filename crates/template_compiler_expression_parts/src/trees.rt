@@ -1,7 +1,7 @@
 //! The trees of comparisons and of tests.
 ghost use Rattle.std.specs.Prelude.{◌≡◌, IfOk};
 ghost use Rattle.std.specs.Cow.{cow_str_bytes};
-ghost use Rattle.template_compiler_expressions.specs.Trees.{compared, compared_once, tested_as};
+ghost use Rattle.template_compiler_grammar.specs.Trees.{compared, compared_once, tested_as};
 ghost use Rattle.template_tree.specs.View.{arguments_in, expression_of, links_in};
 
 use std::alloc::{AllocError, Global};

@@ -5,11 +5,11 @@ use Rattle.template_tree.specs.Tree.{Expression, Optional, Expressions, Assignme
 use Rattle.template_tree_places.specs.Places.{Places, at, Parts, no_parts, parts_more, one, and_parts}
 use Rattle.template_compiler_token_places.specs.Tokens.{stretch}
 use Rattle.template_compiler_tokens.specs.Token.{Token, identifier}
-use Rattle.template_compiler_expressions.specs.Grammar.{IsFilterChain, chain_end, chain_more}
+use Rattle.template_compiler_grammar.specs.Grammar.{IsFilterChain, chain_end, chain_more}
 use Rattle.template_compiler_grammar_places.specs.Nodes.{and_place, PairedPlaces}
 use Rattle.template_compiler_grammar_places.specs.Expressions.{expression_places, filter_places}
-use Rattle.template_compiler_statements.specs.Trees.{Parameters}
-use Rattle.template_compiler_statements.specs.Grammar.{IsStored, stored, IsPath, path_end, path_more, IsMore, more_end, more_next, IsTarget, name_target, path_target, paren_target, IsTargets, targets, IsMoreTargets, targets_end, targets_next, IsValue, value, IsValues, values, IsAssignment, assignment, IsAssignments, none_assigned, some_assigned, IsLoopFilter, no_loop_filter, a_loop_filter, IsImport, same_name, other_name, IsParameter, plain_parameter, default_parameter, IsParameters, none_declared, some_declared, IsOptionalParameters, not_declared, declared}
+use Rattle.template_compiler_grammar.specs.TemplateTrees.{Parameters}
+use Rattle.template_compiler_grammar.specs.TemplateGrammar.{IsStored, stored, IsPath, path_end, path_more, IsMore, more_end, more_next, IsTarget, name_target, path_target, paren_target, IsTargets, targets, IsMoreTargets, targets_end, targets_next, IsValue, value, IsValues, values, IsAssignment, assignment, IsAssignments, none_assigned, some_assigned, IsLoopFilter, no_loop_filter, a_loop_filter, IsImport, same_name, other_name, IsParameter, plain_parameter, default_parameter, IsParameters, none_declared, some_declared, IsOptionalParameters, not_declared, declared}
 
 -- one is itself, several are a node
 abbrev pub alone_or : Span → Parts → Places

@@ -7,9 +7,9 @@ use Rattle.template_compiler_token_places.specs.Tokens.{stretch}
 use Rattle.template_compiler_tokens.specs.Token.{Token, template_data, variable_start, identifier, symbol, paren_open}
 use Rattle.template_compiler_grammar_places.specs.Nodes.{and_place}
 use Rattle.template_compiler_grammar_places.specs.Expressions.{expression_places, binary_places, filter_places}
-use Rattle.template_compiler_statements.specs.Words.{opens, tag}
-use Rattle.template_compiler_statements.specs.Trees.{Branches}
-use Rattle.template_compiler_statements.specs.Grammar.{Around, IsStatements, statements_end, statements_next, IsStatement, text_statement, print_statement, for_statement, if_statement, with_statement, set_statement, set_block_statement, autoescape_statement, filter_statement, block_statement, import_statement, from_statement, extends_statement, include_statement, macro_statement, call_statement, do_statement, break_statement, continue_statement, IsBranches, branches_end, branches_next, IsElse, no_else, an_else, IsTemplate, whole_template}
+use Rattle.template_compiler_grammar.specs.TemplateWords.{opens, tag}
+use Rattle.template_compiler_grammar.specs.TemplateTrees.{Branches}
+use Rattle.template_compiler_grammar.specs.TemplateGrammar.{Around, IsStatements, statements_end, statements_next, IsStatement, text_statement, print_statement, for_statement, if_statement, with_statement, set_statement, set_block_statement, autoescape_statement, filter_statement, block_statement, import_statement, from_statement, extends_statement, include_statement, macro_statement, call_statement, do_statement, break_statement, continue_statement, IsBranches, branches_end, branches_next, IsElse, no_else, an_else, IsTemplate, whole_template}
 use Rattle.template_compiler_grammar_places.specs.Parts.{target_places, targets_places, values_places, assignments_places, loop_filter_places, chain_places, stored_places, import_places, more_places, parameters_places, optional_parameters_places}
 
 -- the branches of an `if` behind its first one: where each begins, its condition, its body

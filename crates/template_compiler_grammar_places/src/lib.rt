@@ -6,7 +6,7 @@
 ghost use Rattle.std.specs.Prelude.{◌≡◌, ◌<◌, ◌∷◌, ℕ, List, length, suc};
 ghost use Rattle.template_compiler_token_places.specs.Tokens.{last_span, next_span, stretch, token_count};
 ghost use Rattle.template_compiler_grammar_places.specs.Statements.{statement_places};
-ghost use Rattle.template_compiler_statements.specs.Grammar.{Around, IsStatement};
+ghost use Rattle.template_compiler_grammar.specs.TemplateGrammar.{Around, IsStatement};
 ghost use Rattle.template_compiler_tokens.specs.Token.{Token};
 ghost use Rattle.template_tree.specs.Tree.{Statement};
 ghost use Rattle.template_tree.specs.declared.span.Span.{Span};

@@ -1,8 +1,8 @@
 -- Readings without their places: of one behind another, and of repetitions.
 use Rattle.std.proofs.Common.{◌≡◌, ℕ, zero, suc, Bool, true, false, if◌then◌else◌, List, ◌∷◌, length, Ok, Err, refl, sym, ◌∙◌, ap}
 use Rattle.template_compiler_tokens.specs.Token.{Token, TokenFault, symbol, colon, comma, bracket_close, paren_close, brace_close}
-use Rattle.template_compiler_reading.specs.Steps.{Read, fault, and_then, Step, goes, stops, fails, under, goes_on, many, all}
-use Rattle.template_compiler_expressions.specs.Reader.{paren_end, bracket_end, brace_end, colon_end, begins_closing, separated, unless_closing}
+use Rattle.template_compiler_tokens.specs.Steps.{Read, fault, and_then, Step, goes, stops, fails, under, goes_on, many, all}
+use Rattle.template_compiler_grammar.specs.Reader.{paren_end, bracket_end, brace_end, colon_end, begins_closing, separated, unless_closing}
 use Rattle.template_compiler_placed_grammar.specs.Nodes.{Placed, bare, bare_step}
 
 -- what is read, read without its places

@@ -12,19 +12,19 @@ use Rattle.template_tree.specs.Tree.{Expression, unary, Optional, Expressions, L
 use Rattle.template_tree_places.specs.Places.{Places, Parts, no_parts, one}
 use Rattle.template_compiler_token_places.specs.Tokens.{stretch, next_span}
 use Rattle.template_compiler_tokens.specs.Token.{Token, bad_syntax, identifier, symbol, assign, mul, pow, paren_open, pipe}
-use Rattle.template_compiler_reading.specs.Steps.{Read, goes, stops, and_then, under, goes_on, many, all}
-use Rattle.template_compiler_reading.proofs.Loops.{then_goes, then_fails, under_goes, Loops, loop_stops, loop_stops_at, loop_goes, all_of}
-use Rattle.template_compiler_reading.proofs.Readings.{ok_rest}
-use Rattle.template_compiler_expressions.specs.Words.{is_word, word_not, word_in, begins_bare, literal_word, Level, disjunction, operator, comparison_operator}
-use Rattle.template_compiler_expressions.specs.Trees.{Paired, Written, argument_count, in_order}
-use Rattle.template_compiler_expressions.specs.Ends.{Behind}
-use Rattle.template_compiler_expressions.specs.Grammar.{IsTexts, texts_end, texts_more, IsExpression, unconditional, if_alone, if_else, IsBinary, operands, IsOperands, operands_end, operands_more, IsOperand, factor, text_operand, term, conjunct, disjunct, IsNegation, negation, no_negation, IsComparison, comparison, IsLinks, links_end, links_operator, links_not_in, IsPower, no_power, power, IsFiltered, filtered_value, IsFilters, filters_end, filters_more, IsFilterParts, filter_parts, is_test, is_not_test, IsFilter, filter, IsTest, test, bare_test, IsOptionalArguments, no_list, a_list, IsUnary, minus_sign, primary, IsParts, parts_end, parts_more, IsPart, attribute_part, number_part, subscript_part, call_part, IsSubscript, item_subscript, slice_subscript, IsBound, no_bound, a_bound, IsStep, no_step, a_step, IsPrimary, name_primary, word_primary, number_primary, text_primary, paren_primary, list_primary, map_primary, IsParen, empty_tuple, in_parens, tuple, IsItems, items_end, items_last, items_more, IsPairs, pairs_end, pairs_last, pairs_more, IsArgumentList, argument_list, IsArguments, arguments_end, arguments_last, arguments_next, IsArgument, positional_argument, keyword_argument, spread_argument, keyword_spread_argument, IsFilterChain, chain_end, chain_more}
-use Rattle.template_compiler_expressions.specs.Reader.{name_of, text_step, paren_end, bracket_end, brace_end, colon_end, separated, word_tree, begins_closing, begins_bound_end}
-use Rattle.template_compiler_expressions.proofs.Ranks.{weaker, level_rank, operand_rank, operand-le, operator_rank, comparison_rank}
-use Rattle.template_compiler_expressions.proofs.Opens.{begins_opener, expression_opens}
-use Rattle.template_compiler_expressions.proofs.Shrinks as shrinks
-use Rattle.template_compiler_expression_laws.proofs.Stops.{texts_stop, begins_closing_behind, opener_closing, closing_bound, bound_end_behind, separated_last, unless_closed, unless_open}
-use Rattle.template_compiler_expression_laws.proofs.Complete.{name_read, argument_closing}
+use Rattle.template_compiler_tokens.specs.Steps.{Read, goes, stops, and_then, under, goes_on, many, all}
+use Rattle.template_compiler_tokens.proofs.Loops.{then_goes, then_fails, under_goes, Loops, loop_stops, loop_stops_at, loop_goes, all_of}
+use Rattle.template_compiler_tokens.proofs.Readings.{ok_rest}
+use Rattle.template_compiler_grammar.specs.Words.{is_word, word_not, word_in, begins_bare, literal_word, Level, disjunction, operator, comparison_operator}
+use Rattle.template_compiler_grammar.specs.Trees.{Paired, Written, argument_count, in_order}
+use Rattle.template_compiler_grammar.specs.Ends.{Behind}
+use Rattle.template_compiler_grammar.specs.Grammar.{IsTexts, texts_end, texts_more, IsExpression, unconditional, if_alone, if_else, IsBinary, operands, IsOperands, operands_end, operands_more, IsOperand, factor, text_operand, term, conjunct, disjunct, IsNegation, negation, no_negation, IsComparison, comparison, IsLinks, links_end, links_operator, links_not_in, IsPower, no_power, power, IsFiltered, filtered_value, IsFilters, filters_end, filters_more, IsFilterParts, filter_parts, is_test, is_not_test, IsFilter, filter, IsTest, test, bare_test, IsOptionalArguments, no_list, a_list, IsUnary, minus_sign, primary, IsParts, parts_end, parts_more, IsPart, attribute_part, number_part, subscript_part, call_part, IsSubscript, item_subscript, slice_subscript, IsBound, no_bound, a_bound, IsStep, no_step, a_step, IsPrimary, name_primary, word_primary, number_primary, text_primary, paren_primary, list_primary, map_primary, IsParen, empty_tuple, in_parens, tuple, IsItems, items_end, items_last, items_more, IsPairs, pairs_end, pairs_last, pairs_more, IsArgumentList, argument_list, IsArguments, arguments_end, arguments_last, arguments_next, IsArgument, positional_argument, keyword_argument, spread_argument, keyword_spread_argument, IsFilterChain, chain_end, chain_more}
+use Rattle.template_compiler_grammar.specs.Reader.{name_of, text_step, paren_end, bracket_end, brace_end, colon_end, separated, word_tree, begins_closing, begins_bound_end}
+use Rattle.template_compiler_grammar.proofs.Ranks.{weaker, level_rank, operand_rank, operand-le, operator_rank, comparison_rank}
+use Rattle.template_compiler_grammar.proofs.Opens.{begins_opener, expression_opens}
+use Rattle.template_compiler_grammar.proofs.Shrinks as shrinks
+use Rattle.template_compiler_grammar_laws.proofs.Stops.{texts_stop, begins_closing_behind, opener_closing, closing_bound, bound_end_behind, separated_last, unless_closed, unless_open}
+use Rattle.template_compiler_grammar_laws.proofs.Complete.{name_read, argument_closing}
 use Rattle.template_compiler_grammar_places.specs.Nodes.{and_place, PairedPlaces, and_pair_place, WrittenPlaces, and_written_place, compared_at}
 use Rattle.template_compiler_grammar_places.specs.Expressions.{expression_places, binary_places, operands_places, operand_places, negation_places, comparison_places, links_places, power_places, filtered_places, filters_places, filter_parts_places, filter_places, test_places, optional_places, unary_places, parts_places, part_places, subscript_places, bound_places, step_places, primary_places, paren_places, items_places, pairs_places, argument_list_places, arguments_places, argument_places}
 use Rattle.template_compiler_grammar_places.specs.Parts.{chain_places}

@@ -8,11 +8,11 @@ use Rattle.template_tree.specs.Tree.{Expression, Optional, absent, given}
 use Rattle.template_tree_places.specs.Places.{Parts}
 use Rattle.template_compiler_token_places.specs.Tokens.{next_span}
 use Rattle.template_compiler_tokens.specs.Token.{Token, identifier, string, number, symbol, minus, mul, pow, dot, comma, colon, assign, pipe, bracket_open, paren_open, paren_close, brace_open}
-use Rattle.template_compiler_reading.specs.Steps.{Read, and_then}
-use Rattle.template_compiler_expressions.specs.Words.{is_word, begins_bare, Level, factors, texts, terms, conjunction, disjunction, operator, comparison_operator}
-use Rattle.template_compiler_expressions.specs.Trees.{argument_count, in_order}
-use Rattle.template_compiler_expressions.specs.Reader.{begins_bound_end}
-use Rattle.template_compiler_expressions.specs.Reader as plain
+use Rattle.template_compiler_tokens.specs.Steps.{Read, and_then}
+use Rattle.template_compiler_grammar.specs.Words.{is_word, begins_bare, Level, factors, texts, terms, conjunction, disjunction, operator, comparison_operator}
+use Rattle.template_compiler_grammar.specs.Trees.{argument_count, in_order}
+use Rattle.template_compiler_grammar.specs.Reader.{begins_bound_end}
+use Rattle.template_compiler_grammar.specs.Reader as plain
 use Rattle.template_compiler_placed_grammar.specs.Nodes.{bare, bare_step, Node, OptionalNode, given_node, Nodes, first_node, no_nodes, PlacedLinks, no_placed_links, PlacedPairs, no_placed_pairs, PlacedWritten, no_placed_written}
 use Rattle.template_compiler_placed_grammar.specs.Reader.{Deeper, deeper, primary_by, dot_part, part_step, parts_by, unary_by, optional_arguments_by, filter_by, test_arguments_by, test_by, is_by, filter_step, filtered_by, chain_step, filter_chain_by, power_behind, power_by, operand_behind, operand_step, binary_of, terms_by, not_in_link, link_behind, link_step, comparison_by, negation_by, operand_by, binary_by, else_behind, if_behind, expression_by, items_step, items_by, pairs_step, pairs_by, paren_behind, paren_by, list_by, map_by, bound_by, step_by, slice_by, item_by, subscript_behind, subscript_by, named_argument, argument_by, few_arguments, arguments_step, arguments_by, expression_at, condition_at, optional_arguments_at, filter_at, filter_chain_at}
 use Rattle.template_compiler_placed_grammar.proofs.Bare.{then_bare, same_bare, under_bare, if_bare, if_bare_step, all_bare, paren_end_bare, bracket_end_bare, brace_end_bare, colon_end_bare, separated_bare, unless_bare}

@@ -3,10 +3,10 @@ use Rattle.std.proofs.Common.{◌≡◌, ℕ, List, Ok, sym, ◌∙◌, ap}
 use Rattle.template_tree.specs.declared.span.Span.{Span}
 use Rattle.template_tree.specs.Tree.{Expression}
 use Rattle.template_compiler_tokens.specs.Token.{Token}
-use Rattle.template_compiler_reading.proofs.Readings.{ok_tree}
-use Rattle.template_compiler_expressions.specs.Ends.{Ends}
-use Rattle.template_compiler_expressions.specs.Grammar.{IsExpression}
-use Rattle.template_compiler_expression_laws.proofs.Sound.{expression_sound}
+use Rattle.template_compiler_tokens.proofs.Readings.{ok_tree}
+use Rattle.template_compiler_grammar.specs.Ends.{Ends}
+use Rattle.template_compiler_grammar.specs.Grammar.{IsExpression}
+use Rattle.template_compiler_grammar_laws.proofs.Sound.{expression_sound}
 use Rattle.template_compiler_grammar_places.specs.Expressions.{expression_places}
 use Rattle.template_compiler_placed_grammar.specs.Nodes.{Node}
 use Rattle.template_compiler_placed_grammar.specs.Reader.{expression_at}

@@ -2,13 +2,13 @@
 use Rattle.std.proofs.Common.{◌≡◌, true, false, List, [], ◌∷◌, codes, None, Ok, refl, ◌∙◌, ap, arith}
 use Rattle.template_tree.specs.declared.span.Span.{Span}
 use Rattle.template_compiler_tokens.specs.Token.{Token, identifier, symbol, pow, dot, colon, pipe, bracket_open, paren_open, paren_close}
-use Rattle.template_compiler_reading.specs.Steps.{Read, stops, and_then}
-use Rattle.template_compiler_expressions.specs.Words.{is_word, begins_word, begins_paren, Level}
-use Rattle.template_compiler_expressions.specs.Ends.{Behind}
-use Rattle.template_compiler_expressions.specs.Reader.{name_of, begins_closing, begins_bound_end}
-use Rattle.template_compiler_expressions.proofs.Ranks.{level_rank, no_is, no_operator, no_comparison, is_no_not, is_no_if, is_no_else}
-use Rattle.template_compiler_expressions.proofs.Opens.{begins_opener}
-use Rattle.template_compiler_expression_laws.proofs.Stops.{opener_bound}
+use Rattle.template_compiler_tokens.specs.Steps.{Read, stops, and_then}
+use Rattle.template_compiler_grammar.specs.Words.{is_word, begins_word, begins_paren, Level}
+use Rattle.template_compiler_grammar.specs.Ends.{Behind}
+use Rattle.template_compiler_grammar.specs.Reader.{name_of, begins_closing, begins_bound_end}
+use Rattle.template_compiler_grammar.proofs.Ranks.{level_rank, no_is, no_operator, no_comparison, is_no_not, is_no_if, is_no_else}
+use Rattle.template_compiler_grammar.proofs.Opens.{begins_opener}
+use Rattle.template_compiler_grammar_laws.proofs.Stops.{opener_bound}
 use Rattle.template_compiler_placed_grammar.specs.Nodes.{Node, no_node, given_node, PlacedLinks, no_placed_arguments, conditional_node}
 use Rattle.template_compiler_placed_grammar.specs.Reader.{Deeper, up_to, part_step, filter_step, power_behind, operand_behind, operand_step, link_behind, link_step, else_behind, if_behind, negation_by, comparison_by, is_by, test_by, optional_arguments_by, bound_by, step_by, paren_by, paren_behind}
 

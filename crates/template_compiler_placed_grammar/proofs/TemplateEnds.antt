@@ -3,11 +3,11 @@ use Rattle.std.proofs.Common.{◌≡◌, ℕ, Bool, true, false, if◌then◌els
 use Rattle.std.specs.Prelude.{bytes_eq}
 use Rattle.template_tree.specs.Tree.{Expression, Arguments}
 use Rattle.template_compiler_tokens.specs.Token.{Token, bad_syntax, variable_end, block_start, block_end, identifier, symbol, comma, assign}
-use Rattle.template_compiler_reading.specs.Steps.{Read, fault, and_then}
-use Rattle.template_compiler_expressions.specs.Words.{is_word}
+use Rattle.template_compiler_tokens.specs.Steps.{Read, fault, and_then}
+use Rattle.template_compiler_grammar.specs.Words.{is_word}
 use Rattle.template_compiler_placed_grammar.specs.Nodes.{Placed, bare, bare_step}
 use Rattle.template_compiler_placed_grammar.proofs.Bare.{then_bare, under_bare}
-use Rattle.template_compiler_statements.specs.Reader.{expect_word, expect_assign, print_end, tag_end, expect_tag, more_step, context_by, end_name_by, block_end_by, only_call}
+use Rattle.template_compiler_grammar.specs.TemplateReader.{expect_word, expect_assign, print_end, tag_end, expect_tag, more_step, context_by, end_name_by, block_end_by, only_call}
 
 word_by_test : {A P : Type 0} (b : Bool) (a : Placed A P) (ts us : List Token) →
     bare (if b then Ok (a, us) else Err (fault ts)) ≡ (if b then Ok (a.tree, us) else Err (fault ts))

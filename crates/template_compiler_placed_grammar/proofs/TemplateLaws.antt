@@ -5,9 +5,9 @@ use Rattle.template_tree.specs.Tree.{Statements}
 use Rattle.template_tree_places.specs.Places.{Places}
 use Rattle.template_compiler_tokens.specs.Token.{Token, TokenFault}
 use Rattle.template_compiler_grammar_places.specs.Statements.{template_places}
-use Rattle.template_compiler_statements.specs.Grammar.{IsTemplate}
-use Rattle.template_compiler_statements.specs.Reader as plain
-use Rattle.template_compiler_statement_laws.proofs.Sound.{template_sound}
+use Rattle.template_compiler_grammar.specs.TemplateGrammar.{IsTemplate}
+use Rattle.template_compiler_grammar.specs.TemplateReader as plain
+use Rattle.template_compiler_grammar_laws.proofs.TemplatesSound.{template_sound}
 use Rattle.template_compiler_placed_grammar.specs.TemplateNodes.{PlacedTemplate, bare_template}
 use Rattle.template_compiler_placed_grammar.specs.TemplateReader.{template_of}
 use Rattle.template_compiler_placed_grammar.proofs.TemplatesErased.{template_erased}

@@ -6,17 +6,17 @@ use Rattle.template_tree.specs.Kinds.{call_parts}
 use Rattle.template_tree_places.specs.Places.{Places, at}
 use Rattle.template_compiler_token_places.specs.Tokens.{next_span}
 use Rattle.template_compiler_tokens.specs.Token.{Token, bad_syntax, template_data, variable_start, block_start, block_end, identifier, symbol, dot, assign, paren_open, paren_close}
-use Rattle.template_compiler_reading.specs.Steps.{Read, and_then}
-use Rattle.template_compiler_expressions.specs.Words.{is_word}
+use Rattle.template_compiler_tokens.specs.Steps.{Read, and_then}
+use Rattle.template_compiler_grammar.specs.Words.{is_word}
 use Rattle.template_compiler_placed_grammar.specs.Nodes.{placed, bare, bare_step, Node, Nodes, no_nodes, first_node, OptionalNode, no_node, given_node}
 use Rattle.template_compiler_placed_grammar.specs.Reader.{up_to}
 use Rattle.template_compiler_placed_grammar.proofs.Bare.{then_bare, same_bare, under_bare, if_bare, if_bare_step, all_bare, paren_end_bare}
 use Rattle.template_compiler_placed_grammar.proofs.Erased.{Erases, expression_erased, condition_erased, filter_erased, filter_chain_erased}
-use Rattle.template_compiler_statements.specs.Words.{is_reserved}
-use Rattle.template_compiler_statements.specs.Trees.{and_plain, is_block_body, blocks_among, are_distinct}
-use Rattle.template_compiler_statements.specs.Grammar.{Around, nothing_around, loop_around, block_around, macro_around}
-use Rattle.template_compiler_statements.specs.Reader.{more_step, is_nothing, begins_tag, begins_values, Opening, for_tag, if_tag, with_tag, set_tag, autoescape_tag, filter_tag, block_tag, import_tag, from_tag, extends_tag, include_tag, macro_tag, call_tag, do_tag, break_tag, continue_tag, opening}
-use Rattle.template_compiler_statements.specs.Reader as plain
+use Rattle.template_compiler_grammar.specs.TemplateWords.{is_reserved}
+use Rattle.template_compiler_grammar.specs.TemplateTrees.{and_plain, is_block_body, blocks_among, are_distinct}
+use Rattle.template_compiler_grammar.specs.TemplateGrammar.{Around, nothing_around, loop_around, block_around, macro_around}
+use Rattle.template_compiler_grammar.specs.TemplateReader.{more_step, is_nothing, begins_tag, begins_values, Opening, for_tag, if_tag, with_tag, set_tag, autoescape_tag, filter_tag, block_tag, import_tag, from_tag, extends_tag, include_tag, macro_tag, call_tag, do_tag, break_tag, continue_tag, opening}
+use Rattle.template_compiler_grammar.specs.TemplateReader as plain
 use Rattle.template_compiler_placed_grammar.specs.TemplateNodes.{PlacedAssignments, no_placed_assignments, PlacedImports, no_placed_imports, PlacedParameters, no_placed_parameters, and_placed_plain, PlacedStatement, PlacedStatements, no_placed_statements, PlacedBranches, no_placed_branches, bare_template}
 use Rattle.template_compiler_placed_grammar.specs.TemplateReader.{Here, path_step, stored_by, path_by, target_by, one_target_by, more_targets_by, targets_by, inner_targets, value_by, values_by, assignment_by, assignments_by, loop_filter_by, alias_by, import_by, default_by, parameter_by, parameters_by, optional_parameters_by, body_by, else_by, for_body, for_in, for_by, branch_by, branch_step, if_by, with_by, set_values, set_body, set_behind, set_by, autoescape_by, filter_block_by, block_body, block_by, import_statement_by, from_by, extends_by, include_by, macro_by, call_body, call_by, do_by, in_loop, opened_by, opened_step, print_by, statement_step, statements_by, deeper_parameters, here_by, deeper_body, here, statements_at, template_behind, whole, template_of}
 use Rattle.template_compiler_placed_grammar.proofs.TemplateEnds.{word_bare, assign_bare, tag_end_bare, tag_bare, print_end_made, tag_end_made, tag_made, block_made, context_made, more_bare, only_call_bare}

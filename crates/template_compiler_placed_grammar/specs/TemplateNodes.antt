@@ -8,7 +8,7 @@ use Rattle.template_compiler_tokens.specs.Token.{TokenFault}
 use Rattle.template_compiler_grammar_places.specs.Nodes.{and_place, PairedPlaces}
 use Rattle.template_compiler_grammar_places.specs.Parts.{alone_or}
 use Rattle.template_compiler_placed_grammar.specs.Nodes.{Placed, placed, Node, Nodes, OptionalNode}
-use Rattle.template_compiler_statements.specs.Trees.{and_statement, and_assignment, and_import, unpacked, together, Branches, no_branches, and_branch, branched, Parameters, no_parameters, and_plain, and_default}
+use Rattle.template_compiler_grammar.specs.TemplateTrees.{and_statement, and_assignment, and_import, unpacked, together, Branches, no_branches, and_branch, branched, Parameters, no_parameters, and_plain, and_default}
 
 -- targets and values: one is itself, several are a node
 abbrev pub unpacked_node : Nodes → Span → Node

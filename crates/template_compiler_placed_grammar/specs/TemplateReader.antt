@@ -1,4 +1,4 @@
--- The reading of statements with the places of their nodes: the reader of `template_compiler_statements` again, where each tree
+-- The reading of statements with the places of their nodes: the reader of `template_compiler_grammar` again, where each tree
 -- has its places. A statement has the span of its start. The parser's functions cite it; that without its places it is the
 -- reader, and that its places are those of the grammar, is proved.
 use Rattle.std.specs.Prelude.{ℕ, zero, suc, Bool, true, false, if◌then◌else◌, codes, List, [], ◌∷◌, Option, None, Some, Result, Ok, Err}
@@ -8,15 +8,15 @@ use Rattle.template_tree.specs.Kinds.{call_parts}
 use Rattle.template_tree_places.specs.Places.{Places, at, no_parts, parts_more, one, and_parts}
 use Rattle.template_compiler_token_places.specs.Tokens.{next_span, stretch}
 use Rattle.template_compiler_tokens.specs.Token.{Token, TokenFault, bad_syntax, template_data, variable_start, block_start, block_end, identifier, symbol, dot, assign, paren_open, paren_close}
-use Rattle.template_compiler_reading.specs.Steps.{Read, fault, and_then, Step, goes, stops, under, all}
-use Rattle.template_compiler_expressions.specs.Words.{is_word}
-use Rattle.template_compiler_expressions.specs.Reader.{too_deep, paren_end}
+use Rattle.template_compiler_tokens.specs.Steps.{Read, fault, and_then, Step, goes, stops, under, all}
+use Rattle.template_compiler_grammar.specs.Words.{is_word}
+use Rattle.template_compiler_grammar.specs.Reader.{too_deep, paren_end}
 use Rattle.template_compiler_placed_grammar.specs.Nodes.{placed, Node, node, Nodes, no_nodes, first_node, and_node, OptionalNode, no_node, given_node}
 use Rattle.template_compiler_placed_grammar.specs.Reader.{up_to, expression_at, condition_at, filter_at, filter_chain_at}
-use Rattle.template_compiler_statements.specs.Words.{is_reserved}
-use Rattle.template_compiler_statements.specs.Trees.{is_block_body, blocks_among, are_distinct}
-use Rattle.template_compiler_statements.specs.Grammar.{Around, nothing_around, loop_around, block_around, macro_around}
-use Rattle.template_compiler_statements.specs.Reader.{expect_word, expect_assign, print_end, tag_end, expect_tag, more_step, word_by, context_by, missing_by, is_nothing, begins_tag, begins_values, block_end_by, only_call, filtered_body, Opening, for_tag, if_tag, with_tag, set_tag, autoescape_tag, filter_tag, block_tag, import_tag, from_tag, extends_tag, include_tag, macro_tag, call_tag, do_tag, break_tag, continue_tag, opening}
+use Rattle.template_compiler_grammar.specs.TemplateWords.{is_reserved}
+use Rattle.template_compiler_grammar.specs.TemplateTrees.{is_block_body, blocks_among, are_distinct}
+use Rattle.template_compiler_grammar.specs.TemplateGrammar.{Around, nothing_around, loop_around, block_around, macro_around}
+use Rattle.template_compiler_grammar.specs.TemplateReader.{expect_word, expect_assign, print_end, tag_end, expect_tag, more_step, word_by, context_by, missing_by, is_nothing, begins_tag, begins_values, block_end_by, only_call, filtered_body, Opening, for_tag, if_tag, with_tag, set_tag, autoescape_tag, filter_tag, block_tag, import_tag, from_tag, extends_tag, include_tag, macro_tag, call_tag, do_tag, break_tag, continue_tag, opening}
 use Rattle.template_compiler_placed_grammar.specs.TemplateNodes.{unpacked_node, together_node, PlacedAssignments, no_placed_assignments, and_placed_assignment, PlacedImports, no_placed_imports, and_placed_import, PlacedParameters, no_placed_parameters, and_placed_plain, and_placed_default, in_row, PlacedStatement, statement_node, PlacedStatements, no_placed_statements, and_placed_statement, PlacedTemplate, PlacedBranch, PlacedBranches, no_placed_branches, and_placed_branch, if_node}
 
 -- what can be read with so many levels left; bodies and parameters are one level deeper

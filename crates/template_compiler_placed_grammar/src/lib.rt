@@ -1,13 +1,13 @@
 //! The reading of expressions and of templates with the places of their nodes, from left to right, and its laws.
 //!
-//! These are the readers of `template_compiler_expressions` and `template_compiler_statements` again, where each tree has its
+//! These are the readers of `template_compiler_grammar` and `template_compiler_grammar` again, where each tree has its
 //! places. Here is no code but laws.
 #![tactic(auto)]
 
 ghost use Rattle.std.specs.Prelude.{◌≡◌, ℕ, List, Ok};
-ghost use Rattle.template_compiler_expressions.specs.Ends.{Ends};
-ghost use Rattle.template_compiler_expressions.specs.Grammar.{IsExpression};
-ghost use Rattle.template_compiler_expressions.specs.Reader as plain;
+ghost use Rattle.template_compiler_grammar.specs.Ends.{Ends};
+ghost use Rattle.template_compiler_grammar.specs.Grammar.{IsExpression};
+ghost use Rattle.template_compiler_grammar.specs.Reader as plain;
 ghost use Rattle.template_compiler_grammar_places.specs.Expressions.{expression_places};
 ghost use Rattle.template_compiler_placed_grammar.specs.Nodes.{Node, bare, placed};
 ghost use Rattle.template_compiler_placed_grammar.specs.Reader.{expression_at};

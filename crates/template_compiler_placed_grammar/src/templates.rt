@@ -1,14 +1,14 @@
 //! The reading of templates with the places of their nodes, from left to right, and its laws.
 //!
-//! It is the reader of `template_compiler_statements` again, where each tree has its places. Here is no code but laws.
+//! It is the reader of `template_compiler_grammar` again, where each tree has its places. Here is no code but laws.
 
 ghost use Rattle.std.specs.Prelude.{◌≡◌, List, Ok};
 ghost use Rattle.template_compiler_grammar_places.specs.Statements.{template_places};
 ghost use Rattle.template_compiler_placed_grammar.specs.Nodes.{placed};
 ghost use Rattle.template_compiler_placed_grammar.specs.TemplateNodes.{PlacedTemplate, bare_template};
 ghost use Rattle.template_compiler_placed_grammar.specs.TemplateReader.{template_of};
-ghost use Rattle.template_compiler_statements.specs.Grammar.{IsTemplate};
-ghost use Rattle.template_compiler_statements.specs.Reader as plain;
+ghost use Rattle.template_compiler_grammar.specs.TemplateGrammar.{IsTemplate};
+ghost use Rattle.template_compiler_grammar.specs.TemplateReader as plain;
 ghost use Rattle.template_compiler_tokens.specs.Token.{Token};
 ghost use Rattle.template_tree.specs.Tree.{Statements};
 ghost use Rattle.template_tree.specs.declared.span.Span.{Span};

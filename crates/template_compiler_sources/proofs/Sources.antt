@@ -11,24 +11,24 @@ use Rattle.template_compiler_stream.specs.declared.refusal.Refusal.{Refusal}
 use Rattle.template_compiler_stream.specs.declared.refusal.Refusal.TheVariants as refusals
 use Rattle.template_compiler_source_tokens.specs.Kinds.{refused_kind}
 use Rattle.template_compiler_tokens.specs.Token.{Token, TokenFault, bad_syntax}
-use Rattle.template_compiler_reading.specs.Blame.{Blamed}
-use Rattle.template_compiler_reading.specs.Steps.{Read, fault}
-use Rattle.template_compiler_reading.proofs.Readings.{Kept, Reads, fault_blamed}
-use Rattle.template_compiler_expressions.specs.Grammar.{IsExpression}
-use Rattle.template_compiler_expressions.specs.Reader.{expression_at}
-use Rattle.template_compiler_expression_laws.proofs.Complete.{expression_complete}
-use Rattle.template_compiler_expression_laws.proofs.Sound.{expression_sound}
+use Rattle.template_compiler_tokens.specs.Blame.{Blamed}
+use Rattle.template_compiler_tokens.specs.Steps.{Read, fault}
+use Rattle.template_compiler_tokens.proofs.Readings.{Kept, Reads, fault_blamed}
+use Rattle.template_compiler_grammar.specs.Grammar.{IsExpression}
+use Rattle.template_compiler_grammar.specs.Reader.{expression_at}
+use Rattle.template_compiler_grammar_laws.proofs.Complete.{expression_complete}
+use Rattle.template_compiler_grammar_laws.proofs.Sound.{expression_sound}
 use Rattle.template_compiler_source_tokens.specs.Spelled.{IsSpelled}
 use Rattle.template_compiler_source_tokens.proofs.Spelling.{one_spelled}
 use Rattle.template_compiler_syntax.specs.Syntax.{Syntax, IsUsable}
 use Rattle.template_compiler_segments.specs.Flat.{IsTokens}
 use Rattle.template_compiler_segments.proofs.Theorems.{one_tokens}
-use Rattle.template_compiler_statements.specs.Grammar.{Around, nothing_around}
-use Rattle.template_compiler_statements.specs.Reader.{statements_at, template_behind, whole, template_of}
-use Rattle.template_compiler_statements.specs.Trees.{are_distinct, blocks_among}
+use Rattle.template_compiler_grammar.specs.TemplateGrammar.{Around, nothing_around}
+use Rattle.template_compiler_grammar.specs.TemplateReader.{statements_at, template_behind, whole, template_of}
+use Rattle.template_compiler_grammar.specs.TemplateTrees.{are_distinct, blocks_among}
 use Rattle.template_compiler_stream.specs.Tags.{is_done}
-use Rattle.template_compiler_statement_laws.proofs.Complete.{template_complete}
-use Rattle.template_compiler_statement_laws.proofs.Sound.{template_sound, template_blamed}
+use Rattle.template_compiler_grammar_laws.proofs.TemplatesComplete.{template_complete}
+use Rattle.template_compiler_grammar_laws.proofs.TemplatesSound.{template_sound, template_blamed}
 use Rattle.template_compiler_sources.specs.Source.{IsSource, source_of, IsFaulty, IsExpressionSource, expression_source, IsFaultyExpression, RefusesSource, RefusesExpression}
 use Rattle.template_compiler_sources.specs.Wholes.{nothing_behind, expression_alone, ParsedTemplate, ParsedExpression}
 

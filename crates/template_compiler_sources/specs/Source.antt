@@ -5,12 +5,12 @@ use Rattle.template_values_errors.specs.declared.ErrorKind.TheVariants as kinds
 use Rattle.template_tree.specs.Tree.{Expression, Statement, template, Statements}
 use Rattle.template_compiler_tokens.specs.Token.{Token, TokenFault}
 use Rattle.template_compiler_tokens.specs.Left.{kind_of}
-use Rattle.template_compiler_reading.specs.Blame.{Blamed}
+use Rattle.template_compiler_tokens.specs.Blame.{Blamed}
 use Rattle.template_compiler_syntax.specs.Syntax.{Syntax}
 use Rattle.template_compiler_segments.specs.Flat.{IsTokens}
 use Rattle.template_compiler_source_tokens.specs.Spelled.{IsSpelled}
-use Rattle.template_compiler_expressions.specs.Grammar.{IsExpression}
-use Rattle.template_compiler_statements.specs.Grammar.{IsTemplate}
+use Rattle.template_compiler_grammar.specs.Grammar.{IsExpression}
+use Rattle.template_compiler_grammar.specs.TemplateGrammar.{IsTemplate}
 
 -- the source's tokens are the template's statements
 pub data IsSource (x : Syntax) (source : List ℕ) : Statement → Type 0 where

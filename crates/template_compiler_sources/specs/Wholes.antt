@@ -9,8 +9,8 @@ use Rattle.template_tree.specs.declared.span.Spanned.{Spanned}
 use Rattle.template_tree_statements.specs.declared.statements.Template.{Template as TemplateNode}
 use Rattle.template_tree_statements.specs.declared.statements.Stmt.{Stmt, Template as Whole}
 use Rattle.template_compiler_tokens.specs.Token.{Token, TokenFault}
-use Rattle.template_compiler_reading.specs.Steps.{Read, fault}
-use Rattle.template_compiler_expressions.specs.Reader.{expression_at}
+use Rattle.template_compiler_tokens.specs.Steps.{Read, fault}
+use Rattle.template_compiler_grammar.specs.Reader.{expression_at}
 use Rattle.template_compiler_stream.specs.Refusals.{fault_of}
 use Rattle.template_compiler_stream.specs.declared.refusal.Refusal.{Refusal}
 use Rattle.template_compiler_stream.specs.declared.refusal.Refusal.TheVariants as refusals

@@ -1,5 +1,5 @@
 //! The parser of expressions that statements read with.
-ghost use Rattle.template_compiler_expressions.specs.Reader.{condition_at, expression_at, filter_at, filter_chain_at};
+ghost use Rattle.template_compiler_grammar.specs.Reader.{condition_at, expression_at, filter_at, filter_chain_at};
 ghost use Rattle.template_tree.specs.View.{optional_in};
 
 use std::alloc::Global;

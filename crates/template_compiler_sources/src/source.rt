@@ -3,7 +3,7 @@ ghost use Rattle.std.specs.Prelude.{◌≡◌, ◌≤◌, ◌^◌, length, IfOk,
 ghost use Rattle.template_compiler_sources.specs.Source.{IsAlone, IsSource, RefusesSource};
 ghost use Rattle.template_values_errors.specs.declared.ErrorKind.TheVariants.{TooLarge};
 ghost use Rattle.template_compiler_sources.specs.Wholes.{ParsedTemplate};
-ghost use Rattle.template_compiler_statements.specs.Reader.{template_of};
+ghost use Rattle.template_compiler_grammar.specs.TemplateReader.{template_of};
 ghost use Rattle.template_tree_statements.specs.View.{statement_of};
 
 use crate::template::read_template;

@@ -1,12 +1,12 @@
 -- What is read by the name that stands next.
 use Rattle.std.proofs.Common.{◌≡◌, ℕ, Bool, true, false, if◌then◌else◌, List, [], ◌∷◌, None, Some, Ok, Err, codes, refl, sym, ap, ◌∙◌}
 use Rattle.template_compiler_tokens.specs.Token.{Token, Symbol, bad_syntax, identifier, symbol, paren_open}
-use Rattle.template_compiler_reading.specs.Steps.{fault, and_then}
+use Rattle.template_compiler_tokens.specs.Steps.{fault, and_then}
 use Rattle.template_compiler_stream.specs.Left.{passed}
 use Rattle.template_compiler_stream.specs.Signs.{begins_symbol, next_word}
 use Rattle.template_compiler_stream.specs.Skips.{SkipsSign}
-use Rattle.template_compiler_statements.specs.Words.{is_reserved}
-use Rattle.template_compiler_statements.specs.Reader.{Here, tag_end, word_by}
+use Rattle.template_compiler_grammar.specs.TemplateWords.{is_reserved}
+use Rattle.template_compiler_grammar.specs.TemplateReader.{Here, tag_end, word_by}
 use Rattle.template_compiler_statement_declarations.specs.Heads.{block_head, declared_head, macro_head}
 
 pub block_here : (in_macro : Bool) (n : List ℕ) (ts : List Token) → Some n ≡ next_word ts →

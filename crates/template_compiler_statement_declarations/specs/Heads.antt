@@ -7,11 +7,11 @@ use Rattle.template_tree.specs.View.{expression_of, arguments_in}
 use Rattle.template_tree_statements.specs.View.{statement_of}
 use Rattle.template_tree_statements.specs.declared.statements.Stmt.TheVariants as statements
 use Rattle.template_compiler_tokens.specs.Token.{Token, bad_syntax, identifier, symbol, paren_open}
-use Rattle.template_compiler_reading.specs.Steps.{Read, fault, and_then}
-use Rattle.template_compiler_statements.specs.Words.{is_reserved}
-use Rattle.template_compiler_statements.specs.Trees.{Parameters, is_block_body}
-use Rattle.template_compiler_statements.specs.Grammar.{Around, block_around}
-use Rattle.template_compiler_statements.specs.Reader.{Here, expect_assign, tag_end, target_by, more_targets_by, begins_values, word_by, optional_parameters_by, only_call, set_values, body_by, block_end_by}
+use Rattle.template_compiler_tokens.specs.Steps.{Read, fault, and_then}
+use Rattle.template_compiler_grammar.specs.TemplateWords.{is_reserved}
+use Rattle.template_compiler_grammar.specs.TemplateTrees.{Parameters, is_block_body}
+use Rattle.template_compiler_grammar.specs.TemplateGrammar.{Around, block_around}
+use Rattle.template_compiler_grammar.specs.TemplateReader.{Here, expect_assign, tag_end, target_by, more_targets_by, begins_values, word_by, optional_parameters_by, only_call, set_values, body_by, block_end_by}
 use Rattle.template_compiler_statement_makers.specs.Begun.{set_block_of}
 use Rattle.template_compiler_statement_values.specs.Written.{parameters_of}
 use Rattle.template_compiler_statement_declarations.specs.declared.blocks.BlockHead.{BlockHead}

@@ -3,7 +3,7 @@ ghost use Rattle.std.specs.Prelude.{◌≡◌};
 ghost use Rattle.template_compiler_statement_declarations.specs.Heads.{block_head, block_of, ended_block};
 ghost use Rattle.template_compiler_statement_makers.specs.Listed.{statements_in};
 ghost use Rattle.template_compiler_statement_parts.specs.Parsed.{ParsedAs};
-ghost use Rattle.template_compiler_statements.specs.Trees.{is_block_body};
+ghost use Rattle.template_compiler_grammar.specs.TemplateTrees.{is_block_body};
 ghost use Rattle.template_tree_statements.specs.View.{statement_of};
 ghost use Rattle.template_tree_statements.specs.declared.statements.Stmt.TheVariants as statements;
 
@@ -26,7 +26,7 @@ pub struct BlockHead<'source> {
 /// # Errors
 ///
 /// The fault of the token that does not fit.
-#[tactic(auto, using(template_compiler_statement_parts::proofs::Again::tag_end_again, crate::proofs::Named::block_here, crate::proofs::Named::no_block), unfolding(template_compiler_reading::specs::Steps::and_then))]
+#[tactic(auto, using(template_compiler_statement_parts::proofs::Again::tag_end_again, crate::proofs::Named::block_here, crate::proofs::Named::no_block), unfolding(template_compiler_tokens::specs::Steps::and_then))]
 pub fn read_block<'source>(
     tokens: &mut TokenStream<'source>,
     in_macro: bool,

@@ -1,7 +1,7 @@
 //! The ends of loops.
 ghost use Rattle.std.specs.Prelude.{◌≡◌, Err, if◌then◌else◌};
 ghost use Rattle.template_compiler_statement_parts.specs.Parsed.{ParsedAs};
-ghost use Rattle.template_compiler_statements.specs.Reader.{tag_end};
+ghost use Rattle.template_compiler_grammar.specs.TemplateReader.{tag_end};
 ghost use Rattle.template_compiler_tokens.specs.Token.{bad_syntax};
 ghost use Rattle.template_tree.specs.Tree.{break_loop, continue_loop};
 ghost use Rattle.template_tree_statements.specs.View.{statement_of};

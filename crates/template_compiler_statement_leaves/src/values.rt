@@ -1,9 +1,9 @@
 //! Statements about values.
 ghost use Rattle.std.specs.Prelude.{◌≡◌};
-ghost use Rattle.template_compiler_expressions.specs.Reader.{expression_at};
-ghost use Rattle.template_compiler_reading.specs.Steps.{and_then};
+ghost use Rattle.template_compiler_grammar.specs.Reader.{expression_at};
+ghost use Rattle.template_compiler_tokens.specs.Steps.{and_then};
 ghost use Rattle.template_compiler_statement_parts.specs.Parsed.{ParsedAs};
-ghost use Rattle.template_compiler_statements.specs.Reader.{do_by, here, print_end};
+ghost use Rattle.template_compiler_grammar.specs.TemplateReader.{do_by, here, print_end};
 ghost use Rattle.template_tree.specs.Tree.{print};
 ghost use Rattle.template_tree_statements.specs.View.{statement_of};
 ghost use Rattle.template_tree_statements.specs.declared.statements.Stmt.TheVariants as statements;
@@ -20,7 +20,7 @@ use template_tree_statements::{Do, EmitExpr};
 /// # Errors
 ///
 /// The fault of the token that does not fit, or want of memory.
-#[tactic(auto, using(template_compiler_statement_parts::proofs::Again::print_end_again), unfolding(template_compiler_reading::specs::Steps::and_then))]
+#[tactic(auto, using(template_compiler_statement_parts::proofs::Again::print_end_again), unfolding(template_compiler_tokens::specs::Steps::and_then))]
 pub fn read_print<'source, R: ReadsExpressions>(
     alloc: Global,
     tokens: &mut TokenStream<'source>,
@@ -40,7 +40,7 @@ pub fn read_print<'source, R: ReadsExpressions>(
 /// # Errors
 ///
 /// The fault of the token that does not fit, or want of memory.
-#[tactic(auto, using(template_compiler_statement_values::proofs::Calls::call_here, template_compiler_statement_values::proofs::Calls::no_call, template_compiler_statement_parts::proofs::Again::tag_end_again), unfolding(template_compiler_reading::specs::Steps::and_then, template_compiler_statements::specs::Reader::here, template_compiler_statements::specs::Reader::here_by, template_compiler_statements::specs::Reader::do_by))]
+#[tactic(auto, using(template_compiler_statement_values::proofs::Calls::call_here, template_compiler_statement_values::proofs::Calls::no_call, template_compiler_statement_parts::proofs::Again::tag_end_again), unfolding(template_compiler_tokens::specs::Steps::and_then, template_compiler_grammar::specs::Reader::here, template_compiler_grammar::specs::Reader::here_by, template_compiler_grammar::specs::Reader::do_by))]
 pub fn read_do<'source, R: ReadsExpressions>(
     alloc: Global,
     tokens: &mut TokenStream<'source>,

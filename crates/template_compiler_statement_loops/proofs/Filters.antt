@@ -2,9 +2,9 @@
 use Rattle.std.proofs.Common.{◌≡◌, ℕ, List, Ok, refl}
 use Rattle.template_tree.specs.Tree.{Expression, Optional, absent, given}
 use Rattle.template_compiler_tokens.specs.Token.{Token}
-use Rattle.template_compiler_expressions.specs.Grammar.{IsFilterChain, chain_end, chain_more}
-use Rattle.template_compiler_expressions.specs.Reader.{filter_chain_at}
-use Rattle.template_compiler_expression_laws.proofs.Sound.{filter_chain_sound}
+use Rattle.template_compiler_grammar.specs.Grammar.{IsFilterChain, chain_end, chain_more}
+use Rattle.template_compiler_grammar.specs.Reader.{filter_chain_at}
+use Rattle.template_compiler_grammar_laws.proofs.Sound.{filter_chain_sound}
 
 none_left : {d : ℕ} {v f : Optional} {ts us : List Token} → IsFilterChain d v ts f us → (e : Expression) → v ≡ given e → f ≡ absent → ⊥
 none_left (chain_end {value = v}) e h k = cc

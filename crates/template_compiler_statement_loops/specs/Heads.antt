@@ -3,9 +3,9 @@
 use Rattle.std.specs.Prelude.{Bool, false, codes, List, Ok}
 use Rattle.template_tree.specs.Tree.{Expression, Optional, absent, given, Statement, Assignments, for_loop}
 use Rattle.template_compiler_tokens.specs.Token.{Token}
-use Rattle.template_compiler_reading.specs.Steps.{Read, and_then}
-use Rattle.template_compiler_statements.specs.Grammar.{Around, loop_around}
-use Rattle.template_compiler_statements.specs.Reader.{Here, expect_word, tag_end, targets_by, loop_filter_by, word_by, assignments_by, else_by}
+use Rattle.template_compiler_tokens.specs.Steps.{Read, and_then}
+use Rattle.template_compiler_grammar.specs.TemplateGrammar.{Around, loop_around}
+use Rattle.template_compiler_grammar.specs.TemplateReader.{Here, expect_word, tag_end, targets_by, loop_filter_by, word_by, assignments_by, else_by}
 
 -- a loop: its target, what it goes over, the condition on its items, and whether it is recursive
 abbrev pub in_head : Here → Expression → List Token → Read (Expression × Expression × Optional × Bool)

@@ -6,7 +6,7 @@ use Rattle.template_tree.specs.declared.span.Spanned.{Spanned}
 use Rattle.template_tree_statements.specs.declared.statements.EmitRaw.{EmitRaw as Text}
 use Rattle.template_tree_statements.specs.declared.statements.CallBlock.{CallBlock' as called}
 use Rattle.template_tree_statements.specs.declared.statements.Stmt.{Stmt, EmitRaw, CallBlock'}
-use Rattle.template_compiler_statements.specs.Trees.{and_statement, is_blank}
+use Rattle.template_compiler_grammar.specs.TemplateTrees.{and_statement, is_blank}
 use Rattle.template_compiler_statement_makers.specs.Listed.{statements_in}
 use Rattle.template_compiler_statement_makers.specs.Blank.{is_blank_statement}
 

@@ -1,7 +1,7 @@
 -- Texts of white space alone.
 use Rattle.std.specs.Prelude.{Bool, false}
 use Rattle.template_tree.specs.Tree.{Statement, raw}
-use Rattle.template_compiler_statements.specs.Trees.{is_blank_text}
+use Rattle.template_compiler_grammar.specs.TemplateTrees.{is_blank_text}
 
 abbrev pub is_blank_statement : Statement → Bool
 is_blank_statement (raw text) = is_blank_text text

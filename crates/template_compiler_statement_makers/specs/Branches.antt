@@ -6,7 +6,7 @@ use Rattle.template_tree.specs.View.{expression_of}
 use Rattle.template_tree.specs.declared.span.Spanned.{Spanned}
 use Rattle.template_tree_statements.specs.declared.statements.IfCond.{IfCond}
 use Rattle.template_compiler_statement_makers.specs.Listed.{statements_in}
-use Rattle.template_compiler_statements.specs.Trees.{Branches, no_branches, branches_more}
+use Rattle.template_compiler_grammar.specs.TemplateTrees.{Branches, no_branches, branches_more}
 
 -- a condition with its body; what stands for the other case comes later
 abbrev pub branch_in : Box (Spanned IfCond) → Expression × Statements

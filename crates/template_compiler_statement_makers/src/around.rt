@@ -1,7 +1,7 @@
 //! What stands around a statement.
 ghost use Rattle.std.specs.Prelude.{◌≡◌};
 ghost use Rattle.template_compiler_statement_makers.specs.Surroundings.{around_of};
-ghost use Rattle.template_compiler_statements.specs.Grammar.{block_around, loop_around, macro_around, nothing_around};
+ghost use Rattle.template_compiler_grammar.specs.TemplateGrammar.{block_around, loop_around, macro_around, nothing_around};
 
 /// What stands around a statement: a loop of the same body, a macro.
 #[derive(Clone, Copy)]

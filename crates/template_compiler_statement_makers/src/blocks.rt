@@ -1,7 +1,7 @@
 //! Blank bodies.
 ghost use Rattle.std.specs.Prelude.{◌≡◌};
 ghost use Rattle.template_compiler_statement_makers.specs.Blank.{is_blank_statement};
-ghost use Rattle.template_compiler_statements.specs.Trees.{is_blank};
+ghost use Rattle.template_compiler_grammar.specs.TemplateTrees.{is_blank};
 ghost use Rattle.template_tree_statements.specs.View.{statement_of};
 ghost use Rattle.template_compiler_statement_makers.specs.Listed.{statements_in};
 

@@ -3,7 +3,7 @@ ghost use Rattle.std.specs.Prelude.{◌≡◌, IfOk};
 ghost use Rattle.template_compiler_statement_makers.specs.Begun.{loop_head, set_block_of};
 ghost use Rattle.template_compiler_statement_makers.specs.Branches.{branch_in, branches_in};
 ghost use Rattle.template_compiler_statement_makers.specs.Listed.{statements_in};
-ghost use Rattle.template_compiler_statements.specs.Trees.{branched};
+ghost use Rattle.template_compiler_grammar.specs.TemplateTrees.{branched};
 ghost use Rattle.template_tree.specs.Tree as tree;
 ghost use Rattle.template_tree.specs.View.{expression_of};
 ghost use Rattle.template_tree_statements.specs.View.{statement_of};

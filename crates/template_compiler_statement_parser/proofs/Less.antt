@@ -1,8 +1,8 @@
 -- What is one level deeper is read with one level less.
 use Rattle.std.proofs.Common.{◌≡◌, ℕ, suc, List, ap}
 use Rattle.template_compiler_tokens.specs.Token.{Token}
-use Rattle.template_compiler_statements.specs.Grammar.{Around}
-use Rattle.template_compiler_statements.specs.Reader.{here, deeper_body, statements_at}
+use Rattle.template_compiler_grammar.specs.TemplateGrammar.{Around}
+use Rattle.template_compiler_grammar.specs.TemplateReader.{here, deeper_body, statements_at}
 
 pub body_less : (d n : ℕ) (p : Around) (ts : List Token) → d ≡ suc n → deeper_body d p ts ≡ statements_at n p ts
 unfolding deeper_body statements_at here

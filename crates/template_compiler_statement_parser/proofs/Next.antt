@@ -2,14 +2,14 @@
 use Rattle.std.proofs.Common.{◌≡◌, ℕ, true, false, if◌then◌else◌, List, [], ◌∷◌, None, Some, codes, refl, ap}
 use Rattle.template_tree.specs.Tree.{raw, print, Statements}
 use Rattle.template_compiler_tokens.specs.Token.{Token, template_data, variable_start, block_start, identifier}
-use Rattle.template_compiler_reading.specs.Steps.{and_then, goes, stops, under}
+use Rattle.template_compiler_tokens.specs.Steps.{and_then, goes, stops, under}
 use Rattle.template_compiler_stream.specs.Left.{passed}
 use Rattle.template_compiler_stream.specs.Signs.{next_word}
 use Rattle.template_compiler_stream.specs.Tags.{begins_variable_start, next_text}
 use Rattle.template_compiler_statement_parts.specs.Tags.{next_tag}
-use Rattle.template_compiler_statements.specs.Grammar.{Around}
-use Rattle.template_compiler_statements.specs.Trees.{and_statement, Branches, and_branch}
-use Rattle.template_compiler_statements.specs.Reader.{Here, begins_tag, branch_by, branch_step, opened_step, opening, print_end, statement_step}
+use Rattle.template_compiler_grammar.specs.TemplateGrammar.{Around}
+use Rattle.template_compiler_grammar.specs.TemplateTrees.{and_statement, Branches, and_branch}
+use Rattle.template_compiler_grammar.specs.TemplateReader.{Here, begins_tag, branch_by, branch_step, opened_step, opening, print_end, statement_step}
 
 -- statements
 pub text_here : (r : Here) (p : Around) (ss : Statements) (s : List ℕ) (ts : List Token) → Some s ≡ next_text ts →

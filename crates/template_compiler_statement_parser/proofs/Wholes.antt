@@ -3,16 +3,16 @@ use Rattle.std.proofs.Common.{◌≡◌, ℕ, Bool, true, false, if◌then◌els
 use Rattle.template_tree.specs.Tree.{Expression, Optional, absent, given, Arguments, Statement, Statements, for_loop, with_block, set_block, auto_escape, block, macro, call_block, break_loop}
 use Rattle.template_tree.specs.Kinds.{call_parts}
 use Rattle.template_compiler_tokens.specs.Token.{Token, bad_syntax, block_end, identifier, symbol, paren_open}
-use Rattle.template_compiler_reading.specs.Steps.{Read, and_then}
-use Rattle.template_compiler_reading.proofs.Loops.{then_goes, then_fails}
-use Rattle.template_compiler_reading.proofs.Readings.{ok_tree, ok_rest}
+use Rattle.template_compiler_tokens.specs.Steps.{Read, and_then}
+use Rattle.template_compiler_tokens.proofs.Loops.{then_goes, then_fails}
+use Rattle.template_compiler_tokens.proofs.Readings.{ok_tree, ok_rest}
 use Rattle.template_compiler_stream.specs.declared.refusal.Refusal.{Refusal}
 use Rattle.template_compiler_stream.specs.declared.refusal.Refusal.TheVariants as refusals
 use Rattle.template_compiler_stream.specs.Refusals.{Refused}
-use Rattle.template_compiler_statements.specs.Words.{is_reserved}
-use Rattle.template_compiler_statements.specs.Trees.{Parameters}
-use Rattle.template_compiler_statements.specs.Grammar.{Around, loop_around, macro_around}
-use Rattle.template_compiler_statements.specs.Reader.{Here, expect_tag, expect_word, tag_end, body_by, targets_by, target_by, begins_values, loop_filter_by, word_by, else_by, for_by, for_in, for_body, assignments_by, with_by, set_by, set_behind, set_body, autoescape_by, branch_by, filtered_body, filter_block_by, block_by, block_body, macro_by, optional_parameters_by, only_call, call_body, call_by}
+use Rattle.template_compiler_grammar.specs.TemplateWords.{is_reserved}
+use Rattle.template_compiler_grammar.specs.TemplateTrees.{Parameters}
+use Rattle.template_compiler_grammar.specs.TemplateGrammar.{Around, loop_around, macro_around}
+use Rattle.template_compiler_grammar.specs.TemplateReader.{Here, expect_tag, expect_word, tag_end, body_by, targets_by, target_by, begins_values, loop_filter_by, word_by, else_by, for_by, for_in, for_body, assignments_by, with_by, set_by, set_behind, set_body, autoescape_by, branch_by, filtered_body, filter_block_by, block_by, block_body, macro_by, optional_parameters_by, only_call, call_body, call_by}
 use Rattle.template_compiler_statement_parts.proofs.Again.{unit, again, tag_again}
 use Rattle.template_compiler_statement_loops.specs.Heads.{for_head, expression_head, filter_head, with_head, for_rest}
 use Rattle.template_compiler_statement_declarations.specs.Heads.{block_head, declared_head, macro_head, call_head, set_targets, set_block_head, set_head, set_whole, set_over, block_rest, set_rest}

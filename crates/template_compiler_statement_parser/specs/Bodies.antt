@@ -6,7 +6,7 @@ use Rattle.template_tree_statements.specs.View.{statement_of}
 use Rattle.template_tree_statements.specs.declared.statements.Stmt.{Stmt}
 use Rattle.template_compiler_statement_makers.specs.Listed.{statements_in}
 use Rattle.template_compiler_tokens.specs.Token.{Token}
-use Rattle.template_compiler_reading.specs.Steps.{Read}
+use Rattle.template_compiler_tokens.specs.Steps.{Read}
 use Rattle.template_compiler_stream.specs.declared.refusal.Refusal.{Refusal}
 use Rattle.template_compiler_statement_parts.specs.Parsed.{ParsedAs}
 

@@ -1,15 +1,15 @@
 //! Statements and their bodies: what calls itself. A body is one nesting level deeper than its statement.
 ghost use Rattle.std.specs.Prelude.{◌≡◌};
 ghost use Rattle.template_compiler_statement_parts.specs.Parsed.{ParsedAs, SteppedTo};
-ghost use Rattle.template_compiler_reading.specs.Steps.{all, and_then};
+ghost use Rattle.template_compiler_tokens.specs.Steps.{all, and_then};
 ghost use Rattle.template_compiler_statement_declarations.specs.Heads.{set_over, set_rest};
 ghost use Rattle.template_compiler_statement_makers.specs.Begun.{set_block_of};
 ghost use Rattle.template_compiler_statement_makers.specs.Branches.{branch_in, branches_in};
 ghost use Rattle.template_compiler_statement_parser.specs.Bodies.{ParsedBody, ParsedStatement};
 ghost use Rattle.template_compiler_statement_makers.specs.Surroundings.{around_of, opening_of};
 ghost use Rattle.template_compiler_stream.specs.Left.{passed};
-ghost use Rattle.template_compiler_statements.specs.Reader.{autoescape_by, block_by, branch_by, branch_step, call_by, deeper_body, else_by, expect_tag, filter_block_by, for_by, here, if_by, macro_by, opened_by, opened_step, opening, set_by, statement_step, statements_at, with_by};
-ghost use Rattle.template_compiler_statements.specs.Trees.{no_branches};
+ghost use Rattle.template_compiler_grammar.specs.TemplateReader.{autoescape_by, block_by, branch_by, branch_step, call_by, deeper_body, else_by, expect_tag, filter_block_by, for_by, here, if_by, macro_by, opened_by, opened_step, opening, set_by, statement_step, statements_at, with_by};
+ghost use Rattle.template_compiler_grammar.specs.TemplateTrees.{no_branches};
 ghost use Rattle.template_tree_statements.specs.View.{statement_of};
 ghost use Rattle.template_tree_statements.specs.declared.statements.Stmt.TheVariants as statements;
 ghost use Rattle.template_compiler_statement_makers.specs.Listed.{statements_in};
@@ -31,7 +31,7 @@ use template_tree_statements::{
 
 // A body, one nesting level deeper.
 #[cycle(statements)]
-#[tactic(auto, unfolding(template_compiler_statements::specs::Reader::deeper_body, template_compiler_statements::specs::Reader::statements_at, template_compiler_statements::specs::Reader::here))]
+#[tactic(auto, unfolding(template_compiler_grammar::specs::Reader::deeper_body, template_compiler_grammar::specs::Reader::statements_at, template_compiler_grammar::specs::Reader::here))]
 fn body<'source, R: ReadsExpressions>(
     alloc: Global,
     tokens: &mut TokenStream<'source>,
@@ -53,7 +53,7 @@ fn body<'source, R: ReadsExpressions>(
 ///
 /// The fault of the token that does not fit, or want of memory.
 #[cycle(statements)]
-#[tactic(auto, unfolding(template_compiler_statements::specs::Reader::statements_at, template_compiler_statements::specs::Reader::statements_by))]
+#[tactic(auto, unfolding(template_compiler_grammar::specs::Reader::statements_at, template_compiler_grammar::specs::Reader::statements_by))]
 pub fn read_statements<'source, R: ReadsExpressions>(
     alloc: Global,
     tokens: &mut TokenStream<'source>,
@@ -74,7 +74,7 @@ pub fn read_statements<'source, R: ReadsExpressions>(
 
 // A text, a print or a tag that begins a statement.
 #[cycle(statements)]
-#[tactic(auto, using(crate::proofs::Next::text_here, crate::proofs::Next::print_here, crate::proofs::Next::tag_here, crate::proofs::Next::nothing_here, template_compiler_statement_makers::proofs::Lists::statements_push), unfolding(template_compiler_reading::specs::Steps::under, template_compiler_statements::specs::Reader::here, template_compiler_statements::specs::Reader::here_by))]
+#[tactic(auto, using(crate::proofs::Next::text_here, crate::proofs::Next::print_here, crate::proofs::Next::tag_here, crate::proofs::Next::nothing_here, template_compiler_statement_makers::proofs::Lists::statements_push), unfolding(template_compiler_tokens::specs::Steps::under, template_compiler_grammar::specs::Reader::here, template_compiler_grammar::specs::Reader::here_by))]
 fn next_statement<'source, R: ReadsExpressions>(
     alloc: Global,
     tokens: &mut TokenStream<'source>,
@@ -105,7 +105,7 @@ fn next_statement<'source, R: ReadsExpressions>(
 
 // The statement that the word of the next tag begins.
 #[cycle(statements)]
-#[tactic(auto, using(template_compiler_statement_makers::proofs::Lists::statements_push), unfolding(template_compiler_reading::specs::Steps::under, template_compiler_statements::specs::Reader::opened_step))]
+#[tactic(auto, using(template_compiler_statement_makers::proofs::Lists::statements_push), unfolding(template_compiler_tokens::specs::Steps::under, template_compiler_grammar::specs::Reader::opened_step))]
 fn next_tag<'source, R: ReadsExpressions>(
     alloc: Global,
     tokens: &mut TokenStream<'source>,
@@ -132,7 +132,7 @@ fn next_tag<'source, R: ReadsExpressions>(
 
 // A statement, behind the word that begins it.
 #[cycle(statements)]
-#[tactic(auto, unfolding(template_compiler_statements::specs::Reader::opened_by, template_compiler_statements::specs::Reader::in_loop))]
+#[tactic(auto, unfolding(template_compiler_grammar::specs::Reader::opened_by, template_compiler_grammar::specs::Reader::in_loop))]
 fn opened<'source, R: ReadsExpressions>(
     alloc: Global,
     tokens: &mut TokenStream<'source>,
@@ -183,7 +183,7 @@ fn opened<'source, R: ReadsExpressions>(
 
 // A body, and the tag that ends it.
 #[cycle(statements)]
-#[tactic(auto, using(template_compiler_statement_parts::proofs::Again::tag_again), unfolding(template_compiler_reading::specs::Steps::and_then))]
+#[tactic(auto, using(template_compiler_statement_parts::proofs::Again::tag_again), unfolding(template_compiler_tokens::specs::Steps::and_then))]
 fn ended_body<'source, R: ReadsExpressions>(
     alloc: Global,
     tokens: &mut TokenStream<'source>,
@@ -200,7 +200,7 @@ fn ended_body<'source, R: ReadsExpressions>(
 
 // The other body, where there is one, and the tag that ends the statement.
 #[cycle(statements)]
-#[tactic(auto, using(template_compiler_statement_parts::proofs::Again::tag_again), unfolding(template_compiler_reading::specs::Steps::and_then, template_compiler_statements::specs::Reader::here, template_compiler_statements::specs::Reader::here_by, template_compiler_statements::specs::Reader::else_by))]
+#[tactic(auto, using(template_compiler_statement_parts::proofs::Again::tag_again), unfolding(template_compiler_tokens::specs::Steps::and_then, template_compiler_grammar::specs::Reader::here, template_compiler_grammar::specs::Reader::here_by, template_compiler_grammar::specs::Reader::else_by))]
 fn otherwise<'source, R: ReadsExpressions>(
     alloc: Global,
     tokens: &mut TokenStream<'source>,
@@ -237,7 +237,7 @@ fn for_loop<'source, R: ReadsExpressions>(
 }
 
 #[cycle(statements)]
-#[tactic(auto, unfolding(template_compiler_reading::specs::Steps::and_then, template_compiler_statements::specs::Reader::if_by))]
+#[tactic(auto, unfolding(template_compiler_tokens::specs::Steps::and_then, template_compiler_grammar::specs::Reader::if_by))]
 fn if_condition<'source, R: ReadsExpressions>(
     alloc: Global,
     tokens: &mut TokenStream<'source>,
@@ -294,7 +294,7 @@ fn branches<'source, R: ReadsExpressions>(
 }
 
 #[cycle(statements)]
-#[tactic(auto, using(crate::proofs::Next::branch_here, crate::proofs::Next::no_branch, template_compiler_statement_makers::proofs::Branches::branches_push), unfolding(template_compiler_reading::specs::Steps::under))]
+#[tactic(auto, using(crate::proofs::Next::branch_here, crate::proofs::Next::no_branch, template_compiler_statement_makers::proofs::Branches::branches_push), unfolding(template_compiler_tokens::specs::Steps::under))]
 fn next_branch<'source, R: ReadsExpressions>(
     alloc: Global,
     tokens: &mut TokenStream<'source>,

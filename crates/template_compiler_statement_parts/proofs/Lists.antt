@@ -4,8 +4,8 @@ use Rattle.template_tree.specs.Tree.{expressions_more, assignments_more, imports
 use Rattle.template_tree.specs.View.{expression_of, optional_in, expressions_in}
 use Rattle.template_tree_statements.specs.View.{assignments_in, imports_in}
 use Rattle.template_tree.specs.declared.expressions.Expr.{Expr}
-use Rattle.template_compiler_expressions.specs.Trees.{and_expression}
-use Rattle.template_compiler_statements.specs.Trees.{and_assignment, and_import, unpacked, together}
+use Rattle.template_compiler_grammar.specs.Trees.{and_expression}
+use Rattle.template_compiler_grammar.specs.TemplateTrees.{and_assignment, and_import, unpacked, together}
 
 pub expressions_push : (xs : List Expr) (x : Expr) → expressions_in (xs ++ x ∷ []) ≡ and_expression (expressions_in xs) (expression_of x)
 expressions_push [] x = refl

@@ -1,6 +1,6 @@
 -- What the proofs open of the reader, each for the part that it names.
-use Rattle.template_compiler_reading.specs.Steps.{and_then, under}
-use Rattle.template_compiler_statements.specs.Reader.{alias_by, block_end_by, expect_tag, import_by, missing_behind, missing_by, more_step, one_target_by, target_by, word_by}
+use Rattle.template_compiler_tokens.specs.Steps.{and_then, under}
+use Rattle.template_compiler_grammar.specs.TemplateReader.{alias_by, block_end_by, expect_tag, import_by, missing_behind, missing_by, more_step, one_target_by, target_by, word_by}
 
 unfoldable pub tag_read : Unit {0}
 unfolding and_then expect_tag

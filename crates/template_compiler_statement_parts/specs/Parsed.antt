@@ -5,11 +5,11 @@ use Rattle.template_tree.specs.Tree.{Expression}
 use Rattle.template_tree.specs.View.{expression_of}
 use Rattle.template_tree.specs.declared.expressions.Expr.{Expr}
 use Rattle.template_compiler_tokens.specs.Token.{Token, symbol, dot, identifier}
-use Rattle.template_compiler_reading.specs.Steps.{Read, Step, goes, stops, fails}
+use Rattle.template_compiler_tokens.specs.Steps.{Read, Step, goes, stops, fails}
 use Rattle.template_compiler_stream.specs.Refusals.{Refused, fault_of}
 use Rattle.template_compiler_stream.specs.declared.refusal.Refusal.{Refusal}
 use Rattle.template_compiler_stream.specs.declared.refusal.Refusal.TheVariants as refusals
-use Rattle.template_compiler_statements.specs.Reader.{path_step}
+use Rattle.template_compiler_grammar.specs.TemplateReader.{path_step}
 
 -- a result, by what contracts see of it
 abbrev pub ParsedAs : {A B : Type 0} → (B → A) → Read A → List Token → Result B Refusal → Type 0

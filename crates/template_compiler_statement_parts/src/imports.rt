@@ -1,8 +1,8 @@
 //! Imported names.
-ghost use Rattle.template_compiler_reading.specs.Steps.{and_then, all};
+ghost use Rattle.template_compiler_tokens.specs.Steps.{and_then, all};
 ghost use Rattle.template_tree.specs.Tree.{no_imports};
 ghost use Rattle.template_compiler_statement_parts.specs.Parsed.{ParsedAs, SteppedTo, ParsedInto};
-ghost use Rattle.template_compiler_statements.specs.Reader.{import_by, more_step};
+ghost use Rattle.template_compiler_grammar.specs.TemplateReader.{import_by, more_step};
 ghost use Rattle.template_tree_statements.specs.View.{imports_in};
 
 use crate::names::read_stored;
@@ -15,7 +15,7 @@ use template_tree::Expr;
 /// # Errors
 ///
 /// The fault of the token that does not fit, or want of memory.
-#[tactic(auto, unfolding(template_compiler_reading::specs::Steps::and_then))]
+#[tactic(auto, unfolding(template_compiler_tokens::specs::Steps::and_then))]
 pub fn read_imports<'source>(
     alloc: Global,
     tokens: &mut TokenStream<'source>,

@@ -1,8 +1,8 @@
 //! Names that may be stored.
 ghost use Rattle.std.specs.Prelude.{◌≡◌};
 ghost use Rattle.template_compiler_statement_parts.specs.Parsed.{Parsed};
-ghost use Rattle.template_compiler_statements.specs.Reader.{stored_by};
-ghost use Rattle.template_compiler_statements.specs.Words.{is_reserved};
+ghost use Rattle.template_compiler_grammar.specs.TemplateReader.{stored_by};
+ghost use Rattle.template_compiler_grammar.specs.TemplateWords.{is_reserved};
 
 use template_compiler_stream::{Fault, Refusal, TokenStream};
 use template_tree::Expr;

@@ -2,10 +2,10 @@
 use Rattle.std.proofs.Common.{◌≡◌, ◌∙◌, ℕ, false, List, Ok, ap}
 use Rattle.template_tree.specs.Tree.{Expression, Assignments}
 use Rattle.template_compiler_tokens.specs.Token.{Token}
-use Rattle.template_compiler_reading.specs.Steps.{and_then}
-use Rattle.template_compiler_expressions.specs.Reader.{expression_at}
-use Rattle.template_compiler_statements.specs.Reader.{assignment_by, expect_assign, here, here_by, inner_targets, target_by}
-use Rattle.template_compiler_statements.specs.Trees.{and_assignment}
+use Rattle.template_compiler_tokens.specs.Steps.{and_then}
+use Rattle.template_compiler_grammar.specs.Reader.{expression_at}
+use Rattle.template_compiler_grammar.specs.TemplateReader.{assignment_by, expect_assign, here, here_by, inner_targets, target_by}
+use Rattle.template_compiler_grammar.specs.TemplateTrees.{and_assignment}
 use Rattle.template_compiler_statement_parts.proofs.Again.{again, assign_again, unit}
 
 pub assignment_is : (left : ℕ) (gs : Assignments) (ts us vs ws : List Token) (t e : Expression) →

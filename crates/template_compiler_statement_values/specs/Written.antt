@@ -3,7 +3,7 @@ use Rattle.std.specs.Prelude.{Bool, true, false, List, [], ◌∷◌, Option, No
 use Rattle.template_tree.specs.Tree.{Expression, Arguments}
 use Rattle.template_tree.specs.View.{expression_of, expressions_in, arguments_in}
 use Rattle.template_compiler_tokens.specs.Token.{Token, symbol, dot, identifier}
-use Rattle.template_compiler_statements.specs.Trees.{Parameters as Declared}
+use Rattle.template_compiler_grammar.specs.TemplateTrees.{Parameters as Declared}
 use Rattle.template_compiler_statement_values.specs.declared.parameters.Parameters.{Parameters}
 
 abbrev pub parameters_of : Parameters → Declared

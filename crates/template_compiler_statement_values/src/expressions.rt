@@ -1,5 +1,5 @@
 //! What statements read of expressions.
-ghost use Rattle.template_compiler_expressions.specs.Reader.{condition_at, expression_at, filter_at, filter_chain_at};
+ghost use Rattle.template_compiler_grammar.specs.Reader.{condition_at, expression_at, filter_at, filter_chain_at};
 ghost use Rattle.template_compiler_statement_parts.specs.Parsed.{ParsedAs};
 ghost use Rattle.template_tree.specs.View.{expression_of, optional_in};
 

@@ -1,11 +1,11 @@
 //! The arguments that a macro or the body of a call is declared with.
 ghost use Rattle.std.specs.Prelude.{◌≡◌, [], ◌∷◌};
-ghost use Rattle.template_compiler_expressions.specs.Reader.{expression_at};
+ghost use Rattle.template_compiler_grammar.specs.Reader.{expression_at};
 ghost use Rattle.template_compiler_statement_parts.specs.Parsed.{ParsedAs, SteppedTo, ParsedInto};
 ghost use Rattle.template_compiler_statement_values.specs.Written.{parameters_of};
-ghost use Rattle.template_compiler_statements.specs.Reader.{deeper_parameters, here, is_nothing, more_step, optional_parameters_by, parameter_by, parameters_by};
-ghost use Rattle.template_compiler_statements.specs.Trees.{no_parameters};
-ghost use Rattle.template_compiler_reading.specs.Steps.{all};
+ghost use Rattle.template_compiler_grammar.specs.TemplateReader.{deeper_parameters, here, is_nothing, more_step, optional_parameters_by, parameter_by, parameters_by};
+ghost use Rattle.template_compiler_grammar.specs.TemplateTrees.{no_parameters};
+ghost use Rattle.template_compiler_tokens.specs.Steps.{all};
 
 use crate::expressions::ReadsExpressions;
 use std::alloc::Global;
@@ -54,7 +54,7 @@ pub fn read_optional_parameters<'source, R: ReadsExpressions>(
 /// # Errors
 ///
 /// The fault of the token that does not fit, or want of memory.
-#[tactic(auto, unfolding(template_compiler_statements::specs::Reader::deeper_parameters))]
+#[tactic(auto, unfolding(template_compiler_grammar::specs::Reader::deeper_parameters))]
 pub fn read_deeper_parameters<'source, R: ReadsExpressions>(
     alloc: Global,
     tokens: &mut TokenStream<'source>,

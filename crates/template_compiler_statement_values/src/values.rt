@@ -1,10 +1,10 @@
 //! Values, and targets with values.
 ghost use Rattle.std.specs.Prelude.{◌≡◌, IfOk};
 ghost use Rattle.template_compiler_statement_parts.specs.Parsed.{Parsed, ParsedAs, SteppedTo, ParsedInto};
-ghost use Rattle.template_compiler_expressions.specs.Reader.{expression_at};
-ghost use Rattle.template_compiler_statements.specs.Reader.{assignment_by, assignments_by, here, loop_filter_by, more_step, value_by, values_by};
-ghost use Rattle.template_compiler_statements.specs.Trees.{together};
-ghost use Rattle.template_compiler_reading.specs.Steps.{all};
+ghost use Rattle.template_compiler_grammar.specs.Reader.{expression_at};
+ghost use Rattle.template_compiler_grammar.specs.TemplateReader.{assignment_by, assignments_by, here, loop_filter_by, more_step, value_by, values_by};
+ghost use Rattle.template_compiler_grammar.specs.TemplateTrees.{together};
+ghost use Rattle.template_compiler_tokens.specs.Steps.{all};
 ghost use Rattle.template_tree.specs.View.{expression_of, expressions_in, optional_in};
 ghost use Rattle.template_tree_statements.specs.View.{assignments_in};
 
@@ -19,7 +19,7 @@ use template_tree::{Expr, Span};
 /// # Errors
 ///
 /// The fault of the token that does not fit, or want of memory.
-#[tactic(auto, unfolding(template_compiler_reading::specs::Steps::and_then, template_compiler_statements::specs::Reader::values_by))]
+#[tactic(auto, unfolding(template_compiler_tokens::specs::Steps::and_then, template_compiler_grammar::specs::Reader::values_by))]
 pub fn read_values<'source, R: ReadsExpressions>(
     alloc: Global,
     tokens: &mut TokenStream<'source>,

@@ -1,7 +1,7 @@
 -- What a reading in Rust answers beside the reader.
 use Rattle.std.specs.Prelude.{◌≡◌, Err}
 use Rattle.template_compiler_tokens.specs.Token.{TokenFault, bad_syntax, bad_escape, float_literal}
-use Rattle.template_compiler_reading.specs.Steps.{Read}
+use Rattle.template_compiler_tokens.specs.Steps.{Read}
 use Rattle.template_compiler_stream.specs.declared.refusal.Fault.{Fault}
 use Rattle.template_compiler_stream.specs.declared.refusal.Fault.TheVariants as faults
 use Rattle.template_compiler_stream.specs.declared.refusal.Refusal.{Refusal}

@@ -4,7 +4,7 @@ use Rattle.template_compiler_tokens.specs.Token as token
 use Rattle.template_compiler_tokens.specs.Token.{Symbol, symbol, identifier, number, variable_end, block_end}
 use Rattle.template_tree.specs.declared.operators.BinOpKind.{BinOpKind}
 use Rattle.template_tree.specs.declared.operators.CompareOpKind.{CompareOpKind}
-use Rattle.template_compiler_expressions.specs.Words as words
+use Rattle.template_compiler_grammar.specs.Words as words
 use Rattle.template_compiler_stream.specs.declared.sign.Level.{Level}
 use Rattle.template_compiler_stream.specs.declared.sign.Level.TheVariants.{Factors, Texts, Terms, Conjunction, Disjunction}
 use Rattle.template_compiler_stream.specs.declared.sign.Sign.{Sign}

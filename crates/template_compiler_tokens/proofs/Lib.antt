@@ -4,3 +4,5 @@ pub mod Views
 mod Rows
 pub mod Texts
 pub mod Decided
+pub mod Loops
+pub mod Readings

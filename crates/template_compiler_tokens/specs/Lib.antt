@@ -4,3 +4,5 @@ pub mod Left
 pub mod Numbers
 pub mod Texts
 pub mod Lexical
+pub mod Steps
+pub mod Blame

@@ -21,10 +21,10 @@ use Rattle.template_program_run.specs.Environments.{IsMade}
 use Rattle.template_program_run.specs.History.{standing}
 use Rattle.template_program_run.specs.Ids.{IsLastId}
 use Rattle.template_program_run.specs.Lines.{lines_of}
-use Rattle.template_program_outcomes.specs.declared.outcome.Outcome.{Outcome}
-use Rattle.template_program_outcomes.specs.declared.outcome.Outcome.TheVariants.{Done, Render, Context, Template}
-use Rattle.template_program_context.specs.declared.command.Command.{Command}
-use Rattle.template_program_context.specs.declared.command.Command.TheVariants as asked
+use Rattle.template_program_parts.specs.declared.outcome.Outcome.{Outcome}
+use Rattle.template_program_parts.specs.declared.outcome.Outcome.TheVariants.{Done, Render, Context, Template}
+use Rattle.template_program_parts.specs.declared.command.Command.{Command}
+use Rattle.template_program_parts.specs.declared.command.Command.TheVariants as asked
 use Rattle.template_program_run.specs.declared.request.Request.{Request}
 use Rattle.template_program_answers.specs.Law.{Answer, AreAlike, IsUnwanting, OneAnswer, TellsWant}
 use Rattle.template_program_answers.proofs.Contexts.{agree_everywhere, one_refusal, refused_or_had}

@@ -4,10 +4,10 @@ use Rattle.template_values_errors.specs.declared.ErrorKind.{ErrorKind}
 use Rattle.template_values_errors.specs.Memory.{NoMemory}
 use Rattle.template_values_model.specs.Val.{Val}
 use Rattle.template_environment.specs.Isolation.{AgreesAt}
-use Rattle.template_program_context.specs.Context.{IsContextOf}
-use Rattle.template_program_context.specs.Asked.{HasContext, IsRefusedContext}
-use Rattle.template_program_context.specs.declared.command.Command.{Command}
-use Rattle.template_program_context.specs.declared.command.Command.TheVariants as asked
+use Rattle.template_program_parts.specs.Context.{IsContextOf}
+use Rattle.template_program_parts.specs.Asked.{HasContext, IsRefusedContext}
+use Rattle.template_program_parts.specs.declared.command.Command.{Command}
+use Rattle.template_program_parts.specs.declared.command.Command.TheVariants as asked
 
 some_is : {x y : ErrorKind} → Some x ≡ Some y → x ≡ y
 some_is at = cc

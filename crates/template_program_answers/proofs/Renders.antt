@@ -8,8 +8,8 @@ use Rattle.template_process.specs.Trace.{Run, text_of}
 use Rattle.template_environment.specs.Outcomes.{IsWant, TellsFailures}
 use Rattle.template_environment.specs.Renders.{IsOver, Renders, whole, broken}
 use Rattle.template_program_run.specs.Answers.{IsOutcomeOf}
-use Rattle.template_program_outcomes.specs.declared.outcome.Outcome.{Outcome}
-use Rattle.template_program_outcomes.specs.declared.outcome.Outcome.TheVariants.{Done, Render, Context, Template}
+use Rattle.template_program_parts.specs.declared.outcome.Outcome.{Outcome}
+use Rattle.template_program_parts.specs.declared.outcome.Outcome.TheVariants.{Done, Render, Context, Template}
 use Rattle.template_program_answers.specs.Law.{TellsWant}
 
 abbrev Came : Type 0

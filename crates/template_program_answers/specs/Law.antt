@@ -9,8 +9,8 @@ use Rattle.template_environment.specs.Sources.{IsAccepted, IsRefusedWith}
 use Rattle.template_program_run.specs.Answers.{AnswersRequest}
 use Rattle.template_program_run.specs.History.{source_for}
 use Rattle.template_program_run.specs.Ids.{IsLastId}
-use Rattle.template_program_outcomes.specs.declared.outcome.Outcome.{Outcome}
-use Rattle.template_program_outcomes.specs.declared.outcome.Outcome.TheVariants.{Done, Render, Context, Template}
+use Rattle.template_program_parts.specs.declared.outcome.Outcome.{Outcome}
+use Rattle.template_program_parts.specs.declared.outcome.Outcome.TheVariants.{Done, Render, Context, Template}
 use Rattle.template_program_run.specs.declared.request.Request.{Request}
 
 -- an answer: how the request ended, with the state id that was next, what the sink had taken before and after, and how often

@@ -1,7 +1,7 @@
 //! Contexts that are read alone.
 use serde_json::{Map, Value as Json};
 use std::alloc::Global;
-use template_program_context::read_context;
+use template_program_parts::read_context;
 use template_rows::{bytes_of, expect_names, pairs_of};
 use template_values::{Error, NoRecords, Value, print_to};
 

@@ -1,7 +1,7 @@
 //! Inputs and files that are read alone, below a limit.
 use serde_json::{Map, Value as Json};
 use std::alloc::Global;
-use template_program_files::{FileFault, ReadWrapper, read_file, read_whole};
+use template_program_parts::{FileFault, ReadWrapper, read_file, read_whole};
 use template_rows::{Input, bytes_of, count_of, expect_names, kind_of, quoted, unreadable};
 use template_values_errors::{Error, ErrorKind};
 

@@ -3,7 +3,7 @@ use crate::sizes::Came;
 use anyhow::bail;
 use std::alloc::Global;
 use std::fs;
-use template_program_files::{FileFault, ReadWrapper, read_text, read_text_file};
+use template_program_parts::{FileFault, ReadWrapper, read_text, read_text_file};
 
 const PATH: &str = "sizes.txt";
 

@@ -6,10 +6,10 @@ use Rattle.template_machine_meaning.specs.Meaning.{Standing}
 use Rattle.template_environment.specs.declared.registry.Registry.{Registry}
 use Rattle.template_program_run.specs.Answers.{Rendered, TellsNames}
 use Rattle.template_program_run.specs.Ids.{IsLastId, behind_one, behind_request, last_id}
-use Rattle.template_program_outcomes.specs.declared.outcome.Outcome.{Outcome}
-use Rattle.template_program_outcomes.specs.declared.outcome.Outcome.TheVariants.{Done, Render, Context, Template}
-use Rattle.template_program_context.specs.declared.command.Command.{Command}
-use Rattle.template_program_context.specs.declared.command.Command.TheVariants as asked
+use Rattle.template_program_parts.specs.declared.outcome.Outcome.{Outcome}
+use Rattle.template_program_parts.specs.declared.outcome.Outcome.TheVariants.{Done, Render, Context, Template}
+use Rattle.template_program_parts.specs.declared.command.Command.{Command}
+use Rattle.template_program_parts.specs.declared.command.Command.TheVariants as asked
 
 last_or_not : (next : ℕ) → IsLastId next ⊎ (¬ IsLastId next)
 last_or_not next = elim (eqb_tells next last_id) [ inl same ↦ inl same.1 | inr other ↦ inr other.1 ]

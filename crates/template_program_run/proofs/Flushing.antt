@@ -2,9 +2,9 @@
 use Rattle.std.proofs.Common.{◌≡◌, ℕ, List, Option, Result, subst}
 use Rattle.std.specs.declared.io.Error.{Error}
 use Rattle.template_program_run.specs.Answers.{AnswersRequest}
-use Rattle.template_program_outcomes.specs.declared.outcome.Outcome.{Outcome}
+use Rattle.template_program_parts.specs.declared.outcome.Outcome.{Outcome}
 use Rattle.template_program_run.specs.declared.request.Request.{Request}
-use Rattle.template_program_outcomes.specs.Flushes.{flushed}
+use Rattle.template_program_parts.specs.Flushes.{flushed}
 use Rattle.template_program_run.specs.Starts.{RunsFlushed}
 
 -- the additions, the context, the first id and the count of failures are what they are called

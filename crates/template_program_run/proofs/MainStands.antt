@@ -8,15 +8,15 @@ use Rattle.template_environment.specs.Compiled.{Compiled, standing_of}
 use Rattle.template_environment.specs.Sources.{Source, tree_in}
 use Rattle.template_environment.specs.Standing.{source_at}
 use Rattle.template_environment.specs.declared.registry.Registry.{Registry}
-use Rattle.template_program_context.specs.Asked.{HasContext}
+use Rattle.template_program_parts.specs.Asked.{HasContext}
 use Rattle.template_program_run.specs.Additions.{AllAreAccepted}
 use Rattle.template_program_run.specs.Environments.{IsMade}
 use Rattle.template_program_run.specs.History.{source_for, standing}
 use Rattle.template_program_run.specs.Ids.{IsLastId}
 use Rattle.template_program_run.specs.Answers.{AnswersRequest, Does, IsTemplateOf, Rendered, definitions_of}
-use Rattle.template_program_outcomes.specs.declared.outcome.Outcome.{Outcome}
-use Rattle.template_program_context.specs.declared.command.Command.{Command}
-use Rattle.template_program_context.specs.declared.command.Command.TheVariants as asked
+use Rattle.template_program_parts.specs.declared.outcome.Outcome.{Outcome}
+use Rattle.template_program_parts.specs.declared.command.Command.{Command}
+use Rattle.template_program_parts.specs.declared.command.Command.TheVariants as asked
 use Rattle.template_program_run.specs.declared.request.Request.{Request}
 
 some_is : {s : Source} {t : Source} → Some s ≡ Some t → s ≡ t

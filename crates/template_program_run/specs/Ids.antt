@@ -1,9 +1,9 @@
 -- The state ids that a request takes.
 use Rattle.std.specs.Prelude.{◌≡◌, ℕ, ◌+◌, ◌-◌, ◌^◌, ◌==◌, if◌then◌else◌}
-use Rattle.template_program_outcomes.specs.declared.outcome.Outcome.{Outcome}
-use Rattle.template_program_outcomes.specs.declared.outcome.Outcome.TheVariants.{Context, Template}
-use Rattle.template_program_context.specs.declared.command.Command.{Command}
-use Rattle.template_program_context.specs.declared.command.Command.TheVariants as asked
+use Rattle.template_program_parts.specs.declared.outcome.Outcome.{Outcome}
+use Rattle.template_program_parts.specs.declared.outcome.Outcome.TheVariants.{Context, Template}
+use Rattle.template_program_parts.specs.declared.command.Command.{Command}
+use Rattle.template_program_parts.specs.declared.command.Command.TheVariants as asked
 
 -- the id that is never given
 abbrev pub last_id : ℕ

@@ -5,7 +5,7 @@ use Rattle.std.specs.declared.io.Error.{Error}
 use Rattle.clap.specs.Words.{Kinds, Row}
 use Rattle.template_values_modes.specs.declared.UndefinedBehavior.{UndefinedBehavior}
 use Rattle.template_values_modes.specs.declared.UndefinedBehavior.TheVariants.{Lenient}
-use Rattle.template_program_files.specs.declared.faults.FileFault.{FileFault}
+use Rattle.template_program_parts.specs.declared.faults.FileFault.{FileFault}
 use Rattle.template_program_words.specs.Reading.{ReadsWords, default_limit, parts_of}
 use Rattle.template_program_words.specs.Refusals.{RefusesWords}
 use Rattle.template_program_words.specs.declared.faults.WordsFault.{WordsFault}
@@ -13,11 +13,11 @@ use Rattle.template_program_words.specs.declared.faults.WordsFault.TheVariants.{
 use Rattle.template_program_words.specs.declared.words.Words.{Words}
 use Rattle.template_program_words.specs.declared.words.Words.TheVariants as asks
 use Rattle.template_program_run.specs.Answers.{AnswersRequest, definitions_of}
-use Rattle.template_program_outcomes.specs.declared.outcome.Outcome.{Outcome}
-use Rattle.template_program_context.specs.declared.command.Command.TheVariants as asked
+use Rattle.template_program_parts.specs.declared.outcome.Outcome.{Outcome}
+use Rattle.template_program_parts.specs.declared.command.Command.TheVariants as asked
 use Rattle.template_program_run.specs.declared.request.Request.{Request}
-use Rattle.template_program_outcomes.specs.Flushes.{flushed}
-use Rattle.template_program_outcomes.specs.Status.{IsStatusOf}
+use Rattle.template_program_parts.specs.Flushes.{flushed}
+use Rattle.template_program_parts.specs.Status.{IsStatusOf}
 use Rattle.template_program_run.specs.Status.{file_status}
 
 -- the status of words that are refused, or that ask for help

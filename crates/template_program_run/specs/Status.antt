@@ -2,8 +2,8 @@
 use Rattle.std.specs.Prelude.{ℕ}
 use Rattle.std.specs.declared.io.ErrorKind.{ErrorKind as IoKind}
 use Rattle.std.specs.declared.io.ErrorKind.TheVariants as io
-use Rattle.template_program_files.specs.declared.faults.FileFault.{FileFault}
-use Rattle.template_program_files.specs.declared.faults.FileFault.TheVariants as input
+use Rattle.template_program_parts.specs.declared.faults.FileFault.{FileFault}
+use Rattle.template_program_parts.specs.declared.faults.FileFault.TheVariants as input
 
 -- arguments that cannot be had
 abbrev pub arguments_status : IoKind → ℕ

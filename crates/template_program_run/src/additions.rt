@@ -2,7 +2,7 @@
 ghost use Rattle.std.specs.Prelude.{◌≡◌, ◌+◌, ℕ, List, [], ◌∷◌, None, IfOk, IfErr, OnOk};
 ghost use Rattle.template_environment.specs.Reading.{callback_of, registry_of};
 ghost use Rattle.template_environment.specs.Standing.{settings_of, source_at};
-ghost use Rattle.template_program_context.specs.Context.{text_pairs};
+ghost use Rattle.template_program_parts.specs.Context.{text_pairs};
 ghost use Rattle.template_program_run.specs.Additions.{AllAreAccepted, IsRefusedAddition};
 ghost use Rattle.template_program_run.specs.Environments.{IsSetFor, IsMade};
 ghost use Rattle.template_program_run.specs.Ids.{IsLastId, behind_one};

@@ -1,12 +1,12 @@
 //! The templates, the context and the request, by the words.
 ghost use Rattle.std.specs.Prelude.{◌≡◌, [], All, map, IfOk, unwrap_or, option_map, string_bytes};
-ghost use Rattle.template_program_context.specs.Context.{text_pairs};
+ghost use Rattle.template_program_parts.specs.Context.{text_pairs};
 ghost use Rattle.template_program_words.specs.Reading.{parts_of};
 ghost use Rattle.template_program_run.specs.Starts.{AreRead, AreTemplates, IsAsked, IsContextFile, IsInput, IsReadFrom, first_name, addition_names, template_names};
 
 use crate::{Command, Request};
 use std::alloc::Global;
-use template_program_files::{
+use template_program_parts::{
     FileFault, FileSystem, ReadWrapper, Reader, read_file, read_text, read_text_file,
 };
 use template_program_words::{Definition, NamesWords, RenderWords, Words};

@@ -14,5 +14,4 @@ mod starting;
 pub use request::Request;
 pub use running::run;
 pub use starting::{refuse_arguments, start};
-pub use template_program_context::Command;
-pub use template_program_outcomes::{Outcome, status_of};
+pub use template_program_parts::{Command, Outcome, status_of};

@@ -1,7 +1,7 @@
 //! The run of a request over a buffered output.
 ghost use Rattle.std.specs.Prelude.{◌≡◌, option_copied, option_map};
 ghost use Rattle.template_machine_output.specs.Wrapper.{failure_count};
-ghost use Rattle.template_program_context.specs.Context.{text_pairs};
+ghost use Rattle.template_program_parts.specs.Context.{text_pairs};
 ghost use Rattle.template_program_run.specs.Starts.{PerformsRequest, RunsFlushed};
 
 use crate::faults::write_error;
@@ -11,7 +11,7 @@ use std::alloc::Global;
 use std::io::{BufWriter, Write};
 use template_machine_ids::StateIds;
 use template_machine_output::WriteWrapper;
-use template_program_outcomes::{MEMORY, Outcome, after_flush, status_of};
+use template_program_parts::{MEMORY, Outcome, after_flush, status_of};
 use template_values_errors::{Error, ErrorKind};
 
 /// Runs the request over a buffer, which is flushed after a fault too, and tells a fault on one line.

@@ -1,6 +1,6 @@
 //! What is asked of the program.
 
-use template_program_context::Command;
+use template_program_parts::Command;
 use template_values_modes::UndefinedBehavior;
 
 /// What is asked of the program.

@@ -1,12 +1,12 @@
 //! The run of a request.
 ghost use Rattle.std.specs.Prelude.{◌≡◌, ℕ, List, Some, option_copied, string_bytes, IfOk, IfErr};
-ghost use Rattle.template_program_context.specs.Context.{text_pairs};
+ghost use Rattle.template_program_parts.specs.Context.{text_pairs};
 ghost use Rattle.template_machine_escape.specs.Rule.{IsEscapeOf};
 ghost use Rattle.template_environment.specs.Compiled.{standing_of};
 ghost use Rattle.template_environment.specs.Plain.{IsPlain, text_kept};
 ghost use Rattle.template_environment.specs.Reading.{registry_of};
 ghost use Rattle.template_environment.specs.Views.{compiled_in, environment_of as place_of, name_of, source_of};
-ghost use Rattle.template_program_context.specs.Asked.{HasContext, IsRefusedContext};
+ghost use Rattle.template_program_parts.specs.Asked.{HasContext, IsRefusedContext};
 ghost use Rattle.template_program_run.specs.Answers.{AnswersRequest, Rendered, TellsNames, definitions_of};
 ghost use Rattle.template_program_run.specs.History.{source_for, standing};
 ghost use Rattle.template_program_run.specs.Ids.{behind_one, behind_request};
@@ -19,8 +19,7 @@ use std::alloc::Global;
 use template_environment::{Environment, Template};
 use template_machine_ids::StateIds;
 use template_machine_output::Sink;
-use template_program_context::{Command, context_for};
-use template_program_outcomes::Outcome;
+use template_program_parts::{Command, Outcome, context_for};
 use template_values_core::Value;
 use template_values_errors::Error;
 

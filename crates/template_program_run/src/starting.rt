@@ -10,8 +10,7 @@ use crate::faults::{write_error, write_fault};
 use crate::inputs::{Inputs, read_inputs};
 use crate::performing::perform;
 use std::io::{self, Write};
-use template_program_files::{FileFault, FileSystem, Reader};
-use template_program_outcomes::{DONE, FILE, MEMORY, WORDS};
+use template_program_parts::{DONE, FILE, FileFault, FileSystem, MEMORY, Reader, WORDS};
 use template_program_words::{WordsFault, read_words};
 use template_values_errors::ErrorKind;
 

@@ -1,6 +1,6 @@
 use Rattle.std.proofs.Common.{◌≡◌, ◌&&◌, not, drop}
 use Rattle.std.specs.List.{list_any}
-use Rattle.template_compiler_statements.specs.Trees.{are_distinct}
+use Rattle.template_compiler_grammar.specs.TemplateTrees.{are_distinct}
 use Rattle.template_compiler_block_names.specs.Seen.{has_seen}
 use Rattle.template_compiler_block_names.specs.Waiting.{texts_in}
 use Rattle.template_compiler_block_names.proofs.distinct.are_distinct.Given as goal

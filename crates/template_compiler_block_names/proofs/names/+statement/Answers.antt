@@ -11,7 +11,7 @@ use Rattle.template_tree_statements.specs.declared.statements.WithBlock.{WithBlo
 use Rattle.template_tree.specs.declared.span.Spanned.{Spanned}
 use Rattle.template_tree_statements.specs.declared.statements.Stmt.{Stmt, size-Stmt}
 use Rattle.template_compiler_statement_makers.specs.Listed.{statements_in}
-use Rattle.template_compiler_statements.specs.Trees.{blocks_among}
+use Rattle.template_compiler_grammar.specs.TemplateTrees.{blocks_among}
 use Rattle.template_compiler_block_names.specs.Waiting.{texts_in}
 use Rattle.template_compiler_block_names.proofs.Lists.{texts_push}
 use Rattle.template_compiler_block_names.proofs.Blocks.{parts, nothing, behind, body_behind, body_end, only_blocks, else_smaller, template_blocks, for_blocks, if_blocks, with_blocks, set_blocks, escape_blocks, filter_blocks, block_blocks, macro_blocks, call_blocks}

@@ -2,7 +2,7 @@
 use Rattle.std.proofs.Common.{◌≡◌, ◌≤◌, ◌++◌, drop}
 use Rattle.template_tree_statements.specs.View.{statement_of}
 use Rattle.template_tree_statements.specs.declared.statements.Stmt.{size-Stmt}
-use Rattle.template_compiler_statements.specs.Trees.{blocks_among, blocks_in}
+use Rattle.template_compiler_grammar.specs.TemplateTrees.{blocks_among, blocks_in}
 use Rattle.template_compiler_statement_makers.specs.Listed.{statements_in}
 use Rattle.template_compiler_block_names.specs.Waiting.{texts_in}
 use Rattle.template_compiler_block_names.proofs.names.+statement.Given as goal

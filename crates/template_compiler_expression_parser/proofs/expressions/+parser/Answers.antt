@@ -2,10 +2,10 @@ use Rattle.std.proofs.Common.{codes, List, Ok, refl, sym, subst, ◌∙◌, ap, 
 use Rattle.template_tree.specs.Tree.{Argument, Expression, absent}
 use Rattle.template_tree.specs.View.{argument_of, expression_of, expressions_in}
 use Rattle.template_compiler_tokens.specs.Token.{Token, brace_open, bracket_open, paren_open}
-use Rattle.template_compiler_reading.specs.Steps.{Read}
-use Rattle.template_compiler_expressions.specs.Reader.{deeper, expression_by, operand_by, operand_step, part_step, filter_step, link_step, terms_by, items_step, nothing_deeper, pairs_step, arguments_step, primary_by}
-use Rattle.template_compiler_expressions.specs.Words.{begins_word}
-use Rattle.template_compiler_expression_laws.proofs.Sound.{operand_shrinks, part_shrinks, filter_shrinks, link_shrinks}
+use Rattle.template_compiler_tokens.specs.Steps.{Read}
+use Rattle.template_compiler_grammar.specs.Reader.{deeper, expression_by, operand_by, operand_step, part_step, filter_step, link_step, terms_by, items_step, nothing_deeper, pairs_step, arguments_step, primary_by}
+use Rattle.template_compiler_grammar.specs.Words.{begins_word}
+use Rattle.template_compiler_grammar_laws.proofs.Sound.{operand_shrinks, part_shrinks, filter_shrinks, link_shrinks}
 use Rattle.template_compiler_stream.specs.Signs.{begins_symbol, level_of}
 use Rattle.template_compiler_expression_parts.specs.Parsed.{Parsed, ParsedAs, RefusedStep, paired_in, unnamed_by, written_in}
 use Rattle.template_compiler_expression_parts.proofs.Nothing.{no_bracket_opens, no_step, not_named}

@@ -1,10 +1,10 @@
 use Rattle.std.proofs.Common.{◌≡◌, ℕ, ◌+◌, ◌*◌, length}
 use Rattle.template_tree.specs.Tree.{no_links}
 use Rattle.template_tree.specs.View.{expression_of, expressions_in, links_in}
-use Rattle.template_compiler_expressions.specs.Reader.{deeper, expression_by, operand_by, operand_step, part_step, filter_step, link_step, terms_by, items_step, pairs_step, arguments_step}
-use Rattle.template_compiler_expressions.specs.Trees.{nothing_paired, nothing_written}
-use Rattle.template_compiler_expressions.specs.Words.{Level, factors, texts, terms, conjunction, disjunction}
-use Rattle.template_compiler_reading.specs.Steps.{all}
+use Rattle.template_compiler_grammar.specs.Reader.{deeper, expression_by, operand_by, operand_step, part_step, filter_step, link_step, terms_by, items_step, pairs_step, arguments_step}
+use Rattle.template_compiler_grammar.specs.Trees.{nothing_paired, nothing_written}
+use Rattle.template_compiler_grammar.specs.Words.{Level, factors, texts, terms, conjunction, disjunction}
+use Rattle.template_compiler_tokens.specs.Steps.{all}
 use Rattle.template_compiler_stream.specs.Signs.{level_of}
 use Rattle.template_compiler_expression_parts.specs.Parsed.{paired_in, written_in}
 use Rattle.template_compiler_expression_parser.proofs.expressions.+parser.Given as goal

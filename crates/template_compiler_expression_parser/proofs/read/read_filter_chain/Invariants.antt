@@ -1,7 +1,7 @@
 use Rattle.std.proofs.Common.{◌≡◌, length}
 use Rattle.template_tree.specs.View.{optional_in}
-use Rattle.template_compiler_expressions.specs.Reader.{deeper, chain_step}
-use Rattle.template_compiler_reading.specs.Steps.{all}
+use Rattle.template_compiler_grammar.specs.Reader.{deeper, chain_step}
+use Rattle.template_compiler_tokens.specs.Steps.{all}
 use Rattle.template_compiler_expression_parser.proofs.read.read_filter_chain.Given as goal
 
 abbrev pub invariant-loop-alloc : goal.invariant-loop-alloc

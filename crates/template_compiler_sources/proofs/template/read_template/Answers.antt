@@ -1,7 +1,7 @@
 use Rattle.std.proofs.Common.{rules, ◌≡◌, false, sym, ◌∙◌}
 use Rattle.template_compiler_block_names.specs.Waiting.{texts_in}
 use Rattle.template_compiler_statement_makers.specs.Listed.{statements_in}
-use Rattle.template_compiler_statements.specs.Trees.{are_distinct, blocks_among}
+use Rattle.template_compiler_grammar.specs.TemplateTrees.{are_distinct, blocks_among}
 use Rattle.template_compiler_sources.proofs.Sources.{whole_twice}
 use Rattle.template_compiler_sources.proofs.template.read_template.Goals as goal
 

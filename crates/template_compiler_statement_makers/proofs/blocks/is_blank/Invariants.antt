@@ -1,5 +1,5 @@
 use Rattle.std.proofs.Common.{◌≡◌, drop}
-use Rattle.template_compiler_statements.specs.Trees.{is_blank}
+use Rattle.template_compiler_grammar.specs.TemplateTrees.{is_blank}
 use Rattle.template_compiler_statement_makers.specs.Listed.{statements_in}
 use Rattle.template_compiler_statement_makers.proofs.blocks.is_blank.Given as goal
 

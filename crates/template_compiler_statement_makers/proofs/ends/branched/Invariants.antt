@@ -1,5 +1,5 @@
 use Rattle.std.proofs.Common.{◌≡◌, vec_len}
-use Rattle.template_compiler_statements.specs.Trees.{branched}
+use Rattle.template_compiler_grammar.specs.TemplateTrees.{branched}
 use Rattle.template_compiler_statement_makers.specs.Listed.{statements_in}
 use Rattle.template_compiler_statement_makers.specs.Branches.{branches_in}
 use Rattle.template_compiler_statement_makers.proofs.ends.branched.Given as goal

@@ -1,9 +1,9 @@
 use Rattle.std.proofs.Common.{rules, ◌-◌, Ok, codes, refl, sym, ap, ◌∙◌, subst, arith}
 use Rattle.template_tree.specs.Tree.{with_block, auto_escape, macro, call_block}
-use Rattle.template_compiler_statements.specs.Grammar.{macro_around}
-use Rattle.template_compiler_statements.specs.Reader.{autoescape_by, block_by, branch_by, branch_step, call_by, filter_block_by, filtered_body, for_by, here, here_by, macro_by, set_by, statement_step, statements_at, statements_by, with_by}
+use Rattle.template_compiler_grammar.specs.TemplateGrammar.{macro_around}
+use Rattle.template_compiler_grammar.specs.TemplateReader.{autoescape_by, block_by, branch_by, branch_step, call_by, filter_block_by, filtered_body, for_by, here, here_by, macro_by, set_by, statement_step, statements_at, statements_by, with_by}
 use Rattle.template_compiler_stream.specs.Refusals.{Refused}
-use Rattle.template_compiler_statement_laws.proofs.Sound.{next_statement_takes, next_branch_takes}
+use Rattle.template_compiler_grammar_laws.proofs.TemplatesSound.{next_statement_takes, next_branch_takes}
 use Rattle.template_compiler_statement_parts.proofs.Rounds.{rounds_end, rounds_go, rounds_refused}
 use Rattle.template_compiler_statement_makers.specs.Surroundings.{around_of}
 use Rattle.template_compiler_statement_parser.specs.Bodies.{ParsedBody}
@@ -13,7 +13,7 @@ use Rattle.template_compiler_statement_parser.proofs.Wholes.{autoescape_whole, b
 use Rattle.template_compiler_statement_declarations.specs.Heads.{block_rest, set_over, set_rest}
 use Rattle.template_compiler_statement_loops.specs.Heads.{for_rest}
 use Rattle.template_compiler_statement_makers.specs.Begun.{set_block_of}
-use Rattle.template_compiler_reading.proofs.Loops.{then_goes}
+use Rattle.template_compiler_tokens.proofs.Loops.{then_goes}
 use Rattle.template_tree_statements.specs.View.{statement_of}
 use Rattle.template_tree_statements.specs.declared.statements.Stmt.TheVariants.{Block}
 use Rattle.template_compiler_statement_parser.proofs.Next.{tag_here}

@@ -1,9 +1,9 @@
 use Rattle.std.proofs.Common.{◌≡◌, ◌+◌, ◌*◌, length}
 use Rattle.template_tree.specs.Tree.{no_statements}
 use Rattle.template_compiler_statement_makers.specs.Listed.{statements_in}
-use Rattle.template_compiler_reading.specs.Steps.{all}
-use Rattle.template_compiler_statements.specs.Reader.{here, statement_step, branch_step}
-use Rattle.template_compiler_statements.specs.Trees.{no_branches}
+use Rattle.template_compiler_tokens.specs.Steps.{all}
+use Rattle.template_compiler_grammar.specs.TemplateReader.{here, statement_step, branch_step}
+use Rattle.template_compiler_grammar.specs.TemplateTrees.{no_branches}
 use Rattle.template_compiler_statement_makers.specs.Surroundings.{around_of}
 use Rattle.template_compiler_statement_makers.specs.Branches.{branches_in}
 use Rattle.template_compiler_statement_parser.proofs.statements.+statements.Given as goal

@@ -1,7 +1,7 @@
 use Rattle.std.proofs.Common.{◌≡◌, refl, sym, ◌∙◌}
 use Rattle.template_tree_statements.specs.View.{imports_in}
-use Rattle.template_compiler_statements.specs.Reader.{more_step, import_by}
-use Rattle.template_compiler_statement_laws.proofs.Sound.{next_import_takes}
+use Rattle.template_compiler_grammar.specs.TemplateReader.{more_step, import_by}
+use Rattle.template_compiler_grammar_laws.proofs.TemplatesSound.{next_import_takes}
 use Rattle.template_compiler_statement_parts.proofs.Rounds.{rounds_end, rounds_go, rounds_refused}
 use Rattle.template_compiler_statement_parts.proofs.imports.all_imported.Goals as goal
 

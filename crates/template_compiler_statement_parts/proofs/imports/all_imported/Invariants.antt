@@ -1,7 +1,7 @@
 use Rattle.std.proofs.Common.{◌≡◌, length}
 use Rattle.template_tree_statements.specs.View.{imports_in}
-use Rattle.template_compiler_reading.specs.Steps.{all}
-use Rattle.template_compiler_statements.specs.Reader.{more_step, import_by}
+use Rattle.template_compiler_tokens.specs.Steps.{all}
+use Rattle.template_compiler_grammar.specs.TemplateReader.{more_step, import_by}
 use Rattle.template_compiler_statement_parts.proofs.imports.all_imported.Given as goal
 
 abbrev pub invariant-loop-refusal : goal.invariant-loop-refusal

@@ -1,7 +1,7 @@
 use Rattle.std.proofs.Common.{◌≡◌, ◌-◌, refl, sym, ◌∙◌, subst, arith}
 use Rattle.template_tree.specs.View.{expressions_in}
-use Rattle.template_compiler_statements.specs.Reader.{more_step, one_target_by, inner_targets, targets_by}
-use Rattle.template_compiler_statement_laws.proofs.Sound.{next_target_takes}
+use Rattle.template_compiler_grammar.specs.TemplateReader.{more_step, one_target_by, inner_targets, targets_by}
+use Rattle.template_compiler_grammar_laws.proofs.TemplatesSound.{next_target_takes}
 use Rattle.template_compiler_statement_parts.specs.Parsed.{Parsed}
 use Rattle.template_compiler_statement_parts.proofs.Standing.{inner_less}
 use Rattle.template_compiler_statement_parts.proofs.Rounds.{rounds_end, rounds_go, rounds_refused}

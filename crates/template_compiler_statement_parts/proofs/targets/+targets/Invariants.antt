@@ -1,7 +1,7 @@
 use Rattle.std.proofs.Common.{◌≡◌, ◌+◌, ◌*◌, length}
 use Rattle.template_tree.specs.View.{expressions_in}
-use Rattle.template_compiler_reading.specs.Steps.{all}
-use Rattle.template_compiler_statements.specs.Reader.{more_step, one_target_by, inner_targets}
+use Rattle.template_compiler_tokens.specs.Steps.{all}
+use Rattle.template_compiler_grammar.specs.TemplateReader.{more_step, one_target_by, inner_targets}
 use Rattle.template_compiler_statement_parts.proofs.targets.+targets.Given as goal
 
 abbrev pub decreases-read_target : goal.decreases-read_target

@@ -1,7 +1,7 @@
 use Rattle.std.proofs.Common.{◌≡◌, refl, sym, ◌∙◌}
 use Rattle.template_tree.specs.View.{expression_of}
-use Rattle.template_compiler_statements.specs.Reader.{path_step}
-use Rattle.template_compiler_statement_laws.proofs.Sound.{path_takes}
+use Rattle.template_compiler_grammar.specs.TemplateReader.{path_step}
+use Rattle.template_compiler_grammar_laws.proofs.TemplatesSound.{path_takes}
 use Rattle.template_compiler_statement_parts.proofs.Standing.{path_on}
 use Rattle.template_compiler_statement_parts.proofs.Rounds.{rounds_end}
 use Rattle.template_compiler_statement_parts.proofs.targets.read_path.Goals as goal

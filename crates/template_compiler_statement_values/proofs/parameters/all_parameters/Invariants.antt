@@ -1,8 +1,8 @@
 use Rattle.std.proofs.Common.{◌≡◌, length}
 use Rattle.template_compiler_statement_values.specs.Written.{parameters_of}
-use Rattle.template_compiler_reading.specs.Steps.{all}
-use Rattle.template_compiler_expressions.specs.Reader.{expression_at}
-use Rattle.template_compiler_statements.specs.Reader.{more_step, parameter_by}
+use Rattle.template_compiler_tokens.specs.Steps.{all}
+use Rattle.template_compiler_grammar.specs.Reader.{expression_at}
+use Rattle.template_compiler_grammar.specs.TemplateReader.{more_step, parameter_by}
 use Rattle.template_compiler_statement_values.proofs.parameters.all_parameters.Given as goal
 
 abbrev pub invariant-loop-refusal : goal.invariant-loop-refusal

@@ -1,7 +1,7 @@
 use Rattle.std.proofs.Common.{◌≡◌, refl, sym, ◌∙◌}
 use Rattle.template_tree_statements.specs.View.{assignments_in}
-use Rattle.template_compiler_statements.specs.Reader.{more_step, assignment_by, here}
-use Rattle.template_compiler_statement_laws.proofs.Sound.{next_assignment_takes}
+use Rattle.template_compiler_grammar.specs.TemplateReader.{more_step, assignment_by, here}
+use Rattle.template_compiler_grammar_laws.proofs.TemplatesSound.{next_assignment_takes}
 use Rattle.template_compiler_statement_parts.proofs.Rounds.{rounds_end, rounds_go, rounds_refused}
 use Rattle.template_compiler_statement_values.proofs.values.all_assignments.Goals as goal
 

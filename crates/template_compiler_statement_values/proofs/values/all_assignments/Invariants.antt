@@ -1,7 +1,7 @@
 use Rattle.std.proofs.Common.{◌≡◌, length}
 use Rattle.template_tree_statements.specs.View.{assignments_in}
-use Rattle.template_compiler_reading.specs.Steps.{all}
-use Rattle.template_compiler_statements.specs.Reader.{more_step, assignment_by, here}
+use Rattle.template_compiler_tokens.specs.Steps.{all}
+use Rattle.template_compiler_grammar.specs.TemplateReader.{more_step, assignment_by, here}
 use Rattle.template_compiler_statement_values.proofs.values.all_assignments.Given as goal
 
 abbrev pub invariant-loop-refusal : goal.invariant-loop-refusal

@@ -1,8 +1,8 @@
 use Rattle.std.proofs.Common.{◌≡◌, refl, sym, ◌∙◌}
 use Rattle.template_tree.specs.View.{expressions_in}
-use Rattle.template_compiler_expressions.specs.Reader.{expression_at}
-use Rattle.template_compiler_statements.specs.Reader.{more_step, value_by}
-use Rattle.template_compiler_statement_laws.proofs.Sound.{next_value_takes}
+use Rattle.template_compiler_grammar.specs.Reader.{expression_at}
+use Rattle.template_compiler_grammar.specs.TemplateReader.{more_step, value_by}
+use Rattle.template_compiler_grammar_laws.proofs.TemplatesSound.{next_value_takes}
 use Rattle.template_compiler_statement_parts.proofs.Rounds.{rounds_end, rounds_go, rounds_refused}
 use Rattle.template_compiler_statement_values.proofs.values.all_values.Goals as goal
 

@@ -1,7 +1,7 @@
 use Rattle.std.proofs.Common.{◌≡◌, ℕ, List, None, take}
 use Rattle.template_environment.specs.Reading.{callback_of, registry_of}
 use Rattle.template_environment.specs.Standing.{settings_of, source_at}
-use Rattle.template_program_context.specs.Context.{text_pairs}
+use Rattle.template_program_parts.specs.Context.{text_pairs}
 use Rattle.template_program_run.specs.Additions.{AllAreAccepted}
 use Rattle.template_program_run.specs.Environments.{IsSetFor}
 use Rattle.template_program_run.specs.History.{source_standing}

@@ -1,6 +1,6 @@
 -- The texts so far are those of the definitions so far.
 use Rattle.std.proofs.Common.{◌≡◌, map, take}
-use Rattle.template_program_context.specs.Context.{text_pairs}
+use Rattle.template_program_parts.specs.Context.{text_pairs}
 use Rattle.template_program_words.specs.Reading.{parts_of}
 use Rattle.template_program_run.proofs.inputs.owned_definitions.Given as goal
 

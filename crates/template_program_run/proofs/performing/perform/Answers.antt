@@ -1,7 +1,7 @@
 -- The buffer begins empty over the output.
 use Rattle.std.proofs.Common.{◌≡◌, ◌∙◌, [], ap, ap₂, inr, List, ℕ, Option, subst, option_map}
 use Rattle.std.specs.Io.KnownBytes.{append_known}
-use Rattle.template_program_context.specs.Context.{text_pairs}
+use Rattle.template_program_parts.specs.Context.{text_pairs}
 use Rattle.template_program_run.specs.Starts.{RunsFlushed}
 use Rattle.template_program_run.proofs.performing.perform.Goals as goal
 

@@ -1,5 +1,5 @@
 use Rattle.std.proofs.Common.{ap}
-use Rattle.template_program_context.specs.Context.{text_pairs}
+use Rattle.template_program_parts.specs.Context.{text_pairs}
 use Rattle.template_program_run.proofs.Flushing.{runs_flushed}
 use Rattle.template_program_run.proofs.performing.run_flushed.Goals as goal
 

@@ -3,9 +3,9 @@ use Rattle.template_machine_escape.specs.Rule.{IsEscapeOf}
 use Rattle.template_environment.specs.Compiled.{standing_of}
 use Rattle.template_environment.specs.Reading.{registry_of}
 use Rattle.template_environment.specs.Views.{compiled_in, environment_of, source_of}
-use Rattle.template_program_context.specs.Context.{text_pairs}
+use Rattle.template_program_parts.specs.Context.{text_pairs}
 use Rattle.template_program_run.specs.Environments.{IsMade}
-use Rattle.template_program_context.specs.declared.command.Command.TheVariants as asked
+use Rattle.template_program_parts.specs.declared.command.Command.TheVariants as asked
 use Rattle.template_program_run.proofs.Counting.{one_more, rendered_counts, told_counts}
 use Rattle.template_program_run.proofs.MainStands.{answers_done, rendered_does}
 use Rattle.template_program_run.proofs.running.run.Goals as goal

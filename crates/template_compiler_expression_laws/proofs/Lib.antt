@@ -1,4 +1,0 @@
-pub mod Stops
-pub mod Complete
-pub mod Sound
-pub mod Laws

@@ -1,4 +1,0 @@
-pub mod Ranks
-pub mod Opens
-pub mod Shrinks
-mod Rows

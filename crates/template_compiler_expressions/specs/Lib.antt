@@ -1,5 +1,0 @@
-pub mod Words
-pub mod Trees
-pub mod Grammar
-pub mod Ends
-pub mod Reader

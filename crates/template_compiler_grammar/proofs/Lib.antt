@@ -1,0 +1,6 @@
+pub mod Ranks
+pub mod Opens
+pub mod Shrinks
+mod Rows
+pub mod TemplateShrinks
+mod TemplateRows

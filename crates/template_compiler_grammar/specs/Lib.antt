@@ -1,0 +1,9 @@
+pub mod Words
+pub mod Trees
+pub mod Grammar
+pub mod Ends
+pub mod Reader
+pub mod TemplateWords
+pub mod TemplateTrees
+pub mod TemplateGrammar
+pub mod TemplateReader

@@ -1,0 +1,6 @@
+use Rattle.template_compiler_grammar_laws.proofs.TemplatesComplete.{template_complete}
+use Rattle.template_compiler_grammar_laws.proofs.TemplatesSound.{template_sound, template_blamed}
+use Rattle.template_compiler_grammar_laws.proofs.templates.reads_the_grammar.Goals as goal
+
+pub returns : goal.returns
+returns c = record { complete = template_complete; sound = template_sound; blamed = template_blamed }

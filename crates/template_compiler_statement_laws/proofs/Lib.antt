@@ -1,3 +1,0 @@
-pub mod Complete
-pub mod Sound
-pub mod Laws

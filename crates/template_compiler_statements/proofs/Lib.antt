@@ -1,2 +1,0 @@
-pub mod Shrinks
-mod Rows

@@ -1,4 +1,0 @@
-pub mod Words
-pub mod Trees
-pub mod Grammar
-pub mod Reader

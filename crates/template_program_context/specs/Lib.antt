@@ -1,3 +1,0 @@
-pub mod Context
-pub mod Entries
-pub mod Asked

@@ -1,4 +1,0 @@
-pub mod Answered
-pub mod Faults
-pub mod Reading
-pub mod Wrapper

@@ -1,0 +1,9 @@
+pub mod Answered
+pub mod Faults
+pub mod Reading
+pub mod Wrapper
+pub mod Context
+pub mod Entries
+pub mod Asked
+pub mod Status
+pub mod Flushes
