@@ -1,11 +1,11 @@
 -- What contracts see of a compiled template.
 use Rattle.std.specs.Prelude.{ℕ, ◌<◌, ◌^◌, Bool, false, List, length}
-use Rattle.template_values_modes.specs.declared.AutoEscape.{AutoEscape}
+use Rattle.template_values_errors.specs.declared.modes.AutoEscape.{AutoEscape}
 use Rattle.template_code.specs.Code.{Code}
 use Rattle.template_compiler_codegen.specs.Statements.{template_code}
 use Rattle.template_compiler_runnable.specs.Running.{statements_run}
 use Rattle.template_compiler_syntax.specs.Syntax.{IsUsable}
-use Rattle.template_machine_escape.specs.Rule.{IsEscapeOf}
+use Rattle.template_machine_writers.specs.Rule.{IsEscapeOf}
 use Rattle.template_machine_meaning.specs.Meaning.{Standing}
 use Rattle.template_compiled.specs.Sources.{Source, HasTree, tree_in, escaping_as}
 

@@ -2,7 +2,7 @@
 use Rattle.std.specs.Prelude.{◌≡◌, ℕ, ◌⊎◌, List, [], ◌∷◌, Result, Ok, Err}
 use Rattle.template_values_errors.specs.declared.ErrorKind.{ErrorKind}
 use Rattle.template_values_errors.specs.declared.ErrorKind.TheVariants.{SyntaxError}
-use Rattle.template_values_modes.specs.declared.AutoEscape.{AutoEscape}
+use Rattle.template_values_errors.specs.declared.modes.AutoEscape.{AutoEscape}
 use Rattle.template_tree.specs.Tree.{Statements, no_statements, template}
 use Rattle.template_walk.specs.Runnable.{IsRunnableTemplate}
 use Rattle.template_compiler_tokens.specs.Token.{TokenFault}
@@ -11,8 +11,8 @@ use Rattle.template_compiler_segments.proofs.Theorems.{some_tokens}
 use Rattle.template_compiler_grammar.specs.TemplateReader.{template_of}
 use Rattle.template_compiler_sources.specs.Source.{IsSource, RefusesSource}
 use Rattle.template_compiler_emission.specs.Puts.{NoRoom}
-use Rattle.template_machine_escape.specs.declared.EscapeRule.{EscapeRule}
-use Rattle.template_machine_escape.specs.declared.EscapeRule.TheVariants.{Fixed}
+use Rattle.template_machine_writers.specs.declared.escape.EscapeRule.{EscapeRule}
+use Rattle.template_machine_writers.specs.declared.escape.EscapeRule.TheVariants.{Fixed}
 use Rattle.template_compiled.specs.declared.config.TemplateConfig.{TemplateConfig}
 
 -- a text, the syntax that it is read under, and the rule that gives the escape

@@ -8,7 +8,7 @@ ghost use Rattle.template_tree_statements.specs.View.{statement_of};
 ghost use Rattle.template_code.specs.Listing.{code_in};
 ghost use Rattle.template_compiler_syntax.specs.Syntax.{IsUsable};
 ghost use Rattle.template_compiler_sources.specs.Source.{IsSource};
-ghost use Rattle.template_machine_escape.specs.Rule.{IsEscapeOf};
+ghost use Rattle.template_machine_writers.specs.Rule.{IsEscapeOf};
 ghost use Rattle.template_compiled.specs.Compiled.{IsFaithful, code_for, escaped_as};
 ghost use Rattle.template_names.specs.Names.{IsTold};
 ghost use Rattle.template_names_undeclared.specs.Found.{Adds, AddsSome};
@@ -27,11 +27,10 @@ use template_compiler_runnable::is_runnable;
 use template_compiler_sources::parse;
 use template_compiler_statement_codegen::compile_template;
 use template_compiler_syntax::SyntaxConfig;
-use template_machine_escape::EscapeRule;
+use template_machine_writers::EscapeRule;
 use template_names_undeclared::{add_undeclared, find_undeclared};
 use template_tree_statements::Stmt;
-use template_values_errors::{Error, ErrorKind};
-use template_values_modes::AutoEscape;
+use template_values_errors::{AutoEscape, Error, ErrorKind};
 
 /// A template whose source was accepted: its code, and the escape of its name. A contract sees both, with the name,
 /// the source and what it was read under.

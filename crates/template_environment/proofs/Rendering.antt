@@ -2,7 +2,7 @@
 use Rattle.std.proofs.Common.{◌≡◌, ℕ, false, true, List, Option, None, Some, Ok, Err, refl, subst, ◌∙◌}
 use Rattle.std.specs.Option.{option_map}
 use Rattle.template_values_errors.specs.declared.ErrorKind.{ErrorKind}
-use Rattle.template_values_modes.specs.declared.UndefinedBehavior.{UndefinedBehavior}
+use Rattle.template_values_errors.specs.declared.modes.UndefinedBehavior.{UndefinedBehavior}
 use Rattle.template_values_model.specs.Val.{Val}
 use Rattle.template_process.specs.Approximants.{IsFinished}
 use Rattle.template_process.specs.Fuel.{under}

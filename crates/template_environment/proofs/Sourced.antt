@@ -1,10 +1,10 @@
 -- From the render of a template of its own to that of its source.
 use Rattle.std.proofs.Common.{◌≡◌, ◌∙◌, ℕ, List, Option, Result, ap, subst}
 use Rattle.template_values_errors.specs.declared.ErrorKind.{ErrorKind}
-use Rattle.template_values_modes.specs.declared.AutoEscape.{AutoEscape}
+use Rattle.template_values_errors.specs.declared.modes.AutoEscape.{AutoEscape}
 use Rattle.template_values_model.specs.Val.{Val}
-use Rattle.template_machine_escape.specs.Rule.{IsEscapeOf}
-use Rattle.template_machine_escape.proofs.OneRule.{one_escape}
+use Rattle.template_machine_writers.specs.Rule.{IsEscapeOf}
+use Rattle.template_machine_writers.proofs.OneRule.{one_escape}
 use Rattle.template_machine_meaning.specs.Isolation.{IsolatesNames}
 use Rattle.template_compiled.specs.Compiled.{Compiled}
 use Rattle.template_compiled.specs.Sources.{Source, read_by, tree_in}

@@ -1,7 +1,7 @@
 -- The names of a context that can matter to a render of a template.
 use Rattle.std.specs.Prelude.{ℕ, List, Option, IsTrue, String}
 use Rattle.std.specs.BTreeSet.{BTreeSet, contains_text}
-use Rattle.template_values_modes.specs.declared.AutoEscape.{AutoEscape}
+use Rattle.template_values_errors.specs.declared.modes.AutoEscape.{AutoEscape}
 use Rattle.template_values_model.specs.Val.{Val}
 use Rattle.template_tree.specs.Tree.{Statements}
 use Rattle.template_process.specs.Fuel.{IsSameRun, under}

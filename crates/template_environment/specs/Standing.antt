@@ -1,10 +1,10 @@
 -- What stands in an environment, and what it means.
 use Rattle.std.specs.Prelude.{ℕ, List, Option, None, codes}
 use Rattle.std.specs.Option.{option_map}
-use Rattle.template_values_modes.specs.declared.UndefinedBehavior.{UndefinedBehavior}
-use Rattle.template_values_modes.specs.declared.UndefinedBehavior.TheVariants.{Lenient}
+use Rattle.template_values_errors.specs.declared.modes.UndefinedBehavior.{UndefinedBehavior}
+use Rattle.template_values_errors.specs.declared.modes.UndefinedBehavior.TheVariants.{Lenient}
 use Rattle.template_compiler_syntax.specs.Syntax.{Syntax}
-use Rattle.template_machine_escape.specs.declared.EscapeRule.{EscapeRule}
+use Rattle.template_machine_writers.specs.declared.escape.EscapeRule.{EscapeRule}
 use Rattle.template_machine_meaning.specs.Meaning.{Setting}
 use Rattle.template_machine_renders.specs.Programs as units
 use Rattle.template_compiled.specs.Compiled.{Compiled, code_for, standing_of}

@@ -1,6 +1,6 @@
 -- What contracts see of a state.
 use Rattle.std.specs.Prelude.{ℕ, List, [], Option, codes}
-use Rattle.template_values_modes.specs.declared.AutoEscape.{AutoEscape}
+use Rattle.template_values_errors.specs.declared.modes.AutoEscape.{AutoEscape}
 use Rattle.template_machine_meaning.specs.World.{World}
 use Rattle.template_environment.specs.Renderings.{left_of, set_of}
 use Rattle.template_environment.specs.declared.environment.Environment.{Environment}

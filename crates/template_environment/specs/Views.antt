@@ -1,6 +1,6 @@
 -- What contracts see of a template to be rendered, and of what a render leaves.
 use Rattle.std.specs.Prelude.{ℕ, List, Option, string_bytes}
-use Rattle.template_values_modes.specs.declared.AutoEscape.{AutoEscape}
+use Rattle.template_values_errors.specs.declared.modes.AutoEscape.{AutoEscape}
 use Rattle.template_values_model.specs.Val.{Val}
 use Rattle.template_process.specs.Trace.{Run}
 use Rattle.template_machine_meaning.specs.World.{World}

@@ -7,7 +7,7 @@ ghost use Rattle.std.specs.List.Sorted.{IsStrictlySortedBy};
 ghost use Rattle.std.specs.Ordering.{nat_cmp};
 ghost use Rattle.template_values_errors.specs.Memory.{NoMemory};
 ghost use Rattle.template_compiler_syntax.specs.Syntax.{default_syntax};
-ghost use Rattle.template_machine_escape.specs.Rule.{IsEscapeOf};
+ghost use Rattle.template_machine_writers.specs.Rule.{IsEscapeOf};
 ghost use Rattle.template_compiled.specs.Compiled.{IsFaithful};
 ghost use Rattle.template_compiled.specs.Sources.{IsAccepted, IsRefusedWith};
 ghost use Rattle.template_compiled.specs.Plain.{IsPlain, text_kept};
@@ -22,12 +22,10 @@ use std::alloc::Global;
 use std::borrow::CowStr;
 use template_compiled::{CompiledTemplate, CompiledTemplates, TemplateConfig};
 use template_compiler_syntax::SyntaxConfig;
-use template_machine_escape::{AutoEscapeRule, EscapeRule, NoRule};
-use template_machine_ids::StateIds;
+use template_machine_writers::{AutoEscapeRule, EscapeRule, NoRule, StateIds};
 use template_machine_meaning::isolation;
 use template_values_core::Value;
-use template_values_errors::{Error, ErrorKind};
-use template_values_modes::{AutoEscape, UndefinedBehavior};
+use template_values_errors::{AutoEscape, Error, ErrorKind, UndefinedBehavior};
 
 // The deepest that a render may be.
 const MAX_RECURSION: usize = 500;

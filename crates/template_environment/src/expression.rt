@@ -16,15 +16,13 @@ use crate::registry::Registry;
 use std::borrow::CowStr;
 use std::collections::BTreeSet;
 use template_compiled::CompiledExpression;
-use template_machine_escape::{AutoEscapeRule, NoRule};
-use template_machine_ids::StateIds;
+use template_machine_writers::{AutoEscapeRule, NoRule, StateIds};
 use template_machine_meaning::expression_isolation;
 use template_machine_output::NullWriter;
 use template_machine_renders::run_expression;
 use template_machine_state::State as MachineState;
 use template_values_core::Value;
-use template_values_errors::{Error, ErrorKind};
-use template_values_modes::AutoEscape;
+use template_values_errors::{AutoEscape, Error, ErrorKind};
 
 /// An expression that an environment compiled.
 pub struct Expression<'env, 'source, R: AutoEscapeRule = NoRule> {

@@ -1,14 +1,13 @@
 //! What renders see of an environment.
 ghost use Rattle.std.specs.Prelude.{ℕ, List};
 ghost use Rattle.std.specs.Option.{ForSome};
-ghost use Rattle.template_machine_escape.specs.Rule.{IsEscapeOf};
+ghost use Rattle.template_machine_writers.specs.Rule.{IsEscapeOf};
 ghost use Rattle.template_compiled.specs.Standing.{compiled_at};
 
 use std::alloc::Global;
 use template_compiled::{CompiledTemplate, CompiledTemplates, TemplateConfig};
 use template_machine_renders::{Compiled, Rules, Templates};
-use template_values_errors::Error;
-use template_values_modes::UndefinedBehavior;
+use template_values_errors::{Error, UndefinedBehavior};
 
 /// The templates that stand, by name, and what each render keeps to: all of an environment but its own rule of escapes.
 #[derive(Drop)]

@@ -8,12 +8,10 @@ ghost use Rattle.template_environment.specs.Renderings.{left_of, set_of};
 
 use crate::environment::Environment;
 use std::collections::BTreeSet;
-use template_machine_escape::{AutoEscapeRule, NoRule};
-use template_machine_ids::StateIds;
+use template_machine_writers::{AutoEscapeRule, NoRule, StateIds};
 use template_machine_state::State as MachineState;
 use template_values_core::Value;
-use template_values_errors::{Error, ErrorKind};
-use template_values_modes::{AutoEscape, UndefinedBehavior};
+use template_values_errors::{AutoEscape, Error, ErrorKind, UndefinedBehavior};
 
 /// What surrounds a template: as a render of it left it, or without any frame.
 pub struct State<'env, 'source, R: AutoEscapeRule = NoRule> {

@@ -4,7 +4,7 @@ ghost use Rattle.template_values_errors.specs.Memory.{NoMemory};
 ghost use Rattle.template_values_model.specs.Val.{Val};
 ghost use Rattle.template_process.specs.Approximants.{IsFinished};
 ghost use Rattle.template_process.specs.Fuel.{under};
-ghost use Rattle.template_machine_escape.specs.Rule.{IsEscapeOf};
+ghost use Rattle.template_machine_writers.specs.Rule.{IsEscapeOf};
 ghost use Rattle.template_machine_operations.specs.Outcomes.{TellsFailures};
 ghost use Rattle.template_machine_renders.specs.Renders.{Renders, leaves};
 ghost use Rattle.template_machine_meaning.specs.World.{first_world};
@@ -16,15 +16,13 @@ use crate::environment::Environment;
 use crate::registry::Registry;
 use crate::state::State;
 use template_compiled::{CompiledTemplate, plain_text};
-use template_machine_escape::{AutoEscapeRule, NoRule};
+use template_machine_writers::{AutoEscapeRule, NoRule, StateIds};
 use template_machine_fuel::levels;
-use template_machine_ids::StateIds;
 use template_machine_output::Sink;
 use template_machine_renders::run_code;
 use template_machine_state::State as MachineState;
 use template_values_core::Value;
-use template_values_errors::{Error, ErrorKind};
-use template_values_modes::AutoEscape;
+use template_values_errors::{AutoEscape, Error, ErrorKind};
 
 /// A template of an environment: one that stands there, or one of its own, that was read under the environment's
 /// syntax and does not stand there.

@@ -3,11 +3,11 @@ use Rattle.std.proofs.Common.{◌≡◌, ℕ, zero, suc, List, Option, None, Som
 use Rattle.std.proofs.Math.Logic.{∥∥₁_elim}
 use Rattle.std.proofs.Math.Nat.{ℕ_set}
 use Rattle.std.specs.Option.{option_map}
-use Rattle.template_values_modes.specs.declared.AutoEscape.{AutoEscape}
-use Rattle.template_values_modes.specs.declared.AutoEscape.TheVariants as escapes
-use Rattle.template_machine_escape.specs.Rule.{IsEscapeOf}
-use Rattle.template_machine_escape.specs.declared.EscapeRule.{EscapeRule}
-use Rattle.template_machine_escape.proofs.OneRule.{one_escape}
+use Rattle.template_values_errors.specs.declared.modes.AutoEscape.{AutoEscape}
+use Rattle.template_values_errors.specs.declared.modes.AutoEscape.TheVariants as escapes
+use Rattle.template_machine_writers.specs.Rule.{IsEscapeOf}
+use Rattle.template_machine_writers.specs.declared.escape.EscapeRule.{EscapeRule}
+use Rattle.template_machine_writers.proofs.OneRule.{one_escape}
 use Rattle.template_machine_meaning.specs.Meaning.{rendered}
 use Rattle.template_compiled.specs.Compiled.{Compiled, standing_of}
 use Rattle.template_compiled.specs.Sources.{Source, tree_in}

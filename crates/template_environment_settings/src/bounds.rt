@@ -4,7 +4,7 @@ ghost use Rattle.template_environment.specs.Reading.{callback_of, registry_of};
 ghost use Rattle.template_environment.specs.Standing.{greatest_limit, settings_of, source_at};
 
 use template_environment::Environment;
-use template_values_modes::UndefinedBehavior;
+use template_values_errors::UndefinedBehavior;
 
 /// Sets what the renders of an environment keep to: their fuel, if any, how deep they may be, and what may be done with
 /// undefined values. All else stays.

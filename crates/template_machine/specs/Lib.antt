@@ -3,7 +3,7 @@ pub use Rattle.template_values_errors.specs.Memory
 pub use Rattle.template_values_errors.specs.Names as ErrorNames
 pub use Rattle.template_values_model.specs.Val
 pub use Rattle.template_values_model.specs.Lookup
-pub use Rattle.template_machine_escape.specs.Rule
+pub use Rattle.template_machine_writers.specs.Rule
 pub use Rattle.template_machine_writers.specs.Failures
 pub use Rattle.template_machine_output.specs.Wrapper
 pub use Rattle.template_machine_output.specs.Writes

@@ -12,7 +12,7 @@ use template_machine_items::Items;
 use template_machine_operations::choices_in;
 use template_values_core::Value;
 use template_values_errors::{Error, ErrorKind};
-use template_values_records::NoRecords;
+use template_values_forms::NoRecords;
 
 // Whether a missing template is ignored, where the instruction includes one.
 pub(crate) fn include_in(instruction: &Instruction<'_>) -> Option<bool>

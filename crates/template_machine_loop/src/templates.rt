@@ -2,7 +2,7 @@
 ghost use Rattle.std.specs.Prelude.{◌≡◌, ℕ, List, Option, option_map};
 
 use template_code::Instructions;
-use template_values_modes::AutoEscape;
+use template_values_errors::AutoEscape;
 
 /// A template that stands.
 #[derive(Clone, Copy)]

@@ -1,7 +1,7 @@
 -- Over contexts that agree on the names that stand in an expression its evaluation leaves the same.
 use Rattle.std.proofs.Common.{ℕ, inl, List, [], ◌∷◌, Option, None, Some, option_map, refl, sym, ap}
 use Rattle.std.specs.Prelude.{IsTrue}
-use Rattle.template_values_modes.specs.declared.AutoEscape.TheVariants as escapes
+use Rattle.template_values_errors.specs.declared.modes.AutoEscape.TheVariants as escapes
 use Rattle.template_values_model.specs.Val.{Val}
 use Rattle.template_tree.specs.Tree.{Expression}
 use Rattle.template_names.specs.Names.{stands_in}

@@ -3,7 +3,7 @@ use Rattle.std.proofs.Common.{◌≡◌, ℕ, ◌+◌, Bool, true, false, nat_le
 use Rattle.std.specs.Prelude.{if◌then◌else◌, slice_get, unwrap_or}
 use Rattle.template_values_errors.specs.declared.ErrorKind.{ErrorKind}
 use Rattle.template_values_errors.specs.declared.ErrorKind.TheVariants.{InvalidOperation}
-use Rattle.template_values_modes.specs.declared.AutoEscape.{AutoEscape}
+use Rattle.template_values_errors.specs.declared.modes.AutoEscape.{AutoEscape}
 use Rattle.template_values_model.specs.Val.{Val, undefined}
 use Rattle.template_values_core.specs.Answers.{text_in}
 use Rattle.template_values_forms.specs.Escaped.{escaped}

@@ -2,9 +2,9 @@
 use Rattle.std.proofs.Common.{◌≡◌, ℕ, pos, false, List, [], ◌∷◌, None, Some, Option, codes, bytes_eq, refl}
 use Rattle.std.specs.Prelude.{if◌then◌else◌}
 use Rattle.template_values_errors.specs.declared.ErrorKind.TheVariants.{BadInclude, OutOfFuel}
-use Rattle.template_values_modes.specs.declared.AutoEscape.TheVariants as escapes
-use Rattle.template_values_modes.specs.declared.UndefinedBehavior.{UndefinedBehavior}
-use Rattle.template_values_modes.specs.declared.UndefinedBehavior.TheVariants.{Lenient, Strict}
+use Rattle.template_values_errors.specs.declared.modes.AutoEscape.TheVariants as escapes
+use Rattle.template_values_errors.specs.declared.modes.UndefinedBehavior.{UndefinedBehavior}
+use Rattle.template_values_errors.specs.declared.modes.UndefinedBehavior.TheVariants.{Lenient, Strict}
 use Rattle.template_values_model.specs.Val.{Val, int, text, map, no_pairs, pairs_more}
 use Rattle.template_tree.specs.declared.operators.CompareOpKind.TheVariants.{Lt, Gt}
 use Rattle.std.specs.Fmt as fmt

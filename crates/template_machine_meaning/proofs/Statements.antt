@@ -1,7 +1,7 @@
 -- Each runnable statement settles.
 use Rattle.std.proofs.Common.{◌≡◌, ℕ, ◌+◌, ◌-◌, ◌≤◌, suc, Bool, true, false, IsTrue, List, [], ◌∷◌, length, None, Some, Result, Ok, Err, refl, sym, ap, subst, ◌∙◌, arith}
 use Rattle.template_values_errors.specs.declared.ErrorKind.{ErrorKind}
-use Rattle.template_values_modes.specs.declared.AutoEscape.{AutoEscape}
+use Rattle.template_values_errors.specs.declared.modes.AutoEscape.{AutoEscape}
 use Rattle.template_values_model.specs.Val as values
 use Rattle.template_values_model.specs.Val.{Val}
 use Rattle.template_values_core.specs.Answers.{text_in}

@@ -1,8 +1,8 @@
 -- What a template means for a context, under a bound; and what an expression does, without one.
 use Rattle.std.specs.Prelude.{ℕ, List, Option, option_map}
-use Rattle.template_values_modes.specs.declared.AutoEscape.{AutoEscape}
-use Rattle.template_values_modes.specs.declared.AutoEscape.TheVariants as escapes
-use Rattle.template_values_modes.specs.declared.UndefinedBehavior.{UndefinedBehavior}
+use Rattle.template_values_errors.specs.declared.modes.AutoEscape.{AutoEscape}
+use Rattle.template_values_errors.specs.declared.modes.AutoEscape.TheVariants as escapes
+use Rattle.template_values_errors.specs.declared.modes.UndefinedBehavior.{UndefinedBehavior}
 use Rattle.template_values_model.specs.Val.{Val}
 use Rattle.template_tree.specs.Tree.{Expression, Statements}
 use Rattle.template_process.specs.Trace.{Run, run}

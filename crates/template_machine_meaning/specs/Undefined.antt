@@ -1,7 +1,7 @@
 -- What may be done with an undefined value under each behaviour.
 use Rattle.std.specs.Prelude.{Bool, true, false, ◌&&◌, ◌||◌}
-use Rattle.template_values_modes.specs.declared.UndefinedBehavior.{UndefinedBehavior}
-use Rattle.template_values_modes.specs.declared.UndefinedBehavior.TheVariants.{Chainable, SemiStrict, Strict}
+use Rattle.template_values_errors.specs.declared.modes.UndefinedBehavior.{UndefinedBehavior}
+use Rattle.template_values_errors.specs.declared.modes.UndefinedBehavior.TheVariants.{Chainable, SemiStrict, Strict}
 use Rattle.template_values_model.specs.Val.{Val, undefined}
 use Rattle.template_values_operators.specs.Kinds.{is_undefined}
 use Rattle.template_tree.specs.declared.operators.BinOpKind.{BinOpKind}

@@ -5,8 +5,7 @@ ghost use Rattle.template_machine_meaning.specs.Surroundings.{escape_by_word, es
 ghost use Rattle.template_machine_operations.specs.Answers.{answered};
 
 use template_values_core::Value;
-use template_values_errors::{Error, ErrorKind};
-use template_values_modes::AutoEscape;
+use template_values_errors::{AutoEscape, Error, ErrorKind};
 
 /// The escape that a value names, where the run began under `first`: `html`, `json` and `none` by
 /// their words; that of a value equal to true is `first`, or HTML's where that is none; all other values

@@ -10,10 +10,9 @@ use std::alloc::Global;
 use template_machine_undefined::{forbids_link, forbids_operator, forbids_truth, refusal};
 use template_tree::{BinOpKind, CompareOpKind};
 use template_values_core::Value;
-use template_values_errors::Error;
-use template_values_modes::UndefinedBehavior;
+use template_values_errors::{Error, UndefinedBehavior};
 use template_values_operations as values;
-use template_values_records::Records;
+use template_values_forms::Records;
 
 /// What the operator gives for its operands. As dear as [`values::operate`].
 ///

@@ -1,6 +1,6 @@
 //! Instructions that only take and give operands.
 ghost use Rattle.std.specs.Prelude.{◌≡◌, ℕ, List, Option, None};
-ghost use Rattle.template_values_modes.specs.declared.UndefinedBehavior.{UndefinedBehavior};
+ghost use Rattle.template_values_errors.specs.declared.modes.UndefinedBehavior.{UndefinedBehavior};
 ghost use Rattle.template_code.specs.Code.{build_list, build_tuple};
 ghost use Rattle.template_code.specs.View.{code_of, comparison_of, counted_code};
 ghost use Rattle.template_machine_meaning.specs.World.{World};
@@ -18,8 +18,7 @@ use template_machine_steps::{
     negate, operate, slice, swap, unpack_list,
 };
 use template_tree::{BinOpKind, CompareOpKind};
-use template_values_errors::{Error, ErrorKind};
-use template_values_modes::UndefinedBehavior;
+use template_values_errors::{Error, ErrorKind, UndefinedBehavior};
 
 // Behind the instruction, where it was performed.
 #[inline(always)]

@@ -1,6 +1,6 @@
 //! What a render keeps to.
 
-use template_values_modes::UndefinedBehavior;
+use template_values_errors::UndefinedBehavior;
 
 /// What a render keeps to, and no template changes.
 #[derive(Clone, Copy, Debug, PartialEq, Eq)]

@@ -13,8 +13,7 @@ use template_machine_operations as values;
 use template_machine_output::Sink;
 use template_machine_state::State;
 use template_values_core::Value;
-use template_values_errors::Error;
-use template_values_modes::UndefinedBehavior;
+use template_values_errors::{Error, UndefinedBehavior};
 use template_values_text::NoRecords;
 
 /// Writes a text of the template.

@@ -4,9 +4,8 @@ use serde_json::{Map, Value as Json};
 use std::alloc::Global;
 use template_rows::{behavior_of, count_of, expect_names, number_of, unreadable};
 use template_values_core::Value;
-use template_values_errors::Error;
+use template_values_errors::{Error, UndefinedBehavior};
 use template_values_json::context_from_json;
-use template_values_modes::UndefinedBehavior;
 
 // The names of a case's entries.
 const KNOWN: [&str; 15] = [

@@ -1,6 +1,6 @@
 //! A rule of escapes of one's own.
-use template_machine_escape::{AutoEscapeRule, NoRule};
-use template_values_modes::AutoEscape;
+use template_machine_writers::{AutoEscapeRule, NoRule};
+use template_values_errors::AutoEscape;
 
 /// A rule that a number sets.
 pub(crate) trait NumberedRule: AutoEscapeRule {
@@ -21,7 +21,7 @@ pub(crate) struct ShortNames {
 
 impl AutoEscapeRule for ShortNames {
     ghost use Rattle.std.specs.Prelude.{if◌then◌else◌, length, ltb};
-    ghost use Rattle.template_values_modes.specs.declared.AutoEscape.TheVariants as escapes;
+    ghost use Rattle.template_values_errors.specs.declared.modes.AutoEscape.TheVariants as escapes;
 
     ghost answer = { λ it name. if ltb (length name) it.length then escapes.Html else escapes.None };
 

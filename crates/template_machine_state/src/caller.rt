@@ -1,7 +1,7 @@
 //! What an include puts back.
 
 use std::marker::Model;
-use template_values_modes::AutoEscape;
+use template_values_errors::AutoEscape;
 
 /// What a state had before a template was included, and has again behind it.
 #[derive(Drop)]

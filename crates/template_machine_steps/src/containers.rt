@@ -1,7 +1,7 @@
 //! Containers that are built of operands, and items that are unpacked.
 ghost use Rattle.std.specs.Prelude.{◌≡◌, ◌++◌, ℕ, List, Option, map, OnOk, IfErr};
 ghost use Rattle.template_values_errors.specs.Memory.{NoMemory};
-ghost use Rattle.template_values_modes.specs.declared.UndefinedBehavior.{UndefinedBehavior};
+ghost use Rattle.template_values_errors.specs.declared.modes.UndefinedBehavior.{UndefinedBehavior};
 ghost use Rattle.template_code.specs.Code.{single, build_list, build_tuple, build_map, unpack_list};
 ghost use Rattle.template_machine_meaning.specs.Surroundings.{Program};
 ghost use Rattle.template_machine_meaning.specs.World.{World};

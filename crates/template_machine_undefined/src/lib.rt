@@ -7,8 +7,7 @@ ghost use Rattle.template_machine_meaning.specs.Undefined.{is_loud, is_strict, i
 
 use template_tree::{BinOpKind, CompareOpKind};
 use template_values_core::{Content, Value};
-use template_values_errors::{Error, ErrorKind};
-use template_values_modes::UndefinedBehavior;
+use template_values_errors::{Error, ErrorKind, UndefinedBehavior};
 
 /// The refusal of an undefined value.
 pub fn refusal<T>() -> Result<T, Error>

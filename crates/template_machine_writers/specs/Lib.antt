@@ -1,2 +1,3 @@
 pub mod Answered
 pub mod Failures
+pub mod Rule

@@ -1,7 +1,7 @@
 //! The works: requests with long sources, and with many statements, templates, names, definitions, rounds and includes.
 use std::alloc::{AllocError, Global};
 use template_program_run::{Command, Request};
-use template_values_modes::UndefinedBehavior;
+use template_values_errors::UndefinedBehavior;
 
 // The name of the main template, but where a work names another.
 const MAIN: &str = "t.txt";

@@ -3,8 +3,8 @@ use Rattle.std.specs.Prelude.{◌≡◌, ◌⊎◌, ℕ, List, [], ◌∷◌, ma
 use Rattle.std.specs.Io.KnownBytes.{append_known}
 use Rattle.std.specs.declared.io.Error.{Error}
 use Rattle.clap.specs.Words.{Kinds, Row}
-use Rattle.template_values_modes.specs.declared.UndefinedBehavior.{UndefinedBehavior}
-use Rattle.template_values_modes.specs.declared.UndefinedBehavior.TheVariants.{Lenient}
+use Rattle.template_values_errors.specs.declared.modes.UndefinedBehavior.{UndefinedBehavior}
+use Rattle.template_values_errors.specs.declared.modes.UndefinedBehavior.TheVariants.{Lenient}
 use Rattle.template_program_parts.specs.declared.faults.FileFault.{FileFault}
 use Rattle.template_program_words.specs.Reading.{ReadsWords, default_limit, parts_of}
 use Rattle.template_program_words.specs.Refusals.{RefusesWords}

@@ -10,7 +10,7 @@ use template_program_parts::{
     FileFault, FileSystem, ReadWrapper, Reader, read_file, read_text, read_text_file,
 };
 use template_program_words::{Definition, NamesWords, RenderWords, Words};
-use template_values_modes::UndefinedBehavior;
+use template_values_errors::UndefinedBehavior;
 
 /// An input of so many bytes or more is refused.
 const INPUT_LIMIT: usize = 1 << 32;

@@ -1,7 +1,7 @@
 //! What is asked of the program.
 
 use template_program_parts::Command;
-use template_values_modes::UndefinedBehavior;
+use template_values_errors::UndefinedBehavior;
 
 /// What is asked of the program.
 #[derive(Debug, Drop)]

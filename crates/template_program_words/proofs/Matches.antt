@@ -6,7 +6,7 @@ use Rattle.clap.specs.declared.error.kind.ErrorKind.{ErrorKind}
 use Rattle.clap.specs.declared.error.kind.ErrorKind.TheVariants.{OutOfMemory}
 use Rattle.clap.specs.declared.parser.matches.ArgMatches.{ArgMatches}
 use Rattle.clap.specs.declared.parser.matches.ArgMatches.TheViews.{out-ArgMatches}
-use Rattle.template_values_modes.specs.declared.UndefinedBehavior.{UndefinedBehavior}
+use Rattle.template_values_errors.specs.declared.modes.UndefinedBehavior.{UndefinedBehavior}
 use Rattle.template_program_words.specs.Modes.{mode_of}
 use Rattle.template_program_words.specs.Reading.{ReadsNumber, values_of}
 use Rattle.template_program_words.specs.Refusals.{IsWordsFault, IsUsage, NamesNoMode, RefusesWords, RefusesDefinitions, RefusesMode, RefusesRender}

@@ -1,7 +1,7 @@
 -- What the word behind `--undefined` stands for.
 use Rattle.std.specs.Prelude.{ℕ, List, Option, None, Some, if◌then◌else◌, bytes_eq, codes}
-use Rattle.template_values_modes.specs.declared.UndefinedBehavior.{UndefinedBehavior}
-use Rattle.template_values_modes.specs.declared.UndefinedBehavior.TheVariants.{Lenient, Chainable, SemiStrict, Strict}
+use Rattle.template_values_errors.specs.declared.modes.UndefinedBehavior.{UndefinedBehavior}
+use Rattle.template_values_errors.specs.declared.modes.UndefinedBehavior.TheVariants.{Lenient, Chainable, SemiStrict, Strict}
 
 abbrev pub mode_named : List ℕ → Option UndefinedBehavior
 mode_named word =

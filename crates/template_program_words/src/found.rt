@@ -12,7 +12,7 @@ use crate::modes::mode_named;
 use crate::words::{NamesWords, RenderWords, Words};
 use clap::ArgMatches;
 use std::alloc::{AllocError, Global};
-use template_values_modes::UndefinedBehavior;
+use template_values_errors::UndefinedBehavior;
 
 /// How deep a render may be where no word says it.
 const DEFAULT_LIMIT: u16 = 500;

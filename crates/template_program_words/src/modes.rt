@@ -2,7 +2,7 @@
 ghost use Rattle.std.specs.Prelude.{◌≡◌};
 ghost use Rattle.template_program_words.specs.Modes as modes;
 
-use template_values_modes::UndefinedBehavior;
+use template_values_errors::UndefinedBehavior;
 
 /// What the word stands for; `None` where it is none of the four.
 pub(crate) fn mode_named(word: &str) -> Option<UndefinedBehavior>

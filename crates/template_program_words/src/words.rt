@@ -1,6 +1,6 @@
 //! The types of what the words ask for.
 use crate::definitions::Definition;
-use template_values_modes::UndefinedBehavior;
+use template_values_errors::UndefinedBehavior;
 
 /// What the words ask for.
 #[derive(Debug, Drop)]

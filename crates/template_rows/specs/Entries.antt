@@ -13,8 +13,8 @@ use Rattle.serde_json.specs.declared.value.Value.{Value}
 use Rattle.template_values_errors.specs.declared.ErrorKind.{ErrorKind}
 use Rattle.template_values_errors.specs.declared.ErrorKind.TheVariants.{SyntaxError}
 use Rattle.template_values_errors.specs.Memory.{NoMemory}
-use Rattle.template_values_modes.specs.declared.UndefinedBehavior.{UndefinedBehavior}
-use Rattle.template_values_modes.specs.declared.UndefinedBehavior.TheVariants.{Lenient, Chainable, SemiStrict, Strict}
+use Rattle.template_values_errors.specs.declared.modes.UndefinedBehavior.{UndefinedBehavior}
+use Rattle.template_values_errors.specs.declared.modes.UndefinedBehavior.TheVariants.{Lenient, Chainable, SemiStrict, Strict}
 
 -- an entry that is looked up, as its data
 abbrev pub entry : Option (Bor Value) → Option Data

@@ -10,8 +10,7 @@ ghost use Rattle.template_rows.specs.Entries.{Gives, Reads, Refuses, RefusesOrWa
 use serde_json::{Map, Value as Json};
 use std::alloc::{AllocError, Global};
 use std::io;
-use template_values_errors::{Error, ErrorKind};
-use template_values_modes::UndefinedBehavior;
+use template_values_errors::{Error, ErrorKind, UndefinedBehavior};
 
 /// The refusal of an entry that is unknown or of another kind.
 pub fn unreadable<T: Drop>() -> Result<T, Error>

@@ -9,9 +9,13 @@ ghost use Rattle.template_values_errors.specs.Causes.{IsCause, IsHead};
 ghost use Rattle.template_values_errors.specs.Memory.{NoMemory};
 ghost use Rattle.template_values_errors.specs.Names.{causes_text, kind_name, kinds_text};
 
+mod modes;
+
 use std::alloc::{AllocError, AllocFailed, Global};
 use std::marker::Model;
 use std::{error, fmt};
+
+pub use modes::{AutoEscape, UndefinedBehavior};
 
 /// Why a call was refused.
 #[derive(Clone, Copy, Debug, PartialEq, Eq)]

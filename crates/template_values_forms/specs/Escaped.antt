@@ -3,8 +3,8 @@ use Rattle.std.specs.Prelude.{ℕ, List, Result, Ok, Err}
 use Rattle.serde_json.specs.Written.{compact_text}
 use Rattle.template_values_model.specs.Fault.{Fault, invalid_operation}
 use Rattle.template_values_model.specs.Val.{Val, safe_text}
-use Rattle.template_values_modes.specs.declared.AutoEscape.{AutoEscape}
-use Rattle.template_values_modes.specs.declared.AutoEscape.TheVariants.{None, Html, Json, Custom}
+use Rattle.template_values_errors.specs.declared.modes.AutoEscape.{AutoEscape}
+use Rattle.template_values_errors.specs.declared.modes.AutoEscape.TheVariants.{None, Html, Json, Custom}
 use Rattle.template_values_forms.specs.Answers.{mapped}
 use Rattle.template_values_forms.specs.Escapes.{html}
 use Rattle.template_values_forms.specs.Json.{json_data}

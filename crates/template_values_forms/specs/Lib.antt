@@ -6,3 +6,4 @@ pub mod Json
 pub mod Escaped
 pub mod Truth
 pub mod Concatenation
+pub mod Views

@@ -2,6 +2,10 @@
 //! known of records.
 #![tactic(auto)]
 
+mod records;
+
+pub use records::{LoopView, MacroView, NoRecords, Records};
+
 /// The least whole number that is written as JSON.
 pub const LEAST_JSON_NUMBER: i64 = i64::MIN;
 

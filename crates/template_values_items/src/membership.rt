@@ -8,7 +8,7 @@ use template_values_core::{Content, Value};
 use template_values_errors::Error;
 use template_values_operators::kinds::is_undefined;
 use template_values_operators::refusal;
-use template_values_records::Records;
+use template_values_forms::Records;
 
 /// Whether the value is in the container: a text in a text, an item of a list or tuple, a key of
 /// a map, keyword map, module or namespace. A value that is no text is not in a text, and nothing

@@ -5,7 +5,7 @@ ghost use Rattle.template_values_model.specs.Lookup.{entry_at, is_text};
 ghost use Rattle.template_values_model.specs.Val.{int};
 ghost use Rattle.template_values_core.specs.Maps.{pairs_of, entry_under};
 ghost use Rattle.template_values_core.specs.Shape.{pairs_in};
-ghost use Rattle.template_values_records.specs.Views.{macro_seen};
+ghost use Rattle.template_values_forms.specs.Views.{macro_seen};
 ghost use Rattle.template_values_items.specs.Loops.{loop_rest};
 ghost use Rattle.template_values_operators.specs.Contains.{namespace_contains};
 ghost use Rattle.template_values_operators.specs.Records.{is_last, item_before, loop_attribute, loop_value, macro_attribute, macro_value, namespace_attribute, namespace_item};
@@ -16,7 +16,7 @@ use template_values_errors::Error;
 use template_values_operators::growth::{copies, copy_or_undefined};
 use template_values_operators::kinds::list_made;
 use template_values_operators::refusal;
-use template_values_records::{MacroView, Records};
+use template_values_forms::{MacroView, Records};
 
 /// What a namespace has under a text. Linear in its entries.
 pub(crate) fn namespace_attribute<R: Records>(

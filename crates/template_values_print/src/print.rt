@@ -12,7 +12,7 @@ use itoa::Buffer;
 use template_values_core::{Content, Entry, Value};
 use template_values_errors::{Error, ErrorKind};
 use template_values_model::DEPTH_LIMIT;
-use template_values_records::Records;
+use template_values_forms::Records;
 
 /// Writes the text that the value prints. Namespaces are followed. Takes time linear in the text.
 ///

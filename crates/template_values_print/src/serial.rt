@@ -13,8 +13,7 @@ use crate::{Markup, Quoting, push, push_quoted};
 use itoa::Buffer;
 use template_values_core::{Content, Entry, Value};
 use template_values_errors::{Error, ErrorKind};
-use template_values_forms::{GREATEST_JSON_NUMBER, LEAST_JSON_NUMBER};
-use template_values_records::Records;
+use template_values_forms::{GREATEST_JSON_NUMBER, LEAST_JSON_NUMBER, Records};
 
 /// Writes the compact JSON of the value, as `serde_json` does. Namespaces are followed. Takes time linear in the text.
 ///

@@ -6,7 +6,7 @@ use crate::print::print_to;
 use std::alloc::Global;
 use template_values_core::Value;
 use template_values_errors::Error;
-use template_values_records::Records;
+use template_values_forms::Records;
 
 /// `left ~ right`: the plain text of what the two values print, one behind the other. Namespaces are
 /// followed. Takes time linear in the text.

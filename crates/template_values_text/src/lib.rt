@@ -9,5 +9,5 @@ mod truth;
 pub use concat::string_concat;
 pub use escape::escape_to;
 pub use print::print_to;
-pub use template_values_records::{LoopView, MacroView, NoRecords, Records};
+pub use template_values_forms::{LoopView, MacroView, NoRecords, Records};
 pub use truth::is_true;

@@ -8,7 +8,7 @@ ghost use Rattle.template_values_forms.specs.Truth.{truth_of};
 
 use template_values_core::{Content, Entry, Value};
 use template_values_errors::{Error, ErrorKind};
-use template_values_records::Records;
+use template_values_forms::Records;
 
 /// Whether the value counts as true. Undefined values, `none`, `false`, 0 and empty texts, bytes,
 /// lists, tuples, maps and modules do not, nor does an empty namespace. All else does: an empty keyword

@@ -1,6 +1,6 @@
 use Rattle.std.proofs.Common.{refl, sym, ap, ◌∙◌}
 use Rattle.std.proofs.lemmas.Result.{err_from_is_err_and}
-use Rattle.template_values_modes.specs.declared.AutoEscape.{AutoEscape}
+use Rattle.template_values_errors.specs.declared.modes.AutoEscape.{AutoEscape}
 use Rattle.template_machine_meaning.specs.World.{first_world}
 use Rattle.template_machine_renders.specs.Renders.{whole}
 use Rattle.template_environment.proofs.Rendering.{ruled_programs, render_done, render_stopped}

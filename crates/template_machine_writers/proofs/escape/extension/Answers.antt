@@ -4,8 +4,8 @@ use Rattle.std.proofs.Math.Seq.{split_at}
 use Rattle.std.proofs.lemmas.List.{get_or-drop}
 use Rattle.std.proofs.lemmas.Str.Pattern.{rfind_char}
 use Rattle.std.specs.Prelude.{None, Some}
-use Rattle.template_machine_escape.specs.Rule.{IsExtensionOf, LacksDots}
-use Rattle.template_machine_escape.proofs.extension.Goals as goal
+use Rattle.template_machine_writers.specs.Rule.{IsExtensionOf, LacksDots}
+use Rattle.template_machine_writers.proofs.escape.extension.Goals as goal
 
 -- what stands behind the last dot is the extension
 behind_last : (s : List ℕ) (k : ℕ) → k < length s → get_or s k 0 ≡ 46 → ((i : ℕ) → k < i → i < length s → get_or s i 0 ≢ 46)

@@ -30,7 +30,7 @@ pub struct MacroView<'a> {
 /// What is known of namespaces, loops and macros, by their state's id and their number in it. A
 /// foreign record is not known.
 pub trait Records {
-    ghost use Rattle.template_values_records.specs.Views.{loop_seen, macro_seen};
+    ghost use Rattle.template_values_forms.specs.Views.{loop_seen, macro_seen};
 
     ghost known: { Self → Known };
 

@@ -1,10 +1,10 @@
 -- A name has one escape: one of the endings is taken away, and one dot is the last.
 use Rattle.std.proofs.Common.{◌≡◌, ◌∙◌, ℕ, suc, List, [], ◌∷◌, ◌++◌, get_or, reverse, ap, sym, subst, refl, inl, inr, codes, arith}
 use Rattle.std.proofs.lemmas.List.{append_cancel_right, reverse-append}
-use Rattle.template_values_modes.specs.declared.AutoEscape.{AutoEscape}
-use Rattle.template_machine_escape.specs.declared.EscapeRule.{EscapeRule}
-use Rattle.template_machine_escape.specs.declared.EscapeRule.TheVariants.{ByName, Never, Fixed}
-use Rattle.template_machine_escape.specs.Rule.{IsEscapeOf, IsExtensionOf, IsRuleOf, IsStemOf, LacksDots, rule_of_extension}
+use Rattle.template_values_errors.specs.declared.modes.AutoEscape.{AutoEscape}
+use Rattle.template_machine_writers.specs.declared.escape.EscapeRule.{EscapeRule}
+use Rattle.template_machine_writers.specs.declared.escape.EscapeRule.TheVariants.{ByName, Never, Fixed}
+use Rattle.template_machine_writers.specs.Rule.{IsEscapeOf, IsExtensionOf, IsRuleOf, IsStemOf, LacksDots, rule_of_extension}
 
 -- the ends of a name, read backwards
 backwards : (name s t a b : List ℕ) → name ≡ s ++ a → name ≡ t ++ b → reverse a ++ reverse s ≡ reverse b ++ reverse t

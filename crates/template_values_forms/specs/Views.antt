@@ -1,7 +1,7 @@
 -- What a look into a loop or a macro shows.
 use Rattle.template_values_forms.specs.Known.{LoopSeen, MacroSeen}
-use Rattle.template_values_records.specs.declared.records.LoopView.{LoopView}
-use Rattle.template_values_records.specs.declared.records.MacroView.{MacroView}
+use Rattle.template_values_forms.specs.declared.records.LoopView.{LoopView}
+use Rattle.template_values_forms.specs.declared.records.MacroView.{MacroView}
 
 abbrev pub loop_seen : LoopView → LoopSeen
 loop_seen l = record { items = l.items.now; place = l.place; depth = l.depth }

@@ -2,10 +2,10 @@
 use Rattle.std.specs.Prelude.{◌≡◌, ◌≢◌, ℕ, ◌<◌, Bool, if◌then◌else◌, List, [], ◌∷◌, ◌++◌, ◌⊎◌, length, slice_index, codes}
 use Rattle.std.specs.List.{list_any}
 use Rattle.std.specs.Str.{bytes_eq}
-use Rattle.template_values_modes.specs.declared.AutoEscape.{AutoEscape}
-use Rattle.template_values_modes.specs.declared.AutoEscape.TheVariants.{None, Html, Json}
-use Rattle.template_machine_escape.specs.declared.EscapeRule.{EscapeRule}
-use Rattle.template_machine_escape.specs.declared.EscapeRule.TheVariants.{ByName, Never, Fixed}
+use Rattle.template_values_errors.specs.declared.modes.AutoEscape.{AutoEscape}
+use Rattle.template_values_errors.specs.declared.modes.AutoEscape.TheVariants.{None, Html, Json}
+use Rattle.template_machine_writers.specs.declared.escape.EscapeRule.{EscapeRule}
+use Rattle.template_machine_writers.specs.declared.escape.EscapeRule.TheVariants.{ByName, Never, Fixed}
 
 -- the text ends otherwise
 abbrev pub EndsOtherwise : List ℕ → List ℕ → Type 0

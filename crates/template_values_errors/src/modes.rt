@@ -1,5 +1,4 @@
 //! How printed values are escaped, and what may be done with an undefined one.
-#![tactic(auto)]
 
 /// How the values that a template prints are escaped.
 #[derive(Clone, Copy, Debug, PartialEq, Eq)]

@@ -1,5 +1,4 @@
 //! Numbers for the states of renders: each is given once.
-#![tactic(auto)]
 
 ghost use Rattle.std.specs.Prelude.{◌≡◌, ◌+◌, ◌<◌, ◌↔◌, ◌∷◌, [], IfOk, IfErr, OnOk, OnErr, IsErr};
 

@@ -1,10 +1,9 @@
 //! Which escape a template's name stands for.
-#![tactic(auto)]
 
 ghost use Rattle.std.specs.Prelude.{◌≡◌, ℕ, List};
-ghost use Rattle.template_machine_escape.specs.Rule.{IsEscapeOf, IsExtensionOf, IsRuleOf, IsStemOf, rule_of_extension};
+ghost use Rattle.template_machine_writers.specs.Rule.{IsEscapeOf, IsExtensionOf, IsRuleOf, IsStemOf, rule_of_extension};
 
-use template_values_modes::AutoEscape;
+use template_values_errors::AutoEscape;
 
 /// How the escape of a template comes of its name.
 #[derive(Clone, Copy, Debug, PartialEq, Eq)]
@@ -32,7 +31,7 @@ impl EscapeRule {
 
 /// A rule of a caller's own that gives the escape of a name. Its answer is a function of the name alone.
 pub trait AutoEscapeRule: Drop {
-    ghost use Rattle.template_values_modes.specs.declared.AutoEscape.{AutoEscape};
+    ghost use Rattle.template_values_errors.specs.declared.modes.AutoEscape.{AutoEscape};
 
     /// The answer for each name.
     ghost answer: { Self → List ℕ → AutoEscape };
@@ -47,7 +46,7 @@ pub trait AutoEscapeRule: Drop {
 pub struct NoRule;
 
 impl AutoEscapeRule for NoRule {
-    ghost use Rattle.template_values_modes.specs.declared.AutoEscape.TheVariants as escapes;
+    ghost use Rattle.template_values_errors.specs.declared.modes.AutoEscape.TheVariants as escapes;
 
     ghost answer = { λ rule name. escapes.None };
 
