@@ -15,7 +15,7 @@ use Rattle.template_compiler_runnable.specs.Runs.{RunsWhole}
 use Rattle.template_compiler_statement_codegen.specs.Listed.{IsRunnableTree, body_in}
 use Rattle.template_compiler_syntax.specs.Syntax.{Syntax, IsUsable}
 use Rattle.template_compiler_sources.specs.Source.{IsSource, RefusesSource, source_of}
-use Rattle.template_machine_writers.specs.Rule.{IsEscapeOf}
+use Rattle.template_machine_surroundings.specs.Rule.{IsEscapeOf}
 use Rattle.template_compiled.specs.Compiled.{Compiled, IsFaithful}
 use Rattle.template_compiled.specs.Sources.{Source, HasTree, IsUnsupported, read_by, tree_in}
 use Rattle.template_compiled.specs.declared.config.TemplateConfig.{TemplateConfig}

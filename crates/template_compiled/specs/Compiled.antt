@@ -5,7 +5,7 @@ use Rattle.template_code.specs.Code.{Code}
 use Rattle.template_compiler_codegen.specs.Statements.{template_code}
 use Rattle.template_compiler_runnable.specs.Running.{statements_run}
 use Rattle.template_compiler_syntax.specs.Syntax.{IsUsable}
-use Rattle.template_machine_writers.specs.Rule.{IsEscapeOf}
+use Rattle.template_machine_surroundings.specs.Rule.{IsEscapeOf}
 use Rattle.template_machine_meaning.specs.Meaning.{Standing}
 use Rattle.template_compiled.specs.Sources.{Source, HasTree, tree_in, escaping_as}
 

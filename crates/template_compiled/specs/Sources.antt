@@ -11,8 +11,8 @@ use Rattle.template_compiler_segments.proofs.Theorems.{some_tokens}
 use Rattle.template_compiler_grammar.specs.TemplateReader.{template_of}
 use Rattle.template_compiler_sources.specs.Source.{IsSource, RefusesSource}
 use Rattle.template_compiler_emission.specs.Puts.{NoRoom}
-use Rattle.template_machine_writers.specs.declared.escape.EscapeRule.{EscapeRule}
-use Rattle.template_machine_writers.specs.declared.escape.EscapeRule.TheVariants.{Fixed}
+use Rattle.template_machine_surroundings.specs.declared.escape.EscapeRule.{EscapeRule}
+use Rattle.template_machine_surroundings.specs.declared.escape.EscapeRule.TheVariants.{Fixed}
 use Rattle.template_compiled.specs.declared.config.TemplateConfig.{TemplateConfig}
 
 -- a text, the syntax that it is read under, and the rule that gives the escape

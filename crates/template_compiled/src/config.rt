@@ -1,6 +1,6 @@
 //! What templates are compiled under.
 use template_compiler_syntax::SyntaxConfig;
-use template_machine_writers::EscapeRule;
+use template_machine_surroundings::EscapeRule;
 
 /// What a template is compiled under.
 #[derive(Clone, Drop)]

@@ -57,4 +57,4 @@ pub use Rattle.template_compiled.specs.Expressions as ExpressionSources
 pub use Rattle.template_compiled.specs.Names as TemplateNames
 pub use Rattle.template_compiled.specs.Plain
 pub use Rattle.template_compiled.specs.Standing
-pub use Rattle.template_machine_writers.specs.Rule
+pub use Rattle.template_machine_surroundings.specs.Rule

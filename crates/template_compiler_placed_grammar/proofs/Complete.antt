@@ -9,8 +9,8 @@ use Rattle.template_tree.specs.declared.operators.BinOpKind.{BinOpKind}
 use Rattle.template_tree.specs.declared.operators.CompareOpKind.{CompareOpKind}
 use Rattle.template_tree.specs.declared.operators.CompareOpKind.TheVariants as comparisons
 use Rattle.template_tree.specs.Tree.{Expression, unary, Optional, Expressions, Links, Arguments, Argument, positional}
-use Rattle.template_tree_places.specs.Places.{Places, Parts, no_parts, one}
-use Rattle.template_compiler_token_places.specs.Tokens.{stretch, next_span}
+use Rattle.template_compiler_placed_grammar.specs.Places.{Places, Parts, no_parts, one}
+use Rattle.template_compiler_tokens.specs.Places.{stretch, next_span}
 use Rattle.template_compiler_tokens.specs.Token.{Token, bad_syntax, identifier, symbol, assign, mul, pow, paren_open, pipe}
 use Rattle.template_compiler_tokens.specs.Steps.{Read, goes, stops, and_then, under, goes_on, many, all}
 use Rattle.template_compiler_tokens.proofs.Loops.{then_goes, then_fails, under_goes, Loops, loop_stops, loop_stops_at, loop_goes, all_of}
@@ -25,9 +25,9 @@ use Rattle.template_compiler_grammar.proofs.Opens.{begins_opener, expression_ope
 use Rattle.template_compiler_grammar.proofs.Shrinks as shrinks
 use Rattle.template_compiler_grammar_laws.proofs.Stops.{texts_stop, begins_closing_behind, opener_closing, closing_bound, bound_end_behind, separated_last, unless_closed, unless_open}
 use Rattle.template_compiler_grammar_laws.proofs.Complete.{name_read, argument_closing}
-use Rattle.template_compiler_grammar_places.specs.Nodes.{and_place, PairedPlaces, and_pair_place, WrittenPlaces, and_written_place, compared_at}
-use Rattle.template_compiler_grammar_places.specs.Expressions.{expression_places, binary_places, operands_places, operand_places, negation_places, comparison_places, links_places, power_places, filtered_places, filters_places, filter_parts_places, filter_places, test_places, optional_places, unary_places, parts_places, part_places, subscript_places, bound_places, step_places, primary_places, paren_places, items_places, pairs_places, argument_list_places, arguments_places, argument_places}
-use Rattle.template_compiler_grammar_places.specs.Parts.{chain_places}
+use Rattle.template_compiler_placed_grammar.specs.DerivedNodes.{and_place, PairedPlaces, and_pair_place, WrittenPlaces, and_written_place, compared_at}
+use Rattle.template_compiler_placed_grammar.specs.DerivedExpressions.{expression_places, binary_places, operands_places, operand_places, negation_places, comparison_places, links_places, power_places, filtered_places, filters_places, filter_parts_places, filter_places, test_places, optional_places, unary_places, parts_places, part_places, subscript_places, bound_places, step_places, primary_places, paren_places, items_places, pairs_places, argument_list_places, arguments_places, argument_places}
+use Rattle.template_compiler_placed_grammar.specs.DerivedParts.{chain_places}
 use Rattle.template_compiler_placed_grammar.specs.Nodes.{placed, Node, node, OptionalNode, PlacedLinks, and_placed_link, PlacedArguments, PlacedWritten, placed_in_order, bare_argument, binary_node, tested_node}
 use Rattle.template_compiler_placed_grammar.specs.Reader.{Deeper, deeper, up_to, expression_by, primary_by, dot_part, part_step, parts_by, unary_by, optional_arguments_by, filter_by, test_arguments_by, test_by, is_by, filter_step, filtered_by, power_behind, power_by, operand_behind, operand_step, binary_of, terms_by, not_in_link, link_behind, link_step, comparison_by, negation_by, operand_by, binary_by, else_behind, if_behind, items_by, items_step, pairs_step, arguments_step, pairs_by, paren_behind, paren_by, list_by, map_by, bound_by, step_by, slice_by, item_by, subscript_behind, subscript_by, named_argument, argument_by, few_arguments, arguments_by, chain_step, filter_chain_by, expression_at, condition_at, filter_at, filter_chain_at}
 use Rattle.template_compiler_placed_grammar.proofs.Stops.{parts_stop, filters_stop, powers_stop, operands_stop, links_stop, if_stops, else_stops, no_negation_by, no_negated_test, no_arguments_by, paren_open_by, bound_left_out, bound_read_by, step_left_out}

@@ -5,8 +5,8 @@ use Rattle.template_tree.specs.declared.span.Span.{Span}
 use Rattle.template_tree.specs.declared.operators.BinOpKind.{BinOpKind}
 use Rattle.template_tree.specs.declared.operators.CompareOpKind.{CompareOpKind}
 use Rattle.template_tree.specs.Tree.{Expression, Optional, absent, given}
-use Rattle.template_tree_places.specs.Places.{Parts}
-use Rattle.template_compiler_token_places.specs.Tokens.{next_span}
+use Rattle.template_compiler_placed_grammar.specs.Places.{Parts}
+use Rattle.template_compiler_tokens.specs.Places.{next_span}
 use Rattle.template_compiler_tokens.specs.Token.{Token, identifier, string, number, symbol, minus, mul, pow, dot, comma, colon, assign, pipe, bracket_open, paren_open, paren_close, brace_open}
 use Rattle.template_compiler_tokens.specs.Steps.{Read, and_then}
 use Rattle.template_compiler_grammar.specs.Words.{is_word, begins_bare, Level, factors, texts, terms, conjunction, disjunction, operator, comparison_operator}

@@ -7,7 +7,7 @@ use Rattle.template_compiler_tokens.proofs.Readings.{ok_tree}
 use Rattle.template_compiler_grammar.specs.Ends.{Ends}
 use Rattle.template_compiler_grammar.specs.Grammar.{IsExpression}
 use Rattle.template_compiler_grammar_laws.proofs.Sound.{expression_sound}
-use Rattle.template_compiler_grammar_places.specs.Expressions.{expression_places}
+use Rattle.template_compiler_placed_grammar.specs.DerivedExpressions.{expression_places}
 use Rattle.template_compiler_placed_grammar.specs.Nodes.{Node}
 use Rattle.template_compiler_placed_grammar.specs.Reader.{expression_at}
 use Rattle.template_compiler_placed_grammar.proofs.Bare.{bare_reads}

@@ -7,3 +7,6 @@ mod TemplateEnds
 pub mod TemplatesErased
 pub mod TemplatesComplete
 mod TemplateLaws
+mod First
+mod Wholes
+mod Last

@@ -4,8 +4,8 @@ use Rattle.std.specs.Prelude.{bytes_eq}
 use Rattle.std.proofs.lemmas.Slice.Eq.{bytes_eq-Decides}
 use Rattle.template_tree.specs.declared.span.Span.{Span}
 use Rattle.template_tree.specs.Tree.{Expression, Optional, absent, given, Expressions, no_expressions, Statement, macro, call_block, Statements, call, Assignments, Imports, no_imports, if_condition}
-use Rattle.template_tree_places.specs.Places.{Places, at, Parts, no_parts, parts_more, one, and_parts}
-use Rattle.template_compiler_token_places.specs.Tokens.{next_span, stretch}
+use Rattle.template_compiler_placed_grammar.specs.Places.{Places, at, Parts, no_parts, parts_more, one, and_parts}
+use Rattle.template_compiler_tokens.specs.Places.{next_span, stretch}
 use Rattle.template_compiler_tokens.specs.Token.{Token, bad_syntax, variable_end, block_end, identifier, symbol, dot, comma, assign, paren_open}
 use Rattle.template_compiler_tokens.specs.Steps.{Read, goes, stops, and_then, all}
 use Rattle.template_compiler_tokens.proofs.Loops.{then_goes, under_goes, Loops, loop_stops, loop_goes, all_of}
@@ -14,10 +14,10 @@ use Rattle.template_compiler_grammar.specs.Ends.{Behind}
 use Rattle.template_compiler_grammar.specs.Reader.{paren_end}
 use Rattle.template_compiler_grammar.specs.Grammar.{IsFilterChain, chain_end, chain_more}
 use Rattle.template_compiler_grammar.proofs.Shrinks.{expression_shrinks}
-use Rattle.template_compiler_grammar_places.specs.Nodes.{and_place, PairedPlaces}
-use Rattle.template_compiler_grammar_places.specs.Expressions.{expression_places, filter_places}
-use Rattle.template_compiler_grammar_places.specs.Parts.{alone_or, stored_places, path_places, more_places, target_places, targets_places, more_targets_places, value_places, values_places, assignment_places, assignments_places, loop_filter_places, import_places, parameter_places, parameters_places, optional_parameters_places}
-use Rattle.template_compiler_grammar_places.specs.Statements.{BranchPlaces, branched_places, statements_places, statement_places, branches_places, else_places, template_places}
+use Rattle.template_compiler_placed_grammar.specs.DerivedNodes.{and_place, PairedPlaces}
+use Rattle.template_compiler_placed_grammar.specs.DerivedExpressions.{expression_places, filter_places}
+use Rattle.template_compiler_placed_grammar.specs.DerivedParts.{alone_or, stored_places, path_places, more_places, target_places, targets_places, more_targets_places, value_places, values_places, assignment_places, assignments_places, loop_filter_places, import_places, parameter_places, parameters_places, optional_parameters_places}
+use Rattle.template_compiler_placed_grammar.specs.DerivedStatements.{BranchPlaces, branched_places, statements_places, statement_places, branches_places, else_places, template_places}
 use Rattle.template_compiler_placed_grammar.specs.Nodes.{Placed, placed, Node, no_node}
 use Rattle.template_compiler_placed_grammar.specs.Reader.{expression_at}
 use Rattle.template_compiler_placed_grammar.proofs.Complete.{expression_complete, condition_complete, filter_complete, filter_chain_complete}

@@ -2,3 +2,10 @@ pub mod Nodes
 pub mod Reader
 pub mod TemplateNodes
 pub mod TemplateReader
+pub mod Places
+pub mod TreeExpressions
+pub mod TreeStatements
+pub mod DerivedNodes
+pub mod DerivedExpressions
+pub mod DerivedParts
+pub mod DerivedStatements

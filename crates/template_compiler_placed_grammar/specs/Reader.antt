@@ -10,8 +10,8 @@ use Rattle.template_tree.specs.declared.operators.BinOpKind.{BinOpKind}
 use Rattle.template_tree.specs.declared.operators.BinOpKind.TheVariants as operators
 use Rattle.template_tree.specs.declared.operators.CompareOpKind.{CompareOpKind}
 use Rattle.template_tree.specs.declared.operators.CompareOpKind.TheVariants as comparisons
-use Rattle.template_tree_places.specs.Places.{at, Parts, no_parts, parts_more, one, and_parts}
-use Rattle.template_compiler_token_places.specs.Tokens.{last_span, next_span, until, stretch}
+use Rattle.template_compiler_placed_grammar.specs.Places.{at, Parts, no_parts, parts_more, one, and_parts}
+use Rattle.template_compiler_tokens.specs.Places.{last_span, next_span, until, stretch}
 use Rattle.template_compiler_tokens.specs.Token.{Token, bad, bad_syntax, identifier, string, number, symbol, minus, mul, pow, dot, comma, colon, assign, pipe, bracket_open, paren_open, paren_close, brace_open}
 use Rattle.template_compiler_tokens.specs.Steps.{Read, fault, and_then, Step, goes, stops, fails, under, all}
 use Rattle.template_compiler_grammar.specs.Words.{is_word, begins_bare, literal_word, Level, factors, texts, terms, conjunction, disjunction, operator, comparison_operator}

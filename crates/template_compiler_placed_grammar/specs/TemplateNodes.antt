@@ -2,11 +2,11 @@
 use Rattle.std.specs.Prelude.{List, [], ◌∷◌, ◌++◌, Result, Ok, Err}
 use Rattle.template_tree.specs.declared.span.Span.{Span}
 use Rattle.template_tree.specs.Tree.{Expression, Statement, if_condition, Statements, no_statements, Assignments, no_assignments, Imports, no_imports}
-use Rattle.template_tree_places.specs.Places.{Places, at, Parts, no_parts, parts_more, one, and_parts}
-use Rattle.template_compiler_token_places.specs.Tokens.{until}
+use Rattle.template_compiler_placed_grammar.specs.Places.{Places, at, Parts, no_parts, parts_more, one, and_parts}
+use Rattle.template_compiler_tokens.specs.Places.{until}
 use Rattle.template_compiler_tokens.specs.Token.{TokenFault}
-use Rattle.template_compiler_grammar_places.specs.Nodes.{and_place, PairedPlaces}
-use Rattle.template_compiler_grammar_places.specs.Parts.{alone_or}
+use Rattle.template_compiler_placed_grammar.specs.DerivedNodes.{and_place, PairedPlaces}
+use Rattle.template_compiler_placed_grammar.specs.DerivedParts.{alone_or}
 use Rattle.template_compiler_placed_grammar.specs.Nodes.{Placed, placed, Node, Nodes, OptionalNode}
 use Rattle.template_compiler_grammar.specs.TemplateTrees.{and_statement, and_assignment, and_import, unpacked, together, Branches, no_branches, and_branch, branched, Parameters, no_parameters, and_plain, and_default}
 

@@ -1,23 +1,27 @@
-//! The reading of expressions and of templates with the places of their nodes, from left to right, and its laws.
+//! Where the nodes of expressions and of statements stand: in a tree, in what its tokens are read as (one line a production), and
+//! in the reading of the tokens from left to right; and that these are one.
 //!
-//! These are the readers of `template_compiler_grammar` and `template_compiler_grammar` again, where each tree has its
-//! places. Here is no code but laws.
+//! The readers are those of `template_compiler_grammar` again, where each tree has its places. Here is no code but laws.
 #![tactic(auto)]
 
 ghost use Rattle.std.specs.Prelude.{◌≡◌, ℕ, List, Ok};
 ghost use Rattle.template_compiler_grammar.specs.Ends.{Ends};
 ghost use Rattle.template_compiler_grammar.specs.Grammar.{IsExpression};
 ghost use Rattle.template_compiler_grammar.specs.Reader as plain;
-ghost use Rattle.template_compiler_grammar_places.specs.Expressions.{expression_places};
+ghost use Rattle.template_compiler_placed_grammar.specs.DerivedExpressions.{expression_places};
 ghost use Rattle.template_compiler_placed_grammar.specs.Nodes.{Node, bare, placed};
 ghost use Rattle.template_compiler_placed_grammar.specs.Reader.{expression_at};
 ghost use Rattle.template_compiler_tokens.specs.Token.{Token};
 ghost use Rattle.template_tree.specs.Tree.{Expression};
 ghost use Rattle.template_tree.specs.declared.span.Span.{Span};
 
+mod derivations;
 mod templates;
+mod trees;
 
+pub use derivations::{stands_alone, stands_whole};
 pub use templates::{templates_read_with_places, templates_stand_once};
+pub use trees::own_span_first;
 
 /// A law, as the contract of a function that does nothing: without its places, what is read with places is what the reader
 /// reads; what has a tree is read with the places that the grammar has for it, and all that is read has these.

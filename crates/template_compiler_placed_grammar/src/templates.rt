@@ -3,7 +3,7 @@
 //! It is the reader of `template_compiler_grammar` again, where each tree has its places. Here is no code but laws.
 
 ghost use Rattle.std.specs.Prelude.{◌≡◌, List, Ok};
-ghost use Rattle.template_compiler_grammar_places.specs.Statements.{template_places};
+ghost use Rattle.template_compiler_placed_grammar.specs.DerivedStatements.{template_places};
 ghost use Rattle.template_compiler_placed_grammar.specs.Nodes.{placed};
 ghost use Rattle.template_compiler_placed_grammar.specs.TemplateNodes.{PlacedTemplate, bare_template};
 ghost use Rattle.template_compiler_placed_grammar.specs.TemplateReader.{template_of};

@@ -4,7 +4,7 @@ ghost use Rattle.template_tree.specs.View.{expression_of, expressions_in, links_
 ghost use Rattle.template_walk.specs.Runnable.{IsRunnable, is_kept_back};
 ghost use Rattle.template_compiler_runnable.specs.Running.{runs, runs_beside, runs_if_given, all_run, chain_runs, links_run};
 
-use template_compiler_constructs::has_walk;
+use template_tree_nodes::has_walk;
 use template_tree::{CompareOp, Expr};
 use template_tree_parts::left;
 

@@ -9,7 +9,7 @@ use Rattle.template_compiler_tokens.specs.declared.token.Token.{Token}
 use Rattle.template_compiler_stream.specs.declared.refusal.Fault.{Fault}
 use Rattle.template_compiler_stream.specs.Refusals.{fault_of}
 use Rattle.template_compiler_stream.specs.Left.{left_in, ended}
-use Rattle.template_compiler_token_places.specs.Tokens.{last_span, next_span, no_span, passed_count, span_before, token_count}
+use Rattle.template_compiler_tokens.specs.Places.{last_span, next_span, no_span, passed_count, span_before, token_count}
 use Rattle.template_compiler_stream.specs.Spans.{PlacedTokens, spans_of, tokens_from}
 
 -- no token is a fault

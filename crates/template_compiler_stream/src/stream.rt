@@ -7,7 +7,7 @@ ghost use Rattle.template_compiler_grammar.specs.Reader.{begins_closing, begins_
 ghost use Rattle.template_compiler_stream.specs.Refusals.{fault_of};
 ghost use Rattle.template_compiler_stream.specs.Left.{Peeks, Shows, ahead, behind, ended, passed};
 ghost use Rattle.template_compiler_stream.specs.Spans.{ShownAt, TakenAt};
-ghost use Rattle.template_compiler_token_places.specs.Tokens.{last_span, next_span, no_span, until};
+ghost use Rattle.template_compiler_tokens.specs.Places.{last_span, next_span, no_span, until};
 ghost use Rattle.template_compiler_stream.specs.Signs.{assigned_behind, begins_alone, begins_symbol, is_symbol, level_of, second_word, next_operator, next_comparison, next_symbol, next_word, symbol_of, word_in};
 ghost use Rattle.template_compiler_tokens.specs.View.{token_of};
 ghost use Rattle.template_compiler_stream.specs.Skips.{PutsText, SkipsDotted, SkipsKeyword, SkipsSign, SkipsText, SkipsWord};

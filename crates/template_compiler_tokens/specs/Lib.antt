@@ -6,3 +6,4 @@ pub mod Texts
 pub mod Lexical
 pub mod Steps
 pub mod Blame
+pub mod Places

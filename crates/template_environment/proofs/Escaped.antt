@@ -1,7 +1,7 @@
 -- What stands has the escape of the name that it stands under, behind every change.
 use Rattle.std.proofs.Common.{◌≡◌, ◌∙◌, ℕ, Bool, true, false, cond, List, Option, None, Some, Result, Ok, Err, OnOk, OnErr, bytes_eq, sym, subst}
 use Rattle.std.proofs.lemmas.Slice.Eq.{bytes_eq-Decides}
-use Rattle.template_machine_writers.specs.Rule.{IsEscapeOf}
+use Rattle.template_machine_surroundings.specs.Rule.{IsEscapeOf}
 use Rattle.template_compiled.specs.Compiled.{Compiled, IsFaithful}
 use Rattle.template_compiled.specs.Standing.{compiled_at}
 use Rattle.template_compiled.specs.declared.templates.CompiledTemplates.{CompiledTemplates}

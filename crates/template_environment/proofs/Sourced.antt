@@ -3,8 +3,8 @@ use Rattle.std.proofs.Common.{◌≡◌, ◌∙◌, ℕ, List, Option, Result, a
 use Rattle.template_values_errors.specs.declared.ErrorKind.{ErrorKind}
 use Rattle.template_values_errors.specs.declared.modes.AutoEscape.{AutoEscape}
 use Rattle.template_values_model.specs.Val.{Val}
-use Rattle.template_machine_writers.specs.Rule.{IsEscapeOf}
-use Rattle.template_machine_writers.proofs.OneRule.{one_escape}
+use Rattle.template_machine_surroundings.specs.Rule.{IsEscapeOf}
+use Rattle.template_machine_surroundings.proofs.OneRule.{one_escape}
 use Rattle.template_machine_meaning.specs.Isolation.{IsolatesNames}
 use Rattle.template_compiled.specs.Compiled.{Compiled}
 use Rattle.template_compiled.specs.Sources.{Source, read_by, tree_in}

@@ -1,8 +1,8 @@
 -- How an environment reads the templates that it is given.
 use Rattle.std.specs.Prelude.{◌≡◌, ℕ, List, Option, None, Some}
 use Rattle.template_values_errors.specs.declared.modes.AutoEscape.{AutoEscape}
-use Rattle.template_machine_writers.specs.declared.escape.EscapeRule.{EscapeRule}
-use Rattle.template_machine_writers.specs.declared.escape.EscapeRule.TheVariants.{Fixed}
+use Rattle.template_machine_surroundings.specs.declared.escape.EscapeRule.{EscapeRule}
+use Rattle.template_machine_surroundings.specs.declared.escape.EscapeRule.TheVariants.{Fixed}
 use Rattle.template_compiled.specs.Sources.{Source}
 use Rattle.template_environment.specs.Standing.{settings_of, source_at}
 use Rattle.template_environment.specs.declared.environment.Environment.{Environment}

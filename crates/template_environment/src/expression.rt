@@ -16,7 +16,7 @@ use crate::registry::Registry;
 use std::borrow::CowStr;
 use std::collections::BTreeSet;
 use template_compiled::CompiledExpression;
-use template_machine_writers::{AutoEscapeRule, NoRule, StateIds};
+use template_machine_surroundings::{AutoEscapeRule, NoRule, StateIds};
 use template_machine_meaning::expression_isolation;
 use template_machine_output::NullWriter;
 use template_machine_renders::run_expression;

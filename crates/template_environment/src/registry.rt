@@ -1,7 +1,7 @@
 //! What renders see of an environment.
 ghost use Rattle.std.specs.Prelude.{ℕ, List};
 ghost use Rattle.std.specs.Option.{ForSome};
-ghost use Rattle.template_machine_writers.specs.Rule.{IsEscapeOf};
+ghost use Rattle.template_machine_surroundings.specs.Rule.{IsEscapeOf};
 ghost use Rattle.template_compiled.specs.Standing.{compiled_at};
 
 use std::alloc::Global;

@@ -5,9 +5,9 @@ use Rattle.std.proofs.Math.Nat.{ℕ_set}
 use Rattle.std.specs.Option.{option_map}
 use Rattle.template_values_errors.specs.declared.modes.AutoEscape.{AutoEscape}
 use Rattle.template_values_errors.specs.declared.modes.AutoEscape.TheVariants as escapes
-use Rattle.template_machine_writers.specs.Rule.{IsEscapeOf}
-use Rattle.template_machine_writers.specs.declared.escape.EscapeRule.{EscapeRule}
-use Rattle.template_machine_writers.proofs.OneRule.{one_escape}
+use Rattle.template_machine_surroundings.specs.Rule.{IsEscapeOf}
+use Rattle.template_machine_surroundings.specs.declared.escape.EscapeRule.{EscapeRule}
+use Rattle.template_machine_surroundings.proofs.OneRule.{one_escape}
 use Rattle.template_machine_meaning.specs.Meaning.{rendered}
 use Rattle.template_compiled.specs.Compiled.{Compiled, standing_of}
 use Rattle.template_compiled.specs.Sources.{Source, tree_in}

@@ -1,7 +1,7 @@
 -- What renders see of an environment: the sources that stand in it, and what it is set to.
 use Rattle.std.specs.Prelude.{◌≡◌, ℕ, List}
 use Rattle.template_values_model.specs.Val.{Val}
-use Rattle.template_machine_writers.specs.Rule.{IsEscapeOf}
+use Rattle.template_machine_surroundings.specs.Rule.{IsEscapeOf}
 use Rattle.template_compiled.specs.Compiled.{Compiled}
 use Rattle.template_environment.specs.Renderings.{rendering}
 use Rattle.template_environment.specs.Standing.{setting_of, settings_of, source_at}

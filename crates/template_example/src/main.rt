@@ -5,7 +5,7 @@
 
 use std::alloc::Global;
 use template_environment::{Captured, Environment, Template};
-use template_machine_writers::StateIds;
+use template_machine_surroundings::StateIds;
 use template_values_core::Value;
 use template_values_errors::Error;
 use template_values_json::context_from_json;

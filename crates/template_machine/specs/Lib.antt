@@ -3,11 +3,11 @@ pub use Rattle.template_values_errors.specs.Memory
 pub use Rattle.template_values_errors.specs.Names as ErrorNames
 pub use Rattle.template_values_model.specs.Val
 pub use Rattle.template_values_model.specs.Lookup
-pub use Rattle.template_machine_writers.specs.Rule
-pub use Rattle.template_machine_writers.specs.Failures
+pub use Rattle.template_machine_surroundings.specs.Rule
+pub use Rattle.template_machine_surroundings.specs.Failures
 pub use Rattle.template_machine_output.specs.Wrapper
 pub use Rattle.template_machine_output.specs.Writes
-pub use Rattle.template_machine_writers.specs.Answered
+pub use Rattle.template_machine_surroundings.specs.Answered
 pub use Rattle.template_process.specs.Process
 pub use Rattle.template_process.specs.Trace
 pub use Rattle.template_process.specs.Fuel

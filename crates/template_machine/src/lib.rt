@@ -48,7 +48,7 @@
 pub use template_code_checked::{Checked, verify};
 pub use template_code_shapes::{StreamKind, certified_is_good, good_ends_well, good_goes_on};
 pub use template_environment::{Captured, Environment, Expression, State, Template};
-pub use template_machine_writers::{AutoEscapeRule, EscapeRule, NoRule, StateIds, default_auto_escape_callback, one_escape, one_rule};
+pub use template_machine_surroundings::{AutoEscapeRule, EscapeRule, NoRule, StateIds, default_auto_escape_callback, one_escape, one_rule};
 pub use template_machine_frames::{Context, Frame, LoopState};
 pub use template_machine_meaning::{
     every_evaluation_gives, every_run_ends, expression_isolation, isolation, one_meaning,

@@ -4,12 +4,12 @@
 ghost use Rattle.std.specs.Prelude.{◌≡◌, ℕ, ◌+◌, ◌<◌, ◌≤◌, ◌↔◌, ◌∷◌, [], ◌++◌, List, Option, length, take, drop, IfOk, OnOk, OnErr, IsErrOf, IsOkUnless, IsUtf8, Ok, Some, None, string_bytes, string_capacity, string_len};
 ghost use Rattle.std.specs.Io.KnownBytes.{Appends};
 ghost use Rattle.template_machine_output.specs.Writes.{AppendsBeginning};
-ghost use Rattle.template_machine_writers.specs.Failures.{failures_in};
+ghost use Rattle.template_machine_surroundings.specs.Failures.{failures_in};
 
 mod wrapper;
 
-use template_machine_writers::rest_after;
-pub use template_machine_writers::{SinkFault, Writer};
+use template_machine_surroundings::rest_after;
+pub use template_machine_surroundings::{SinkFault, Writer};
 pub use wrapper::WriteWrapper;
 
 /// What takes rendered bytes. A sink names the bytes that it has taken, or tells none, and counts

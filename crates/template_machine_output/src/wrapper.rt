@@ -4,12 +4,12 @@ ghost use Rattle.std.specs.Io.KnownBytes.{WriteAppends};
 ghost use Rattle.std.specs.IoError.{error_kind};
 ghost use Rattle.std.specs.declared.io.ErrorKind.{ErrorKind as IoKind};
 ghost use Rattle.template_machine_output.specs.Wrapper.{failure_count};
-ghost use Rattle.template_machine_writers.specs.Answered.{AnswersOnce, PassesOn};
-ghost use Rattle.template_machine_writers.specs.Failures.{failures_in};
+ghost use Rattle.template_machine_surroundings.specs.Answered.{AnswersOnce, PassesOn};
+ghost use Rattle.template_machine_surroundings.specs.Failures.{failures_in};
 
 use super::{Sink, SinkFault};
 use std::io;
-use template_machine_writers::{Writer, write_once};
+use template_machine_surroundings::{Writer, write_once};
 use template_values_errors::{Error, ErrorKind};
 
 /// A sink over a writer, whose last error it keeps. It takes and tells what the writer takes and

@@ -8,7 +8,7 @@ use std::alloc::Global;
 use std::borrow::CowStr;
 use template_compiler_syntax::{SyntaxConfig, SyntaxConfigBuilder};
 use template_environment::Environment;
-use template_machine_writers::{AutoEscapeRule, StateIds};
+use template_machine_surroundings::{AutoEscapeRule, StateIds};
 use template_values_errors::Error;
 
 /// What comes of the case, in one line.

@@ -6,7 +6,7 @@ use crate::tellings::{tell_new_state, tell_templates};
 use std::alloc::Global;
 use std::borrow::CowStr;
 use template_environment::{Environment, Expression, Template};
-use template_machine_writers::{AutoEscapeRule, StateIds};
+use template_machine_surroundings::{AutoEscapeRule, StateIds};
 use template_values_core::Value;
 use template_values_errors::Error;
 

@@ -1,5 +1,5 @@
 //! A rule of escapes of one's own.
-use template_machine_writers::{AutoEscapeRule, NoRule};
+use template_machine_surroundings::{AutoEscapeRule, NoRule};
 use template_values_errors::AutoEscape;
 
 /// A rule that a number sets.

@@ -2,7 +2,7 @@
 use crate::report::Report;
 use std::collections::BTreeSet;
 use template_environment::{Environment, State, Template};
-use template_machine_writers::AutoEscapeRule;
+use template_machine_surroundings::AutoEscapeRule;
 use template_values_errors::Error;
 
 /// The templates that stand, each with its source.

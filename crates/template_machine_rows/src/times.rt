@@ -3,7 +3,7 @@ use std::alloc::Global;
 use std::hint::black_box;
 use std::time::{Duration, Instant};
 use template_environment::{Environment, Template};
-use template_machine_writers::StateIds;
+use template_machine_surroundings::StateIds;
 use template_rows::unreadable;
 use template_values_core::Value;
 use template_values_errors::Error;

@@ -1,3 +1,6 @@
 pub mod Plain
 mod Rows
 pub mod Segments
+pub mod Laws
+mod Parts
+pub mod Sets

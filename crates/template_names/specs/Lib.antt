@@ -1,1 +1,4 @@
 pub mod Names
+pub mod Among
+pub mod Dotted
+pub mod Goes

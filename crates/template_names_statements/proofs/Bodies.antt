@@ -14,10 +14,10 @@ use Rattle.template_tree_statements.specs.declared.statements.Stmt.{Stmt, Block,
 use Rattle.template_tree_parts.specs.Listed.{statements_in}
 use Rattle.template_tree_parts.proofs.Rows.{statements_row}
 use Rattle.template_names.specs.Names.{Places, is_stored_by, place_by, place_of_macro, place_within}
-use Rattle.template_names_state.specs.declared.state.Names.{Names}
-use Rattle.template_names_state.specs.Among.{Among, nothing}
-use Rattle.template_names_state.specs.Goes.{Goes}
-use Rattle.template_names_state.proofs.Laws.{goes_on}
+use Rattle.template_names.specs.declared.state.Names.{Names}
+use Rattle.template_names.specs.Among.{Among, nothing}
+use Rattle.template_names.specs.Goes.{Goes}
+use Rattle.template_names.proofs.Laws.{goes_on}
 
 -- a walk of a node is one of the statement that it stands in
 pub at_node : {T E : Type 0} {s x : Stmt} (a b : Names) (r : Result T E) → s ≡ x → ((q : Items ℕ) → false ≡ is_stored_by q (statement_of x)) →

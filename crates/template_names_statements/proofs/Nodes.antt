@@ -3,10 +3,10 @@ use Rattle.std.proofs.Common.{◌≡◌, ℕ, ◌≤◌, ◌<◌, ◌+◌, Bool,
 use Rattle.std.specs.Prelude.{option_map, IfSome}
 use Rattle.template_tree.specs.Tree.{Expression, variable, constant, slice, unary, binary, chain, conditional, filtered, tested, attribute, item, call, list_literal, tuple_literal, map_literal, absent, given}
 use Rattle.template_tree_parts.specs.Spine.{left_of, before}
-use Rattle.template_names_state.specs.declared.state.Names.{Names}
-use Rattle.template_names_state.specs.Among.{nothing}
-use Rattle.template_names_state.specs.Goes.{Goes}
-use Rattle.template_names_state.proofs.Laws.{uses_as, uses_then}
+use Rattle.template_names.specs.declared.state.Names.{Names}
+use Rattle.template_names.specs.Among.{nothing}
+use Rattle.template_names.specs.Goes.{Goes}
+use Rattle.template_names.proofs.Laws.{uses_as, uses_then}
 use Rattle.template_tree.specs.View.{expression_of, expressions_in, links_in, arguments_in, optional_in}
 use Rattle.template_tree.specs.declared.span.Spanned.{Spanned}
 use Rattle.template_tree.specs.declared.calls.Call.{Call as CallNode}
@@ -22,7 +22,7 @@ use Rattle.template_tree.specs.declared.expressions.Expr.{Expr, size-Expr, Compa
 use Rattle.template_tree.proofs.Rows.{arguments_row}
 use Rattle.template_tree_parts.proofs.Trees.{chain_tree, choice_tree, list_tree, map_tree, slice_tree, tuple_tree}
 use Rattle.template_names.specs.Names.{Places, place_before, place_in, place_if_given, place_in_one, place_in_links, place_in_arguments}
-use Rattle.template_names_state.specs.Dotted.{fields_left}
+use Rattle.template_names.specs.Dotted.{fields_left}
 use Rattle.template_names_statements.specs.Parts.{left_deep, left_place, place_beside}
 
 filter_beside : (q : Places) (fields : Items (Items ℕ)) (n : Box (Spanned FilterNode) Global) →

@@ -10,11 +10,11 @@ use Rattle.template_tree.specs.declared.expressions.List.{List as ListNode}
 use Rattle.template_tree.specs.declared.expressions.Expr.{Expr, Compare as CompareNode, List}
 use Rattle.template_tree_parts.proofs.Trees.{chain_tree, list_tree}
 use Rattle.template_names.specs.Names.{Places, is_imported, is_stored_in, is_stored_in_one, place_of_arguments, place_in_target, place_in_targets, place_from, reversed, place_in}
-use Rattle.template_names_state.specs.declared.state.Names.{Names}
-use Rattle.template_names_state.specs.Among.{nothing}
-use Rattle.template_names_state.specs.Goes.{Goes, no_place}
+use Rattle.template_names.specs.declared.state.Names.{Names}
+use Rattle.template_names.specs.Among.{nothing}
+use Rattle.template_names.specs.Goes.{Goes, no_place}
 use Rattle.template_names_statements.specs.Stores.{backwards, place_in_first, is_assigned, is_bound}
-use Rattle.template_names_state.proofs.Laws.{goes_as, goes_nowhere, goes_then, or_assoc, or_false}
+use Rattle.template_names.proofs.Laws.{goes_as, goes_nowhere, goes_then, or_assoc, or_false}
 
 -- a list of targets, and an expression that is no target
 pub stored_list : (q : Items ℕ) (e : Expr) (n : Box (Spanned ListNode) Global) → e ≡ List n →

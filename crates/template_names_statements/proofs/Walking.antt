@@ -9,12 +9,12 @@ use Rattle.template_tree_statements.specs.declared.statements.Stmt.{Stmt, size-S
 use Rattle.template_tree_parts.specs.Listed.{statements_in}
 use Rattle.template_tree_parts.proofs.Trees.{if_tree}
 use Rattle.template_names.specs.Names.{Places, is_stored_by, is_stored_in_one, place_by, place_of_arguments, place_of_macro, place_within, place_in}
-use Rattle.template_names_state.specs.declared.state.Names.{Names}
+use Rattle.template_names.specs.declared.state.Names.{Names}
 use Rattle.template_names_statements.specs.Choices.{choice_of}
-use Rattle.template_names_state.specs.Among.{just, nothing}
-use Rattle.template_names_state.specs.Goes.{Goes}
+use Rattle.template_names.specs.Among.{just, nothing}
+use Rattle.template_names.specs.Goes.{Goes}
 use Rattle.template_names_statements.specs.Stores.{backwards}
-use Rattle.template_names_state.proofs.Laws.{and_false, or_false, turned, uses_as, uses_then}
+use Rattle.template_names.proofs.Laws.{and_false, or_false, turned, uses_as, uses_then}
 use Rattle.template_names_statements.proofs.Storing.{used_by_arguments}
 
 behind : (a k c u : Bool) → ((a || (not k && false)) || (not (k || c) && u)) ≡ (a || (not k && (not c && u)))

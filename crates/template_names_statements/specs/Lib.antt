@@ -1,6 +1,6 @@
 pub mod Choices
 pub mod Parts
 pub mod Stores
-pub use Rattle.template_names_state.specs.Among
-pub use Rattle.template_names_state.specs.Dotted
-pub use Rattle.template_names_state.specs.Goes
+pub use Rattle.template_names.specs.Among
+pub use Rattle.template_names.specs.Dotted
+pub use Rattle.template_names.specs.Goes

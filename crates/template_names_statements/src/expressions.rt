@@ -2,13 +2,13 @@
 ghost use Rattle.std.specs.Prelude.{◌≡◌, ◌≤◌, ℕ, List, OnOk};
 ghost use Rattle.template_tree.specs.View.{expression_of, expressions_in, links_in, optional_in, argument_of, arguments_in};
 ghost use Rattle.template_names.specs.Names.{place_in, place_if_given, place_in_one, place_in_links, place_in_arguments, place_in_argument};
-ghost use Rattle.template_names_state.specs.Among.{nothing};
-ghost use Rattle.template_names_state.specs.Dotted.{fields_of};
-ghost use Rattle.template_names_state.specs.Goes.{Goes};
+ghost use Rattle.template_names.specs.Among.{nothing};
+ghost use Rattle.template_names.specs.Dotted.{fields_of};
+ghost use Rattle.template_names.specs.Goes.{Goes};
 ghost use Rattle.template_names_statements.specs.Parts.{place_beside};
 
 use std::alloc::AllocError;
-use template_names_state::{Names, go_left};
+use template_names::{Names, go_left};
 use template_tree::{CallArg, CompareOp, Expr};
 use template_tree_parts::left;
 

@@ -2,12 +2,12 @@
 ghost use Rattle.std.specs.Prelude.{◌≡◌, not, ◌&&◌, ◌||◌, OnOk, codes};
 ghost use Rattle.template_tree.specs.View.{arguments_in, expression_of, optional_in};
 ghost use Rattle.template_names.specs.Names.{is_stored_in, place_if_given, place_in, place_in_arguments, place_in_target};
-ghost use Rattle.template_names_state.specs.Among.{just, nothing};
-ghost use Rattle.template_names_state.specs.Goes.{Goes};
+ghost use Rattle.template_names.specs.Among.{just, nothing};
+ghost use Rattle.template_names.specs.Goes.{Goes};
 
 use crate::{assign_target, use_arguments, use_expression, use_optional};
 use std::alloc::AllocError;
-use template_names_state::Names;
+use template_names::Names;
 use template_tree::Call;
 use template_tree_statements::{ForLoop, SetBlock};
 

@@ -4,15 +4,15 @@ ghost use Rattle.template_tree.specs.View.{expressions_in};
 ghost use Rattle.template_tree_statements.specs.View.{statement_of};
 ghost use Rattle.template_tree_parts.specs.Listed.{statements_in};
 ghost use Rattle.template_names.specs.Names.{is_stored_by, place_by, place_of_macro, place_within};
-ghost use Rattle.template_names_state.specs.Among.{nothing};
-ghost use Rattle.template_names_state.specs.Goes.{Goes};
+ghost use Rattle.template_names.specs.Among.{nothing};
+ghost use Rattle.template_names.specs.Goes.{Goes};
 ghost use Rattle.template_names_statements.specs.Stores.{is_stored_among};
 ghost use Rattle.template_names_statements.specs.Choices.{choice_of, loop_of, with_of};
 
 use crate::parts::{begin_loop, end_set_block, use_call};
 use crate::{assign, bind_arguments, bind_imports, use_assignments, use_expression};
 use std::alloc::AllocError;
-use template_names_state::Names;
+use template_names::Names;
 use template_tree::{Expr, Spanned};
 use template_tree_statements::{ForLoop, IfCond, Stmt, WithBlock};
 

@@ -3,13 +3,13 @@ ghost use Rattle.std.specs.Prelude.{◌≡◌, ◌≤◌, ◌||◌, false, lengt
 ghost use Rattle.template_tree.specs.View.{expression_of, expressions_in, optional_in};
 ghost use Rattle.template_tree_statements.specs.View.{assignments_in, imports_in};
 ghost use Rattle.template_names.specs.Names.{is_imported, is_stored_in, is_stored_in_one, place_in_target, place_of_arguments, place_in_targets, place_in, place_from};
-ghost use Rattle.template_names_state.specs.Among.{nothing};
-ghost use Rattle.template_names_state.specs.Goes.{Goes, no_place};
+ghost use Rattle.template_names.specs.Among.{nothing};
+ghost use Rattle.template_names.specs.Goes.{Goes, no_place};
 ghost use Rattle.template_names_statements.specs.Stores.{backwards, place_in_first, is_assigned, is_bound};
 
 use crate::expressions::use_expression;
 use std::alloc::AllocError;
-use template_names_state::Names;
+use template_names::Names;
 use template_tree::Expr;
 
 // Stores the names of a target.

@@ -2,7 +2,7 @@
 use Rattle.std.proofs.Common.{Result, Ok, Err, OnErr, IsTrue, ◌≡◌, ℕ, Bool, ◌||◌, List, ◌∷◌, String, Global, string_bytes, bytes_eq, sym, ap, ◌∙◌}
 use Rattle.std.proofs.lemmas.Map.Text.{is_eq-slice_cmp}
 use Rattle.std.specs.BTreeSet.{contains_text}
-use Rattle.template_names_state.proofs.Laws.{or_assoc, turned}
+use Rattle.template_names.proofs.Laws.{or_assoc, turned}
 
 -- one is added
 pub one_added : (rest : List (String Global)) (name : String Global) (left : List (String Global)) (old new all : Bool) (q : List ℕ) →

@@ -1,2 +1,2 @@
 -- What those above compare names by.
-pub use Rattle.template_names_state.proofs.Laws.{turned}
+pub use Rattle.template_names.proofs.Laws.{turned}

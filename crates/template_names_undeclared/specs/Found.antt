@@ -3,8 +3,8 @@ use Rattle.std.specs.Prelude.{ℕ, Bool, not, ◌&&◌, ◌||◌, ◌↔◌, Lis
 use Rattle.std.specs.BTreeSet.{BTreeSet, contains_text}
 use Rattle.template_tree.specs.Tree.{Statement, template}
 use Rattle.template_names.specs.Names.{IsToldFor, Places, anywhere, is_stored_everywhere, place_by, uses_place}
-pub use Rattle.template_names_state.specs.Among.{Adds}
-use Rattle.template_names_state.specs.Among.{Among}
+pub use Rattle.template_names.specs.Among.{Adds}
+use Rattle.template_names.specs.Among.{Among}
 
 -- whether one of the places is in the tree, and used; of a whole template `uses_place` says it
 abbrev pub has_place : Statement → Places → Bool

@@ -1,2 +1,2 @@
 pub mod Found
-pub use Rattle.template_names_state.specs.Among
+pub use Rattle.template_names.specs.Among

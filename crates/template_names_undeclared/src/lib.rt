@@ -5,5 +5,5 @@ mod owned;
 mod undeclared;
 
 pub use owned::add_undeclared;
-pub use template_names_state::add_name;
+pub use template_names::add_name;
 pub use undeclared::{find_undeclared, first_segments};

@@ -2,13 +2,13 @@
 ghost use Rattle.std.specs.Prelude.{OnErr, OnOk};
 ghost use Rattle.std.specs.BTreeSet.{contains_text};
 ghost use Rattle.template_tree_statements.specs.View.{statement_of};
-ghost use Rattle.template_names_state.specs.Among.{Adds};
+ghost use Rattle.template_names.specs.Among.{Adds};
 ghost use Rattle.template_names_undeclared.specs.Found.{AddsJust, AddsSome, uses};
 
 use crate::undeclared::find_undeclared;
 use std::alloc::{AllocError, Global};
 use std::collections::BTreeSet;
-use template_names_state::add_text;
+use template_names::add_text;
 use template_tree_statements::Stmt;
 
 /// Adds the names that a template uses to a set of names. Takes what [`find_undeclared`] takes, and a

@@ -7,7 +7,7 @@ ghost use Rattle.template_names_undeclared.specs.Found.{HasJust};
 
 use std::alloc::{AllocError, Global};
 use std::collections::BTreeSet;
-use template_names_state::Names;
+use template_names::Names;
 use template_names_statements::use_statement;
 use template_tree_statements::Stmt;
 

@@ -3,7 +3,7 @@ use Rattle.std.proofs.Common.{◌≡◌, ◌∙◌, ℕ, List, sym, ap, subst, I
 use Rattle.std.specs.BTreeSet.{BTreeSet, contains_text}
 use Rattle.std.specs.Prelude.{String}
 use Rattle.std.specs.declared.alloc.Global.{Global}
-use Rattle.template_machine_writers.proofs.OneRule.{one_rule}
+use Rattle.template_machine_surroundings.proofs.OneRule.{one_rule}
 use Rattle.template_machine_meaning.specs.Meaning.{Setting, Standing}
 use Rattle.template_environment.specs.Isolation.{IsContextName}
 use Rattle.template_environment.specs.Sources.{tree_in}

@@ -3,7 +3,7 @@ ghost use Rattle.std.specs.Prelude.{◌≡◌, ◌||◌, ℕ, List, Bool, Option
 ghost use Rattle.std.specs.Io.{ReadsAtMost};
 ghost use Rattle.std.specs.Io.KnownBytes.{ReadConsumes};
 ghost use Rattle.std.specs.declared.io.Error.{Error as IoError};
-ghost use Rattle.template_machine_writers.specs.Answered.{AnswersOnce};
+ghost use Rattle.template_machine_surroundings.specs.Answered.{AnswersOnce};
 ghost use Rattle.template_program_parts.specs.Answered.{TellsRead};
 ghost use Rattle.template_program_parts.specs.Faults.{is_file_fault};
 ghost use Rattle.template_program_parts.specs.Wrapper.{reader_in, failed_before};

@@ -1,7 +1,7 @@
 //! The escapes that names have, and the numbers that states are given.
 use serde_json::{Map, Value as Json};
 use std::alloc::Global;
-use template_machine_writers::{EscapeRule, StateIds, default_auto_escape_callback};
+use template_machine_surroundings::{EscapeRule, StateIds, default_auto_escape_callback};
 use template_rows::{count_of, expect_names, number_of, unreadable};
 use template_values::{AutoEscape, Error};
 

@@ -2,7 +2,7 @@
 use crate::works::DEFAULT_LIMIT;
 use serde_json::{Map, Value as Json};
 use std::alloc::{AllocError, Global};
-use template_machine_writers::StateIds;
+use template_machine_surroundings::StateIds;
 use template_program_run::{Command, Outcome, Request, run};
 use template_rows::{
     behavior_of, count_of, expect_names, number_of, pairs_of, quoted, text_of, unreadable,

@@ -4,7 +4,7 @@ use crate::works::{
     many_parts, many_prints, many_rounds, many_rounds_in_rounds, many_templates, one_text,
 };
 use std::alloc::Global;
-use template_machine_writers::StateIds;
+use template_machine_surroundings::StateIds;
 use template_program_run::{Outcome, run};
 use template_rows::unreadable;
 use template_values_errors::{Error, ErrorKind};

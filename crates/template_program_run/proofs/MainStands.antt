@@ -2,7 +2,7 @@
 use Rattle.std.proofs.Common.{◌≡◌, ◌∙◌, sym, subst, ap, refl, ℕ, ◌+◌, List, Option, None, Some, inr, string_bytes}
 use Rattle.std.specs.Option.{option_map}
 use Rattle.template_values_model.specs.Val.{Val}
-use Rattle.template_machine_writers.specs.Rule.{IsEscapeOf}
+use Rattle.template_machine_surroundings.specs.Rule.{IsEscapeOf}
 use Rattle.template_machine_meaning.specs.Meaning.{Standing}
 use Rattle.template_environment.specs.Compiled.{Compiled, standing_of}
 use Rattle.template_environment.specs.Sources.{Source, tree_in}

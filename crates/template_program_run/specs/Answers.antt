@@ -10,7 +10,7 @@ use Rattle.template_values_errors.specs.Memory.{NoMemory}
 use Rattle.template_values_model.specs.Val.{Val}
 use Rattle.template_process.specs.Approximants.{IsFinished}
 use Rattle.template_process.specs.Fuel.{IsSameRun, under}
-use Rattle.template_machine_writers.specs.Rule.{IsRuleOf}
+use Rattle.template_machine_surroundings.specs.Rule.{IsRuleOf}
 use Rattle.template_machine_output.specs.Writes.{AppendsBeginning}
 use Rattle.template_environment.specs.Outcomes.{IsWant, TellsFailures}
 use Rattle.template_machine_meaning.specs.Meaning.{Standing, rendered}

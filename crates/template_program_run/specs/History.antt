@@ -3,7 +3,7 @@ use Rattle.std.specs.Prelude.{ℕ, List, [], ◌∷◌, Option, None, Some, if�
 use Rattle.std.specs.Option.{option_map}
 use Rattle.std.specs.Str.{bytes_eq}
 use Rattle.template_compiler_syntax.specs.Syntax.{default_syntax}
-use Rattle.template_machine_writers.specs.declared.escape.EscapeRule.TheVariants.{ByName}
+use Rattle.template_machine_surroundings.specs.declared.escape.EscapeRule.TheVariants.{ByName}
 use Rattle.template_environment.specs.Sources.{Source}
 
 -- the one given last under the name

@@ -11,7 +11,7 @@ use crate::request::Request;
 use std::alloc::Global;
 use template_environment::Environment;
 use template_environment_settings::set_bounds;
-use template_machine_writers::StateIds;
+use template_machine_surroundings::StateIds;
 use template_values_errors::{Error, ErrorKind};
 
 /// An environment with the templates, of which a later one replaces an earlier one of its name, set to what

@@ -1,7 +1,7 @@
 //! The run of a request.
 ghost use Rattle.std.specs.Prelude.{◌≡◌, ℕ, List, Some, option_copied, string_bytes, IfOk, IfErr};
 ghost use Rattle.template_program_parts.specs.Context.{text_pairs};
-ghost use Rattle.template_machine_writers.specs.Rule.{IsEscapeOf};
+ghost use Rattle.template_machine_surroundings.specs.Rule.{IsEscapeOf};
 ghost use Rattle.template_environment.specs.Compiled.{standing_of};
 ghost use Rattle.template_environment.specs.Plain.{IsPlain, text_kept};
 ghost use Rattle.template_environment.specs.Reading.{registry_of};
@@ -17,7 +17,7 @@ use crate::names::write_lines;
 use crate::request::Request;
 use std::alloc::Global;
 use template_environment::{Environment, Template};
-use template_machine_writers::StateIds;
+use template_machine_surroundings::StateIds;
 use template_machine_output::Sink;
 use template_program_parts::{Command, Outcome, context_for};
 use template_values_core::Value;

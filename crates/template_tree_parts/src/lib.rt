@@ -4,4 +4,4 @@
 mod spines;
 
 pub use spines::spine;
-pub use template_tree_left_parts::left;
+pub use template_tree_nodes::left;

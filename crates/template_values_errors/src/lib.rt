@@ -1,4 +1,4 @@
-//! The refusals of the template engine: a kind, and at most one error as its cause.
+//! The refusals of the template engine: a kind, and at most one error as its cause; and the modes of a render.
 #![tactic(auto)]
 
 ghost use Rattle.std.specs.Prelude.{◌≡◌, ◌∷◌, [], ◌⊎◌, Some};

@@ -1,5 +1,4 @@
-//! Definitions alone: the texts that values print, their escapes, the numbers of JSON, and what is
-//! known of records.
+//! The texts that values print, their escapes, the numbers of JSON, what is known of records, and how values look into them.
 #![tactic(auto)]
 
 mod records;

@@ -7,7 +7,7 @@ use Rattle.template_tree.specs.declared.expressions.Slice.{Slice as SliceNode}
 use Rattle.template_tree.specs.declared.expressions.Expr.{Expr, size-Expr, the_lemmas}
 use Rattle.template_tree.specs.declared.span.Spanned.{Spanned}
 use Rattle.template_tree.proofs.Rows.{expressions_row}
-use Rattle.template_compiler_constructs.specs.Constructs.{has_walk}
+use Rattle.template_tree_nodes.specs.Constructs.{has_walk}
 use Rattle.template_compiler_runnable.specs.Running.{all_run, chain_runs, left_deep, left_runs, runs_beside, runs_if_given}
 use Rattle.template_compiler_runnable.proofs.Parts.{goes_left, left_within, chain_beside, map_beside, slice_beside, first_fails, then}
 use Rattle.template_compiler_runnable.proofs.expressions.+expression.Goals as goal

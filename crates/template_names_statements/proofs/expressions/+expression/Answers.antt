@@ -14,9 +14,9 @@ use Rattle.template_tree.specs.declared.expressions.Tuple.{Tuple as TupleNode}
 use Rattle.template_tree.specs.declared.span.Spanned.{Spanned}
 use Rattle.template_tree.specs.declared.expressions.Expr.{Expr, size-Expr}
 use Rattle.template_names.specs.Names.{place_if_given, place_in, place_in_one, place_in_links, place_in_arguments, place_in_argument}
-use Rattle.template_names_state.specs.Dotted.{fields_of}
+use Rattle.template_names.specs.Dotted.{fields_of}
 use Rattle.template_names_statements.specs.Parts.{left_deep, left_place, place_beside}
-use Rattle.template_names_state.proofs.Laws.{goes_nowhere, uses_as, uses_end, uses_item, uses_on, uses_then, uses_then_on}
+use Rattle.template_names.proofs.Laws.{goes_nowhere, uses_as, uses_end, uses_item, uses_on, uses_then, uses_then_on}
 use Rattle.template_names_statements.proofs.Nodes.{in_filter, in_test, in_call, in_list, in_tuple, in_map, in_chain, in_condition, in_slice, left_within, left_ends}
 use Rattle.template_names_statements.proofs.expressions.+expression.Goals as goal
 

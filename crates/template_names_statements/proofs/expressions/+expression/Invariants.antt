@@ -3,10 +3,10 @@ use Rattle.std.proofs.Common.{◌+◌, ◌*◌, ◌≤◌, drop}
 use Rattle.template_tree.specs.View.{expression_of, expressions_in, links_in, arguments_in}
 use Rattle.template_tree.specs.declared.expressions.Expr.{size-Expr}
 use Rattle.template_names.specs.Names.{place_in, place_in_one, place_in_links, place_in_arguments}
-use Rattle.template_names_state.specs.declared.state.Names.{Names}
-use Rattle.template_names_state.specs.Among.{nothing}
-use Rattle.template_names_state.specs.Dotted.{fields_of}
-use Rattle.template_names_state.specs.Goes.{Goes}
+use Rattle.template_names.specs.declared.state.Names.{Names}
+use Rattle.template_names.specs.Among.{nothing}
+use Rattle.template_names.specs.Dotted.{fields_of}
+use Rattle.template_names.specs.Goes.{Goes}
 use Rattle.template_names_statements.specs.Parts.{left_place, left_deep}
 use Rattle.template_names_statements.proofs.expressions.+expression.Given as goal
 

@@ -1,8 +1,8 @@
 use Rattle.std.proofs.Common.{false, not, ◌&&◌, ◌||◌, codes, ap, ◌∙◌}
 use Rattle.template_tree.specs.View.{expression_of, optional_in}
 use Rattle.template_names.specs.Names.{is_stored_in, place_if_given, place_in_target}
-use Rattle.template_names_state.specs.Among.{just}
-use Rattle.template_names_state.proofs.Laws.{and_false, goes_then, goes_then_on, or_false}
+use Rattle.template_names.specs.Among.{just}
+use Rattle.template_names.proofs.Laws.{and_false, goes_then, goes_then_on, or_false}
 use Rattle.template_names_statements.proofs.parts.begin_loop.Goals as goal
 
 pub returns : goal.returns

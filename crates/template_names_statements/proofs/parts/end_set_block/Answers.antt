@@ -1,5 +1,5 @@
 use Rattle.std.proofs.Common.{refl}
-use Rattle.template_names_state.proofs.Laws.{goes_then_on}
+use Rattle.template_names.proofs.Laws.{goes_then_on}
 use Rattle.template_names_statements.proofs.parts.end_set_block.Goals as goal
 
 pub returns : goal.returns

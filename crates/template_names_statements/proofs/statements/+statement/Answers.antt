@@ -21,8 +21,8 @@ use Rattle.template_tree_statements.specs.declared.statements.WithBlock.{WithBlo
 use Rattle.template_names_statements.proofs.Bodies.{at_node, at_tree, macro_reads, set_block_tree, filter_block_tree, block_tree, macro_tree, call_tree}
 use Rattle.template_names.specs.Names.{is_stored_by, is_stored_in, place_by, place_of_macro, place_in_target, place_from, place_within, place_if_given, place_in, place_in_arguments}
 use Rattle.template_names_statements.specs.Stores.{is_assigned, is_stored_among}
-use Rattle.template_names_state.specs.Among.{just}
-use Rattle.template_names_state.proofs.Laws.{goes_as, goes_end, goes_inside, goes_item, goes_then, goes_then_on, or_assoc, or_false, uses_as, uses_then, uses_then_on}
+use Rattle.template_names.specs.Among.{just}
+use Rattle.template_names.proofs.Laws.{goes_as, goes_end, goes_inside, goes_item, goes_then, goes_then_on, or_assoc, or_false, uses_as, uses_then, uses_then_on}
 use Rattle.template_names_statements.proofs.Storing.{used_from}
 use Rattle.template_names_statements.proofs.Walking.{loop_uses, chain_end, chain_goes, else_below, macro_uses}
 use Rattle.template_names_statements.proofs.statements.+statement.Goals as goal

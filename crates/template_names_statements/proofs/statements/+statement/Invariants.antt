@@ -3,10 +3,10 @@ use Rattle.std.proofs.Common.{◌+◌, ◌*◌, ◌≤◌, drop}
 use Rattle.template_tree_statements.specs.declared.statements.Stmt.{size-Stmt, ForLoop, IfCond, WithBlock}
 use Rattle.template_tree_parts.specs.Listed.{statements_in}
 use Rattle.template_names.specs.Names.{place_by, place_within}
-use Rattle.template_names_state.specs.declared.state.Names.{Names}
+use Rattle.template_names.specs.declared.state.Names.{Names}
 use Rattle.template_names_statements.specs.Choices.{choice_of}
-use Rattle.template_names_state.specs.Among.{nothing}
-use Rattle.template_names_state.specs.Goes.{Goes}
+use Rattle.template_names.specs.Among.{nothing}
+use Rattle.template_names.specs.Goes.{Goes}
 use Rattle.template_names_statements.specs.Stores.{is_stored_among}
 use Rattle.template_names_statements.proofs.statements.+statement.Given as goal
 

@@ -4,7 +4,7 @@ use Rattle.template_tree.specs.declared.expressions.List.{List as ListNode}
 use Rattle.template_tree.specs.declared.span.Spanned.{Spanned}
 use Rattle.template_tree.specs.declared.expressions.Expr.{Expr}
 use Rattle.template_names.specs.Names.{is_stored_in, is_stored_in_one, place_in_target, place_in_targets}
-use Rattle.template_names_state.proofs.Laws.{goes_as, goes_end, goes_item, goes_nowhere, goes_on}
+use Rattle.template_names.proofs.Laws.{goes_as, goes_end, goes_item, goes_nowhere, goes_on}
 use Rattle.template_names_statements.proofs.Storing.{stored_chain, stored_list, used_chain, used_list}
 use Rattle.template_names_statements.proofs.targets.+assigned.Goals as goal
 

@@ -2,8 +2,8 @@
 use Rattle.std.proofs.Common.{drop}
 use Rattle.template_tree.specs.View.{expressions_in}
 use Rattle.template_names.specs.Names.{is_stored_in_one, place_in_targets}
-use Rattle.template_names_state.specs.declared.state.Names.{Names}
-use Rattle.template_names_state.specs.Goes.{Goes}
+use Rattle.template_names.specs.declared.state.Names.{Names}
+use Rattle.template_names.specs.Goes.{Goes}
 use Rattle.template_names_statements.proofs.targets.+assigned.Given as goal
 
 abbrev pub invariant-assign_targets-loop-target : goal.invariant-assign_targets-loop-target

@@ -4,8 +4,8 @@ use Rattle.template_tree.specs.declared.expressions.List.{List as ListNode}
 use Rattle.template_tree.specs.declared.span.Spanned.{Spanned}
 use Rattle.template_tree.specs.declared.expressions.Expr.{Expr}
 use Rattle.template_names.specs.Names.{is_stored_in, is_stored_in_one}
-use Rattle.template_names_state.specs.Goes.{no_place}
-use Rattle.template_names_state.proofs.Laws.{goes_as, goes_end, goes_item, goes_nowhere, goes_on}
+use Rattle.template_names.specs.Goes.{no_place}
+use Rattle.template_names.proofs.Laws.{goes_as, goes_end, goes_item, goes_nowhere, goes_on}
 use Rattle.template_names_statements.proofs.Storing.{none_used, stored_chain, stored_list}
 use Rattle.template_names_statements.proofs.targets.+bound.Goals as goal
 

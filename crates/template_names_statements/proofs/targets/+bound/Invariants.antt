@@ -2,8 +2,8 @@
 use Rattle.std.proofs.Common.{drop}
 use Rattle.template_tree.specs.View.{expressions_in}
 use Rattle.template_names.specs.Names.{is_stored_in_one}
-use Rattle.template_names_state.specs.declared.state.Names.{Names}
-use Rattle.template_names_state.specs.Goes.{Goes, no_place}
+use Rattle.template_names.specs.declared.state.Names.{Names}
+use Rattle.template_names.specs.Goes.{Goes, no_place}
 use Rattle.template_names_statements.proofs.targets.+bound.Given as goal
 
 abbrev pub invariant-bind_targets-loop-target : goal.invariant-bind_targets-loop-target

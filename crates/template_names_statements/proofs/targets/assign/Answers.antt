@@ -1,5 +1,5 @@
 use Rattle.std.proofs.Common.{refl}
-use Rattle.template_names_state.proofs.Laws.{goes_then_on}
+use Rattle.template_names.proofs.Laws.{goes_then_on}
 use Rattle.template_names_statements.proofs.targets.assign.Goals as goal
 
 pub returns : goal.returns

@@ -1,8 +1,8 @@
 -- What is left ends as all does.
 use Rattle.std.proofs.Common.{◌≤◌, length, take, false}
 use Rattle.template_names.specs.Names.{is_stored_in_one, place_of_arguments}
-use Rattle.template_names_state.specs.declared.state.Names.{Names}
-use Rattle.template_names_state.specs.Goes.{Goes}
+use Rattle.template_names.specs.declared.state.Names.{Names}
+use Rattle.template_names.specs.Goes.{Goes}
 use Rattle.template_names_statements.specs.Stores.{backwards}
 use Rattle.template_names_statements.proofs.targets.bind_arguments.Given as goal
 

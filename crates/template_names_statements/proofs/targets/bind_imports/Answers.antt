@@ -3,9 +3,9 @@ use Rattle.template_tree.specs.View.{expression_of, optional_in}
 use Rattle.template_tree_statements.specs.View.{imports_in}
 use Rattle.template_tree.specs.declared.expressions.Expr.{Expr}
 use Rattle.template_names.specs.Names.{is_imported}
-use Rattle.template_names_state.specs.Goes.{no_place}
+use Rattle.template_names.specs.Goes.{no_place}
 use Rattle.template_names_statements.specs.Stores.{is_bound}
-use Rattle.template_names_state.proofs.Laws.{goes_end, goes_item}
+use Rattle.template_names.proofs.Laws.{goes_end, goes_item}
 use Rattle.template_names_statements.proofs.Storing.{import_more, none_used}
 use Rattle.template_names_statements.proofs.targets.bind_imports.Goals as goal
 

@@ -2,8 +2,8 @@
 use Rattle.std.proofs.Common.{drop}
 use Rattle.template_tree_statements.specs.View.{imports_in}
 use Rattle.template_names.specs.Names.{is_imported}
-use Rattle.template_names_state.specs.declared.state.Names.{Names}
-use Rattle.template_names_state.specs.Goes.{Goes, no_place}
+use Rattle.template_names.specs.declared.state.Names.{Names}
+use Rattle.template_names.specs.Goes.{Goes, no_place}
 use Rattle.template_names_statements.proofs.targets.bind_imports.Given as goal
 
 abbrev pub invariant-loop-import : goal.invariant-loop-import

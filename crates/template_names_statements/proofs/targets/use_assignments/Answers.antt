@@ -4,7 +4,7 @@ use Rattle.template_tree_statements.specs.View.{assignments_in}
 use Rattle.template_tree.specs.declared.expressions.Expr.{Expr}
 use Rattle.template_names.specs.Names.{is_stored_in, place_in_target, place_from, place_in}
 use Rattle.template_names_statements.specs.Stores.{is_assigned}
-use Rattle.template_names_state.proofs.Laws.{goes_end, goes_item}
+use Rattle.template_names.proofs.Laws.{goes_end, goes_item}
 use Rattle.template_names_statements.proofs.targets.use_assignments.Goals as goal
 
 pub loop-assignment-preserved : goal.loop-assignment-preserved

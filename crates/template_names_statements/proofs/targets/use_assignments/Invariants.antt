@@ -2,8 +2,8 @@
 use Rattle.std.proofs.Common.{drop, false}
 use Rattle.template_tree_statements.specs.View.{assignments_in}
 use Rattle.template_names.specs.Names.{place_from}
-use Rattle.template_names_state.specs.declared.state.Names.{Names}
-use Rattle.template_names_state.specs.Goes.{Goes}
+use Rattle.template_names.specs.declared.state.Names.{Names}
+use Rattle.template_names.specs.Goes.{Goes}
 use Rattle.template_names_statements.specs.Stores.{is_assigned}
 use Rattle.template_names_statements.proofs.targets.use_assignments.Given as goal
 

@@ -1,7 +1,7 @@
 use Rattle.std.proofs.Common.{◌≡◌, ◌≤◌, ◌+◌, ◌-◌, ℕ, length, take, arith, sym, ap, ◌∙◌}
 use Rattle.template_tree.specs.Tree.{Expressions}
 use Rattle.template_names_statements.specs.Stores.{backwards, place_in_first}
-use Rattle.template_names_state.proofs.Laws.{uses_on}
+use Rattle.template_names.proofs.Laws.{uses_on}
 use Rattle.template_names_statements.proofs.Storing.{backwards_last}
 use Rattle.template_names_statements.proofs.targets.use_last.Goals as goal
 

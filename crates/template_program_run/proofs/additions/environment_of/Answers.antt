@@ -2,8 +2,8 @@ use Rattle.std.proofs.Common.{◌≡◌, ◌∙◌, ℕ, List, ap, sym, subst, O
 use Rattle.std.proofs.lemmas.Result.{err_from_is_err_and}
 use Rattle.template_values_errors.specs.declared.modes.AutoEscape.{AutoEscape}
 use Rattle.template_compiler_syntax.specs.Syntax.{Syntax, default_syntax}
-use Rattle.template_machine_writers.specs.declared.escape.EscapeRule.{EscapeRule}
-use Rattle.template_machine_writers.specs.declared.escape.EscapeRule.TheVariants.{ByName}
+use Rattle.template_machine_surroundings.specs.declared.escape.EscapeRule.{EscapeRule}
+use Rattle.template_machine_surroundings.specs.declared.escape.EscapeRule.TheVariants.{ByName}
 use Rattle.template_environment.specs.Sources.{IsAccepted, IsRefusedWith, Source}
 use Rattle.template_environment.specs.Reading.{registry_of, rule_for}
 use Rattle.template_environment.specs.Standing.{Settings, source_at}

@@ -1,5 +1,5 @@
 use Rattle.std.proofs.Common.{◌∙◌, sym, subst, rules, List, ℕ, option_copied}
-use Rattle.template_machine_writers.specs.Rule.{IsEscapeOf}
+use Rattle.template_machine_surroundings.specs.Rule.{IsEscapeOf}
 use Rattle.template_environment.specs.Compiled.{standing_of}
 use Rattle.template_environment.specs.Reading.{registry_of}
 use Rattle.template_environment.specs.Views.{compiled_in, environment_of, source_of}

@@ -1,5 +1,5 @@
 use Rattle.std.proofs.Common.{ap, inr, string_bytes, subst}
-use Rattle.template_machine_writers.specs.Rule.{IsEscapeOf}
+use Rattle.template_machine_surroundings.specs.Rule.{IsEscapeOf}
 use Rattle.template_compiled.specs.Sources.{Source}
 use Rattle.template_environment.specs.Reading.{registry_of}
 use Rattle.template_environment.specs.Views.{compiled_in}

@@ -1,2 +1,0 @@
-mod Wholes
-mod Last

@@ -1,4 +1,0 @@
-pub mod Nodes
-pub mod Expressions
-pub mod Parts
-pub mod Statements

@@ -1,5 +1,0 @@
-use Rattle.template_machine_writers.proofs.OneRule.{one_rule}
-use Rattle.template_machine_writers.proofs.escape.one_rule.Goals as goal
-
-pub returns : goal.returns
-returns c = one_rule

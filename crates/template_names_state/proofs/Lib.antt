@@ -1,3 +1,0 @@
-pub mod Laws
-mod Parts
-pub mod Sets

@@ -1,3 +1,0 @@
-pub mod Among
-pub mod Dotted
-pub mod Goes
