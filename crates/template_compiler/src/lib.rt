@@ -56,10 +56,10 @@ pub use template_compiled::{
 pub use template_compiler_codegen::{expressions_perform, templates_perform};
 pub use template_compiler_folding::as_const;
 pub use template_compiler_generator::{CodeGenerator, blocks_generate};
+pub use template_compiler_grammar_laws::templates::{is_decided, one_template, reads_the_grammar};
 pub use template_compiler_runnable::{is_runnable, is_runnable_expr};
 pub use template_compiler_sources::{Parser, parse, parse_expr};
 pub use template_compiler_statement_codegen::{compile_expr, compile_template};
-pub use template_compiler_grammar_laws::templates::{is_decided, one_template, reads_the_grammar};
 pub use template_compiler_syntax::{StartMarker, SyntaxConfig, SyntaxConfigBuilder};
 pub use template_compiler_tokenizer::{TokenStream, Tokenizer};
 pub use template_compiler_tokens::{Token, Tokens, one_token};

@@ -3,8 +3,6 @@
 ghost use Rattle.std.specs.Prelude.{◌≡◌, ◌↔◌, ◌<◌, ◌≤◌, ◌-◌, ◌⊎◌, IsTrue, SomeIff, drop, length, slice_index};
 ghost use Rattle.std.specs.Str.{trim_start};
 
-
-
 /// Whether what begins at a place and takes so many bytes goes before something else: it begins on its left, or where it
 /// begins and is no shorter.
 pub fn goes_before(place: usize, len: usize, other_place: usize, other_len: usize) -> bool

@@ -4,8 +4,8 @@ ghost use Rattle.template_tree.specs.View.{expression_of, expressions_in, links_
 ghost use Rattle.template_walk.specs.Runnable.{IsRunnable, is_kept_back};
 ghost use Rattle.template_compiler_runnable.specs.Running.{runs, runs_beside, runs_if_given, all_run, chain_runs, links_run};
 
-use template_tree_nodes::has_walk;
 use template_tree::{CompareOp, Expr};
+use template_tree_nodes::has_walk;
 use template_tree_parts::left;
 
 /// Whether an expression's tree is one whose constructs all have a walk. Takes linear time.

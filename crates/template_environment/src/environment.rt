@@ -22,8 +22,8 @@ use std::alloc::Global;
 use std::borrow::CowStr;
 use template_compiled::{CompiledTemplate, CompiledTemplates, TemplateConfig};
 use template_compiler_syntax::SyntaxConfig;
-use template_machine_surroundings::{AutoEscapeRule, EscapeRule, NoRule, StateIds};
 use template_machine_meaning::isolation;
+use template_machine_surroundings::{AutoEscapeRule, EscapeRule, NoRule, StateIds};
 use template_values_core::Value;
 use template_values_errors::{AutoEscape, Error, ErrorKind, UndefinedBehavior};
 

@@ -16,11 +16,11 @@ use crate::registry::Registry;
 use std::borrow::CowStr;
 use std::collections::BTreeSet;
 use template_compiled::CompiledExpression;
-use template_machine_surroundings::{AutoEscapeRule, NoRule, StateIds};
 use template_machine_meaning::expression_isolation;
 use template_machine_output::NullWriter;
 use template_machine_renders::run_expression;
 use template_machine_state::State as MachineState;
+use template_machine_surroundings::{AutoEscapeRule, NoRule, StateIds};
 use template_values_core::Value;
 use template_values_errors::{AutoEscape, Error, ErrorKind};
 

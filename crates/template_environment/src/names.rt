@@ -13,8 +13,8 @@ use crate::environment::Environment;
 use crate::template::Template;
 use std::alloc::Global;
 use std::collections::BTreeSet;
-use template_machine_surroundings::AutoEscapeRule;
 use template_machine_meaning::isolation;
+use template_machine_surroundings::AutoEscapeRule;
 use template_names_undeclared::add_name;
 use template_values_errors::Error;
 

@@ -8,8 +8,8 @@ ghost use Rattle.template_environment.specs.Renderings.{left_of, set_of};
 
 use crate::environment::Environment;
 use std::collections::BTreeSet;
-use template_machine_surroundings::{AutoEscapeRule, NoRule, StateIds};
 use template_machine_state::State as MachineState;
+use template_machine_surroundings::{AutoEscapeRule, NoRule, StateIds};
 use template_values_core::Value;
 use template_values_errors::{AutoEscape, Error, ErrorKind, UndefinedBehavior};
 

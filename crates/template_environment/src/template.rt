@@ -16,11 +16,11 @@ use crate::environment::Environment;
 use crate::registry::Registry;
 use crate::state::State;
 use template_compiled::{CompiledTemplate, plain_text};
-use template_machine_surroundings::{AutoEscapeRule, NoRule, StateIds};
 use template_machine_fuel::levels;
 use template_machine_output::Sink;
 use template_machine_renders::run_code;
 use template_machine_state::State as MachineState;
+use template_machine_surroundings::{AutoEscapeRule, NoRule, StateIds};
 use template_values_core::Value;
 use template_values_errors::{AutoEscape, Error, ErrorKind};
 

@@ -48,7 +48,6 @@
 pub use template_code_checked::{Checked, verify};
 pub use template_code_shapes::{StreamKind, certified_is_good, good_ends_well, good_goes_on};
 pub use template_environment::{Captured, Environment, Expression, State, Template};
-pub use template_machine_surroundings::{AutoEscapeRule, EscapeRule, NoRule, StateIds, default_auto_escape_callback, one_escape, one_rule};
 pub use template_machine_frames::{Context, Frame, LoopState};
 pub use template_machine_meaning::{
     every_evaluation_gives, every_run_ends, expression_isolation, isolation, one_meaning,
@@ -56,5 +55,9 @@ pub use template_machine_meaning::{
 pub use template_machine_operands::Operands;
 pub use template_machine_output::{NullWriter, Sink, SinkFault, WriteWrapper, write_text};
 pub use template_machine_state::{Caller, State as MachineState};
+pub use template_machine_surroundings::{
+    AutoEscapeRule, EscapeRule, NoRule, StateIds, default_auto_escape_callback, one_escape,
+    one_rule,
+};
 pub use template_process::{enough_is_enough, fuel_adds_up, writes_beginning};
 pub use template_values_errors::{AutoEscape, Error, ErrorKind, UndefinedBehavior};

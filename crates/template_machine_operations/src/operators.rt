@@ -11,8 +11,8 @@ use template_machine_undefined::{forbids_link, forbids_operator, forbids_truth, 
 use template_tree::{BinOpKind, CompareOpKind};
 use template_values_core::Value;
 use template_values_errors::{Error, UndefinedBehavior};
-use template_values_operations as values;
 use template_values_forms::Records;
+use template_values_operations as values;
 
 /// What the operator gives for its operands. As dear as [`values::operate`].
 ///

@@ -10,8 +10,8 @@ use std::alloc::Global;
 use template_machine_undefined::{forbids_slicing, is_chainable, is_undefined, refusal};
 use template_values_core::Value;
 use template_values_errors::{Error, UndefinedBehavior};
-use template_values_items::{get_attr, get_item as item_of, slice};
 use template_values_forms::Records;
+use template_values_items::{get_attr, get_item as item_of, slice};
 
 /// The attribute of a value; what is missing is undefined. As dear as [`get_attr`].
 ///

@@ -13,8 +13,8 @@ use template_machine_items::Items;
 use template_machine_undefined::{forbids_iterating, refusal};
 use template_values_core::{Content, Value};
 use template_values_errors::{Error, ErrorKind, UndefinedBehavior};
-use template_values_items::items_of;
 use template_values_forms::Records;
+use template_values_items::items_of;
 
 /// What a loop goes over: the items of a list or tuple and the keys of a map, keyword map or module,
 /// which are shared, at once; the characters of a text and the keys of a namespace, in time linear in

@@ -3,8 +3,8 @@ use crate::case::{Place, Setting};
 use crate::report::Report;
 use crate::tellings::tell_state;
 use template_environment::{Captured, Template};
-use template_machine_surroundings::{AutoEscapeRule, StateIds};
 use template_machine_output::{NullWriter, WriteWrapper};
+use template_machine_surroundings::{AutoEscapeRule, StateIds};
 use template_values_core::Value;
 use template_values_errors::{Error, ErrorKind};
 

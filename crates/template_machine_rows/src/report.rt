@@ -5,8 +5,8 @@ use std::fmt::Debug;
 use template_rows::quoted;
 use template_values_core::{Content, Value};
 use template_values_errors::{Error, ErrorKind};
-use template_values_print::json_outer;
 use template_values_forms::NoRecords;
+use template_values_print::json_outer;
 
 /// What comes of a case, as far as it is written. What is refused on the way is kept, so that what writes need not ask.
 #[derive(Drop)]

@@ -7,7 +7,9 @@ mod fault;
 mod ids;
 mod writer;
 
-pub use escape::{AutoEscapeRule, EscapeRule, NoRule, default_auto_escape_callback, one_escape, one_rule};
+pub use escape::{
+    AutoEscapeRule, EscapeRule, NoRule, default_auto_escape_callback, one_escape, one_rule,
+};
 pub use fault::SinkFault;
 pub use ids::StateIds;
 pub use writer::{Writer, rest_after, write_once};

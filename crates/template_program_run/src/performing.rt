@@ -9,8 +9,8 @@ use crate::inputs::Inputs;
 use crate::run;
 use std::alloc::Global;
 use std::io::{BufWriter, Write};
-use template_machine_surroundings::StateIds;
 use template_machine_output::WriteWrapper;
+use template_machine_surroundings::StateIds;
 use template_program_parts::{MEMORY, Outcome, after_flush, status_of};
 use template_values_errors::{Error, ErrorKind};
 

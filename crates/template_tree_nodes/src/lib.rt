@@ -9,10 +9,9 @@ ghost use Rattle.template_tree_nodes.specs.Left.{left_of};
 mod constructs;
 mod samples;
 
-use template_tree::Expr;
-
 pub use constructs::has_walk;
 pub use samples::{difference, one_entry};
+use template_tree::Expr;
 
 /// The part that begins where the expression begins, and takes no level of nesting: the object of an
 /// attribute, the value of a filter, the left side of an operator.

@@ -11,11 +11,10 @@ ghost use Rattle.template_values_errors.specs.Names.{causes_text, kind_name, kin
 
 mod modes;
 
+pub use modes::{AutoEscape, UndefinedBehavior};
 use std::alloc::{AllocError, AllocFailed, Global};
 use std::marker::Model;
 use std::{error, fmt};
-
-pub use modes::{AutoEscape, UndefinedBehavior};
 
 /// Why a call was refused.
 #[derive(Clone, Copy, Debug, PartialEq, Eq)]

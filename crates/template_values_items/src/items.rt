@@ -12,10 +12,10 @@ use crate::records::{loop_attribute, macro_attribute, namespace_attribute, names
 use std::alloc::Global;
 use template_values_core::{Content, Entry, Value};
 use template_values_errors::Error;
+use template_values_forms::Records;
 use template_values_operators::growth::{copies, copy_or_undefined};
 use template_values_operators::kinds::{bytes_of, is_nothing};
 use template_values_operators::refusal;
-use template_values_forms::Records;
 
 /// The item of a list, tuple, bytes or text at a number, counted from the end where it is
 /// negative, of a map, keyword map, module or namespace at a key, or the attribute of a loop or a

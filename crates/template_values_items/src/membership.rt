@@ -6,9 +6,9 @@ ghost use Rattle.template_values_operators.specs.Contains.{contained, held_in, h
 use crate::records::namespace_contains;
 use template_values_core::{Content, Value};
 use template_values_errors::Error;
+use template_values_forms::Records;
 use template_values_operators::kinds::is_undefined;
 use template_values_operators::refusal;
-use template_values_forms::Records;
 
 /// Whether the value is in the container: a text in a text, an item of a list or tuple, a key of
 /// a map, keyword map, module or namespace. A value that is no text is not in a text, and nothing

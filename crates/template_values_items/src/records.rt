@@ -13,10 +13,10 @@ ghost use Rattle.template_values_operators.specs.Records.{is_last, item_before, 
 use std::alloc::Global;
 use template_values_core::{Entry, Value};
 use template_values_errors::Error;
+use template_values_forms::{MacroView, Records};
 use template_values_operators::growth::{copies, copy_or_undefined};
 use template_values_operators::kinds::list_made;
 use template_values_operators::refusal;
-use template_values_forms::{MacroView, Records};
 
 /// What a namespace has under a text. Linear in its entries.
 pub(crate) fn namespace_attribute<R: Records>(

@@ -11,8 +11,8 @@ use crate::{Markup, Quoting, push, push_bytes, push_quoted};
 use itoa::Buffer;
 use template_values_core::{Content, Entry, Value};
 use template_values_errors::{Error, ErrorKind};
-use template_values_model::DEPTH_LIMIT;
 use template_values_forms::Records;
+use template_values_model::DEPTH_LIMIT;
 
 /// Writes the text that the value prints. Namespaces are followed. Takes time linear in the text.
 ///
