@@ -9,6 +9,7 @@ ghost use Rattle.template_program_parts.specs.Entries.{SayJson, SayContext};
 ghost use Rattle.template_values_json.specs.Entries.{ArePlain};
 ghost use Rattle.template_values_json.specs.Json.{IsRefusal};
 
+use crate::Command;
 use std::alloc::Global;
 use template_values_core::{Entry, Value};
 use template_values_errors::Error;
