@@ -15,7 +15,7 @@ use template_tree_statements::Stmt;
 pub(crate) const MAX_DEPTH: u32 = 150;
 
 // Reads all tokens as the statements of a template.
-#[tactic(auto, unfolding(template_compiler_grammar::specs::Reader::template_of, template_compiler_grammar::specs::Reader::template_behind))]
+#[tactic(auto, unfolding(template_compiler_grammar::specs::TemplateReader::template_of, template_compiler_grammar::specs::TemplateReader::template_behind))]
 pub(crate) fn read_template<'source>(
     alloc: Global,
     tokens: &mut TokenStream<'source>,

@@ -61,7 +61,7 @@ pub fn read_macro<'source, R: ReadsExpressions>(
 }
 
 // The head of a macro, behind the `(` of its arguments.
-#[tactic(auto, using(template_compiler_statement_parts::proofs::Again::tag_end_again), unfolding(template_compiler_tokens::specs::Steps::and_then, template_compiler_grammar::specs::Reader::here, template_compiler_grammar::specs::Reader::here_by))]
+#[tactic(auto, using(template_compiler_statement_parts::proofs::Again::tag_end_again), unfolding(template_compiler_tokens::specs::Steps::and_then, template_compiler_grammar::specs::TemplateReader::here, template_compiler_grammar::specs::TemplateReader::here_by))]
 fn read_declared<'source, R: ReadsExpressions>(
     alloc: Global,
     tokens: &mut TokenStream<'source>,
@@ -80,7 +80,7 @@ fn read_declared<'source, R: ReadsExpressions>(
 /// # Errors
 ///
 /// The fault of the token that does not fit, or want of memory.
-#[tactic(auto, using(template_compiler_statement_values::proofs::Calls::call_here, template_compiler_statement_values::proofs::Calls::no_call, template_compiler_statement_parts::proofs::Again::tag_end_again), unfolding(template_compiler_tokens::specs::Steps::and_then, template_compiler_grammar::specs::Reader::here, template_compiler_grammar::specs::Reader::here_by))]
+#[tactic(auto, using(template_compiler_statement_values::proofs::Calls::call_here, template_compiler_statement_values::proofs::Calls::no_call, template_compiler_statement_parts::proofs::Again::tag_end_again), unfolding(template_compiler_tokens::specs::Steps::and_then, template_compiler_grammar::specs::TemplateReader::here, template_compiler_grammar::specs::TemplateReader::here_by))]
 pub fn read_call<'source, R: ReadsExpressions>(
     alloc: Global,
     tokens: &mut TokenStream<'source>,

@@ -30,7 +30,7 @@ pub enum SetHead<'source> {
 /// # Errors
 ///
 /// The fault of the token that does not fit, or want of memory.
-#[tactic(auto, unfolding(template_compiler_tokens::specs::Steps::and_then, template_compiler_grammar::specs::Reader::here, template_compiler_grammar::specs::Reader::here_by))]
+#[tactic(auto, unfolding(template_compiler_tokens::specs::Steps::and_then, template_compiler_grammar::specs::TemplateReader::here, template_compiler_grammar::specs::TemplateReader::here_by))]
 pub fn read_set<'source, R: ReadsExpressions>(
     alloc: Global,
     tokens: &mut TokenStream<'source>,
@@ -48,7 +48,7 @@ pub fn read_set<'source, R: ReadsExpressions>(
 }
 
 // A `set` behind its first target, which begins at `start`: further targets, and the value behind `=`.
-#[tactic(auto, using(template_compiler_statement_parts::proofs::Again::assign_again), unfolding(template_compiler_tokens::specs::Steps::and_then, template_compiler_grammar::specs::Reader::here, template_compiler_grammar::specs::Reader::here_by))]
+#[tactic(auto, using(template_compiler_statement_parts::proofs::Again::assign_again), unfolding(template_compiler_tokens::specs::Steps::and_then, template_compiler_grammar::specs::TemplateReader::here, template_compiler_grammar::specs::TemplateReader::here_by))]
 fn read_set_targets<'source, R: ReadsExpressions>(
     alloc: Global,
     tokens: &mut TokenStream<'source>,
@@ -65,7 +65,7 @@ fn read_set_targets<'source, R: ReadsExpressions>(
     read_set_value::<R>(alloc, tokens, left, target, span)
 }
 
-#[tactic(auto, using(template_compiler_statement_parts::proofs::Again::tag_end_again), unfolding(template_compiler_tokens::specs::Steps::and_then, template_compiler_grammar::specs::Reader::here, template_compiler_grammar::specs::Reader::here_by, template_compiler_grammar::specs::Reader::set_values))]
+#[tactic(auto, using(template_compiler_statement_parts::proofs::Again::tag_end_again), unfolding(template_compiler_tokens::specs::Steps::and_then, template_compiler_grammar::specs::TemplateReader::here, template_compiler_grammar::specs::TemplateReader::here_by, template_compiler_grammar::specs::TemplateReader::set_values))]
 fn read_set_value<'source, R: ReadsExpressions>(
     alloc: Global,
     tokens: &mut TokenStream<'source>,
@@ -86,7 +86,7 @@ fn read_set_value<'source, R: ReadsExpressions>(
 }
 
 // The head of a set block, behind its target.
-#[tactic(auto, using(template_compiler_statement_parts::proofs::Again::tag_end_again), unfolding(template_compiler_tokens::specs::Steps::and_then, template_compiler_grammar::specs::Reader::here, template_compiler_grammar::specs::Reader::here_by))]
+#[tactic(auto, using(template_compiler_statement_parts::proofs::Again::tag_end_again), unfolding(template_compiler_tokens::specs::Steps::and_then, template_compiler_grammar::specs::TemplateReader::here, template_compiler_grammar::specs::TemplateReader::here_by))]
 fn read_set_block<'source, R: ReadsExpressions>(
     alloc: Global,
     tokens: &mut TokenStream<'source>,

@@ -40,7 +40,7 @@ pub fn read_print<'source, R: ReadsExpressions>(
 /// # Errors
 ///
 /// The fault of the token that does not fit, or want of memory.
-#[tactic(auto, using(template_compiler_statement_values::proofs::Calls::call_here, template_compiler_statement_values::proofs::Calls::no_call, template_compiler_statement_parts::proofs::Again::tag_end_again), unfolding(template_compiler_tokens::specs::Steps::and_then, template_compiler_grammar::specs::Reader::here, template_compiler_grammar::specs::Reader::here_by, template_compiler_grammar::specs::Reader::do_by))]
+#[tactic(auto, using(template_compiler_statement_values::proofs::Calls::call_here, template_compiler_statement_values::proofs::Calls::no_call, template_compiler_statement_parts::proofs::Again::tag_end_again), unfolding(template_compiler_tokens::specs::Steps::and_then, template_compiler_grammar::specs::TemplateReader::here, template_compiler_grammar::specs::TemplateReader::here_by, template_compiler_grammar::specs::TemplateReader::do_by))]
 pub fn read_do<'source, R: ReadsExpressions>(
     alloc: Global,
     tokens: &mut TokenStream<'source>,

@@ -16,7 +16,7 @@ use template_tree_statements::{AutoEscape, FilterBlock, IfCond};
 
 // An expression, and the end of its tag.
 #[inline(always)]
-#[tactic(auto, using(template_compiler_statement_parts::proofs::Again::tag_end_again), unfolding(template_compiler_tokens::specs::Steps::and_then, template_compiler_grammar::specs::Reader::here, template_compiler_grammar::specs::Reader::here_by))]
+#[tactic(auto, using(template_compiler_statement_parts::proofs::Again::tag_end_again), unfolding(template_compiler_tokens::specs::Steps::and_then, template_compiler_grammar::specs::TemplateReader::here, template_compiler_grammar::specs::TemplateReader::here_by))]
 fn read_only_expression<'source, R: ReadsExpressions>(
     alloc: Global,
     tokens: &mut TokenStream<'source>,
@@ -80,7 +80,7 @@ pub fn read_branch<'source, R: ReadsExpressions>(
 /// # Errors
 ///
 /// The fault of the token that does not fit, or want of memory.
-#[tactic(auto, using(template_compiler_statement_parts::proofs::Again::tag_end_again, crate::proofs::Filters::filters_given), unfolding(template_compiler_tokens::specs::Steps::and_then, template_compiler_grammar::specs::Reader::here, template_compiler_grammar::specs::Reader::here_by))]
+#[tactic(auto, using(template_compiler_statement_parts::proofs::Again::tag_end_again, crate::proofs::Filters::filters_given), unfolding(template_compiler_tokens::specs::Steps::and_then, template_compiler_grammar::specs::TemplateReader::here, template_compiler_grammar::specs::TemplateReader::here_by))]
 pub fn read_filter_block<'source, R: ReadsExpressions>(
     alloc: Global,
     tokens: &mut TokenStream<'source>,

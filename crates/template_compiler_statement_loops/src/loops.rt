@@ -18,7 +18,7 @@ use template_tree_statements::ForLoop;
 /// # Errors
 ///
 /// The fault of the token that does not fit, or want of memory.
-#[tactic(auto, using(template_compiler_statement_parts::proofs::Again::word_again), unfolding(template_compiler_tokens::specs::Steps::and_then, template_compiler_grammar::specs::Reader::here, template_compiler_grammar::specs::Reader::here_by))]
+#[tactic(auto, using(template_compiler_statement_parts::proofs::Again::word_again), unfolding(template_compiler_tokens::specs::Steps::and_then, template_compiler_grammar::specs::TemplateReader::here, template_compiler_grammar::specs::TemplateReader::here_by))]
 pub fn read_for<'source, R: ReadsExpressions>(
     alloc: Global,
     tokens: &mut TokenStream<'source>,
@@ -35,7 +35,7 @@ pub fn read_for<'source, R: ReadsExpressions>(
 }
 
 // The head of a loop, behind its `in`.
-#[tactic(auto, using(template_compiler_statement_parts::proofs::Again::tag_end_again), unfolding(template_compiler_tokens::specs::Steps::and_then, template_compiler_grammar::specs::Reader::here, template_compiler_grammar::specs::Reader::here_by))]
+#[tactic(auto, using(template_compiler_statement_parts::proofs::Again::tag_end_again), unfolding(template_compiler_tokens::specs::Steps::and_then, template_compiler_grammar::specs::TemplateReader::here, template_compiler_grammar::specs::TemplateReader::here_by))]
 fn read_in<'source, R: ReadsExpressions>(
     alloc: Global,
     tokens: &mut TokenStream<'source>,

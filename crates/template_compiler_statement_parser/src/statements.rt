@@ -31,7 +31,7 @@ use template_tree_statements::{
 
 // A body, one nesting level deeper.
 #[cycle(statements)]
-#[tactic(auto, unfolding(template_compiler_grammar::specs::Reader::deeper_body, template_compiler_grammar::specs::Reader::statements_at, template_compiler_grammar::specs::Reader::here))]
+#[tactic(auto, unfolding(template_compiler_grammar::specs::TemplateReader::deeper_body, template_compiler_grammar::specs::TemplateReader::statements_at, template_compiler_grammar::specs::TemplateReader::here))]
 fn body<'source, R: ReadsExpressions>(
     alloc: Global,
     tokens: &mut TokenStream<'source>,
@@ -53,7 +53,7 @@ fn body<'source, R: ReadsExpressions>(
 ///
 /// The fault of the token that does not fit, or want of memory.
 #[cycle(statements)]
-#[tactic(auto, unfolding(template_compiler_grammar::specs::Reader::statements_at, template_compiler_grammar::specs::Reader::statements_by))]
+#[tactic(auto, unfolding(template_compiler_grammar::specs::TemplateReader::statements_at, template_compiler_grammar::specs::TemplateReader::statements_by))]
 pub fn read_statements<'source, R: ReadsExpressions>(
     alloc: Global,
     tokens: &mut TokenStream<'source>,
@@ -74,7 +74,7 @@ pub fn read_statements<'source, R: ReadsExpressions>(
 
 // A text, a print or a tag that begins a statement.
 #[cycle(statements)]
-#[tactic(auto, using(crate::proofs::Next::text_here, crate::proofs::Next::print_here, crate::proofs::Next::tag_here, crate::proofs::Next::nothing_here, template_compiler_statement_makers::proofs::Lists::statements_push), unfolding(template_compiler_tokens::specs::Steps::under, template_compiler_grammar::specs::Reader::here, template_compiler_grammar::specs::Reader::here_by))]
+#[tactic(auto, using(crate::proofs::Next::text_here, crate::proofs::Next::print_here, crate::proofs::Next::tag_here, crate::proofs::Next::nothing_here, template_compiler_statement_makers::proofs::Lists::statements_push), unfolding(template_compiler_tokens::specs::Steps::under, template_compiler_grammar::specs::TemplateReader::here, template_compiler_grammar::specs::TemplateReader::here_by))]
 fn next_statement<'source, R: ReadsExpressions>(
     alloc: Global,
     tokens: &mut TokenStream<'source>,
@@ -105,7 +105,7 @@ fn next_statement<'source, R: ReadsExpressions>(
 
 // The statement that the word of the next tag begins.
 #[cycle(statements)]
-#[tactic(auto, using(template_compiler_statement_makers::proofs::Lists::statements_push), unfolding(template_compiler_tokens::specs::Steps::under, template_compiler_grammar::specs::Reader::opened_step))]
+#[tactic(auto, using(template_compiler_statement_makers::proofs::Lists::statements_push), unfolding(template_compiler_tokens::specs::Steps::under, template_compiler_grammar::specs::TemplateReader::opened_step))]
 fn next_tag<'source, R: ReadsExpressions>(
     alloc: Global,
     tokens: &mut TokenStream<'source>,
@@ -132,7 +132,7 @@ fn next_tag<'source, R: ReadsExpressions>(
 
 // A statement, behind the word that begins it.
 #[cycle(statements)]
-#[tactic(auto, unfolding(template_compiler_grammar::specs::Reader::opened_by, template_compiler_grammar::specs::Reader::in_loop))]
+#[tactic(auto, unfolding(template_compiler_grammar::specs::TemplateReader::opened_by, template_compiler_grammar::specs::TemplateReader::in_loop))]
 fn opened<'source, R: ReadsExpressions>(
     alloc: Global,
     tokens: &mut TokenStream<'source>,
@@ -200,7 +200,7 @@ fn ended_body<'source, R: ReadsExpressions>(
 
 // The other body, where there is one, and the tag that ends the statement.
 #[cycle(statements)]
-#[tactic(auto, using(template_compiler_statement_parts::proofs::Again::tag_again), unfolding(template_compiler_tokens::specs::Steps::and_then, template_compiler_grammar::specs::Reader::here, template_compiler_grammar::specs::Reader::here_by, template_compiler_grammar::specs::Reader::else_by))]
+#[tactic(auto, using(template_compiler_statement_parts::proofs::Again::tag_again), unfolding(template_compiler_tokens::specs::Steps::and_then, template_compiler_grammar::specs::TemplateReader::here, template_compiler_grammar::specs::TemplateReader::here_by, template_compiler_grammar::specs::TemplateReader::else_by))]
 fn otherwise<'source, R: ReadsExpressions>(
     alloc: Global,
     tokens: &mut TokenStream<'source>,
@@ -237,7 +237,7 @@ fn for_loop<'source, R: ReadsExpressions>(
 }
 
 #[cycle(statements)]
-#[tactic(auto, unfolding(template_compiler_tokens::specs::Steps::and_then, template_compiler_grammar::specs::Reader::if_by))]
+#[tactic(auto, unfolding(template_compiler_tokens::specs::Steps::and_then, template_compiler_grammar::specs::TemplateReader::if_by))]
 fn if_condition<'source, R: ReadsExpressions>(
     alloc: Global,
     tokens: &mut TokenStream<'source>,

@@ -44,7 +44,7 @@ pub fn expect_tag_end<'source>(tokens: &mut TokenStream<'source>) -> Result<(), 
 /// # Errors
 ///
 /// The fault of the token that stands there.
-#[tactic(auto, using(crate::proofs::Standing::word_none), unfolding(template_compiler_grammar::specs::Reader::expect_word))]
+#[tactic(auto, using(crate::proofs::Standing::word_none), unfolding(template_compiler_grammar::specs::TemplateReader::expect_word))]
 pub fn expect_word<'source>(tokens: &mut TokenStream<'source>, word: &str) -> Result<(), Refusal>
     ensures { ParsedAs passing (expect_word word.now tt tokens.old.left) tokens.new.left result }
 {
@@ -60,7 +60,7 @@ pub fn expect_word<'source>(tokens: &mut TokenStream<'source>, word: &str) -> Re
 /// # Errors
 ///
 /// The fault of the token that stands there.
-#[tactic(auto, using(crate::proofs::Standing::assign_none), unfolding(template_compiler_grammar::specs::Reader::expect_assign))]
+#[tactic(auto, using(crate::proofs::Standing::assign_none), unfolding(template_compiler_grammar::specs::TemplateReader::expect_assign))]
 pub fn expect_assign<'source>(tokens: &mut TokenStream<'source>) -> Result<(), Refusal>
     ensures { ParsedAs passing (expect_assign tt tokens.old.left) tokens.new.left result }
 {
@@ -126,7 +126,7 @@ pub fn expect_block_end<'source>(
     }
 }
 
-#[tactic(auto, using(crate::proofs::Standing::end_name_next), unfolding(template_compiler_grammar::specs::Reader::end_name_by))]
+#[tactic(auto, using(crate::proofs::Standing::end_name_next), unfolding(template_compiler_grammar::specs::TemplateReader::end_name_by))]
 fn expect_end_name<'source>(tokens: &mut TokenStream<'source>, name: &str) -> Result<(), Refusal>
     ensures { ParsedAs passing (end_name_by name.now tt tokens.old.left) tokens.new.left result }
 {

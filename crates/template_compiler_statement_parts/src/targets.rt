@@ -38,7 +38,7 @@ pub fn read_target<'source>(
 
 // Targets in parentheses are one nesting level deeper.
 #[cycle(targets)]
-#[tactic(auto, unfolding(template_compiler_grammar::specs::Reader::inner_targets))]
+#[tactic(auto, unfolding(template_compiler_grammar::specs::TemplateReader::inner_targets))]
 fn read_inner_targets<'source>(
     alloc: Global,
     tokens: &mut TokenStream<'source>,
@@ -60,7 +60,7 @@ fn read_inner_targets<'source>(
 ///
 /// The fault of the token that does not fit, or want of memory.
 #[cycle(targets)]
-#[tactic(auto, unfolding(template_compiler_tokens::specs::Steps::and_then, template_compiler_grammar::specs::Reader::targets_by))]
+#[tactic(auto, unfolding(template_compiler_tokens::specs::Steps::and_then, template_compiler_grammar::specs::TemplateReader::targets_by))]
 pub fn read_targets<'source>(
     alloc: Global,
     tokens: &mut TokenStream<'source>,
@@ -80,7 +80,7 @@ pub fn read_targets<'source>(
 ///
 /// The fault of the token that does not fit, or want of memory.
 #[cycle(targets)]
-#[tactic(auto, unfolding(template_compiler_tokens::specs::Steps::and_then, template_compiler_grammar::specs::Reader::more_targets_by))]
+#[tactic(auto, unfolding(template_compiler_tokens::specs::Steps::and_then, template_compiler_grammar::specs::TemplateReader::more_targets_by))]
 pub fn read_more_targets<'source>(
     alloc: Global,
     tokens: &mut TokenStream<'source>,
@@ -139,7 +139,7 @@ fn next_target<'source>(
 }
 
 // A name, with the attributes behind it where it may have some.
-#[tactic(auto, unfolding(template_compiler_tokens::specs::Steps::and_then, template_compiler_grammar::specs::Reader::path_by))]
+#[tactic(auto, unfolding(template_compiler_tokens::specs::Steps::and_then, template_compiler_grammar::specs::TemplateReader::path_by))]
 fn read_path_target<'source>(
     alloc: Global,
     tokens: &mut TokenStream<'source>,

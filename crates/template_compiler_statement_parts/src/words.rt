@@ -46,7 +46,7 @@ pub fn begins_values<'source>(tokens: &TokenStream<'source>) -> bool
 }
 
 /// Passes the word where it stands next.
-#[tactic(auto, using(crate::proofs::Standing::flag_none), unfolding(template_compiler_grammar::specs::Reader::word_by))]
+#[tactic(auto, using(crate::proofs::Standing::flag_none), unfolding(template_compiler_grammar::specs::TemplateReader::word_by))]
 pub fn read_flag<'source>(tokens: &mut TokenStream<'source>, word: &str) -> bool
     ensures { word_by word.now tokens.old.left ≡ Ok (result, tokens.new.left) }
 {
@@ -58,7 +58,7 @@ pub fn read_flag<'source>(tokens: &mut TokenStream<'source>, word: &str) -> bool
 /// # Errors
 ///
 /// The fault of the token that stands in the place of `context`.
-#[tactic(auto, using(crate::proofs::Standing::context_none), unfolding(template_compiler_grammar::specs::Reader::context_by))]
+#[tactic(auto, using(crate::proofs::Standing::context_none), unfolding(template_compiler_grammar::specs::TemplateReader::context_by))]
 pub fn pass_context<'source>(tokens: &mut TokenStream<'source>) -> Result<(), Refusal>
     ensures { ParsedAs passing (context_by tt tokens.old.left) tokens.new.left result }
 {

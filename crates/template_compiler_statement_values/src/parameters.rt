@@ -54,7 +54,7 @@ pub fn read_optional_parameters<'source, R: ReadsExpressions>(
 /// # Errors
 ///
 /// The fault of the token that does not fit, or want of memory.
-#[tactic(auto, unfolding(template_compiler_grammar::specs::Reader::deeper_parameters))]
+#[tactic(auto, unfolding(template_compiler_grammar::specs::TemplateReader::deeper_parameters))]
 pub fn read_deeper_parameters<'source, R: ReadsExpressions>(
     alloc: Global,
     tokens: &mut TokenStream<'source>,
