@@ -1,6 +1,6 @@
 //! The instructions of a template.
 
-ghost use Rattle.std.specs.Prelude.{◌≡◌, ◌^◌, ◌<◌, ◌+◌, ◌++◌, ◌∷◌, [], ◌↔◌, ◌⊎◌, All, IsTrue, IfOk, IfErr, OnOk, OnErr, IsErrAnd, filter, length, ltb, map, slice_get, option_map, take};
+ghost use Rattle.std.specs.Prelude.{◌≡◌, ◌^◌, ◌<◌, ◌+◌, ◌++◌, ◌∷◌, [], ◌↔◌, ◌⊎◌, All, IsTrue, not, IfOk, IfErr, OnOk, OnErr, IsErrAnd, filter, length, ltb, map, slice_get, option_map, take};
 ghost use Rattle.std.proofs.Math.ListN.{set};
 ghost use Rattle.template_values_errors.specs.Memory.{NoMemory};
 ghost use Rattle.template_code_marks.specs.Marked.{marks_in};
@@ -284,10 +284,25 @@ fn put_last<T: Drop>(items: &mut Vec<T>, item: T) -> Result<u32, Error>
     if place >= u32::MAX as usize {
         return Err(Error::new(ErrorKind::TooLarge));
     }
-    match items.push(item) {
-        Ok(()) => Ok(place as u32),
-        Err(_refused) => Err(Error::new(ErrorKind::OutOfMemory)),
+    if place < items.capacity() {
+        items.push_reserved(item);
+        return Ok(place as u32);
     }
+    if put_growing(items, item) {
+        Ok(place as u32)
+    } else {
+        Err(Error::new(ErrorKind::OutOfMemory))
+    }
+}
+
+// The same where there may be no room for one more; tells whether memory was given.
+#[cold]
+#[inline(never)]
+fn put_growing<T: Drop>(items: &mut Vec<T>, item: T) -> bool
+    ensures added { IsTrue result → items.new.items ≡ items.old.items ++ item ∷ [] }
+    ensures unchanged { IsTrue (not result) → items.new.items ≡ items.old.items }
+{
+    items.push(item).is_ok()
 }
 
 // Puts an item in the place of the one that stands there. Where none stands, nothing changes.

@@ -1,5 +1,5 @@
-//! Lists that grow and shrink at their end, whatever they hold.
-ghost use Rattle.std.specs.Prelude.{◌≡◌, ◌-◌, ◌∷◌, ◌++◌, [], IsTrue, not, IfErr, OnOk, OnErr, length, take};
+//! Lists that grow at their end, whatever they hold.
+ghost use Rattle.std.specs.Prelude.{◌≡◌, ◌∷◌, ◌++◌, [], IsTrue, not, IfErr, OnOk, OnErr};
 ghost use Rattle.template_values_errors.specs.Memory.{NoMemory};
 
 use template_values_errors::{Error, ErrorKind};
@@ -30,12 +30,4 @@ fn push_growing<T: Drop>(items: &mut Vec<T>, item: T) -> bool
     ensures unchanged { IsTrue (not result) → items.new.items ≡ items.old.items }
 {
     items.push(item).is_ok()
-}
-
-// The last item goes, where there is one.
-#[inline(always)]
-pub(crate) fn drop_last<T: Drop>(items: &mut Vec<T>)
-    ensures { items.new.items ≡ take (length items.old.items - 1) items.old.items }
-{
-    items.pop();
 }
