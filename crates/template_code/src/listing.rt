@@ -1,6 +1,6 @@
 //! The instructions of a template.
 
-ghost use Rattle.std.specs.Prelude.{◌≡◌, ◌^◌, ◌<◌, ◌++◌, ◌∷◌, [], ◌↔◌, All, IsTrue, IfOk, IfErr, OnOk, OnErr, IsErrAnd, filter, length, ltb, map, slice_get, option_map, take};
+ghost use Rattle.std.specs.Prelude.{◌≡◌, ◌^◌, ◌<◌, ◌+◌, ◌++◌, ◌∷◌, [], ◌↔◌, ◌⊎◌, All, IsTrue, not, IfOk, IfErr, OnOk, OnErr, IsErrAnd, filter, length, ltb, map, slice_get, option_map, take};
 ghost use Rattle.std.proofs.Math.ListN.{set};
 ghost use Rattle.template_values_errors.specs.Memory.{NoMemory};
 ghost use Rattle.template_code_marks.specs.Marked.{marks_in};
@@ -154,14 +154,7 @@ impl<'source> Instructions<'source> {
         ensures full { IsFull (code_in self.old) → IsErrAnd result (λ kinds. kinds ≡ ErrorKind.TooLarge ∷ []) }
         ensures unchanged { OnErr result (code_in self.new ≡ code_in self.old) }
     {
-        let place = self.code.len();
-        if place >= u32::MAX as usize {
-            return Err(Error::new(ErrorKind::TooLarge));
-        }
-        match self.code.push(instruction) {
-            Ok(()) => Ok(place as u32),
-            Err(_refused) => Err(Error::new(ErrorKind::OutOfMemory)),
-        }
+        put_last(&mut self.code, instruction)
     }
 
     /// The same for an instruction that comes from a line, the first of the source at 1.
@@ -273,6 +266,43 @@ impl<'source> Instructions<'source> {
         self.marks.truncate(len);
         self.code.truncate(len);
     }
+}
+
+// Puts an item behind the others, of which there are fewer than 2^32 then too, and answers its place.
+#[inline(always)]
+fn put_last<T: Drop>(items: &mut Vec<T>, item: T) -> Result<u32, Error>
+    requires { length items.old.items < 2 ^ 32 }
+    ensures place { IfOk result (λ place. place ≡ length items.old.items) }
+    ensures room { OnOk result (length items.old.items + 1 < 2 ^ 32) }
+    ensures added { OnOk result (items.new.items ≡ items.old.items ++ item ∷ []) }
+    ensures refused { IfErr result (λ kinds.
+        ((length items.old.items + 1 ≡ 2 ^ 32) × (kinds ≡ ErrorKind.TooLarge ∷ [])) ⊎ (kinds ≡ ErrorKind.OutOfMemory ∷ [])) }
+    ensures full { length items.old.items + 1 ≡ 2 ^ 32 → IsErrAnd result (λ kinds. kinds ≡ ErrorKind.TooLarge ∷ []) }
+    ensures unchanged { OnErr result (items.new.items ≡ items.old.items) }
+{
+    let place = items.len();
+    if place >= u32::MAX as usize {
+        return Err(Error::new(ErrorKind::TooLarge));
+    }
+    if place < items.capacity() {
+        items.push_reserved(item);
+        return Ok(place as u32);
+    }
+    if put_growing(items, item) {
+        Ok(place as u32)
+    } else {
+        Err(Error::new(ErrorKind::OutOfMemory))
+    }
+}
+
+// The same where there may be no room for one more; tells whether memory was given.
+#[cold]
+#[inline(never)]
+fn put_growing<T: Drop>(items: &mut Vec<T>, item: T) -> bool
+    ensures added { IsTrue result → items.new.items ≡ items.old.items ++ item ∷ [] }
+    ensures unchanged { IsTrue (not result) → items.new.items ≡ items.old.items }
+{
+    items.push(item).is_ok()
 }
 
 // Puts an item in the place of the one that stands there. Where none stands, nothing changes.

@@ -3,6 +3,7 @@
 
 mod context;
 mod frame;
+mod growth;
 mod locals;
 mod names;
 

@@ -1,5 +1,5 @@
 //! The locals of a frame.
-ghost use Rattle.std.specs.Prelude.{◌≡◌, ◌==◌, ℕ, List, ◌||◌, ◌-◌, [], ◌∷◌, ◌++◌, length, take, is_some, not, IsTrue, IfErr, OnOk, OnErr, option_copied};
+ghost use Rattle.std.specs.Prelude.{◌≡◌, ◌==◌, ℕ, List, ◌||◌, ◌-◌, [], length, take, is_some, IfErr, OnOk, OnErr, option_copied};
 ghost use Rattle.std.specs.BTreeSet.{contains_text};
 ghost use Rattle.std.specs.List.{find, position};
 ghost use Rattle.template_values_errors.specs.Memory.{NoMemory};
@@ -7,12 +7,13 @@ ghost use Rattle.template_machine_meaning.specs.World.{local_at, put_local};
 ghost use Rattle.template_machine_frames.specs.Locals.{is_named};
 ghost use Rattle.template_machine_frames.specs.Names.{exports_of};
 
+use crate::growth::push_to;
 use crate::names::{add_name, is_private};
 use std::alloc::Global;
 use std::collections::BTreeSet;
 use std::marker::Model;
 use template_values_core::{Value, is_same};
-use template_values_errors::{Error, ErrorKind};
+use template_values_errors::Error;
 
 #[derive(Drop)]
 struct Local<'env> {
@@ -75,34 +76,6 @@ fn position(locals: &[Local<'_>], name: &str) -> Option<usize>
     None
 }
 
-// A local goes behind the others.
-#[inline(always)]
-fn push_local<'env>(locals: &mut Vec<Local<'env>>, local: Local<'env>) -> Result<(), Error>
-    ensures pushed { OnOk result (locals.new.items ≡ locals.old.items ++ local.entry ∷ []) }
-    ensures refused { IfErr result NoMemory }
-    ensures unchanged { OnErr result (locals.new.items ≡ locals.old.items) }
-{
-    if locals.len() < locals.capacity() {
-        locals.push_reserved(local);
-        return Ok(());
-    }
-    if push_growing(locals, local) {
-        Ok(())
-    } else {
-        Err(Error::new(ErrorKind::OutOfMemory))
-    }
-}
-
-// The same where there may be no room for one more; tells whether memory was given.
-#[cold]
-#[inline(never)]
-fn push_growing<'env>(locals: &mut Vec<Local<'env>>, local: Local<'env>) -> bool
-    ensures pushed { IsTrue result → locals.new.items ≡ locals.old.items ++ local.entry ∷ [] }
-    ensures unchanged { IsTrue (not result) → locals.new.items ≡ locals.old.items }
-{
-    locals.push(local).is_ok()
-}
-
 // The last local goes, where there is one.
 #[inline(always)]
 fn drop_last(locals: &mut Vec<Local<'_>>)
@@ -150,7 +123,7 @@ impl<'env> Locals<'env> {
                 self.locals[place].set(value);
                 Ok(())
             }
-            None => push_local(&mut self.locals, Local { name, value }),
+            None => push_to(&mut self.locals, Local { name, value }),
         }
     }
 

@@ -17,8 +17,8 @@ returns-in-Some-clause-stored c =
 pub returns-in-None-clause-stored : goal.returns-in-None-clause-stored
 returns-in-None-clause-stored c =
     let name = c.args.name.now in
-    where_stored c.push_local.result _ _
+    where_stored c.push_to.result _ _
     (λ items. ap locals_of items
     ∙ put_new name c.args.value c.self.inside.locals.items (record { name = c.args.name; value = c.args.value })
     (ap (position (is_named name)) (sym c.as_slice.ensures.value) ∙ sym c.in-None.ensures) refl refl
-    ∙ ap (put_local name c.args.value) c.self.view_is) c.push_local.ensures.pushed
+    ∙ ap (put_local name c.args.value) c.self.view_is) c.push_to.ensures.pushed
