@@ -1,5 +1,5 @@
 //! Calls of values, by name.
-use crate::constructors::{owned, text_of};
+use crate::constructors::{owned, put, text_of};
 use crate::errors::error_of;
 use crate::large::{digest, nested, numbered_names, numbers, octets};
 use crate::modes::{behavior_named, escape_named};
@@ -253,7 +253,7 @@ fn names_in(alloc: Global, value: &Value) -> Result<BTreeSet<String>, Error> {
 fn list_of(alloc: Global, names: &BTreeSet<String>) -> Result<Value, Error> {
     let mut values = Vec::new(alloc);
     for name in names {
-        values.push(Value::from_str(alloc, name.as_str())?)?;
+        put(&mut values, Value::from_str(alloc, name.as_str()))?;
     }
     Value::from_list(alloc, values)
 }

@@ -2,11 +2,16 @@
 use std::alloc::Global;
 use template_values::{Entry, Error, ErrorKind, Value};
 
+/// Puts behind the others what was made.
+pub(crate) fn put<T: Drop>(items: &mut Vec<T>, item: Result<T, Error>) -> Result<(), Error> {
+    Ok(items.push(item?)?)
+}
+
 /// Copies of the values.
 pub(crate) fn copies(alloc: Global, values: &[Value]) -> Result<Vec<Value>, Error> {
     let mut copies = Vec::new(alloc);
     for value in values {
-        copies.push(value.copy()?)?;
+        put(&mut copies, value.copy())?;
     }
     Ok(copies)
 }
@@ -16,12 +21,27 @@ pub(crate) fn entries(alloc: Global, values: &[Value]) -> Result<Vec<Entry>, Err
     let mut entries = Vec::new(alloc);
     for pair in values.chunks_exact(2) {
         if let [key, value] = pair {
-            let key = key.copy()?;
-            let value = value.copy()?;
-            entries.push(Entry { key, value })?;
+            put(&mut entries, entry(key.copy(), value.copy()))?;
         }
     }
     Ok(entries)
+}
+
+/// The entry of a key and a value that were made.
+pub(crate) fn entry(
+    key: Result<Value, Error>,
+    value: Result<Value, Error>,
+) -> Result<Entry, Error> {
+    let (key, value) = both(key, value)?;
+    Ok(Entry { key, value })
+}
+
+fn both<A: Drop, B: Drop>(
+    first: Result<A, Error>,
+    second: Result<B, Error>,
+) -> Result<(A, B), Error> {
+    let first = first?;
+    Ok((first, second?))
 }
 
 /// The module whose text stands first, before its entries.
@@ -39,7 +59,7 @@ pub(crate) fn module(alloc: Global, arguments: &[Value]) -> Result<Value, Error>
 pub(crate) fn bytes(alloc: Global, values: &[Value]) -> Result<Vec<u8>, Error> {
     let mut bytes = Vec::new(alloc);
     for value in values {
-        bytes.push(byte(value)?)?;
+        put(&mut bytes, byte(value))?;
     }
     Ok(bytes)
 }

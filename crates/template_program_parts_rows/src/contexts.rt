@@ -1,33 +1,44 @@
 //! Contexts that are read alone.
+use crate::report::Report;
 use serde_json::{Map, Value as Json};
 use std::alloc::Global;
 use template_program_parts::read_context;
 use template_rows::{bytes_of, expect_names, pairs_of};
-use template_values::{Error, NoRecords, Value, print_to};
+use template_values::{Error, Value};
 
 /// The levels of a context and what it prints, or why it is refused.
-pub(crate) fn answer_context(
+pub(crate) fn about_context(
     alloc: Global,
     json: &Json,
     entries: &Map<String, Json>,
-) -> Result<String, Error> {
-    expect_names(entries, &["json", "definitions"])?;
-    let definitions = pairs_of(alloc, entries.get("definitions"))?;
-    let read = match json {
-        Json::Null => read_context(alloc, None, definitions.as_slice()),
+    out: &mut Report,
+) {
+    out.or(expect_names(entries, &["json", "definitions"]), ());
+    let definitions = pairs_of(alloc, entries.get("definitions"));
+    let definitions = out.or(definitions, Vec::new(alloc));
+    about_json(alloc, json, definitions.as_slice(), out)
+}
+
+fn about_json(alloc: Global, json: &Json, definitions: &[(String, String)], out: &mut Report) {
+    match json {
+        Json::Null => tell(read_context(alloc, None, definitions), out),
         json => {
-            let json = bytes_of(alloc, json)?;
-            read_context(alloc, Some(json.as_slice()), definitions.as_slice())
+            let json = out.or(bytes_of(alloc, json), Vec::new(alloc));
+            tell(read_context(alloc, Some(json.as_slice()), definitions), out)
         }
-    };
-    match read {
-        Ok(context) => shown(alloc, &context),
-        Err(error) => Ok(format!(in alloc; "! {error}")?),
     }
 }
 
-fn shown(alloc: Global, context: &Value) -> Result<String, Error> {
-    let mut text = format!(in alloc; "levels {}: ", context.levels())?;
-    print_to(context, &NoRecords, &mut text)?;
-    Ok(text)
+fn tell(read: Result<Value, Error>, out: &mut Report) {
+    match &read {
+        Ok(context) => tell_context(context, out),
+        Err(error) => out.error("! ", error),
+    }
+    drop(read)
+}
+
+fn tell_context(context: &Value, out: &mut Report) {
+    out.tell("levels ", &context.levels());
+    out.push_str(": ");
+    out.value(context)
 }

@@ -1,38 +1,45 @@
 //! Expressions in JSON: `null` is none, an array is a call of the name that stands first with the values
 //! of the others, and all else is itself.
 use crate::calls::{constant, of_one, of_two};
-use crate::constructors::{bytes, copies, entries, module};
+use crate::constructors::{bytes, copies, entries, module, put};
+use crate::report::Report;
 use crate::scene::Scene;
 use serde_json::Value as Json;
 use std::alloc::Global;
 use template_values::{Error, ErrorKind, Value, print_to, slice};
 
 /// What the expression has, as containers print it, or the kind of the refusal.
-pub(crate) fn answer_expression(alloc: Global, expression: Json) -> Result<String, Error> {
+pub(crate) fn about_expression(alloc: Global, expression: &Json, out: &mut Report) {
     match Scene::new(alloc) {
-        Ok(scene) => answer_in(alloc, &scene, expression),
-        Err(error) => Err(error),
+        Ok(scene) => {
+            tell(&scene, list_of_one(alloc, &scene, expression), out);
+            drop(scene)
+        }
+        Err(error) => out.refuse(error.kind()),
     }
 }
 
-fn answer_in(alloc: Global, scene: &Scene, expression: Json) -> Result<String, Error> {
-    match list_of_one(alloc, scene, expression) {
-        Ok(list) => shown(alloc, scene, &list),
-        Err(error) => Ok(String::from_str(alloc, error.kind().name())?),
-    }
-}
-
-fn list_of_one(alloc: Global, scene: &Scene, expression: Json) -> Result<Value, Error> {
+fn list_of_one(alloc: Global, scene: &Scene, expression: &Json) -> Result<Value, Error> {
     let mut items = Vec::new(alloc);
-    items.push(value_of(alloc, scene, expression)?)?;
+    put(&mut items, value_of(alloc, scene, expression))?;
     Value::from_list(alloc, items)
 }
 
+fn tell(scene: &Scene, list: Result<Value, Error>, out: &mut Report) {
+    match &list {
+        Ok(list) => tell_item(scene, list, out),
+        Err(error) => out.push_str(error.kind().name()),
+    }
+    drop(list)
+}
+
 // As the item of a list, without the list's brackets.
-fn shown(alloc: Global, scene: &Scene, list: &Value) -> Result<String, Error> {
-    let mut text = String::new(alloc);
-    print_to(list, scene, &mut text)?;
-    Ok(String::from_str(alloc, without_brackets(text.as_str()))?)
+fn tell_item(scene: &Scene, list: &Value, out: &mut Report) {
+    let mut text = String::new(*out.text.allocator());
+    match print_to(list, scene, &mut text) {
+        Ok(()) => out.push_str(without_brackets(text.as_str())),
+        Err(error) => out.refuse(error.kind()),
+    }
 }
 
 fn without_brackets(text: &str) -> &str {
@@ -41,25 +48,28 @@ fn without_brackets(text: &str) -> &str {
 }
 
 #[cycle(expressions)]
-fn value_of(alloc: Global, scene: &Scene, expression: Json) -> Result<Value, Error> {
+fn value_of(alloc: Global, scene: &Scene, expression: &Json) -> Result<Value, Error> {
     match expression {
         Json::Null => Ok(Value::none()),
-        Json::Bool(truth) => Ok(Value::from_bool(truth)),
+        Json::Bool(truth) => Ok(Value::from_bool(*truth)),
         Json::Number(number) => match number.as_i128() {
             Some(number) => Ok(Value::from_int(number)),
             None => Err(Error::new(ErrorKind::NoFloats)),
         },
-        Json::String(text) => Value::from_text(text),
-        Json::Array(items) => call(alloc, scene, values_of(alloc, scene, items)?.as_slice()),
+        Json::String(text) => Value::from_text(String::from_str(alloc, text.as_str())?),
+        Json::Array(words) => {
+            let words = values_of(alloc, scene, words.as_slice())?;
+            call(alloc, scene, words.as_slice())
+        }
         Json::Object(_) => Err(Error::new(ErrorKind::SyntaxError)),
     }
 }
 
 #[cycle(expressions)]
-fn values_of(alloc: Global, scene: &Scene, expressions: Vec<Json>) -> Result<Vec<Value>, Error> {
+fn values_of(alloc: Global, scene: &Scene, expressions: &[Json]) -> Result<Vec<Value>, Error> {
     let mut values = Vec::new(alloc);
     for expression in expressions {
-        values.push(value_of(alloc, scene, expression)?)?;
+        put(&mut values, value_of(alloc, scene, expression))?;
     }
     Ok(values)
 }

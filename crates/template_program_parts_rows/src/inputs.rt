@@ -1,58 +1,66 @@
 //! Inputs and files that are read alone, below a limit.
+use crate::report::Report;
 use serde_json::{Map, Value as Json};
 use std::alloc::Global;
 use template_program_parts::{FileFault, ReadWrapper, read_file, read_whole};
-use template_rows::{Input, bytes_of, count_of, expect_names, kind_of, quoted, unreadable};
-use template_values_errors::{Error, ErrorKind};
+use template_rows::{Input, bytes_of, count_of, expect_names, kind_of};
+use template_values_errors::ErrorKind;
 
 /// What is read of an input, and what is read then without a limit.
-pub(crate) fn answer_input(
+pub(crate) fn about_input(
     alloc: Global,
     bytes: &Json,
     entries: &Map<String, Json>,
-) -> Result<String, Error> {
-    expect_names(entries, &["source", "input_fails", "limit"])?;
-    let bytes = bytes_of(alloc, bytes)?;
-    let fails = kind_of(entries.get("input_fails"))?;
-    let limit = limit_of(entries)?;
+    out: &mut Report,
+) {
+    out.or(
+        expect_names(entries, &["source", "input_fails", "limit"]),
+        (),
+    );
+    let fails = out.or(kind_of(entries.get("input_fails")), None);
+    let limit = limit_of(entries, out);
+    let bytes = out.or(bytes_of(alloc, bytes), Vec::new(alloc));
     let mut input = Input {
         bytes: bytes.as_slice(),
         fails,
     };
-    let mut answer = read(alloc, &mut input, limit)?;
-    answer.push_str(", then ")?;
-    answer.push_str(read(alloc, &mut input, usize::MAX)?.as_str())?;
-    Ok(answer)
+    read_twice(alloc, &mut input, limit, out)
 }
 
-fn read(alloc: Global, input: &mut Input<'_>, limit: usize) -> Result<String, Error> {
-    shown(
-        alloc,
-        read_whole(alloc, &mut ReadWrapper::new(input), limit),
-    )
+fn read_twice(alloc: Global, input: &mut Input<'_>, limit: usize, out: &mut Report) {
+    read(alloc, input, limit, out);
+    out.push_str(", then ");
+    read(alloc, input, usize::MAX, out)
+}
+
+fn read(alloc: Global, input: &mut Input<'_>, limit: usize, out: &mut Report) {
+    tell(&read_whole(alloc, &mut ReadWrapper::new(input), limit), out)
 }
 
 /// What is read of the file at a path.
-pub(crate) fn answer_file(
+pub(crate) fn about_file(
     rt: &HostRuntime,
     path: &Json,
     entries: &Map<String, Json>,
-) -> Result<String, Error> {
-    expect_names(entries, &["file", "files", "limit"])?;
+    out: &mut Report,
+) {
+    out.or(expect_names(entries, &["file", "files", "limit"]), ());
+    let limit = limit_of(entries, out);
     match path {
-        Json::String(path) => shown(rt.alloc(), read_file(rt, path.as_str(), limit_of(entries)?)),
-        _ => unreadable(),
+        Json::String(path) => tell(&read_file(rt, path.as_str(), limit), out),
+        _ => out.refuse(ErrorKind::SyntaxError),
     }
 }
 
-fn limit_of(entries: &Map<String, Json>) -> Result<usize, Error> {
-    Ok(count_of(entries.get("limit"))?.unwrap_or(usize::MAX))
+fn limit_of(entries: &Map<String, Json>, out: &mut Report) -> usize {
+    out.or(count_of(entries.get("limit")), None)
+        .unwrap_or(usize::MAX)
 }
 
-fn shown(alloc: Global, read: Result<Vec<u8>, FileFault>) -> Result<String, Error> {
+fn tell(read: &Result<Vec<u8>, FileFault>, out: &mut Report) {
     match read {
-        Ok(bytes) => Ok(quoted(alloc, bytes.as_slice())?),
-        Err(FileFault::File) => Ok(String::from_str(alloc, "! File")?),
-        Err(FileFault::Memory) => Err(Error::new(ErrorKind::OutOfMemory)),
+        Ok(bytes) => out.quoted(bytes.as_slice()),
+        Err(FileFault::File) => out.push_str("! File"),
+        Err(FileFault::Memory) => out.refuse(ErrorKind::OutOfMemory),
     }
 }

@@ -1,6 +1,7 @@
 //! Large values, and what tells of a large text without writing it.
+use crate::constructors::{entry, put};
 use std::alloc::Global;
-use template_values::{Entry, Error, Value};
+use template_values::{Error, Value};
 
 /// The list of the numbers from 0 to below the count.
 pub(crate) fn numbers(alloc: Global, count: usize) -> Result<Value, Error> {
@@ -15,9 +16,8 @@ pub(crate) fn numbers(alloc: Global, count: usize) -> Result<Value, Error> {
 pub(crate) fn numbered_names(alloc: Global, count: usize) -> Result<Value, Error> {
     let mut entries = Vec::new(alloc);
     for number in (0..count).rev() {
-        let key = Value::from_text(format!(in alloc; "name {number}")?)?;
-        let value = int(number);
-        entries.push(Entry { key, value })?;
+        let name = format!(in alloc; "name {number}")?;
+        put(&mut entries, entry(Value::from_text(name), Ok(int(number))))?;
     }
     Value::from_map(alloc, entries)
 }

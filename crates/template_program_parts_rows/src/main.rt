@@ -67,6 +67,7 @@ mod large;
 mod modes;
 mod pieces;
 mod readers;
+mod report;
 mod scene;
 mod sinks;
 mod sizes;
@@ -74,20 +75,19 @@ mod states;
 mod tasks;
 mod words;
 
-use crate::contexts::answer_context;
-use crate::expressions::answer_expression;
+use crate::contexts::about_context;
+use crate::expressions::about_expression;
 use crate::files::{remove_files, write_files};
-use crate::inputs::{answer_file, answer_input};
-use crate::pieces::answer_pieces;
-use crate::sizes::answer_size;
-use crate::states::{answer_escape, answer_ids};
-use crate::tasks::answer_time;
-use crate::words::answer_words;
+use crate::inputs::{about_file, about_input};
+use crate::pieces::about_pieces;
+use crate::report::Report;
+use crate::sizes::about_size;
+use crate::states::{about_escape, about_ids};
+use crate::tasks::about_time;
+use crate::words::about_words;
 use serde_json::{Map, Value as Json};
-use std::alloc::Global;
 use std::io;
-use template_rows::unreadable;
-use template_values_errors::Error;
+use template_values_errors::ErrorKind;
 
 fn main(rt: HostRuntime) -> io::Result<()> {
     for line in rt.lines(rt.alloc()) {
@@ -100,74 +100,87 @@ fn write_line(rt: &HostRuntime, line: &str) -> io::Result<()> {
     if line.starts_with('#') || line.is_empty() {
         println!(rt; "{line}")
     } else {
-        write_answer(rt, line, &answer_of_line(rt, line))
+        write_report(rt, line, &report_of(rt, line))
     }
 }
 
-fn write_answer(rt: &HostRuntime, line: &str, answer: &anyhow::Result<String>) -> io::Result<()> {
-    match answer {
-        Ok(text) => println!(rt; "{line} = {text}"),
-        Err(error) => println!(rt; "{line} = ? {error}"),
+fn write_report(rt: &HostRuntime, line: &str, report: &Report) -> io::Result<()> {
+    match report.refused {
+        None => println!(rt; "{line} = {}", report.text),
+        Some(kind) => println!(rt; "{line} = ? {}", kind.name()),
     }
 }
 
 // What comes of a line of JSON.
-fn answer_of_line(rt: &HostRuntime, line: &str) -> anyhow::Result<String> {
-    match Json::from_str(rt.alloc(), line)? {
-        Json::Object(entries) => answer_among_files(rt, &entries),
-        expression => Ok(answer_expression(rt.alloc(), expression)?),
+fn report_of(rt: &HostRuntime, line: &str) -> Report {
+    let mut out = Report::new(rt.alloc());
+    match &Json::from_str(rt.alloc(), line) {
+        Ok(json) => about_json(rt, json, &mut out),
+        Err(error) => out.refuse(kind_of(error)),
+    }
+    out
+}
+
+fn kind_of(error: &serde_json::Error) -> ErrorKind {
+    if error.is_memory() {
+        ErrorKind::OutOfMemory
+    } else {
+        ErrorKind::SyntaxError
     }
 }
 
-// The same, while its files stand.
-fn answer_among_files(rt: &HostRuntime, entries: &Map<String, Json>) -> anyhow::Result<String> {
+fn about_json(rt: &HostRuntime, json: &Json, out: &mut Report) {
+    match json {
+        Json::Object(entries) => about_entries(rt, entries, out),
+        expression => about_expression(rt.alloc(), expression, out),
+    }
+}
+
+// What comes of an object, while its files stand.
+fn about_entries(rt: &HostRuntime, entries: &Map<String, Json>, out: &mut Report) {
     match entries.get("files") {
-        None => answer(rt, entries),
+        None => about_kind(rt, entries, out),
         Some(Json::Object(files)) => {
-            write_files(rt, files)?;
-            let answer = answer(rt, entries);
-            remove_files(rt, files)?;
-            answer
+            write_files(rt, files, out);
+            about_kind(rt, entries, out);
+            remove_files(rt, files, out);
         }
-        Some(_) => Ok(unreadable()?),
+        Some(_) => out.refuse(ErrorKind::SyntaxError),
     }
 }
 
 // The entry that only lines of one kind have tells the kind.
-fn answer(rt: &HostRuntime, entries: &Map<String, Json>) -> anyhow::Result<String> {
+fn about_kind(rt: &HostRuntime, entries: &Map<String, Json>, out: &mut Report) {
     match (entries.get("size"), entries.get("time")) {
-        (Some(Json::String(what)), None) => answer_size(rt, what.as_str()),
-        (None, Some(Json::String(task))) => answer_time(rt, task.as_str()),
-        _ => Ok(answer_of_part(rt, entries)?),
+        (Some(Json::String(what)), None) => about_size(rt, what.as_str(), out),
+        (None, Some(Json::String(task))) => about_time(rt, task.as_str(), out),
+        _ => about_part(rt, entries, out),
     }
 }
 
 // What comes of one of the program's parts.
-fn answer_of_part(rt: &HostRuntime, entries: &Map<String, Json>) -> Result<String, Error> {
+fn about_part(rt: &HostRuntime, entries: &Map<String, Json>, out: &mut Report) {
     let alloc = rt.alloc();
     if let Some(words) = entries.get("read") {
-        return answer_words(alloc, words, entries);
+        about_words(alloc, words, entries, out)
+    } else if let Some(json) = entries.get("json") {
+        about_context(alloc, json, entries, out)
+    } else if let Some(bytes) = entries.get("source") {
+        about_input(alloc, bytes, entries, out)
+    } else if let Some(path) = entries.get("file") {
+        about_file(rt, path, entries, out)
+    } else if let Some(pieces) = entries.get("pieces") {
+        about_pieces(alloc, pieces, entries, out)
+    } else {
+        about_state(entries, out)
     }
-    if let Some(json) = entries.get("json") {
-        return answer_context(alloc, json, entries);
-    }
-    if let Some(bytes) = entries.get("source") {
-        return answer_input(alloc, bytes, entries);
-    }
-    if let Some(path) = entries.get("file") {
-        return answer_file(rt, path, entries);
-    }
-    if let Some(pieces) = entries.get("pieces") {
-        return answer_pieces(alloc, pieces, entries);
-    }
-    answer_of_state(alloc, entries)
 }
 
 // What comes of what surrounds a render.
-fn answer_of_state(alloc: Global, entries: &Map<String, Json>) -> Result<String, Error> {
+fn about_state(entries: &Map<String, Json>, out: &mut Report) {
     match (entries.get("escape"), entries.get("first_id")) {
-        (Some(name), None) => answer_escape(alloc, name, entries),
-        (None, Some(first)) => answer_ids(alloc, first, entries),
-        _ => unreadable(),
+        (Some(name), None) => about_escape(name, entries, out),
+        (None, Some(first)) => about_ids(first, entries, out),
+        _ => out.refuse(ErrorKind::SyntaxError),
     }
 }

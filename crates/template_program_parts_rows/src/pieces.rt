@@ -1,26 +1,28 @@
 //! Pieces of a text that go to an output, one behind the other.
+use crate::report::Report;
 use serde_json::{Map, Value as Json};
 use std::alloc::Global;
 use template_machine_output::{SinkFault, WriteWrapper, write_text};
-use template_rows::{Output, count_of, expect_names, kind_of, quoted, texts_of};
+use template_rows::{Output, count_of, expect_names, kind_of, texts_of};
 use template_values_errors::{Error, ErrorKind};
 
 /// What the output takes; and where it fails the fault, the error that this is, and what `take_err` makes of
 /// `BadInclude` behind it, again and again.
-pub(crate) fn answer_pieces(
+pub(crate) fn about_pieces(
     alloc: Global,
     pieces: &Json,
     entries: &Map<String, Json>,
-) -> Result<String, Error> {
-    expect_names(entries, &["pieces", "output_room", "write_fails"])?;
-    let pieces = texts_of(alloc, pieces)?;
-    let mut sink = WriteWrapper::new(output_of(alloc, entries)?);
-    let written = write_pieces(&mut sink, pieces.as_slice());
-    let mut answer = quoted(alloc, sink.w.bytes.as_slice())?;
-    if let Err(fault) = written {
-        write_fault(&mut sink, fault, &mut answer)?;
+    out: &mut Report,
+) {
+    out.or(
+        expect_names(entries, &["pieces", "output_room", "write_fails"]),
+        (),
+    );
+    let pieces = out.or(texts_of(alloc, pieces), Vec::new(alloc));
+    match output_of(alloc, entries) {
+        Ok(output) => tell(&mut WriteWrapper::new(output), pieces.as_slice(), out),
+        Err(error) => out.refuse(error.kind()),
     }
-    Ok(answer)
 }
 
 fn output_of(alloc: Global, entries: &Map<String, Json>) -> Result<Output, Error> {
@@ -31,6 +33,14 @@ fn output_of(alloc: Global, entries: &Map<String, Json>) -> Result<Output, Error
     Ok(output)
 }
 
+fn tell(sink: &mut WriteWrapper<Output>, pieces: &[&str], out: &mut Report) {
+    let written = write_pieces(sink, pieces);
+    out.quoted(sink.w.bytes.as_slice());
+    if let Err(fault) = written {
+        tell_fault(sink, fault, out)
+    }
+}
+
 fn write_pieces(sink: &mut WriteWrapper<Output>, pieces: &[&str]) -> Result<(), SinkFault> {
     for piece in pieces {
         write_text(sink, piece)?;
@@ -38,15 +48,11 @@ fn write_pieces(sink: &mut WriteWrapper<Output>, pieces: &[&str]) -> Result<(), 
     Ok(())
 }
 
-fn write_fault(
-    sink: &mut WriteWrapper<Output>,
-    fault: SinkFault,
-    answer: &mut String,
-) -> Result<(), Error> {
-    write!(answer, " ! {fault:?} {}, seen as", Error::from(fault))?;
+fn tell_fault(sink: &mut WriteWrapper<Output>, fault: SinkFault, out: &mut Report) {
+    out.tell(" ! ", &fault);
+    out.error(" ", &Error::from(fault));
+    out.push_str(", seen as");
     for _ in 0..3 {
-        let seen = sink.take_err(Error::new(ErrorKind::BadInclude));
-        write!(answer, " {seen}")?;
+        out.error(" ", &sink.take_err(Error::new(ErrorKind::BadInclude)));
     }
-    Ok(())
 }

@@ -1,20 +1,19 @@
-//! Texts through every reader.
+//! Texts through every reader. Nothing comes where a reader refuses, but by a limit that is to be refused.
 use crate::sizes::Came;
-use anyhow::bail;
 use std::alloc::Global;
 use std::fs;
 use template_program_parts::{FileFault, ReadWrapper, read_text, read_text_file};
 
 const PATH: &str = "sizes.txt";
 
-pub(crate) fn read_slice(alloc: Global, text: &str) -> anyhow::Result<Came> {
+pub(crate) fn read_slice(alloc: Global, text: &str) -> Option<Came> {
     let limit = text.len();
     let read = read_text(alloc, &mut text.as_bytes(), limit.saturating_add(1));
     let refused = read_text(alloc, &mut text.as_bytes(), limit);
     came_of(read, refused, text)
 }
 
-pub(crate) fn read_wrapped(alloc: Global, text: &str) -> anyhow::Result<Came> {
+pub(crate) fn read_wrapped(alloc: Global, text: &str) -> Option<Came> {
     let limit = text.len();
     let mut reader = text.as_bytes();
     let read = read_text(
@@ -28,13 +27,19 @@ pub(crate) fn read_wrapped(alloc: Global, text: &str) -> anyhow::Result<Came> {
 }
 
 // The file is written, read, refused by a limit that it reaches, and removed.
-pub(crate) fn read_file_back(rt: &HostRuntime, text: &str) -> anyhow::Result<Came> {
+pub(crate) fn read_file_back(rt: &HostRuntime, text: &str) -> Option<Came> {
     let limit = text.len();
-    fs::write(rt, PATH, text.as_bytes())?;
+    if fs::write(rt, PATH, text.as_bytes()).is_err() {
+        return None;
+    }
     let read = read_text_file(rt, PATH, limit.saturating_add(1));
     let refused = read_text_file(rt, PATH, limit);
-    fs::remove_file(rt, PATH)?;
-    came_of(read, refused, text)
+    let came = came_of(read, refused, text);
+    if fs::remove_file(rt, PATH).is_ok() {
+        came
+    } else {
+        None
+    }
 }
 
 // A text that was read below a limit, and refused by one that it reaches.
@@ -42,12 +47,11 @@ fn came_of(
     read: Result<String, FileFault>,
     refused: Result<String, FileFault>,
     text: &str,
-) -> anyhow::Result<Came> {
-    if refused.err() != Some(FileFault::File) {
-        bail!("a text of the limit was read");
-    }
-    match read {
-        Ok(read) => Ok(Came::compared(read.as_bytes(), text.as_bytes())),
-        Err(_fault) => bail!("it was not read"),
+) -> Option<Came> {
+    match (&read, &refused) {
+        (Ok(read), Err(FileFault::File)) => {
+            Some(Came::compared(read.as_bytes(), text.as_bytes()))
+        }
+        _ => None,
     }
 }

@@ -2,6 +2,7 @@
 ghost use Rattle.std.specs.Prelude.{Some, None, [], true, ◌==◌, if◌then◌else◌, codes};
 ghost use Rattle.template_values_core.specs.Shape.{pairs_in};
 
+use crate::constructors::{entry, put};
 use std::alloc::Global;
 use template_values::{Entry, Error, LoopView, MacroView, Records, Value};
 
@@ -32,35 +33,23 @@ impl Scene {
     }
 
     fn fill(&mut self, alloc: Global) -> Result<(), Error> {
-        push_entry(&mut self.entries, Value::from_int(7), Value::from_int(70))?;
-        push_named(alloc, &mut self.entries, "k", text(alloc, "<b>")?)?;
-        push_named(alloc, &mut self.own, "self", Value::namespace(STATE, 2))?;
+        let first = entry(Ok(Value::from_int(7)), Ok(Value::from_int(70)));
+        put(&mut self.entries, first)?;
+        let second = entry(Value::from_str(alloc, "k"), Value::from_str(alloc, "<b>"));
+        put(&mut self.entries, second)?;
+        let itself = entry(
+            Value::from_str(alloc, "self"),
+            Ok(Value::namespace(STATE, 2)),
+        );
+        put(&mut self.own, itself)?;
         for number in [10, 20, 30] {
-            self.items.push(Value::from_int(number))?;
+            put(&mut self.items, Ok(Value::from_int(number)))?;
         }
-        self.arguments.push(text(alloc, "a")?)?;
-        Ok(self.arguments.push(text(alloc, "b")?)?)
+        for argument in ["a", "b"] {
+            put(&mut self.arguments, Value::from_str(alloc, argument))?;
+        }
+        Ok(())
     }
-}
-
-fn text(alloc: Global, text: &str) -> Result<Value, Error> {
-    Value::from_str(alloc, text)
-}
-
-fn push_named(
-    alloc: Global,
-    entries: &mut Vec<Entry>,
-    name: &str,
-    value: Value,
-) -> Result<(), Error> {
-    match text(alloc, name) {
-        Ok(key) => push_entry(entries, key, value),
-        Err(error) => Err(error),
-    }
-}
-
-fn push_entry(entries: &mut Vec<Entry>, key: Value, value: Value) -> Result<(), Error> {
-    Ok(entries.push(Entry { key, value })?)
 }
 
 impl Records for Scene {

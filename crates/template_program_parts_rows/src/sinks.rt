@@ -1,35 +1,51 @@
-//! Texts through every sink.
+//! Texts through every sink. Nothing comes where a sink refuses.
 use crate::sizes::Came;
 use std::alloc::Global;
 use std::io::{BufWriter, Write};
 use template_machine_output::{NullWriter, WriteWrapper, write_text};
-use template_values_errors::Error;
 
-pub(crate) fn into_text(alloc: Global, text: &str) -> anyhow::Result<Came> {
+pub(crate) fn into_text(alloc: Global, text: &str) -> Option<Came> {
     let mut sink = String::new(alloc);
-    write_text(&mut sink, text).map_err(Error::from)?;
-    Ok(Came::compared(sink.as_bytes(), text.as_bytes()))
+    match write_text(&mut sink, text) {
+        Ok(()) => Some(Came::compared(sink.as_bytes(), text.as_bytes())),
+        Err(_fault) => None,
+    }
 }
 
-pub(crate) fn into_writer(alloc: Global, text: &str) -> anyhow::Result<Came> {
+pub(crate) fn into_writer(alloc: Global, text: &str) -> Option<Came> {
     let mut sink = WriteWrapper::new(Vec::new(alloc));
-    write_text(&mut sink, text).map_err(Error::from)?;
-    Ok(Came::compared(sink.w.as_slice(), text.as_bytes()))
+    match write_text(&mut sink, text) {
+        Ok(()) => Some(Came::compared(sink.w.as_slice(), text.as_bytes())),
+        Err(_fault) => None,
+    }
 }
 
-pub(crate) fn into_buffer(alloc: Global, text: &str) -> anyhow::Result<Came> {
+pub(crate) fn into_buffer(alloc: Global, text: &str) -> Option<Came> {
     let mut bytes = Vec::new(alloc);
-    let mut sink = WriteWrapper::new(BufWriter::new(alloc, &mut bytes)?);
-    write_text(&mut sink, text).map_err(Error::from)?;
-    sink.w.flush()?;
-    drop(sink);
-    Ok(Came::compared(bytes.as_slice(), text.as_bytes()))
+    if is_written(alloc, text, &mut bytes) {
+        Some(Came::compared(bytes.as_slice(), text.as_bytes()))
+    } else {
+        None
+    }
 }
 
-pub(crate) fn into_nothing(text: &str) -> anyhow::Result<Came> {
-    write_text(&mut NullWriter, text).map_err(Error::from)?;
-    Ok(Came {
-        bytes: 0,
-        is_right: true,
-    })
+// Writes through a buffer, and tells whether all was taken.
+fn is_written(alloc: Global, text: &str, bytes: &mut Vec<u8>) -> bool {
+    match BufWriter::new(alloc, bytes) {
+        Ok(buffer) => {
+            let mut sink = WriteWrapper::new(buffer);
+            write_text(&mut sink, text).is_ok() && sink.w.flush().is_ok()
+        }
+        Err(_refused) => false,
+    }
+}
+
+pub(crate) fn into_nothing(text: &str) -> Option<Came> {
+    match write_text(&mut NullWriter, text) {
+        Ok(()) => Some(Came {
+            bytes: 0,
+            is_right: true,
+        }),
+        Err(_fault) => None,
+    }
 }

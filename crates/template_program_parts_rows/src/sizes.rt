@@ -1,8 +1,8 @@
 //! The program's parts at size. They make their inputs, and put them through sinks and readers.
 use crate::readers::{read_file_back, read_slice, read_wrapped};
+use crate::report::Report;
 use crate::sinks::{into_buffer, into_nothing, into_text, into_writer};
-use anyhow::bail;
-use std::alloc::Global;
+use template_values_errors::ErrorKind;
 
 /// What came out, and whether it is right.
 #[derive(Drop)]
@@ -21,14 +21,31 @@ impl Came {
     }
 }
 
-/// What comes of the work of that name.
-pub(crate) fn answer_size(rt: &HostRuntime, what: &str) -> anyhow::Result<String> {
-    let came = move_text(rt, what, long_text(rt.alloc())?.as_str())?;
-    let right = if came.is_right { "right" } else { "wrong" };
-    Ok(format!(in rt.alloc(); "{} bytes, {right}", came.bytes)?)
+/// What comes of the work of that name; `SyntaxError` where there is no such work, or something was refused.
+pub(crate) fn about_size(rt: &HostRuntime, what: &str, out: &mut Report) {
+    // Ten megabytes: 16 bytes, over and over.
+    match "The quick fox.é".repeat(rt.alloc(), 655360) {
+        Ok(long) => tell(move_text(rt, what, long.as_str()), out),
+        Err(_refused) => out.refuse(ErrorKind::OutOfMemory),
+    }
 }
 
-fn move_text(rt: &HostRuntime, what: &str, long: &str) -> anyhow::Result<Came> {
+fn tell(came: Option<Came>, out: &mut Report) {
+    match came {
+        Some(came) => {
+            out.tell("", &came.bytes);
+            out.push_str(if came.is_right {
+                " bytes, right"
+            } else {
+                " bytes, wrong"
+            })
+        }
+        None => out.refuse(ErrorKind::SyntaxError),
+    }
+}
+
+// What comes of a text; none where there is no such work, or something was refused.
+fn move_text(rt: &HostRuntime, what: &str, long: &str) -> Option<Came> {
     let alloc = rt.alloc();
     match what {
         "a text" => into_text(alloc, long),
@@ -38,11 +55,6 @@ fn move_text(rt: &HostRuntime, what: &str, long: &str) -> anyhow::Result<Came> {
         "a slice, read" => read_slice(alloc, long),
         "a reader, read" => read_wrapped(alloc, long),
         "a file, read" => read_file_back(rt, long),
-        _ => bail!("no such work"),
+        _ => None,
     }
-}
-
-// Ten megabytes: 16 bytes, over and over.
-fn long_text(alloc: Global) -> anyhow::Result<String> {
-    Ok("The quick fox.é".repeat(alloc, 655360)?)
 }

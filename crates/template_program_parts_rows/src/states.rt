@@ -1,53 +1,42 @@
 //! The escapes that names have, and the numbers that states are given.
+use crate::report::Report;
 use serde_json::{Map, Value as Json};
-use std::alloc::Global;
 use template_machine_surroundings::{EscapeRule, StateIds, default_auto_escape_callback};
-use template_rows::{count_of, expect_names, number_of, unreadable};
-use template_values::{AutoEscape, Error};
+use template_rows::{count_of, expect_names, number_of};
+use template_values::{AutoEscape, ErrorKind};
 
 /// The escape of a name by its ending, and then that under each rule.
-pub(crate) fn answer_escape(
-    alloc: Global,
-    name: &Json,
-    entries: &Map<String, Json>,
-) -> Result<String, Error> {
-    expect_names(entries, &["escape"])?;
+pub(crate) fn about_escape(name: &Json, entries: &Map<String, Json>, out: &mut Report) {
+    out.or(expect_names(entries, &["escape"]), ());
     match name {
-        Json::String(name) => escapes_of(alloc, name.as_str()),
-        _ => unreadable(),
+        Json::String(name) => tell_escapes(name.as_str(), out),
+        _ => out.refuse(ErrorKind::SyntaxError),
     }
 }
 
-fn escapes_of(alloc: Global, name: &str) -> Result<String, Error> {
-    let of_ending = default_auto_escape_callback(name);
-    let by_name = EscapeRule::ByName.escape(name);
-    let never = EscapeRule::Never.escape(name);
-    let fixed = EscapeRule::Fixed(AutoEscape::Json).escape(name);
-    Ok(format!(in alloc; "{of_ending:?}, {by_name:?} {never:?} {fixed:?}")?)
+fn tell_escapes(name: &str, out: &mut Report) {
+    out.tell("", &default_auto_escape_callback(name));
+    out.tell(", ", &EscapeRule::ByName.escape(name));
+    out.tell(" ", &EscapeRule::Never.escape(name));
+    out.tell(" ", &EscapeRule::Fixed(AutoEscape::Json).escape(name))
 }
 
 /// So many numbers from the first one on, and why there is none where that is.
-pub(crate) fn answer_ids(
-    alloc: Global,
-    first: &Json,
-    entries: &Map<String, Json>,
-) -> Result<String, Error> {
-    expect_names(entries, &["first_id", "count"])?;
-    let first = number_of(Some(first))?.unwrap_or(0);
-    let count = count_of(entries.get("count"))?.unwrap_or(1);
-    given_ids(alloc, &mut StateIds::new(first), count)
+pub(crate) fn about_ids(first: &Json, entries: &Map<String, Json>, out: &mut Report) {
+    out.or(expect_names(entries, &["first_id", "count"]), ());
+    let first = out.or(number_of(Some(first)), None).unwrap_or(0);
+    let count = out.or(count_of(entries.get("count")), None).unwrap_or(1);
+    tell_ids(&mut StateIds::new(first), count, out)
 }
 
-fn given_ids(alloc: Global, ids: &mut StateIds, count: usize) -> Result<String, Error> {
-    let mut given = String::new(alloc);
+fn tell_ids(ids: &mut StateIds, count: usize, out: &mut Report) {
     for number in 0..count {
         if number > 0 {
-            given.push(' ')?;
+            out.push_str(" ");
         }
         match ids.next() {
-            Ok(id) => write!(given, "{id}")?,
-            Err(error) => write!(given, "! {error}")?,
+            Ok(id) => out.tell("", &id),
+            Err(error) => out.error("! ", &error),
         }
     }
-    Ok(given)
 }

@@ -1,12 +1,13 @@
 //! The tasks of values.
 use crate::calls::write_to;
+use crate::constructors::{entry, put};
 use crate::large::numbers;
+use crate::report::Report;
 use crate::scene::Scene;
-use anyhow::bail;
 use std::alloc::Global;
 use std::hint::black_box;
 use std::time::{Duration, Instant};
-use template_values::{AutoEscape, Entry, Value, add};
+use template_values::{AutoEscape, Entry, Error, ErrorKind, Value, add};
 
 // 10 MB of text, as so many lines.
 const LINE: &str =
@@ -27,11 +28,14 @@ const ADDITIONS: u32 = 10_000_000;
 
 const COPIES: u32 = 1_000_000;
 
-/// The time of the task of that name, in words.
-pub(crate) fn answer_time(rt: &HostRuntime, task: &str) -> anyhow::Result<String> {
+/// The time of the task of that name, in words; `SyntaxError` where there is no such task, or something was refused.
+pub(crate) fn about_time(rt: &HostRuntime, task: &str, out: &mut Report) {
     match measure(rt, task) {
-        Some(time) => Ok(format!(in rt.alloc(); "{} microseconds", time.as_micros())?),
-        None => bail!("no such task, or it was refused"),
+        Some(time) => {
+            out.tell("", &time.as_micros());
+            out.push_str(" microseconds")
+        }
+        None => out.refuse(ErrorKind::SyntaxError),
     }
 }
 
@@ -59,8 +63,8 @@ fn time_since(rt: &HostRuntime, start: Option<Instant>, is_done: bool) -> Option
 }
 
 // A text, so many times.
-fn repeated(alloc: Global, text: &str, times: usize) -> Option<Value> {
-    Value::from_text(text.repeat(alloc, times).ok()?).ok()
+fn repeated(alloc: Global, text: &str, times: usize) -> Result<Value, Error> {
+    Value::from_text(text.repeat(alloc, times)?)
 }
 
 // The same, as it prints or under an escape.
@@ -70,12 +74,15 @@ fn write(
     times: usize,
     escape: Option<AutoEscape>,
 ) -> Option<Duration> {
-    write_value(
-        rt,
-        &Scene::new(rt.alloc()).ok()?,
-        &repeated(rt.alloc(), text, times)?,
-        escape,
-    )
+    let scene = Scene::new(rt.alloc()).ok()?;
+    let value = repeated(rt.alloc(), text, times);
+    let time = match &value {
+        Ok(value) => write_value(rt, &scene, value, escape),
+        Err(_refused) => None,
+    };
+    drop(value);
+    drop(scene);
+    time
 }
 
 fn write_value(
@@ -97,44 +104,47 @@ fn shuffled(number: u32) -> u32 {
     (number % KEYS) * 7919 % KEYS
 }
 
-fn key(alloc: Global, number: u32) -> Option<Value> {
-    Value::from_text(format!(in alloc; "key {number}").ok()?).ok()
+fn name(alloc: Global, number: u32) -> Result<String, Error> {
+    Ok(format!(in alloc; "key {}", shuffled(number))?)
 }
 
-fn entries(alloc: Global) -> Option<Vec<Entry>> {
+fn key(alloc: Global, number: u32) -> Result<Value, Error> {
+    Value::from_text(name(alloc, number)?)
+}
+
+fn entries(alloc: Global) -> Result<Vec<Entry>, Error> {
     let mut entries = Vec::new(alloc);
     for number in 0..KEYS {
-        entries
-            .push(Entry {
-                key: key(alloc, shuffled(number))?,
-                value: Value::from_int(i128::from(number)),
-            })
-            .ok()?;
+        let value = Value::from_int(i128::from(number));
+        put(&mut entries, entry(key(alloc, number), Ok(value)))?;
     }
-    Some(entries)
+    Ok(entries)
 }
 
 fn sort_map(rt: &HostRuntime) -> Option<Duration> {
-    let entries = entries(rt.alloc())?;
+    let entries = entries(rt.alloc()).ok()?;
     let start = Instant::now(rt).ok();
     let map = Value::from_map(rt.alloc(), entries);
-    time_since(rt, start, black_box(map.is_ok()))
+    let time = time_since(rt, start, black_box(map.is_ok()));
+    drop(map);
+    time
 }
 
 fn look_up(rt: &HostRuntime) -> Option<Duration> {
-    let map = Value::from_map(rt.alloc(), entries(rt.alloc())?).ok()?;
-    look_up_in(rt, &map, names(rt.alloc())?.as_slice())
+    let names = names(rt.alloc()).ok()?;
+    let map = Value::from_map(rt.alloc(), entries(rt.alloc()).ok()?).ok()?;
+    let time = look_up_in(rt, &map, names.as_slice());
+    drop(map);
+    time
 }
 
 // The keys in the order in which they are looked up.
-fn names(alloc: Global) -> Option<Vec<String>> {
+fn names(alloc: Global) -> Result<Vec<String>, Error> {
     let mut names = Vec::new(alloc);
     for number in 0..KEYS {
-        names
-            .push(format!(in alloc; "key {}", shuffled(number)).ok()?)
-            .ok()?;
+        put(&mut names, name(alloc, number))?;
     }
-    Some(names)
+    Ok(names)
 }
 
 fn look_up_in(rt: &HostRuntime, map: &Value, names: &[String]) -> Option<Duration> {
@@ -151,7 +161,12 @@ fn look_up_in(rt: &HostRuntime, map: &Value, names: &[String]) -> Option<Duratio
 }
 
 fn add_up(rt: &HostRuntime) -> Option<Duration> {
-    add_up_to(rt, &mut Value::from_int(0), &Value::from_int(1))
+    let mut sum = Value::from_int(0);
+    let one = Value::from_int(1);
+    let time = add_up_to(rt, &mut sum, &one);
+    drop(sum);
+    drop(one);
+    time
 }
 
 fn add_up_to(rt: &HostRuntime, sum: &mut Value, one: &Value) -> Option<Duration> {
@@ -163,17 +178,28 @@ fn add_up_to(rt: &HostRuntime, sum: &mut Value, one: &Value) -> Option<Duration>
 }
 
 fn copy(rt: &HostRuntime) -> Option<Duration> {
-    copies_of(rt, &numbers(rt.alloc(), KEYS as usize).ok()?)
+    let list = numbers(rt.alloc(), KEYS as usize).ok()?;
+    let time = copies_of(rt, &list);
+    drop(list);
+    time
 }
 
 fn copies_of(rt: &HostRuntime, list: &Value) -> Option<Duration> {
     let mut copied = 0u32;
     let start = Instant::now(rt).ok();
     for _ in 0..COPIES {
-        let copy = list.copy().ok()?;
-        if copy.levels() == 1 {
+        if has_one_level(list.copy()) {
             copied = copied.wrapping_add(1);
         }
     }
     time_since(rt, start, copied == COPIES)
+}
+
+fn has_one_level(copy: Result<Value, Error>) -> bool {
+    let levels = match &copy {
+        Ok(copy) => copy.levels(),
+        Err(_refused) => 0,
+    };
+    drop(copy);
+    levels == 1
 }

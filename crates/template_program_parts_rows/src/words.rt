@@ -1,45 +1,43 @@
 //! Words that are read alone.
+use crate::report::Report;
 use serde_json::{Map, Value as Json};
 use std::alloc::Global;
-use template_program_words::{WordsFault, read_words};
+use template_program_words::{Words, WordsFault, read_words};
 use template_rows::{expect_names, text_of, texts_of};
-use template_values_errors::{Error, ErrorKind};
+use template_values_errors::ErrorKind;
 
 /// What is read of the words, or why they are refused.
-pub(crate) fn answer_words(
+pub(crate) fn about_words(
     alloc: Global,
     words: &Json,
     entries: &Map<String, Json>,
-) -> Result<String, Error> {
-    expect_names(entries, &["read", "begins", "holds"])?;
-    let words = texts_of(alloc, words)?;
-    match read_words(alloc, words.as_slice()) {
-        Ok(read) => Ok(format!(in alloc; "{read:?}")?),
-        Err(refused) => refusal(alloc, &refused, entries),
+    out: &mut Report,
+) {
+    out.or(expect_names(entries, &["read", "begins", "holds"]), ());
+    let words = out.or(texts_of(alloc, words), Vec::new(alloc));
+    tell(&read_words(alloc, words.as_slice()), entries, out)
+}
+
+fn tell(read: &Result<Words<'_>, WordsFault>, entries: &Map<String, Json>, out: &mut Report) {
+    match read {
+        Ok(read) => out.tell("", read),
+        Err(WordsFault::Memory) => out.refuse(ErrorKind::OutOfMemory),
+        Err(WordsFault::Help(text)) => tell_text("help", text.as_str(), entries, out),
+        Err(WordsFault::Usage(text)) => tell_text("usage", text.as_str(), entries, out),
+        Err(WordsFault::Definition) => out.push_str("definition"),
     }
 }
 
-fn refusal(
-    alloc: Global,
-    refused: &WordsFault,
-    entries: &Map<String, Json>,
-) -> Result<String, Error> {
-    match refused {
-        WordsFault::Memory => Err(Error::new(ErrorKind::OutOfMemory)),
-        WordsFault::Help(text) => named(alloc, "help", is_wanted(text.as_str(), entries)?),
-        WordsFault::Usage(text) => named(alloc, "usage", is_wanted(text.as_str(), entries)?),
-        WordsFault::Definition => named(alloc, "definition", true),
+fn tell_text(word: &str, text: &str, entries: &Map<String, Json>, out: &mut Report) {
+    if !is_wanted(text, entries, out) {
+        out.push_str("another ");
     }
-}
-
-fn named(alloc: Global, word: &str, is_wanted: bool) -> Result<String, Error> {
-    let another = if is_wanted { "" } else { "another " };
-    Ok(format!(in alloc; "{another}{word}")?)
+    out.push_str(word)
 }
 
 // Whether a text begins with what the entries say, and holds it.
-fn is_wanted(text: &str, entries: &Map<String, Json>) -> Result<bool, Error> {
-    let begins = text_of(entries.get("begins"))?.unwrap_or("");
-    let holds = text_of(entries.get("holds"))?.unwrap_or("");
-    Ok(text.starts_with(begins) && text.contains(holds))
+fn is_wanted(text: &str, entries: &Map<String, Json>, out: &mut Report) -> bool {
+    let begins = out.or(text_of(entries.get("begins")), None).unwrap_or("");
+    let holds = out.or(text_of(entries.get("holds")), None).unwrap_or("");
+    text.starts_with(begins) && text.contains(holds)
 }

@@ -1,0 +1,76 @@
+//! What comes of a line, as it is written.
+use std::alloc::Global;
+use std::fmt::Debug;
+use template_rows::quoted;
+use template_values::{Error, ErrorKind, NoRecords, Value, print_to};
+
+/// What comes of a line, as far as it is written. What is refused on the way is kept, so that what writes need not ask.
+#[derive(Drop)]
+pub(crate) struct Report {
+    pub(crate) text: String,
+    /// Why it is not whole, where it is not.
+    pub(crate) refused: Option<ErrorKind>,
+}
+
+impl Report {
+    /// Nothing yet.
+    pub(crate) fn new(alloc: Global) -> Report {
+        Report {
+            text: String::new(alloc),
+            refused: None,
+        }
+    }
+
+    /// Keeps the first refusal.
+    pub(crate) fn refuse(&mut self, kind: ErrorKind) {
+        if self.refused.is_none() {
+            self.refused = Some(kind);
+        }
+    }
+
+    /// What was read, or another one in its place where it was refused.
+    pub(crate) fn or<T: Drop>(&mut self, read: Result<T, Error>, otherwise: T) -> T {
+        match read {
+            Ok(read) => read,
+            Err(error) => {
+                self.refuse(error.kind());
+                otherwise
+            }
+        }
+    }
+
+    pub(crate) fn push_str(&mut self, text: &str) {
+        if self.text.push_str(text).is_err() {
+            self.refuse(ErrorKind::OutOfMemory);
+        }
+    }
+
+    /// As `Debug` shows it, behind words.
+    pub(crate) fn tell<T: Debug>(&mut self, words: &str, told: &T) {
+        if write!(self.text, "{words}{told:?}").is_err() {
+            self.refuse(ErrorKind::OutOfMemory);
+        }
+    }
+
+    /// The kinds of an error, behind words.
+    pub(crate) fn error(&mut self, words: &str, error: &Error) {
+        if write!(self.text, "{words}{error}").is_err() {
+            self.refuse(ErrorKind::OutOfMemory);
+        }
+    }
+
+    /// Bytes as a text of JSON.
+    pub(crate) fn quoted(&mut self, bytes: &[u8]) {
+        match quoted(*self.text.allocator(), bytes) {
+            Ok(text) => self.push_str(text.as_str()),
+            Err(_refused) => self.refuse(ErrorKind::OutOfMemory),
+        }
+    }
+
+    /// A value of no state, as it prints.
+    pub(crate) fn value(&mut self, value: &Value) {
+        if let Err(error) = print_to(value, &NoRecords, &mut self.text) {
+            self.refuse(error.kind());
+        }
+    }
+}
