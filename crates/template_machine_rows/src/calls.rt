@@ -94,13 +94,39 @@ fn tell_template<'line, R: AutoEscapeRule>(
 ) {
     match setting.call {
         Call::Usual => tell_render(template, ids, setting, context, out),
-        Call::Render => out.text(&template.render(ids, context)),
+        Call::Render => tell_text(template, ids, context, out),
         Call::RenderCaptured => tell_captured(template, ids, setting, context, out),
+        _ => {
+            drop(context);
+            tell_of_template(environment, template, ids, setting, out)
+        }
+    }
+}
+
+// The text of a render.
+fn tell_text<R: AutoEscapeRule>(
+    template: &Template<'_, '_, R>,
+    ids: &mut StateIds,
+    context: Value,
+    out: &mut Report,
+) {
+    out.text(&template.render(ids, context))
+}
+
+// What is asked of the template without a render.
+fn tell_of_template<'line, R: AutoEscapeRule>(
+    environment: &Environment<'line, R>,
+    template: &Template<'_, 'line, R>,
+    ids: &mut StateIds,
+    setting: &Setting,
+    out: &mut Report,
+) {
+    match setting.call {
         Call::States => tell_states(environment, template, ids, out),
         Call::UsedNames => tell_used_names(template, out),
         Call::ContextNames => out.names(&environment.context_names(template)),
         Call::Escape => out.tell("", &template.initial_auto_escape()),
-        Call::Templates => tell_templates(environment, out),
+        _ => tell_templates(environment, out),
     }
 }
 
