@@ -30,73 +30,69 @@
 
 mod code;
 mod generated;
+mod report;
 mod runs;
 mod trees;
 
 use crate::code::{about_code, standing};
+use crate::report::Report;
 use crate::trees::{about_template, names_of_both, value};
 use serde_json::{Map, Value as Json};
 use std::alloc::Global;
 use std::io;
-use template_values_errors::{Error, ErrorKind};
+use template_values_errors::ErrorKind;
 
 // The name of each source.
 const NAME: &str = "<string>";
 
 fn main(rt: HostRuntime) -> io::Result<()> {
-    let alloc = rt.alloc();
-    for line in rt.lines(alloc) {
-        let line = line?;
-        match answer(alloc, line.as_str()) {
-            Ok(text) => println!(rt; "{line}{text}")?,
-            Err(error) => println!(rt; "{line} = {}", error.kind().name())?,
-        }
+    for line in rt.lines(rt.alloc()) {
+        write_line(&rt, line?.as_str())?;
     }
     Ok(())
 }
 
-// What stands behind a line: nothing behind a heading, else what comes of the JSON in it.
-fn answer(alloc: Global, line: &str) -> Result<String, Error> {
-    let mut out = String::new(alloc);
-    about_line(alloc, line, &mut out)?;
-    Ok(out)
-}
-
-fn about_line(alloc: Global, line: &str, out: &mut String) -> Result<(), Error> {
+fn write_line(rt: &HostRuntime, line: &str) -> io::Result<()> {
     if line.starts_with('#') || line.is_empty() {
-        return Ok(());
-    }
-    out.push_str(" = ")?;
-    match Json::from_str(alloc, line) {
-        Ok(json) => about_json(alloc, &json, out),
-        Err(error) => Err(refusal(&error)),
-    }
-}
-
-fn refusal(error: &serde_json::Error) -> Error {
-    if error.is_memory() {
-        Error::new(ErrorKind::OutOfMemory)
+        println!(rt; "{line}")
     } else {
-        Error::new(ErrorKind::SyntaxError)
+        write_report(rt, line, &report_of(rt.alloc(), line))
     }
 }
 
-fn unreadable() -> Result<(), Error> {
-    Err(Error::new(ErrorKind::SyntaxError))
+fn write_report(rt: &HostRuntime, line: &str, report: &Report) -> io::Result<()> {
+    match report.refused {
+        None => println!(rt; "{line} = {}", report.text),
+        Some(kind) => println!(rt; "{line} = {}", kind.name()),
+    }
 }
 
-fn about_json(alloc: Global, json: &Json, out: &mut String) -> Result<(), Error> {
+// What comes of the JSON in a line.
+fn report_of(alloc: Global, line: &str) -> Report {
+    let mut out = Report::new(alloc);
+    match Json::from_str(alloc, line) {
+        Ok(json) => about_json(alloc, &json, &mut out),
+        Err(error) => out.refuse(kind_of(&error)),
+    }
+    out
+}
+
+fn kind_of(error: &serde_json::Error) -> ErrorKind {
+    if error.is_memory() {
+        ErrorKind::OutOfMemory
+    } else {
+        ErrorKind::SyntaxError
+    }
+}
+
+fn about_json(alloc: Global, json: &Json, out: &mut Report) {
     match json {
         Json::Object(entries) => about_entries(alloc, entries, out),
-        _ => unreadable(),
+        _ => out.refuse(ErrorKind::SyntaxError),
     }
 }
 
-fn about_entries(
-    alloc: Global,
-    entries: &Map<String, Json>,
-    out: &mut String,
-) -> Result<(), Error> {
+fn about_entries(alloc: Global, entries: &Map<String, Json>, out: &mut Report) {
     match text_in(entries, "ask") {
         Some(ask) => about_text(alloc, entries, ask, out),
         None => about_first(alloc, entries, out),
@@ -110,17 +106,12 @@ fn text_in<'line>(entries: &'line Map<String, Json>, name: &str) -> Option<&'lin
     }
 }
 
-fn about_text(
-    alloc: Global,
-    entries: &Map<String, Json>,
-    ask: &str,
-    out: &mut String,
-) -> Result<(), Error> {
+fn about_text(alloc: Global, entries: &Map<String, Json>, ask: &str, out: &mut Report) {
     match text_in(entries, "source") {
         Some(source) => about_source(alloc, source, ask, entries, out),
         None => match text_in(entries, "expression") {
             Some(source) if ask == "value" => value(alloc, source, out),
-            _ => unreadable(),
+            _ => out.refuse(ErrorKind::SyntaxError),
         },
     }
 }
@@ -130,8 +121,8 @@ fn about_source<'line>(
     source: &'line str,
     ask: &str,
     entries: &'line Map<String, Json>,
-    out: &mut String,
-) -> Result<(), Error> {
+    out: &mut Report,
+) {
     match ask {
         "code" | "owned" | "runs" | "references" => about_code(alloc, source, ask, out),
         _ => about_template(alloc, source, ask, entries, out),
@@ -139,32 +130,26 @@ fn about_source<'line>(
 }
 
 // What comes of the first entry of an object that asks nothing of one text.
-fn about_first(alloc: Global, entries: &Map<String, Json>, out: &mut String) -> Result<(), Error> {
+fn about_first(alloc: Global, entries: &Map<String, Json>, out: &mut Report) {
     match entries.iter().next() {
         Some((name, Json::Array(texts))) => about_both(alloc, name.as_str(), texts.as_slice(), out),
-        _ => unreadable(),
+        _ => out.refuse(ErrorKind::SyntaxError),
     }
 }
 
-fn about_both(alloc: Global, name: &str, texts: &[Json], out: &mut String) -> Result<(), Error> {
+fn about_both(alloc: Global, name: &str, texts: &[Json], out: &mut Report) {
     match texts {
         [Json::String(first), Json::String(second)] => {
             about_pair(alloc, name, first.as_str(), second.as_str(), out)
         }
-        _ => unreadable(),
+        _ => out.refuse(ErrorKind::SyntaxError),
     }
 }
 
-fn about_pair(
-    alloc: Global,
-    name: &str,
-    first: &str,
-    second: &str,
-    out: &mut String,
-) -> Result<(), Error> {
+fn about_pair(alloc: Global, name: &str, first: &str, second: &str, out: &mut Report) {
     match name {
         "names" => names_of_both(alloc, first, second, out),
         "standing" => standing(alloc, first, second, out),
-        _ => unreadable(),
+        _ => out.refuse(ErrorKind::SyntaxError),
     }
 }

@@ -3,25 +3,21 @@ use crate::forms::Form;
 use std::alloc::{AllocError, Global};
 use template_tree::{Expr, Span};
 use template_tree_parts::spine;
-use template_values_errors::Error;
+use template_values_errors::ErrorKind;
 
 /// What a tree is, where it was made.
-pub(crate) fn write_description(
-    made: Result<Expr<'_>, AllocError>,
-    out: &mut Form,
-) -> Result<(), Error> {
+pub(crate) fn write_description(made: &Result<Expr<'_>, AllocError>, out: &mut Form) {
     match made {
-        Ok(tree) => Ok(out.text.push_str(tree.description())?),
-        Err(refused) => Err(Error::from(refused)),
+        Ok(tree) => out.push_str(tree.description()),
+        Err(_refused) => out.refuse(ErrorKind::OutOfMemory),
     }
 }
 
 /// What a chain of so many attributes is, and how many nodes its descent has.
-pub(crate) fn chain(alloc: Global, count: u64, out: &mut Form) -> Result<(), Error> {
-    match attributes(alloc, count) {
-        Ok(chain) => write_chain(alloc, &chain, out),
-        Err(refused) => Err(Error::from(refused)),
-    }
+pub(crate) fn chain(alloc: Global, count: u64, out: &mut Form) {
+    let chain = attributes(alloc, count);
+    write_description(&chain, out);
+    write_nodes(alloc, &chain, out)
 }
 
 // `x.a.a.a`, with so many attributes.
@@ -33,7 +29,11 @@ fn attributes(alloc: Global, count: u64) -> Result<Expr<'static>, AllocError> {
     Ok(chain)
 }
 
-fn write_chain(alloc: Global, chain: &Expr<'_>, out: &mut Form) -> Result<(), Error> {
-    let nodes = spine(alloc, chain)?;
-    Ok(write!(out.text, "{} {}", chain.description(), nodes.len())?)
+fn write_nodes(alloc: Global, chain: &Result<Expr<'_>, AllocError>, out: &mut Form) {
+    if let Ok(chain) = chain {
+        match spine(alloc, chain) {
+            Ok(nodes) => out.tell(" ", &nodes.len()),
+            Err(_refused) => out.refuse(ErrorKind::OutOfMemory),
+        }
+    }
 }

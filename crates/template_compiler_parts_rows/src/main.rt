@@ -59,7 +59,7 @@ use std::alloc::Global;
 use std::io;
 use template_compiler_syntax::SyntaxConfig;
 use template_tree_nodes::{difference, one_entry};
-use template_values_errors::{Error, ErrorKind};
+use template_values_errors::ErrorKind;
 
 // The name of each source.
 const NAME: &str = "<string>";
@@ -72,70 +72,55 @@ fn main(rt: HostRuntime) -> io::Result<()> {
 }
 
 fn write_line(rt: &HostRuntime, line: &str) -> io::Result<()> {
-    write_answer(rt, line, &answer(rt.alloc(), line))
-}
-
-fn write_answer(rt: &HostRuntime, line: &str, answer: &Result<String, Error>) -> io::Result<()> {
-    match answer {
-        Ok(text) => println!(rt; "{line}{text}"),
-        Err(error) => println!(rt; "{line} = {}", error.kind().name()),
-    }
-}
-
-// What stands behind a line: nothing behind a heading, else what comes of the JSON in it.
-fn answer(alloc: Global, line: &str) -> Result<String, Error> {
-    let mut out = Form::new(alloc);
-    about_line(alloc, line, &mut out)?;
-    Ok(out.text)
-}
-
-fn about_line(alloc: Global, line: &str, out: &mut Form) -> Result<(), Error> {
     if line.starts_with('#') || line.is_empty() {
-        return Ok(());
-    }
-    out.text.push_str(" = ")?;
-    match Json::from_str(alloc, line) {
-        Ok(json) => about_json(alloc, &json, out),
-        Err(error) => Err(refusal(&error)),
-    }
-}
-
-fn refusal(error: &serde_json::Error) -> Error {
-    if error.is_memory() {
-        Error::new(ErrorKind::OutOfMemory)
+        println!(rt; "{line}")
     } else {
-        Error::new(ErrorKind::SyntaxError)
+        write_answer(rt, line, &answer(rt.alloc(), line))
     }
 }
 
-fn unreadable() -> Result<(), Error> {
-    Err(Error::new(ErrorKind::SyntaxError))
+fn write_answer(rt: &HostRuntime, line: &str, answer: &Form) -> io::Result<()> {
+    match answer.refused {
+        None => println!(rt; "{line} = {}", answer.text),
+        Some(kind) => println!(rt; "{line} = {}", kind.name()),
+    }
 }
 
-fn about_json(alloc: Global, json: &Json, out: &mut Form) -> Result<(), Error> {
+// What comes of the JSON in a line.
+fn answer(alloc: Global, line: &str) -> Form {
+    let mut out = Form::new(alloc);
+    match Json::from_str(alloc, line) {
+        Ok(json) => about_json(alloc, &json, &mut out),
+        Err(error) => out.refuse(kind_of(&error)),
+    }
+    out
+}
+
+fn kind_of(error: &serde_json::Error) -> ErrorKind {
+    if error.is_memory() {
+        ErrorKind::OutOfMemory
+    } else {
+        ErrorKind::SyntaxError
+    }
+}
+
+fn about_json(alloc: Global, json: &Json, out: &mut Form) {
     match json {
         Json::Object(entries) => about_entries(alloc, entries, out),
-        _ => unreadable(),
+        _ => out.refuse(ErrorKind::SyntaxError),
     }
 }
 
-fn about_entries(alloc: Global, entries: &Map<String, Json>, out: &mut Form) -> Result<(), Error> {
+fn about_entries(alloc: Global, entries: &Map<String, Json>, out: &mut Form) {
     out.with_places = entries.get("places").is_some();
     match text_in(entries, "source") {
-        Some(source) => {
-            let ask = text_in(entries, "ask").unwrap_or("");
-            about_source(alloc, source, syntax_of(alloc, entries)?, ask, out)
-        }
+        Some(source) => about_text(alloc, source, entries, out),
         None => about_expression(alloc, entries, out),
     }
 }
 
 // The calls of an expression's stream, where there is an expression.
-fn about_expression(
-    alloc: Global,
-    entries: &Map<String, Json>,
-    out: &mut Form,
-) -> Result<(), Error> {
+fn about_expression(alloc: Global, entries: &Map<String, Json>, out: &mut Form) {
     match (text_in(entries, "expression"), entries.get("calls")) {
         (Some(source), Some(Json::Array(calls))) => {
             answers_of_stream(alloc, source, calls.as_slice(), out)
@@ -151,30 +136,32 @@ fn text_in<'line>(entries: &'line Map<String, Json>, name: &str) -> Option<&'lin
     }
 }
 
-fn about_source(
-    alloc: Global,
-    source: &str,
-    syntax: SyntaxConfig,
-    ask: &str,
-    out: &mut Form,
-) -> Result<(), Error> {
+fn about_text(alloc: Global, source: &str, entries: &Map<String, Json>, out: &mut Form) {
+    let ask = text_in(entries, "ask").unwrap_or("");
+    match syntax_of(alloc, entries, out) {
+        Ok(syntax) => about_source(alloc, source, syntax, ask, out),
+        Err(error) => out.refuse(error.kind()),
+    }
+}
+
+fn about_source(alloc: Global, source: &str, syntax: SyntaxConfig, ask: &str, out: &mut Form) {
     match ask {
         "syntax" => parts_of_syntax(alloc, &syntax, out),
         "tokens" => tokens_of(alloc, source, syntax, out),
         "stream" => streamed_tokens(alloc, source, syntax, out),
-        _ => unreadable(),
+        _ => out.refuse(ErrorKind::SyntaxError),
     }
 }
 
 // What comes of the first entry of an object without a source.
-fn about_first(alloc: Global, entries: &Map<String, Json>, out: &mut Form) -> Result<(), Error> {
+fn about_first(alloc: Global, entries: &Map<String, Json>, out: &mut Form) {
     match entries.iter().next() {
         Some((name, value)) => about_entry(alloc, name.as_str(), value, out),
-        None => unreadable(),
+        None => out.refuse(ErrorKind::SyntaxError),
     }
 }
 
-fn about_entry(alloc: Global, name: &str, value: &Json, out: &mut Form) -> Result<(), Error> {
+fn about_entry(alloc: Global, name: &str, value: &Json, out: &mut Form) {
     match (name, value) {
         ("token", Json::String(text)) => first_token(alloc, text.as_str(), out),
         ("many" | "pairs", Json::Array(counts)) => {
@@ -183,11 +170,11 @@ fn about_entry(alloc: Global, name: &str, value: &Json, out: &mut Form) -> Resul
         ("stream", Json::Array(steps)) => verified(alloc, steps.as_slice(), out),
         ("attributes", count) => chain(alloc, count.as_u64().unwrap_or(0), out),
         (name, Json::Array(parts)) => about_parts(alloc, name, parts.as_slice(), out),
-        _ => unreadable(),
+        _ => out.refuse(ErrorKind::SyntaxError),
     }
 }
 
-fn about_parts(alloc: Global, name: &str, parts: &[Json], out: &mut Form) -> Result<(), Error> {
+fn about_parts(alloc: Global, name: &str, parts: &[Json], out: &mut Form) {
     match parts {
         [Json::String(first), Json::String(second)] => {
             about_texts(alloc, name, first.as_str(), second.as_str(), out)
@@ -195,21 +182,15 @@ fn about_parts(alloc: Global, name: &str, parts: &[Json], out: &mut Form) -> Res
         [Json::Array(steps), Json::Array(places)] if name == "listed" => {
             listed(alloc, steps.as_slice(), places.as_slice(), out)
         }
-        _ => unreadable(),
+        _ => out.refuse(ErrorKind::SyntaxError),
     }
 }
 
-fn about_texts(
-    alloc: Global,
-    name: &str,
-    first: &str,
-    second: &str,
-    out: &mut Form,
-) -> Result<(), Error> {
+fn about_texts(alloc: Global, name: &str, first: &str, second: &str, out: &mut Form) {
     match name {
         "places" => place_behind(first, second, out),
-        "difference" => write_description(difference(alloc, first, second), out),
-        "one_entry" => write_description(one_entry(alloc, first, second), out),
-        _ => unreadable(),
+        "difference" => write_description(&difference(alloc, first, second), out),
+        "one_entry" => write_description(&one_entry(alloc, first, second), out),
+        _ => out.refuse(ErrorKind::SyntaxError),
     }
 }

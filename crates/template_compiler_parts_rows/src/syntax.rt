@@ -1,45 +1,46 @@
 //! A syntax from the entries of an object, and what stands in one.
 use crate::forms::Form;
-use crate::unreadable;
 use serde_json::{Map, Value as Json};
 use std::alloc::Global;
 use template_compiler_syntax::{SyntaxConfig, SyntaxConfigBuilder};
-use template_values_errors::Error;
+use template_values_errors::{Error, ErrorKind};
 
 /// The default syntax with what the entries change, `source`, `ask` and `places` aside. An entry of another name or kind
 /// is a SyntaxError.
-pub(crate) fn syntax_of(alloc: Global, entries: &Map<String, Json>) -> Result<SyntaxConfig, Error> {
-    built(&mut SyntaxConfig::builder(alloc), entries)
-}
-
-fn built(
-    builder: &mut SyntaxConfigBuilder,
+pub(crate) fn syntax_of(
+    alloc: Global,
     entries: &Map<String, Json>,
+    out: &mut Form,
 ) -> Result<SyntaxConfig, Error> {
-    for (name, value) in entries {
-        match name.as_str() {
-            "source" | "ask" | "places" => {}
-            name => set(builder, name, value)?,
-        }
-    }
+    let mut builder = SyntaxConfig::builder(alloc);
+    set_all(&mut builder, entries, out);
     builder.build()
 }
 
-fn set(builder: &mut SyntaxConfigBuilder, name: &str, value: &Json) -> Result<(), Error> {
-    match value {
-        Json::Array(texts) => set_texts(builder, name, texts.as_slice()),
-        Json::String(prefix) => set_prefix(builder, name, prefix.as_str()),
-        Json::Bool(yes) => set_option(builder, name, *yes),
-        _ => unreadable(),
+fn set_all(builder: &mut SyntaxConfigBuilder, entries: &Map<String, Json>, out: &mut Form) {
+    for (name, value) in entries {
+        match name.as_str() {
+            "source" | "ask" | "places" => {}
+            name => set(builder, name, value, out),
+        }
     }
 }
 
-fn set_texts(builder: &mut SyntaxConfigBuilder, name: &str, texts: &[Json]) -> Result<(), Error> {
+fn set(builder: &mut SyntaxConfigBuilder, name: &str, value: &Json, out: &mut Form) {
+    match value {
+        Json::Array(texts) => set_texts(builder, name, texts.as_slice(), out),
+        Json::String(prefix) => set_prefix(builder, name, prefix.as_str(), out),
+        Json::Bool(yes) => set_option(builder, name, *yes, out),
+        _ => out.refuse(ErrorKind::SyntaxError),
+    }
+}
+
+fn set_texts(builder: &mut SyntaxConfigBuilder, name: &str, texts: &[Json], out: &mut Form) {
     match texts {
         [Json::String(start), Json::String(end)] => {
-            set_delimiters(builder, name, start.as_str(), end.as_str())
+            set_delimiters(builder, name, start.as_str(), end.as_str(), out)
         }
-        _ => unreadable(),
+        _ => out.refuse(ErrorKind::SyntaxError),
     }
 }
 
@@ -48,40 +49,39 @@ fn set_delimiters(
     name: &str,
     start: &str,
     end: &str,
-) -> Result<(), Error> {
+    out: &mut Form,
+) {
     match name {
-        "block" => builder.block_delimiters(start, end),
-        "variable" => builder.variable_delimiters(start, end),
-        "comment" => builder.comment_delimiters(start, end),
-        _ => unreadable(),
+        "block" => out.note(builder.block_delimiters(start, end)),
+        "variable" => out.note(builder.variable_delimiters(start, end)),
+        "comment" => out.note(builder.comment_delimiters(start, end)),
+        _ => out.refuse(ErrorKind::SyntaxError),
     }
 }
 
-fn set_prefix(builder: &mut SyntaxConfigBuilder, name: &str, prefix: &str) -> Result<(), Error> {
+fn set_prefix(builder: &mut SyntaxConfigBuilder, name: &str, prefix: &str, out: &mut Form) {
     match name {
-        "line_statement" => builder.line_statement_prefix(prefix),
-        "line_comment" => builder.line_comment_prefix(prefix),
-        _ => unreadable(),
+        "line_statement" => out.note(builder.line_statement_prefix(prefix)),
+        "line_comment" => out.note(builder.line_comment_prefix(prefix)),
+        _ => out.refuse(ErrorKind::SyntaxError),
     }
 }
 
-fn set_option(builder: &mut SyntaxConfigBuilder, name: &str, yes: bool) -> Result<(), Error> {
+fn set_option(builder: &mut SyntaxConfigBuilder, name: &str, yes: bool, out: &mut Form) {
     match name {
         "trim_blocks" => builder.trim_blocks(yes),
         "lstrip_blocks" => builder.lstrip_blocks(yes),
         "keep_trailing_newline" => builder.keep_trailing_newline(yes),
-        _ => return unreadable(),
+        _ => out.refuse(ErrorKind::SyntaxError),
     }
-    Ok(())
 }
 
 /// What stands in a syntax that is copied, and built again of that.
-pub(crate) fn parts_of_syntax(
-    alloc: Global,
-    syntax: &SyntaxConfig,
-    out: &mut Form,
-) -> Result<(), Error> {
-    write_parts(&built_again(alloc, syntax)?, out)
+pub(crate) fn parts_of_syntax(alloc: Global, syntax: &SyntaxConfig, out: &mut Form) {
+    match built_again(alloc, syntax) {
+        Ok(syntax) => write_parts(&syntax, out),
+        Err(error) => out.refuse(error.kind()),
+    }
 }
 
 fn built_again(alloc: Global, syntax: &SyntaxConfig) -> Result<SyntaxConfig, Error> {
@@ -90,26 +90,14 @@ fn built_again(alloc: Global, syntax: &SyntaxConfig) -> Result<SyntaxConfig, Err
     builder.build()
 }
 
-fn write_parts(syntax: &SyntaxConfig, out: &mut Form) -> Result<(), Error> {
-    write!(
-        out.text,
-        "(syntax {:?} {:?} {:?}",
-        syntax.block_delimiters(),
-        syntax.variable_delimiters(),
-        syntax.comment_delimiters()
-    )?;
-    write!(
-        out.text,
-        " {:?} {:?}",
-        syntax.line_statement_prefix(),
-        syntax.line_comment_prefix()
-    )?;
-    write!(
-        out.text,
-        " {} {} {})",
-        syntax.trim_blocks(),
-        syntax.lstrip_blocks(),
-        syntax.keep_trailing_newline()
-    )?;
-    Ok(())
+fn write_parts(syntax: &SyntaxConfig, out: &mut Form) {
+    out.tell("(syntax ", &syntax.block_delimiters());
+    out.tell(" ", &syntax.variable_delimiters());
+    out.tell(" ", &syntax.comment_delimiters());
+    out.tell(" ", &syntax.line_statement_prefix());
+    out.tell(" ", &syntax.line_comment_prefix());
+    out.tell(" ", &syntax.trim_blocks());
+    out.tell(" ", &syntax.lstrip_blocks());
+    out.tell(" ", &syntax.keep_trailing_newline());
+    out.push_str(")")
 }

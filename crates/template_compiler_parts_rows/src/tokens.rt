@@ -11,94 +11,90 @@ use template_tree::Span;
 use template_values_errors::{Error, ErrorKind};
 
 /// The tokens of a source, and the refusal that ends them.
-pub(crate) fn tokens_of(
-    alloc: Global,
-    source: &str,
-    syntax: SyntaxConfig,
-    out: &mut Form,
-) -> Result<(), Error> {
+pub(crate) fn tokens_of(alloc: Global, source: &str, syntax: SyntaxConfig, out: &mut Form) {
     let mut tokenizer = Tokenizer::new(alloc, source, NAME, syntax);
     write_tokens(&mut tokenizer, source, out)
 }
 
-fn write_tokens(tokenizer: &mut Tokenizer<'_>, source: &str, out: &mut Form) -> Result<(), Error> {
-    out.text.push_str("(tokens")?;
+fn write_tokens(tokenizer: &mut Tokenizer<'_>, source: &str, out: &mut Form) {
+    out.push_str("(tokens");
     for _ in 0..source.len() + 2 {
-        if !write_next(tokenizer, out)? {
-            return Ok(out.text.push(')')?);
+        if !write_next(tokenizer, out) {
+            return out.push_str(")");
         }
     }
-    Err(Error::new(ErrorKind::TooLarge))
+    out.refuse(ErrorKind::TooLarge)
 }
 
 // The next token, and whether there was one.
-fn write_next(tokenizer: &mut Tokenizer<'_>, out: &mut Form) -> Result<bool, Error> {
+fn write_next(tokenizer: &mut Tokenizer<'_>, out: &mut Form) -> bool {
     match tokenizer.next_token() {
         Ok(Some((token, span))) => write_token(&token, span, out),
-        Ok(None) => Ok(false),
+        Ok(None) => false,
         Err(error) => write_fault(&error, out),
     }
 }
 
-fn write_token(token: &Token, span: Span, out: &mut Form) -> Result<bool, Error> {
-    write!(out.text, " {token:?}")?;
-    out.place(span)?;
-    Ok(true)
+fn write_token(token: &Token, span: Span, out: &mut Form) -> bool {
+    out.tell(" ", token);
+    out.place(span);
+    true
 }
 
-fn write_fault(error: &Error, out: &mut Form) -> Result<bool, Error> {
-    write!(out.text, " ! {error}")?;
-    Ok(false)
+fn write_fault(error: &Error, out: &mut Form) -> bool {
+    if write!(out.text, " ! {error}").is_err() {
+        out.refuse(ErrorKind::OutOfMemory);
+    }
+    false
 }
 
 /// The same as a stream shows them before it passes them, behind the name and the text of what it reads.
-pub(crate) fn streamed_tokens(
-    alloc: Global,
-    source: &str,
-    syntax: SyntaxConfig,
-    out: &mut Form,
-) -> Result<(), Error> {
+pub(crate) fn streamed_tokens(alloc: Global, source: &str, syntax: SyntaxConfig, out: &mut Form) {
     let tokenizer = Tokenizer::new(alloc, source, NAME, syntax);
-    write_reader(&tokenizer, out)?;
-    let mut stream = TokenStream::new(tokenizer);
-    write_stream(&mut stream, source, out)
+    write_reader(&tokenizer, out);
+    write_stream(&mut TokenStream::new(tokenizer), source, out)
 }
 
-fn write_reader(tokenizer: &Tokenizer<'_>, out: &mut Form) -> Result<(), Error> {
-    let (name, source) = (tokenizer.filename(), tokenizer.source());
-    Ok(write!(out.text, "(stream {name} {source:?}")?)
+fn write_reader(tokenizer: &Tokenizer<'_>, out: &mut Form) {
+    out.push_str("(stream ");
+    out.push_str(tokenizer.filename());
+    out.tell(" ", &tokenizer.source())
 }
 
-fn write_stream(stream: &mut TokenStream<'_>, source: &str, out: &mut Form) -> Result<(), Error> {
+fn write_stream(stream: &mut TokenStream<'_>, source: &str, out: &mut Form) {
     for _ in 0..source.len() + 2 {
-        if !write_current(stream, out)? {
-            return Ok(out.text.push(')')?);
+        if !write_current(stream, out) {
+            return out.push_str(")");
         }
-        let _passed = stream.next()?;
+        out.note(stream.next());
     }
-    Err(Error::new(ErrorKind::TooLarge))
+    out.refuse(ErrorKind::TooLarge)
 }
 
 // The token that a stream shows, and whether there is one.
-fn write_current(stream: &TokenStream<'_>, out: &mut Form) -> Result<bool, Error> {
+fn write_current(stream: &TokenStream<'_>, out: &mut Form) -> bool {
     match stream.current() {
         Ok(Some((token, span))) => write_token(token, span, out),
-        Ok(None) => Ok(false),
+        Ok(None) => false,
         Err(error) => write_fault(&error, out),
     }
 }
 
 /// The token that a text begins with, and how many bytes it takes.
-pub(crate) fn first_token(alloc: Global, text: &str, out: &mut Form) -> Result<(), Error> {
+pub(crate) fn first_token(alloc: Global, text: &str, out: &mut Form) {
     match scan_token(alloc, text) {
-        Ok((token, width)) => Ok(write!(out.text, "{token:?} {width}")?),
-        Err(kind) => Err(Error::new(kind)),
+        Ok((token, width)) => write_width(&token, width, out),
+        Err(kind) => out.refuse(kind),
     }
 }
 
+fn write_width(token: &Token, width: usize, out: &mut Form) {
+    out.tell("", token);
+    out.tell(" ", &width)
+}
+
 /// The place of a text behind another one.
-pub(crate) fn place_behind(before: &str, text: &str, out: &mut Form) -> Result<(), Error> {
+pub(crate) fn place_behind(before: &str, text: &str, out: &mut Form) {
     let start = Place::start().after(before);
-    let span = start.to(start.after(text));
-    out.place(span)
+    out.place(start.to(start.after(text)))
 }

@@ -1,7 +1,7 @@
 //! What all forms are made of: a head with its parts in parentheses, a list in brackets, words and texts.
 use std::alloc::{AllocError, Global};
 use template_tree::{BinOpKind, CompareOpKind, Span, UnaryOpKind};
-use template_values_errors::ErrorKind;
+use template_values_errors::{Error, ErrorKind};
 
 /// A form as far as it is written. What is refused on the way is kept, so that what writes need not ask.
 #[derive(Drop)]
@@ -27,6 +27,13 @@ impl Form {
     pub(crate) fn refuse(&mut self, kind: ErrorKind) {
         if self.refused.is_none() {
             self.refused = Some(kind);
+        }
+    }
+
+    /// Keeps why something was not done, where it was not.
+    pub(crate) fn keep(&mut self, done: Result<(), Error>) {
+        if let Err(error) = done {
+            self.refuse(error.kind());
         }
     }
 

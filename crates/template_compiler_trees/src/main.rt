@@ -134,7 +134,7 @@ fn text_in<'line>(entries: &'line Map<String, Json>, name: &str) -> Option<&'lin
 }
 
 fn about_source(alloc: Global, source: &str, entries: &Map<String, Json>, out: &mut Form) {
-    match syntax_of(alloc, entries) {
+    match syntax_of(alloc, entries, out) {
         Ok(syntax) => about_template(alloc, source, syntax, Asked::Form, out),
         Err(error) => out.refuse(error.kind()),
     }
@@ -142,7 +142,10 @@ fn about_source(alloc: Global, source: &str, entries: &Map<String, Json>, out: &
 
 fn about_template(alloc: Global, source: &str, syntax: SyntaxConfig, asked: Asked, out: &mut Form) {
     let mut parser = Parser::new(alloc, source, NAME, syntax);
-    about_read(&parser.parse(), asked, out);
+    let read = parser.parse();
+    drop(parser);
+    about_read(&read, asked, out);
+    drop(read)
 }
 
 fn about_read(read: &Result<Stmt<'_>, Error>, asked: Asked, out: &mut Form) {
@@ -169,7 +172,10 @@ fn about_others(alloc: Global, entries: &Map<String, Json>, out: &mut Form) {
 
 fn about_expression(alloc: Global, source: &str, ask: Option<&str>, out: &mut Form) {
     let mut parser = Parser::new(alloc, source, NAME, SyntaxConfig::new());
-    about_read_expr(&parser.parse_standalone_expr(), ask, out);
+    let read = parser.parse_standalone_expr();
+    drop(parser);
+    about_read_expr(&read, ask, out);
+    drop(read)
 }
 
 fn about_read_expr(read: &Result<Expr<'_>, Error>, ask: Option<&str>, out: &mut Form) {
@@ -188,53 +194,38 @@ fn about_expr(expr: &Expr<'_>, ask: Option<&str>, out: &mut Form) {
     }
 }
 
-fn about_texts(alloc: Global, entries: &Map<String, Json>, out: &mut Form) {
-    match repeated(alloc, entries.get("repeat")) {
-        Ok(source) => {
-            about_template(
-                alloc,
-                source.as_str(),
-                SyntaxConfig::new(),
-                Asked::Count,
-                out,
-            )
-        }
-        Err(error) => out.refuse(error.kind()),
-    }
-}
-
 // The text that repeats each text so many times.
-fn repeated(alloc: Global, parts: Option<&Json>) -> Result<String, Error> {
+fn about_texts(alloc: Global, entries: &Map<String, Json>, out: &mut Form) {
     let mut source = String::new(alloc);
-    match parts {
-        Some(Json::Array(parts)) => push_parts(parts.as_slice(), &mut source)?,
-        _ => unreadable()?,
+    match entries.get("repeat") {
+        Some(Json::Array(parts)) => push_parts(parts.as_slice(), &mut source, out),
+        _ => out.refuse(ErrorKind::SyntaxError),
     }
-    Ok(source)
+    about_template(
+        alloc,
+        source.as_str(),
+        SyntaxConfig::new(),
+        Asked::Count,
+        out,
+    )
 }
 
-fn push_parts(parts: &[Json], source: &mut String) -> Result<(), Error> {
+fn push_parts(parts: &[Json], source: &mut String, out: &mut Form) {
     for part in parts {
         match part {
-            Json::Array(pair) => push_pair(pair.as_slice(), source)?,
-            _ => unreadable()?,
+            Json::Array(pair) => push_pair(pair.as_slice(), source, out),
+            _ => out.refuse(ErrorKind::SyntaxError),
         }
     }
-    Ok(())
 }
 
-fn push_pair(pair: &[Json], source: &mut String) -> Result<(), Error> {
+fn push_pair(pair: &[Json], source: &mut String, out: &mut Form) {
     match pair {
         [Json::String(text), times] => {
             for _ in 0..times.as_u64().unwrap_or(0) {
-                source.push_str(text.as_str())?;
+                out.note(source.push_str(text.as_str()));
             }
-            Ok(())
         }
-        _ => unreadable(),
+        _ => out.refuse(ErrorKind::SyntaxError),
     }
-}
-
-fn unreadable() -> Result<(), Error> {
-    Err(Error::new(ErrorKind::SyntaxError))
 }

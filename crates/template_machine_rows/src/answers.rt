@@ -40,6 +40,7 @@ fn answer_in<'line, R: NumberedRule>(
     let mut environment = environment?;
     let mut report = Report::new(alloc);
     tell(alloc, &mut environment, ids, case, &mut report);
+    drop(environment);
     report.finish()
 }
 
@@ -121,7 +122,10 @@ fn add_owned<R: AutoEscapeRule>(
 }
 
 fn prefixed(alloc: Global, statement: &str, comment: &str) -> Result<SyntaxConfig, Error> {
-    with_prefixes(&mut SyntaxConfig::builder(alloc), statement, comment)
+    let mut builder = SyntaxConfig::builder(alloc);
+    let syntax = with_prefixes(&mut builder, statement, comment);
+    drop(builder);
+    syntax
 }
 
 fn with_prefixes(

@@ -21,7 +21,8 @@ pub(crate) fn ask<'line, R: AutoEscapeRule>(
     match case.subject {
         Subject::Main(name) => {
             let template = environment.get_template(name);
-            ask_template(environment, &template, ids, &case.setting, context, out)
+            ask_template(environment, &template, ids, &case.setting, context, out);
+            drop(template)
         }
         Subject::Source(source) => {
             ask_source(environment, source, ids, &case.setting, context, out)
@@ -44,7 +45,8 @@ fn ask_source<'line, R: AutoEscapeRule>(
         out.text(&text_of(environment, source, ids, context))
     } else {
         let template = template_of(environment, source);
-        ask_template(environment, &template, ids, setting, context, out)
+        ask_template(environment, &template, ids, setting, context, out);
+        drop(template)
     }
 }
 
@@ -111,9 +113,9 @@ fn tell_states<'line, R: AutoEscapeRule>(
     ids: &mut StateIds,
     out: &mut Report,
 ) {
-    tell_new_state(&template.new_state(ids), out);
+    tell_new_state(template.new_state(ids), out);
     out.push_str(", ");
-    tell_new_state(&environment.empty_state(ids), out);
+    tell_new_state(environment.empty_state(ids), out)
 }
 
 fn tell_used_names<R: AutoEscapeRule>(template: &Template<'_, '_, R>, out: &mut Report) {
@@ -131,8 +133,14 @@ fn ask_expression<'line, R: AutoEscapeRule>(
     out: &mut Report,
 ) {
     match expression_of(out.alloc(), environment, source, setting.is_owned) {
-        Ok(expression) => tell_expression(&expression, ids, setting, context, out),
-        Err(error) => out.fault(&error),
+        Ok(expression) => {
+            tell_expression(&expression, ids, setting, context, out);
+            drop(expression)
+        }
+        Err(error) => {
+            drop(context);
+            out.fault(&error)
+        }
     }
 }
 
@@ -159,13 +167,13 @@ fn tell_expression<R: AutoEscapeRule>(
     out: &mut Report,
 ) {
     if let Call::UsedNames = setting.call {
+        drop(context);
         out.names(&expression.undeclared_variables(false));
         out.push(' ');
-        out.names(&expression.undeclared_variables(true));
-        return;
-    }
-    match expression.eval(ids, context) {
-        Ok(value) => out.value(&value),
-        Err(error) => out.fault(&error),
+        out.names(&expression.undeclared_variables(true))
+    } else {
+        let value = expression.eval(ids, context);
+        out.evaluated(&value);
+        drop(value)
     }
 }

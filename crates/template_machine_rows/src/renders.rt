@@ -33,6 +33,7 @@ fn tell_nowhere<R: AutoEscapeRule>(
     let ended = template.render_captured_to(ids, context, &mut NullWriter);
     out.push('_');
     tell_end(&ended, setting, out);
+    drop(ended)
 }
 
 fn tell_text<R: AutoEscapeRule>(
@@ -46,6 +47,7 @@ fn tell_text<R: AutoEscapeRule>(
     let ended = template.render_captured_to(ids, context, &mut text);
     out.quoted(text.as_bytes());
     tell_end(&ended, setting, out);
+    drop(ended)
 }
 
 fn tell_room<R: AutoEscapeRule>(
@@ -58,7 +60,10 @@ fn tell_room<R: AutoEscapeRule>(
 ) {
     match vec![in out.alloc(); 0u8; room] {
         Ok(mut bytes) => tell_filled(template, ids, setting, context, bytes.as_mut_slice(), out),
-        Err(_refused) => out.refuse(ErrorKind::OutOfMemory),
+        Err(_refused) => {
+            drop(context);
+            out.refuse(ErrorKind::OutOfMemory)
+        }
     }
 }
 
@@ -74,6 +79,7 @@ fn tell_filled<R: AutoEscapeRule>(
     let taken = bytes.len().saturating_sub(left);
     out.quoted(bytes.get(..taken).unwrap_or(b""));
     tell_end(&ended, setting, out);
+    drop(ended)
 }
 
 // Renders into the bytes, and tells how many of them are left.
@@ -130,6 +136,7 @@ pub(crate) fn tell_captured<R: AutoEscapeRule>(
         Ok(captured) => {
             out.quoted(captured.output().as_bytes());
             tell_left(&captured, setting, out);
+            drop(captured)
         }
         Err(error) => out.fault(&error),
     }

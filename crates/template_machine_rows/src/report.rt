@@ -89,6 +89,14 @@ impl Report {
         }
     }
 
+    /// A value, or why there is none.
+    pub(crate) fn evaluated(&mut self, value: &Result<Value, Error>) {
+        match value {
+            Ok(value) => self.value(value),
+            Err(error) => self.fault(error),
+        }
+    }
+
     /// A value as JSON, but for the undefined one.
     pub(crate) fn value(&mut self, value: &Value) {
         match value.content() {

@@ -33,13 +33,14 @@ fn tell_sources<R: AutoEscapeRule>(templates: &[Template<'_, '_, R>], out: &mut 
 
 /// What a state tells, or why there is none.
 pub(crate) fn tell_new_state<R: AutoEscapeRule>(
-    state: &Result<State<'_, '_, R>, Error>,
+    state: Result<State<'_, '_, R>, Error>,
     out: &mut Report,
 ) {
-    match state {
+    match &state {
         Ok(state) => tell_state(state, out),
         Err(error) => out.fault(error),
     }
+    drop(state)
 }
 
 /// What a state tells.
