@@ -94,13 +94,39 @@ fn tell_template<'line, R: AutoEscapeRule>(
 ) {
     match setting.call {
         Call::Usual => tell_render(template, ids, setting, context, out),
-        Call::Render => out.text(&template.render(ids, context)),
+        Call::Render => tell_text(template, ids, context, out),
         Call::RenderCaptured => tell_captured(template, ids, setting, context, out),
+        _ => {
+            drop(context);
+            tell_of_template(environment, template, ids, setting, out)
+        }
+    }
+}
+
+// The text of a render.
+fn tell_text<R: AutoEscapeRule>(
+    template: &Template<'_, '_, R>,
+    ids: &mut StateIds,
+    context: Value,
+    out: &mut Report,
+) {
+    out.text(&template.render(ids, context))
+}
+
+// What is asked of the template without a render.
+fn tell_of_template<'line, R: AutoEscapeRule>(
+    environment: &Environment<'line, R>,
+    template: &Template<'_, 'line, R>,
+    ids: &mut StateIds,
+    setting: &Setting,
+    out: &mut Report,
+) {
+    match setting.call {
         Call::States => tell_states(environment, template, ids, out),
         Call::UsedNames => tell_used_names(template, out),
         Call::ContextNames => out.names(&environment.context_names(template)),
         Call::Escape => out.tell("", &template.initial_auto_escape()),
-        Call::Templates => tell_templates(environment, out),
+        _ => tell_templates(environment, out),
     }
 }
 
@@ -159,13 +185,24 @@ fn tell_expression<R: AutoEscapeRule>(
     out: &mut Report,
 ) {
     if let Call::UsedNames = setting.call {
-        out.names(&expression.undeclared_variables(false));
-        out.push(' ');
-        out.names(&expression.undeclared_variables(true));
-        return;
+        drop(context);
+        return tell_names_of_expression(expression, out);
     }
-    match expression.eval(ids, context) {
-        Ok(value) => out.value(&value),
-        Err(error) => out.fault(&error),
+    tell_value(&expression.eval(ids, context), out)
+}
+
+fn tell_names_of_expression<R: AutoEscapeRule>(
+    expression: &Expression<'_, '_, R>,
+    out: &mut Report,
+) {
+    out.names(&expression.undeclared_variables(false));
+    out.push(' ');
+    out.names(&expression.undeclared_variables(true));
+}
+
+fn tell_value(value: &Result<Value, Error>, out: &mut Report) {
+    match value {
+        Ok(value) => out.value(value),
+        Err(error) => out.fault(error),
     }
 }
