@@ -47,8 +47,8 @@
 //!   `(call-block (call ..) (macro caller ..))`, `(do (call ..))`, `break`, `continue`.
 #![tactic(auto)]
 
-mod asked;
 mod code;
+mod dispatch;
 mod expressions;
 mod forms;
 mod generated;
@@ -59,7 +59,7 @@ mod runs;
 mod statements;
 mod syntax;
 
-use crate::asked::{about_made, is_about_made};
+use crate::dispatch::{about_made, is_about_made};
 use crate::expressions::expression;
 use crate::forms::Form;
 use crate::questions::{callee, statement_count};
