@@ -180,9 +180,9 @@ fn opened<'source, R: ReadsExpressions>(
         Opening::Macro => return macro_block::<R>(alloc, tokens, left, span).map(Stmt::Macro),
         Opening::Call => return call_block::<R>(alloc, tokens, left, span).map(Stmt::CallBlock),
         Opening::Do => return leaves::read_do::<R>(alloc, tokens, left, span).map(Stmt::Do),
-        Opening::Break => return leaves::read_break(tokens, around.in_loop, span).map(Stmt::Break),
+        Opening::Break => return Ok(Stmt::Break(leaves::read_break(tokens, around.in_loop, span)?)),
         Opening::Continue => {
-            return leaves::read_continue(tokens, around.in_loop, span).map(Stmt::Continue);
+            return Ok(Stmt::Continue(leaves::read_continue(tokens, around.in_loop, span)?));
         }
     }
 }

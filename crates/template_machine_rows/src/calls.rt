@@ -185,13 +185,24 @@ fn tell_expression<R: AutoEscapeRule>(
     out: &mut Report,
 ) {
     if let Call::UsedNames = setting.call {
-        out.names(&expression.undeclared_variables(false));
-        out.push(' ');
-        out.names(&expression.undeclared_variables(true));
-        return;
+        drop(context);
+        return tell_names_of_expression(expression, out);
     }
-    match expression.eval(ids, context) {
-        Ok(value) => out.value(&value),
-        Err(error) => out.fault(&error),
+    tell_value(&expression.eval(ids, context), out)
+}
+
+fn tell_names_of_expression<R: AutoEscapeRule>(
+    expression: &Expression<'_, '_, R>,
+    out: &mut Report,
+) {
+    out.names(&expression.undeclared_variables(false));
+    out.push(' ');
+    out.names(&expression.undeclared_variables(true));
+}
+
+fn tell_value(value: &Result<Value, Error>, out: &mut Report) {
+    match value {
+        Ok(value) => out.value(value),
+        Err(error) => out.fault(error),
     }
 }
