@@ -1,7 +1,7 @@
 //! What all forms are made of: a head with its parts in parentheses, a list in brackets, words and texts.
 use std::alloc::{AllocError, Global};
 use template_tree::{BinOpKind, CompareOpKind, Span, UnaryOpKind};
-use template_values_errors::{Error, ErrorKind};
+use template_values_errors::ErrorKind;
 
 /// A form as far as it is written. What is refused on the way is kept, so that what writes need not ask.
 #[derive(Drop)]
@@ -34,13 +34,6 @@ impl Form {
     pub(crate) fn note(&mut self, written: Result<(), AllocError>) {
         if written.is_err() {
             self.refuse(ErrorKind::OutOfMemory);
-        }
-    }
-
-    /// Keeps what was refused, where something was.
-    pub(crate) fn keep(&mut self, told: Result<(), Error>) {
-        if let Err(error) = told {
-            self.refuse(error.kind());
         }
     }
 

@@ -1,4 +1,4 @@
-//! Texts with their trees, and what is made of these, as rows. Each line of standard input is a template in JSON, under the default syntax; or an
+//! Texts with their trees, as rows. Each line of standard input is a template in JSON, under the default syntax; or an
 //! object with `source` and the entries of a syntax; or an object with `expression`. It is written as it stands, then
 //! ` = `, then the tree in a plain form, or the kind of the refusal. A line that begins with `#` is a heading. Where an
 //! object has an entry `places`, the place of each node stands behind its form, as `@line:column:offset-line:column:offset`.
@@ -10,28 +10,9 @@
 //! An object with `repeat`, an array of texts, each with a number, gives how many statements the text has that repeats
 //! each so many times.
 //!
-//! What is made of a tree is told where an object asks for that. One with `source` has an entry `ask` then:
-//!
-//! - `code`: the template's instructions, `?` for one that has no word here; `owned`: the same of a template with texts of
-//!   its own, behind its name and its source;
-//! - `runs`: where its instructions come from, as `(line count "text")` for each run of them that come from one place;
-//! - `references`: the names that the instructions up to each one refer to, and up to one past the last, the latest
-//!   first, as `(index name ..)`;
-//! - `runnable`: whether all of its constructs run; `names`: the names that it uses; `nested`: the same, each with the
-//!   dotted names that stand directly behind it;
-//! - `generated`, with two more entries, `calls` of a generator and `places`: how many instructions come of the calls, the
-//!   hint of room for them and where those at the places come from, each with a `;` behind it, and then the instructions.
-//!   A call is its name, or an array of its name and a text, a line, or the line that a span starts in; `template`
-//!   compiles the source.
-//!
-//! One with `expression` and `ask`, which is `value`, gives what the expression prints, if it is constant, else `-`. Other
-//! objects have one entry: `names`, two sources: the names that they use, put into one set; or `standing`, two sources that
-//! are put under one name: what stands there then, and what after it is removed. Texts are as `Debug` shows them.
-//!
 //! The stored run is the table of the cases of the grammar: texts with their trees or refusals, written from the
 //! language's description before the parser was read; texts with the places of their nodes, written from the rule of
-//! places: a node goes from its first token to its last; and what else is asked, and what is made of trees, with answers that
-//! were written by hand.
+//! places: a node goes from its first token to its last; and what else is asked, with answers that were written by hand.
 //! To add a case, write its line into `stdout`, and what stands before the last ` = ` into `stdin`.
 //! The forms:
 //!
@@ -47,19 +28,13 @@
 //!   `(call-block (call ..) (macro caller ..))`, `(do (call ..))`, `break`, `continue`.
 #![tactic(auto)]
 
-mod code;
-mod dispatch;
 mod expressions;
 mod forms;
-mod generated;
 mod leaves;
-mod made;
 mod questions;
-mod runs;
 mod statements;
 mod syntax;
 
-use crate::dispatch::{about_made, is_about_made};
 use crate::expressions::expression;
 use crate::forms::Form;
 use crate::questions::{callee, statement_count};
@@ -144,15 +119,6 @@ fn about_json(alloc: Global, json: &Json, out: &mut Form) {
 }
 
 fn about_entries(alloc: Global, entries: &Map<String, Json>, out: &mut Form) {
-    if is_about_made(entries) {
-        let told = about_made(alloc, entries, &mut out.text);
-        out.keep(told);
-    } else {
-        about_parsed(alloc, entries, out);
-    }
-}
-
-fn about_parsed(alloc: Global, entries: &Map<String, Json>, out: &mut Form) {
     out.with_places = entries.get("places").is_some();
     match text_in(entries, "source") {
         Some(source) => about_source(alloc, source, entries, out),
