@@ -57,7 +57,7 @@ fn branches<'source>(
     } else {
         None
     };
-    Ok(Expr::conditional(alloc, test, value, other, tokens.expand_span(span))?)
+    Expr::conditional(alloc, test, value, other, tokens.expand_span(span)).map_err(Refusal::from)
 }
 
 // Operands with the operators of a level between them. Most are alone, and go through no level below.
@@ -157,7 +157,9 @@ fn negation<'source>(
     let span = tokens.span();
     if tokens.skip_word("not") {
         let operand = negation(alloc, tokens, deeper(left)?)?;
-        Ok(Expr::unary(alloc, UnaryOpKind::Not, operand, tokens.expand_span(span))?)
+        Expr::unary(alloc, UnaryOpKind::Not, operand, tokens.expand_span(span)).map_err(
+            Refusal::from,
+        )
     } else {
         comparison(alloc, tokens, left)
     }
@@ -176,7 +178,7 @@ fn comparison<'source>(
     let span = tokens.span();
     let value = binary(alloc, tokens, left, Level::Terms)?;
     let links = links(alloc, tokens, left)?;
-    Ok(compared(alloc, value, links, tokens.expand_span(span))?)
+    compared(alloc, value, links, tokens.expand_span(span)).map_err(Refusal::from)
 }
 
 #[cycle(parser)]
@@ -333,9 +335,9 @@ fn next_filter<'source>(
         tokens.new.left result }
 {
     if tokens.skip(Sign::Pipe) {
-        Ok(Behind::Goes(piped(alloc, tokens, left, value, span)?))
+        piped(alloc, tokens, left, value, span).map(Behind::Goes)
     } else if tokens.skip_word("is") {
-        Ok(Behind::Goes(asked(alloc, tokens, left, value, span)?))
+        asked(alloc, tokens, left, value, span).map(Behind::Goes)
     } else {
         Ok(Behind::Stops(value))
     }
@@ -372,7 +374,7 @@ pub(crate) fn filter<'source>(
 {
     let name = name(alloc, tokens)?;
     let arguments = optional_arguments(alloc, tokens, left)?;
-    Ok(Expr::filtered(alloc, name, value, arguments, tokens.expand_span(span))?)
+    Expr::filtered(alloc, name, value, arguments, tokens.expand_span(span)).map_err(Refusal::from)
 }
 
 // Arguments in parentheses, where a `(` stands next.
@@ -497,7 +499,9 @@ fn unary<'source>(
     let span = tokens.span();
     if tokens.skip(Sign::Minus) {
         let operand = unary(alloc, tokens, deeper(left)?)?;
-        Ok(Expr::unary(alloc, UnaryOpKind::Neg, operand, tokens.expand_span(span))?)
+        Expr::unary(alloc, UnaryOpKind::Neg, operand, tokens.expand_span(span)).map_err(
+            Refusal::from,
+        )
     } else {
         let value = primary(alloc, tokens, left)?;
         parts(alloc, tokens, left, value, span)
@@ -537,11 +541,11 @@ fn next_part<'source>(
         tokens.new.left result }
 {
     if tokens.skip(Sign::Dot) {
-        Ok(Behind::Goes(attribute(alloc, tokens, value, span)?))
+        attribute(alloc, tokens, value, span).map(Behind::Goes)
     } else if tokens.skip(Sign::BracketOpen) {
-        Ok(Behind::Goes(subscript(alloc, tokens, deeper(left)?, value, span)?))
+        subscript(alloc, tokens, deeper(left)?, value, span).map(Behind::Goes)
     } else if tokens.skip(Sign::ParenOpen) {
-        Ok(Behind::Goes(call(alloc, tokens, deeper(left)?, value, span)?))
+        call(alloc, tokens, deeper(left)?, value, span).map(Behind::Goes)
     } else {
         Ok(Behind::Stops(value))
     }
@@ -561,7 +565,7 @@ fn call<'source>(
         (λ args us. goes (call (expression_of value.entry) args) us)) tokens.new.left result }
 {
     let arguments = arguments(alloc, tokens, left)?;
-    Ok(Expr::call(alloc, value, arguments, tokens.expand_span(span))?)
+    Expr::call(alloc, value, arguments, tokens.expand_span(span)).map_err(Refusal::from)
 }
 
 // Behind the `[` of an item or a slice.
@@ -620,7 +624,7 @@ fn bound<'source>(
     if tokens.ends_bound() {
         Ok(None)
     } else {
-        Ok(Some(expression(alloc, tokens, left)?))
+        expression(alloc, tokens, left).map(Some)
     }
 }
 
@@ -674,7 +678,7 @@ fn paren<'source>(
     ensures { Parsed (paren_by (expression_by (deeper left)) tokens.old.left) tokens.new.left result }
 {
     if tokens.skip(Sign::ParenClose) {
-        return Ok(Expr::tuple(alloc, Vec::new(alloc), tokens.expand_span(span))?);
+        return Expr::tuple(alloc, Vec::new(alloc), tokens.expand_span(span)).map_err(Refusal::from);
     }
     let first = expression(alloc, tokens, left)?;
     if tokens.skip(Sign::Comma) {
@@ -929,10 +933,10 @@ fn unnamed<'source>(
     ensures { ParsedAs argument_of (unnamed_by (expression_by (deeper left)) tokens.old.left) tokens.new.left result }
 {
     if tokens.skip(Sign::Mul) {
-        Ok(CallArg::PosSplat(expression(alloc, tokens, left)?))
+        expression(alloc, tokens, left).map(CallArg::PosSplat)
     } else if tokens.skip(Sign::Pow) {
-        Ok(CallArg::KwargSplat(expression(alloc, tokens, left)?))
+        expression(alloc, tokens, left).map(CallArg::KwargSplat)
     } else {
-        Ok(CallArg::Pos(expression(alloc, tokens, left)?))
+        expression(alloc, tokens, left).map(CallArg::Pos)
     }
 }

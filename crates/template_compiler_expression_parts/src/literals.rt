@@ -87,7 +87,7 @@ pub fn literal<'source>(
     if let Some(name) = tokens.word() {
         let span = tokens.span();
         tokens.advance();
-        return Ok(word(alloc, name, span)?);
+        return word(alloc, name, span).map_err(Refusal::from);
     }
     match tokens.take() {
         First::Token(token, span) => literal_from(alloc, tokens, token, span),
@@ -107,9 +107,11 @@ fn literal_from<'source>(
     ensures { Parsed (primary_by nothing_deeper (token_of token.entry ∷ tokens.old.left)) tokens.new.left result }
 {
     match token {
-        Token::Ident(name) => Ok(word(alloc, name, span)?),
-        Token::Int(n) => Ok(Expr::constant(alloc, Value::from_int(i128::from(n)), span)?),
-        Token::Int128(n) => Ok(Expr::constant(alloc, whole(n)?, span)?),
+        Token::Ident(name) => word(alloc, name, span).map_err(Refusal::from),
+        Token::Int(n) => Expr::constant(alloc, Value::from_int(i128::from(n)), span).map_err(
+            Refusal::from,
+        ),
+        Token::Int128(n) => Expr::constant(alloc, whole(n)?, span).map_err(Refusal::from),
         Token::Str(text) => texts(alloc, tokens, String::from_str(alloc, text)?, span),
         Token::String(text) => texts(alloc, tokens, text, span),
         _ => Err(Refusal::Token(Fault::Syntax)),
@@ -167,7 +169,7 @@ fn texts<'source>(
         tokens.new.left result }
 {
     match Value::from_text(adjacent(tokens, first)?) {
-        Ok(value) => Ok(Expr::constant(alloc, value, tokens.expand_span(span))?),
+        Ok(value) => Expr::constant(alloc, value, tokens.expand_span(span)).map_err(Refusal::from),
         Err(_) => Err(Refusal::OutOfMemory),
     }
 }
@@ -219,9 +221,15 @@ fn attribute_from<'source>(
     ensures { (ts : List lexed.Token) → WentOn (dot_part (expression_of value.entry) (token_of token.entry ∷ ts)) ts result }
 {
     match token {
-        Token::Ident(name) => Ok(Expr::attribute(alloc, value, name, span)?),
-        Token::Int(n) => Ok(numbered(alloc, value, Value::from_int(i128::from(n)), place, span)?),
-        Token::Int128(n) => Ok(numbered(alloc, value, whole(n)?, place, span)?),
+        Token::Ident(name) => Expr::attribute(alloc, value, name, span).map_err(Refusal::from),
+        Token::Int(n) => numbered(
+            alloc,
+            value,
+            Value::from_int(i128::from(n)),
+            place,
+            span,
+        ).map_err(Refusal::from),
+        Token::Int128(n) => numbered(alloc, value, whole(n)?, place, span).map_err(Refusal::from),
         _ => Err(Refusal::Token(Fault::Syntax)),
     }
 }

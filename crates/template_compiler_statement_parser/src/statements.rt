@@ -88,13 +88,16 @@ fn next_statement<'source, R: ReadsExpressions>(
     let span = tokens.span();
     if let Some(text) = tokens.text() {
         tokens.advance();
-        statements.push(Stmt::EmitRaw(Spanned::new(EmitRaw { raw: text }, span)))?;
+        parts::put(
+            statements,
+            Stmt::EmitRaw(Spanned::new(EmitRaw { raw: text }, span)),
+        )?;
         return Ok(true);
     }
     if tokens.starts_print() {
         tokens.advance();
         let print = leaves::read_print::<R>(alloc, tokens, left, span)?;
-        statements.push(Stmt::EmitExpr(print))?;
+        parts::put(statements, Stmt::EmitExpr(print))?;
         return Ok(true);
     }
     match parts::tag_word(tokens) {
@@ -123,7 +126,10 @@ fn next_tag<'source, R: ReadsExpressions>(
             let span = tokens.span();
             tokens.advance();
             tokens.advance();
-            statements.push(opened::<R>(alloc, tokens, left, around, opening, span)?)?;
+            parts::put(
+                statements,
+                opened::<R>(alloc, tokens, left, around, opening, span)?,
+            )?;
             Ok(true)
         }
         None => Ok(false),
@@ -309,7 +315,10 @@ fn next_branch<'source, R: ReadsExpressions>(
         let span = tokens.span();
         tokens.advance();
         tokens.advance();
-        branches.push(read_branch::<R>(alloc, tokens, left, around, span)?)?;
+        parts::put(
+            branches,
+            read_branch::<R>(alloc, tokens, left, around, span)?,
+        )?;
         Ok(true)
     } else {
         Ok(false)

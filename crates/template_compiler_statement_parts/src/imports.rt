@@ -5,6 +5,7 @@ ghost use Rattle.template_compiler_statement_parts.specs.Parsed.{ParsedAs, Stepp
 ghost use Rattle.template_compiler_grammar.specs.TemplateReader.{import_by, more_step};
 ghost use Rattle.template_tree_statements.specs.View.{imports_in};
 
+use crate::growth::put;
 use crate::names::read_stored;
 use std::alloc::Global;
 use template_compiler_stream::{Refusal, Sign, TokenStream};
@@ -39,11 +40,10 @@ fn read_imported<'source>(
     let name = read_stored(tokens)?;
     if tokens.skip_word("as") {
         let alias = read_stored(tokens)?;
-        names.push((name, Some(alias)))?;
+        put(names, (name, Some(alias)))
     } else {
-        names.push((name, None))?;
+        put(names, (name, None))
     }
-    Ok(())
 }
 
 fn all_imported<'source>(

@@ -7,6 +7,7 @@ ghost use Rattle.template_compiler_tokens.specs.Steps.{all, and_then};
 ghost use Rattle.template_tree.specs.View.{expression_of, expressions_in};
 
 use crate::ends::expect_paren_end;
+use crate::growth::put;
 use crate::names::read_stored;
 use std::alloc::{AllocError, Global};
 use template_compiler_stream::{Fault, Refusal, Sign, TokenStream};
@@ -92,9 +93,9 @@ pub fn read_more_targets<'source>(
     ensures { Parsed (more_targets_by dots (inner_targets dots left) (expression_of first.entry) tokens.old.left) tokens.new.left result }
 {
     let mut targets = Vec::new(alloc);
-    targets.push(first)?;
+    put(&mut targets, first)?;
     all_targets(alloc, tokens, left, dots, &mut targets)?;
-    Ok(unpacked(alloc, targets, tokens.expand_span(start))?)
+    unpacked(alloc, targets, tokens.expand_span(start)).map_err(Refusal::from)
 }
 
 #[cycle(targets)]
@@ -130,8 +131,7 @@ fn next_target<'source>(
         (expressions_in targets.old.items) tokens.old.left (expressions_in targets.new.items) tokens.new.left result }
 {
     if tokens.skip(Sign::Comma) {
-        let target = read_target(alloc, tokens, left, dots)?;
-        targets.push(target)?;
+        put(targets, read_target(alloc, tokens, left, dots)?)?;
         Ok(true)
     } else {
         Ok(false)

@@ -1,3 +1,4 @@
 pub mod Shapes
 pub mod Defined
 pub mod Matches
+mod NoMode

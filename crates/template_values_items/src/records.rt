@@ -116,18 +116,13 @@ fn loop_value(name: &str, items: &[Value], place: usize, depth: usize) -> Result
     ensures { Gives result (Ok (loop_value name.now items.now place depth)) }
 {
     let count = items.len();
-    if name == "index0" {
-        Ok(whole(place))
-    } else if name == "index" {
-        Ok(one_more(place))
-    } else if name == "length" {
-        Ok(whole(count))
-    } else if name == "revindex" {
-        Ok(whole(count.saturating_sub(place)))
-    } else if name == "revindex0" {
-        Ok(whole(count.saturating_sub(place).saturating_sub(1)))
-    } else {
-        loop_rest(name, items, place, depth)
+    match name {
+        "index0" => Ok(whole(place)),
+        "index" => Ok(one_more(place)),
+        "length" => Ok(whole(count)),
+        "revindex" => Ok(whole(count.saturating_sub(place))),
+        "revindex0" => Ok(whole(count.saturating_sub(place).saturating_sub(1))),
+        _ => loop_rest(name, items, place, depth),
     }
 }
 
@@ -135,20 +130,14 @@ fn loop_value(name: &str, items: &[Value], place: usize, depth: usize) -> Result
 fn loop_rest(name: &str, items: &[Value], place: usize, depth: usize) -> Result<Value, Error>
     ensures { Gives result (Ok (loop_rest name.now items.now place depth)) }
 {
-    if name == "first" {
-        Ok(Value::from_bool(place == 0))
-    } else if name == "last" {
-        Ok(Value::from_bool(is_last(place, items.len())))
-    } else if name == "depth" {
-        Ok(one_more(depth))
-    } else if name == "depth0" {
-        Ok(whole(depth))
-    } else if name == "previtem" {
-        copy_or_undefined(item_before(place, items))
-    } else if name == "nextitem" {
-        copy_or_undefined(item_after(place, items))
-    } else {
-        Ok(Value::undefined())
+    match name {
+        "first" => Ok(Value::from_bool(place == 0)),
+        "last" => Ok(Value::from_bool(is_last(place, items.len()))),
+        "depth" => Ok(one_more(depth)),
+        "depth0" => Ok(whole(depth)),
+        "previtem" => copy_or_undefined(item_before(place, items)),
+        "nextitem" => copy_or_undefined(item_after(place, items)),
+        _ => Ok(Value::undefined()),
     }
 }
 
@@ -207,13 +196,10 @@ pub(crate) fn macro_attribute<R: Records>(
 fn macro_value(alloc: Global, name: &str, view: MacroView<'_>) -> Result<Value, Error>
     ensures { Gives result (macro_value name.now (macro_seen view.entry)) }
 {
-    if name == "name" {
-        Value::from_str(alloc, view.name)
-    } else if name == "arguments" {
-        list_made(alloc, copies(alloc, view.arguments)?)
-    } else if name == "caller" {
-        Ok(Value::from_bool(view.caller))
-    } else {
-        Ok(Value::undefined())
+    match name {
+        "name" => Value::from_str(alloc, view.name),
+        "arguments" => list_made(alloc, copies(alloc, view.arguments)?),
+        "caller" => Ok(Value::from_bool(view.caller)),
+        _ => Ok(Value::undefined()),
     }
 }
