@@ -27,10 +27,26 @@ pub fn for_loop<'source>(
         tree.for_loop h.0 h.1 h.2 h.3 (statements_in body.entry.items) (statements_in else_body.entry.items) }
 {
     let mut node = head;
+    end_loop(&mut node, body, else_body, span);
+    node
+}
+
+fn end_loop<'source>(
+    node: &mut Spanned<ForLoop<'source>>,
+    body: Vec<Stmt<'source>>,
+    else_body: Vec<Stmt<'source>>,
+    span: Span,
+)
+    ensures target { node.new.node.target ≡ node.old.node.target }
+    ensures iter { node.new.node.iter ≡ node.old.node.iter }
+    ensures filter { node.new.node.filter_expr ≡ node.old.node.filter_expr }
+    ensures recursive { node.new.node.recursive ≡ node.old.node.recursive }
+    ensures body { node.new.node.body ≡ body.entry }
+    ensures else_body { node.new.node.else_body ≡ else_body.entry }
+{
     put(&mut node.node.body, body);
     put(&mut node.node.else_body, else_body);
     node.span = span;
-    node
 }
 
 /// An `autoescape` with its body.
@@ -44,9 +60,20 @@ pub fn auto_escape<'source>(
         tree.auto_escape (expression_of head.entry.value.node.enabled) (statements_in body.entry.items) }
 {
     let mut node = head;
+    end_auto_escape(&mut node, body, span);
+    node
+}
+
+fn end_auto_escape<'source>(
+    node: &mut Spanned<AutoEscape<'source>>,
+    body: Vec<Stmt<'source>>,
+    span: Span,
+)
+    ensures enabled { node.new.node.enabled ≡ node.old.node.enabled }
+    ensures body { node.new.node.body ≡ body.entry }
+{
     put(&mut node.node.body, body);
     node.span = span;
-    node
 }
 
 /// A filter block with its body.
@@ -60,9 +87,20 @@ pub fn filter_block<'source>(
         tree.filter_block (expression_of head.entry.value.node.filter) (statements_in body.entry.items) }
 {
     let mut node = head;
+    end_filter_block(&mut node, body, span);
+    node
+}
+
+fn end_filter_block<'source>(
+    node: &mut Spanned<FilterBlock<'source>>,
+    body: Vec<Stmt<'source>>,
+    span: Span,
+)
+    ensures filter { node.new.node.filter ≡ node.old.node.filter }
+    ensures body { node.new.node.body ≡ body.entry }
+{
     put(&mut node.node.body, body);
     node.span = span;
-    node
 }
 
 /// A set block with its body.
@@ -76,9 +114,21 @@ pub fn set_block<'source>(
         statement_of (statements.SetBlock result) ≡ tree.set_block h.0 h.1 (statements_in body.entry.items) }
 {
     let mut node = head;
+    end_set_block(&mut node, body, span);
+    node
+}
+
+fn end_set_block<'source>(
+    node: &mut Spanned<SetBlock<'source>>,
+    body: Vec<Stmt<'source>>,
+    span: Span,
+)
+    ensures target { node.new.node.target ≡ node.old.node.target }
+    ensures filter { node.new.node.filter ≡ node.old.node.filter }
+    ensures body { node.new.node.body ≡ body.entry }
+{
     put(&mut node.node.body, body);
     node.span = span;
-    node
 }
 
 /// A condition with its body; what stands for the other case comes later.
