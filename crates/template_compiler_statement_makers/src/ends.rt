@@ -1,5 +1,5 @@
 //! Statements of their heads and their bodies. A head with its body is one node more at most.
-ghost use Rattle.std.specs.Prelude.{◌≡◌, IfOk};
+ghost use Rattle.std.specs.Prelude.{◌≡◌, ◌∷◌, [], IfOk};
 ghost use Rattle.template_compiler_statement_makers.specs.Begun.{loop_head, set_block_of};
 ghost use Rattle.template_compiler_statement_makers.specs.Branches.{branch_in, branches_in};
 ghost use Rattle.template_compiler_statement_makers.specs.Listed.{statements_in};
@@ -139,8 +139,15 @@ pub fn branch<'source>(
     ensures { branch_in result ≡ (expression_of head.entry.value.node.expr, statements_in body.entry.items) }
 {
     let mut node = head;
-    put(&mut node.node.true_body, body);
+    end_branch(&mut node, body);
     node
+}
+
+fn end_branch<'source>(node: &mut Spanned<IfCond<'source>>, body: Vec<Stmt<'source>>)
+    ensures condition { node.new.node.expr ≡ node.old.node.expr }
+    ensures body { node.new.node.true_body ≡ body.entry }
+{
+    put(&mut node.node.true_body, body);
 }
 
 /// Each branch is the one statement of the body before it, up to the end of the whole.
@@ -157,11 +164,18 @@ pub fn branched<'source>(
     let mut body = last;
     while let Some(branch) = branches.pop() {
         let span = until(branch.span, whole);
-        let node = makers::otherwise(branch, body, span);
-        body = Vec::new(alloc);
-        body.push(Stmt::IfCond(node))?;
+        body = alone(alloc, Stmt::IfCond(makers::otherwise(branch, body, span)))?;
     }
     Ok(body)
+}
+
+// A list of one item.
+fn alone<T: Drop>(alloc: Global, item: T) -> Result<Vec<T>, AllocError>
+    ensures { IfOk result (λ v. v.items ≡ item ∷ []) }
+{
+    let mut items = Vec::new(alloc);
+    items.push(item)?;
+    Ok(items)
 }
 
 // A body takes the place of another one.

@@ -24,9 +24,21 @@ pub fn otherwise<'source>(
         (statements_in false_body.entry.items) }
 {
     let mut node = node;
+    end_condition(&mut node, false_body, span);
+    node
+}
+
+fn end_condition<'source>(
+    node: &mut Spanned<IfCond<'source>>,
+    false_body: Vec<Stmt<'source>>,
+    span: Span,
+)
+    ensures condition { node.new.node.expr ≡ node.old.node.expr }
+    ensures body { node.new.node.true_body ≡ node.old.node.true_body }
+    ensures other { node.new.node.false_body ≡ false_body.entry }
+{
     put(&mut node.node.false_body, false_body);
     node.span = span;
-    node
 }
 
 /// `{% with assignments %}body{% endwith %}`.

@@ -225,6 +225,8 @@ fn otherwise<'source, R: ReadsExpressions>(
     }
 }
 
+// A loop, behind its word: its head, its body, and the one for the case that nothing is gone over. What is left out by the
+// condition on the items is not gone over.
 #[cycle(statements)]
 fn for_loop<'source, R: ReadsExpressions>(
     alloc: Global,
@@ -242,6 +244,8 @@ fn for_loop<'source, R: ReadsExpressions>(
     Ok(ends::for_loop(head, body, else_body, tokens.expand_span(span)))
 }
 
+// A condition, behind its word: its head and its body, the branches behind it, and what stands for the case that none holds.
+// Each branch becomes the other body of the one before it.
 #[cycle(statements)]
 #[tactic(auto, unfolding(template_compiler_tokens::specs::Steps::and_then, template_compiler_grammar::specs::TemplateReader::if_by))]
 fn if_condition<'source, R: ReadsExpressions>(
@@ -299,6 +303,7 @@ fn branches<'source, R: ReadsExpressions>(
     }
 }
 
+// One more branch, where an `elif` stands next.
 #[cycle(statements)]
 #[tactic(auto, using(crate::proofs::Next::branch_here, crate::proofs::Next::no_branch, template_compiler_statement_makers::proofs::Branches::branches_push), unfolding(template_compiler_tokens::specs::Steps::under))]
 fn next_branch<'source, R: ReadsExpressions>(
@@ -325,6 +330,7 @@ fn next_branch<'source, R: ReadsExpressions>(
     }
 }
 
+// Names for a body, behind the word: targets with their values, the body, and the tag that ends it.
 #[cycle(statements)]
 fn with_block<'source, R: ReadsExpressions>(
     alloc: Global,
@@ -341,6 +347,7 @@ fn with_block<'source, R: ReadsExpressions>(
     Ok(makers::with_block(alloc, head, body, tokens.expand_span(span))?)
 }
 
+// A `set`, behind its word: one with values ends with its tag, a set block has a body.
 #[cycle(statements)]
 fn set<'source, R: ReadsExpressions>(
     alloc: Global,
@@ -376,6 +383,7 @@ fn set_block<'source, R: ReadsExpressions>(
     Ok(ends::set_block(head, body, tokens.expand_span(span)))
 }
 
+// How a body is escaped, behind the word: an expression, the body, and the tag that ends it.
 #[cycle(statements)]
 fn auto_escape<'source, R: ReadsExpressions>(
     alloc: Global,
@@ -392,6 +400,7 @@ fn auto_escape<'source, R: ReadsExpressions>(
     Ok(ends::auto_escape(head, body, tokens.expand_span(span)))
 }
 
+// A body through filters, behind the word: the filters, the body, and the tag that ends it.
 #[cycle(statements)]
 fn filter_block<'source, R: ReadsExpressions>(
     alloc: Global,
@@ -408,6 +417,8 @@ fn filter_block<'source, R: ReadsExpressions>(
     Ok(ends::filter_block(head, body, tokens.expand_span(span)))
 }
 
+// A block, behind its word: its name and whether it is required, its body, and its end, which may have the name again. No loop
+// is around in the body.
 #[cycle(statements)]
 fn block<'source, R: ReadsExpressions>(
     alloc: Global,
@@ -424,6 +435,8 @@ fn block<'source, R: ReadsExpressions>(
     declarations::read_block_end(alloc, tokens, head, body, span)
 }
 
+// A macro, behind its word: its name and arguments, its body, and the tag that ends it. Neither a loop nor a block is around
+// in the body.
 #[cycle(statements)]
 fn macro_block<'source, R: ReadsExpressions>(
     alloc: Global,
@@ -438,6 +451,7 @@ fn macro_block<'source, R: ReadsExpressions>(
     Ok(declarations::macro_block(alloc, head, body, tokens.expand_span(span))?)
 }
 
+// A call with a body, behind the word: the arguments of the body, the call, the body, and the tag that ends it.
 #[cycle(statements)]
 fn call_block<'source, R: ReadsExpressions>(
     alloc: Global,
