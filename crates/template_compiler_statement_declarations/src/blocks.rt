@@ -23,6 +23,11 @@ pub struct BlockHead<'source> {
 
 /// Reads the head of a block, which stands in no macro.
 ///
+/// ```text
+/// title required %}
+/// title %}
+/// ```
+///
 /// # Errors
 ///
 /// The fault of the token that does not fit.
@@ -48,6 +53,11 @@ pub fn read_block<'source>(
 }
 
 /// A block with its body, and the tag that ends it. A required block has a blank body.
+///
+/// ```text
+/// {% endblock %}
+/// {% endblock title %}
+/// ```
 ///
 /// # Errors
 ///

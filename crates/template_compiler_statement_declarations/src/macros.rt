@@ -34,6 +34,10 @@ pub struct CallHead<'source> {
 
 /// Reads the head of a macro.
 ///
+/// ```text
+/// field(name, kind="text", required=false) %}
+/// ```
+///
 /// # Errors
 ///
 /// The fault of the token that does not fit, or want of memory.
@@ -76,6 +80,11 @@ fn read_declared<'source, R: ReadsExpressions>(
 }
 
 /// Reads the head of a call block.
+///
+/// ```text
+/// (row, index=0) table(rows) %}
+/// table(rows) %}
+/// ```
 ///
 /// # Errors
 ///

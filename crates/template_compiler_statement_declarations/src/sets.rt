@@ -27,6 +27,12 @@ pub enum SetHead<'source> {
 
 /// Reads a `set` with its values, or the head of a set block.
 ///
+/// ```text
+/// total = total + 1 %}
+/// a, (b, space.found) = pair, true %}
+/// title|upper|trim %}
+/// ```
+///
 /// # Errors
 ///
 /// The fault of the token that does not fit, or want of memory.

@@ -31,6 +31,11 @@ fn read_only_expression<'source, R: ReadsExpressions>(
 
 /// Reads the head of an `autoescape`.
 ///
+/// ```text
+/// false %}
+/// "json" if script else "html" %}
+/// ```
+///
 /// # Errors
 ///
 /// The fault of the token that does not fit, or want of memory.
@@ -52,6 +57,10 @@ pub fn read_auto_escape<'source, R: ReadsExpressions>(
 }
 
 /// Reads the head of a condition, an `if` or an `elif`.
+///
+/// ```text
+/// a and not b %}
+/// ```
 ///
 /// # Errors
 ///
@@ -76,6 +85,11 @@ pub fn read_branch<'source, R: ReadsExpressions>(
 }
 
 /// Reads the head of a filter block. The chain of its filters is never empty.
+///
+/// ```text
+/// upper %}
+/// replace("a", "b")|trim %}
+/// ```
 ///
 /// # Errors
 ///
@@ -106,6 +120,11 @@ pub fn read_filter_block<'source, R: ReadsExpressions>(
 }
 
 /// Reads the targets of a `with` and their values, and the end of its tag.
+///
+/// ```text
+/// %}
+/// a = 1, (b, c) = pair %}
+/// ```
 ///
 /// # Errors
 ///

@@ -15,6 +15,11 @@ use template_tree_statements::ForLoop;
 
 /// Reads the head of a loop.
 ///
+/// ```text
+/// item in items %}
+/// key, (first, last) in pairs if last recursive %}
+/// ```
+///
 /// # Errors
 ///
 /// The fault of the token that does not fit, or want of memory.

@@ -435,8 +435,8 @@ fn block<'source, R: ReadsExpressions>(
     declarations::read_block_end(alloc, tokens, head, body, span)
 }
 
-// A macro, behind its word: its name and arguments, its body, and the tag that ends it. Neither a loop nor a block is around
-// in the body.
+// A macro, behind its word: its name and arguments, its body, and the tag that ends it. In its body no loop is
+// around, and no block stands.
 #[cycle(statements)]
 fn macro_block<'source, R: ReadsExpressions>(
     alloc: Global,

@@ -31,6 +31,10 @@ fn no_parameters<'source>(alloc: Global) -> Parameters<'source>
 
 /// Reads arguments in parentheses, where they stand next.
 ///
+/// ```text
+/// (row, index=0)
+/// ```
+///
 /// # Errors
 ///
 /// The fault of the token that does not fit, or want of memory.
@@ -50,6 +54,10 @@ pub fn read_optional_parameters<'source, R: ReadsExpressions>(
 }
 
 /// Reads arguments behind `(`, and `)`. They are one nesting level deeper.
+///
+/// ```text
+/// name, kind="text")
+/// ```
 ///
 /// # Errors
 ///

@@ -16,6 +16,11 @@ use template_tree::{Expr, Span};
 
 /// Reads an expression, or several with commas between them, which are a tuple.
 ///
+/// ```text
+/// total + 1
+/// first, second, third
+/// ```
+///
 /// # Errors
 ///
 /// The fault of the token that does not fit, or want of memory.
@@ -105,6 +110,10 @@ fn together<'source>(
 
 /// Reads targets with their values, as in a `with` tag; there may be none.
 ///
+/// ```text
+/// a = 1, (b, c) = pair
+/// ```
+///
 /// # Errors
 ///
 /// The fault of the token that does not fit, or want of memory.
@@ -179,6 +188,10 @@ fn next_assignment<'source, R: ReadsExpressions>(
 }
 
 /// Reads the condition on a loop's items, where one stands next.
+///
+/// ```text
+/// if item.visible
+/// ```
 ///
 /// # Errors
 ///
