@@ -3,7 +3,7 @@ use Rattle.std.proofs.Common.{◌≡◌, List, [], ◌∷◌, ◌++◌, refl, ap
 use Rattle.template_tree.specs.Tree.{Statements, no_statements, statements_more, if_condition}
 use Rattle.template_tree.specs.View.{expression_of}
 use Rattle.template_compiler_statement_makers.specs.Listed.{statements_in}
-use Rattle.template_compiler_grammar.specs.TemplateTrees.{Branches, branches_more, and_branch, branched}
+use Rattle.template_compiler_grammar.specs.TemplateTrees.{branches_more, and_branch, branched}
 use Rattle.std.specs.Global.{Box}
 use Rattle.template_tree.specs.declared.span.Spanned.{Spanned}
 use Rattle.template_tree_statements.specs.declared.statements.IfCond.{IfCond}
