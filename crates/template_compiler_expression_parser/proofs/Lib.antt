@@ -5,3 +5,4 @@ pub mod Falls
 pub mod Items
 pub mod Links
 pub mod Takes
+pub mod Trees

@@ -9,7 +9,6 @@ use std::borrow::CowStr;
 use template_tree::{BinOpKind, CallArg, CompareOp, CompareOpKind, Expr, Span, UnaryOpKind};
 
 /// A value with the comparisons behind it: none is the value, one an operator, more are a chain.
-#[tactic(auto, using(crate::proofs::Pushes::compared_held))]
 pub fn compared<'source>(
     alloc: Global,
     value: Expr<'source>,

@@ -2,7 +2,7 @@ use Rattle.std.proofs.Common.{◌≡◌, length}
 use Rattle.template_compiler_placed_grammar.specs.Reader.{deeper, chain_step}
 use Rattle.template_compiler_placed_grammar.specs.Views.{optional_node_in}
 use Rattle.template_compiler_tokens.specs.Steps.{all}
-use Rattle.template_compiler_expression_parser.proofs.read.read_filter_chain.Given as goal
+use Rattle.template_compiler_expression_parser.proofs.read.chain.Given as goal
 
 abbrev pub invariant-loop-alloc : goal.invariant-loop-alloc
 invariant-loop-alloc l =
