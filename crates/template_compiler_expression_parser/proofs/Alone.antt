@@ -1,9 +1,8 @@
 -- An operand that is alone: no level goes on with it.
-use Rattle.std.proofs.Common.{◌≡◌, codes, bytes_eq, Bool, true, false, ◌&&◌, not, if◌then◌else◌, pos, Result, Ok, Err, List, [], ◌∷◌, Option, None, Some, refl, sym, ap, subst, ◌∙◌}
+use Rattle.std.proofs.Common.{◌≡◌, codes, bytes_eq, Bool, true, false, ◌&&◌, not, if◌then◌else◌, pos, Result, Ok, List, [], ◌∷◌, None, refl, sym, ap, subst, ◌∙◌}
 use Rattle.template_values_model.specs.Val.{int, none}
 use Rattle.template_tree.specs.Tree.{Expression, constant, unary}
 use Rattle.template_tree.specs.declared.expressions.Expr.{Expr}
-use Rattle.template_tree.specs.declared.operators.BinOpKind.{BinOpKind}
 use Rattle.template_tree.specs.declared.operators.UnaryOpKind.TheVariants as unaries
 use Rattle.template_tree.specs.declared.span.Span.{Span}
 use Rattle.template_tree.specs.NodePlaces.{no_parts, one}
@@ -11,11 +10,11 @@ use Rattle.template_compiler_tokens.specs.Places.{next_span, stretch}
 use Rattle.template_compiler_tokens.specs.Token.{Token, identifier, number, symbol, variable_end, block_end, comma, colon, paren_close, bracket_close, brace_close}
 use Rattle.template_compiler_grammar.specs.Words.{is_word, literal_word, Level, factors, texts, terms, conjunction, disjunction, operator}
 use Rattle.template_compiler_grammar.specs.Reader.{word_tree}
-use Rattle.template_compiler_tokens.specs.Steps.{Read, and_then, Step, stops, all}
+use Rattle.template_compiler_tokens.specs.Steps.{Read, and_then, stops, all}
 use Rattle.template_compiler_tokens.proofs.Loops.{then_goes, all_stops}
 use Rattle.template_compiler_placed_grammar.specs.Nodes.{Node, node, PlacedLinks, no_placed_links, compared_node}
 use Rattle.template_compiler_placed_grammar.specs.Reader.{Deeper, nothing_deeper, primary_by, part_step, parts_by, unary_by, filter_step, filtered_by, power_behind, power_by, operand_step, binary_of, terms_by, link_behind, link_step, comparison_by, negation_by, operand_by, binary_by}
-use Rattle.template_compiler_stream.specs.Signs.{is_plain, is_end, begins_end, begins_alone}
+use Rattle.template_compiler_stream.specs.Signs.{is_plain, is_end, begins_alone}
 use Rattle.template_compiler_stream.specs.declared.refusal.Refusal.{Refusal}
 use Rattle.template_compiler_expression_parts.specs.Parsed.{Parsed}
 use Rattle.template_compiler_expression_parts.proofs.Rounds.{operand_none}
@@ -119,7 +118,7 @@ module _ (spans : List Span) (r : Deeper) (t e : Token) (us : List Token) (plain
   unfolding comparison_by terms_by
   comparison_alone =
       then_goes
-      (λ a us. and_then (all (link_step spans (terms_by spans r)) no_placed_links us)
+      (λ a ws. and_then (all (link_step spans (terms_by spans r)) no_placed_links ws)
       (λ ls vs. Ok (compared_node a ls (stretch spans (t ∷ e ∷ us) vs), vs)))
       (level_alone terms (binary_of spans texts (binary_of spans factors (power_by spans r))) texts_alone)
       (then_goes (λ ls vs. Ok (compared_node alone ls (stretch spans (t ∷ e ∷ us) vs), vs))

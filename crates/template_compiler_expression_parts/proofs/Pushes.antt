@@ -1,17 +1,17 @@
 -- Lists of nodes with one more at the end, and their trees.
-use Rattle.std.proofs.Common.{◌≡◌, ℕ, ◌+◌, ◌<◌, ◌≤◌, Bool, true, false, if◌then◌else◌, List, [], ◌∷◌, ◌++◌, length, Ok, Err, refl, sym, ap, ◌∙◌, arith}
+use Rattle.std.proofs.Common.{◌≡◌, ◌<◌, ◌≤◌, Bool, true, false, if◌then◌else◌, List, [], ◌∷◌, ◌++◌, length, Ok, Err, refl, sym, ap, ◌∙◌, arith}
 use Rattle.std.specs.Prelude.{nat_le, Result, IfOk}
 use Rattle.std.proofs.lemmas.Bool.Decides.{nat_tests}
 use Rattle.template_compiler_tokens.specs.Token.{Token, bad_syntax}
 use Rattle.template_tree.specs.declared.span.Span.{Span}
-use Rattle.template_tree.specs.NodePlaces.{Parts, at, parts_more, and_parts}
+use Rattle.template_tree.specs.NodePlaces.{at, parts_more}
 use Rattle.template_tree.specs.ExpressionPlaces.{places_of, places_in, places_of_argument, places_in_arguments, places_in_links}
 use Rattle.template_compiler_placed_grammar.specs.DerivedNodes.{and_place}
-use Rattle.template_compiler_placed_grammar.specs.Nodes.{placed, placed_in_order, Node, node, compared_node, PlacedWritten, PlacedArguments}
+use Rattle.template_compiler_placed_grammar.specs.Nodes.{placed, placed_in_order, Node, node, compared_node, PlacedWritten}
 use Rattle.template_compiler_placed_grammar.specs.Reader.{few_arguments}
 use Rattle.template_compiler_placed_grammar.specs.Views.{node_of, placed_arguments_in, placed_links_in}
 use Rattle.template_compiler_placed_grammar.proofs.Pushes.{placed_arguments_append}
-use Rattle.template_tree.specs.Tree.{Expressions, expressions_more, Links, links_more, chain, Arguments, arguments_more}
+use Rattle.template_tree.specs.Tree.{expressions_more, links_more, chain, arguments_more}
 use Rattle.template_tree.specs.View.{expression_of, expressions_in, links_in, argument_of, arguments_in}
 use Rattle.template_tree.specs.declared.calls.CallArg.{CallArg}
 use Rattle.template_tree.specs.declared.expressions.CompareOp.{CompareOp}

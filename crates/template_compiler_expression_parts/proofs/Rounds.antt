@@ -1,5 +1,5 @@
 -- Rounds of repetitions, by what stands next.
-use Rattle.std.proofs.Common.{◌≡◌, codes, Bool, true, false, if◌then◌else◌, ℕ, Result, Ok, Err, List, [], ◌∷◌, None, Some, refl, sym, ap, subst, ◌∙◌}
+use Rattle.std.proofs.Common.{◌≡◌, codes, true, false, if◌then◌else◌, ℕ, Result, Ok, Err, List, [], ◌∷◌, None, Some, refl, sym, ap, subst, ◌∙◌}
 use Rattle.template_tree.specs.Tree.{Expression, binary}
 use Rattle.template_tree.specs.declared.operators.BinOpKind.{BinOpKind}
 use Rattle.template_tree.specs.declared.expressions.Expr.{Expr}

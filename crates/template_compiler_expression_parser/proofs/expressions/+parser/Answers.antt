@@ -1,12 +1,14 @@
-use Rattle.std.proofs.Common.{sym, ◌∙◌, ap}
+use Rattle.std.proofs.Common.{sym, ◌∙◌, ap, rules}
 use Rattle.template_compiler_stream.specs.Signs.{level_of}
-use Rattle.template_compiler_placed_grammar.specs.Reader.{deeper}
+use Rattle.template_compiler_placed_grammar.specs.Reader.{deeper, expression_by, items_step, pairs_step}
 use Rattle.template_compiler_placed_grammar.specs.Views.{node_of, nodes_in, placed_argument_of}
 use Rattle.template_compiler_placed_grammar.proofs.Pushes.{nodes_push}
+use Rattle.template_compiler_expression_parts.specs.Parsed.{RefusedStep, paired_in}
 use Rattle.template_compiler_expression_parts.proofs.Rounds.{next_operand_goes, next_operand_refused, rounds_end, rounds_go, rounds_refused}
 use Rattle.template_compiler_expression_parser.proofs.Alone.{parsed_alone}
 use Rattle.template_compiler_expression_parser.proofs.Falls.{operands_fall, parts_fall, filters_fall, links_fall, items_fall, pairs_fall, arguments_fall}
-use Rattle.template_compiler_expression_parser.proofs.Items.{argument_goes, item_goes, pair_goes}
+use Rattle.template_compiler_expression_parser.proofs.Items.{argument_goes, item_goes, item_refused, item_unseparated, key_refused, pair_goes, pair_unseparated, value_refused}
+use Rattle.template_compiler_expression_parser.proofs.Subscripts.{item_read}
 use Rattle.template_compiler_expression_parser.proofs.expressions.+parser.Goals as goal
 
 pub binary-returns-then-begins_alone-clause-parsed : goal.binary-returns-then-begins_alone-clause-parsed
@@ -29,8 +31,7 @@ next_operand-returns-in-Err-clause-parsed t c =
 
 pub operands-returns-in-Ok-Stops-clause-parsed : goal.operands-returns-in-Ok-Stops-clause-parsed
 operands-returns-in-Ok-Stops-clause-parsed t c =
-    let now = rw c.loop-next.invariant.0 at c.in-Ok-Stops.ensures.parsed in
-    let ended = rw c.in-Ok-Stops.field-0-is at now in
+    let ended = rw c.loop-next.invariant.0 at (rw c.in-Ok-Stops.field-0-is at c.in-Ok-Stops.ensures.parsed) in
     rounds_end _ _ _ _ _ _ _ c.loop-next.invariant.1 ended
 
 pub operands-returns-in-Err-clause-parsed : goal.operands-returns-in-Err-clause-parsed
@@ -40,8 +41,7 @@ operands-returns-in-Err-clause-parsed t c =
 
 pub operands-loop-next-preserved : goal.operands-loop-next-preserved
 operands-loop-next-preserved t c =
-    let now = rw c.loop-next.invariant.0 at c.in-Ok-Goes.ensures.parsed in
-    let more = rw c.in-Ok-Goes.field-0-is at now in
+    let more = rw c.loop-next.invariant.0 at (rw c.in-Ok-Goes.field-0-is at c.in-Ok-Goes.ensures.parsed) in
     (c.in-Ok-Goes.ensures.spans ∙ c.loop-next.invariant.0, rounds_go _ (operands_fall _ c.args.left (level_of c.args.level) _) _ _ _ _ _ _ c.loop-next.invariant.1 more)
 
 pub operands-loop-next-smaller : goal.operands-loop-next-smaller
@@ -51,8 +51,7 @@ operands-loop-next-smaller t c =
 
 pub parts-returns-in-Ok-Stops-clause-parsed : goal.parts-returns-in-Ok-Stops-clause-parsed
 parts-returns-in-Ok-Stops-clause-parsed t c =
-    let now = rw c.loop-next.invariant.0 at c.in-Ok-Stops.ensures.parsed in
-    let ended = rw c.in-Ok-Stops.field-0-is at now in
+    let ended = rw c.loop-next.invariant.0 at (rw c.in-Ok-Stops.field-0-is at c.in-Ok-Stops.ensures.parsed) in
     rounds_end _ _ _ _ _ _ _ c.loop-next.invariant.1 ended
 
 pub parts-returns-in-Err-clause-parsed : goal.parts-returns-in-Err-clause-parsed
@@ -62,8 +61,7 @@ parts-returns-in-Err-clause-parsed t c =
 
 pub parts-loop-next-preserved : goal.parts-loop-next-preserved
 parts-loop-next-preserved t c =
-    let now = rw c.loop-next.invariant.0 at c.in-Ok-Goes.ensures.parsed in
-    let more = rw c.in-Ok-Goes.field-0-is at now in
+    let more = rw c.loop-next.invariant.0 at (rw c.in-Ok-Goes.field-0-is at c.in-Ok-Goes.ensures.parsed) in
     (c.in-Ok-Goes.ensures.spans ∙ c.loop-next.invariant.0, rounds_go _ (parts_fall _ c.args.left _) _ _ _ _ _ _ c.loop-next.invariant.1 more)
 
 pub parts-loop-next-smaller : goal.parts-loop-next-smaller
@@ -73,8 +71,7 @@ parts-loop-next-smaller t c =
 
 pub filters-returns-in-Ok-Stops-clause-parsed : goal.filters-returns-in-Ok-Stops-clause-parsed
 filters-returns-in-Ok-Stops-clause-parsed t c =
-    let now = rw c.loop-next.invariant.0 at c.in-Ok-Stops.ensures.parsed in
-    let ended = rw c.in-Ok-Stops.field-0-is at now in
+    let ended = rw c.loop-next.invariant.0 at (rw c.in-Ok-Stops.field-0-is at c.in-Ok-Stops.ensures.parsed) in
     rounds_end _ _ _ _ _ _ _ c.loop-next.invariant.1 ended
 
 pub filters-returns-in-Err-clause-parsed : goal.filters-returns-in-Err-clause-parsed
@@ -84,8 +81,7 @@ filters-returns-in-Err-clause-parsed t c =
 
 pub filters-loop-next-preserved : goal.filters-loop-next-preserved
 filters-loop-next-preserved t c =
-    let now = rw c.loop-next.invariant.0 at c.in-Ok-Goes.ensures.parsed in
-    let more = rw c.in-Ok-Goes.field-0-is at now in
+    let more = rw c.loop-next.invariant.0 at (rw c.in-Ok-Goes.field-0-is at c.in-Ok-Goes.ensures.parsed) in
     (c.in-Ok-Goes.ensures.spans ∙ c.loop-next.invariant.0, rounds_go _ (filters_fall _ c.args.left _) _ _ _ _ _ _ c.loop-next.invariant.1 more)
 
 pub filters-loop-next-smaller : goal.filters-loop-next-smaller
@@ -95,8 +91,7 @@ filters-loop-next-smaller t c =
 
 pub links-returns-in-Ok-false-clause-parsed : goal.links-returns-in-Ok-false-clause-parsed
 links-returns-in-Ok-false-clause-parsed t c =
-    let now = rw c.loop-links.invariant.0 at c.in-Ok-false.ensures.parsed in
-    let ended = rw c.in-Ok-false.field-0-test at now in
+    let ended = rw c.loop-links.invariant.0 at (rw c.in-Ok-false.field-0-test at c.in-Ok-false.ensures.parsed) in
     rounds_end _ _ _ _ _ _ _ c.loop-links.invariant.1 ended
 
 pub links-returns-in-Err-clause-parsed : goal.links-returns-in-Err-clause-parsed
@@ -106,8 +101,7 @@ links-returns-in-Err-clause-parsed t c =
 
 pub links-loop-links-preserved : goal.links-loop-links-preserved
 links-loop-links-preserved t c =
-    let now = rw c.loop-links.invariant.0 at c.in-Ok-true.ensures.parsed in
-    let more = rw c.in-Ok-true.field-0-test at now in
+    let more = rw c.loop-links.invariant.0 at (rw c.in-Ok-true.field-0-test at c.in-Ok-true.ensures.parsed) in
     (c.in-Ok-true.ensures.spans ∙ c.loop-links.invariant.0, rounds_go _ (links_fall _ c.args.left) _ _ _ _ _ _ c.loop-links.invariant.1 more)
 
 pub links-loop-links-smaller : goal.links-loop-links-smaller
@@ -117,8 +111,7 @@ links-loop-links-smaller t c =
 
 pub items-returns-in-Ok-false-clause-parsed : goal.items-returns-in-Ok-false-clause-parsed
 items-returns-in-Ok-false-clause-parsed t c =
-    let now = rw c.loop-held.invariant.0 at c.in-Ok-false.ensures.parsed in
-    let ended = rw c.in-Ok-false.field-0-test at now in
+    let ended = rw c.loop-held.invariant.0 at (rw c.in-Ok-false.field-0-test at c.in-Ok-false.ensures.parsed) in
     rounds_end _ _ _ _ _ _ _ c.loop-held.invariant.1 ended
 
 pub items-returns-in-Err-clause-parsed : goal.items-returns-in-Err-clause-parsed
@@ -128,8 +121,7 @@ items-returns-in-Err-clause-parsed t c =
 
 pub items-loop-held-preserved : goal.items-loop-held-preserved
 items-loop-held-preserved t c =
-    let now = rw c.loop-held.invariant.0 at c.in-Ok-true.ensures.parsed in
-    let more = rw c.in-Ok-true.field-0-test at now in
+    let more = rw c.loop-held.invariant.0 at (rw c.in-Ok-true.field-0-test at c.in-Ok-true.ensures.parsed) in
     (c.in-Ok-true.ensures.spans ∙ c.loop-held.invariant.0, rounds_go _ (items_fall _ c.args.left) _ _ _ _ _ _ c.loop-held.invariant.1 more)
 
 pub items-loop-held-smaller : goal.items-loop-held-smaller
@@ -139,8 +131,7 @@ items-loop-held-smaller t c =
 
 pub pairs-returns-in-Ok-false-clause-parsed : goal.pairs-returns-in-Ok-false-clause-parsed
 pairs-returns-in-Ok-false-clause-parsed t c =
-    let now = rw c.loop-held.invariant.0 at c.in-Ok-false.ensures.parsed in
-    let ended = rw c.in-Ok-false.field-0-test at now in
+    let ended = rw c.loop-held.invariant.0 at (rw c.in-Ok-false.field-0-test at c.in-Ok-false.ensures.parsed) in
     rounds_end _ _ _ _ _ _ _ c.loop-held.invariant.1 ended
 
 pub pairs-returns-in-Err-clause-parsed : goal.pairs-returns-in-Err-clause-parsed
@@ -150,8 +141,7 @@ pairs-returns-in-Err-clause-parsed t c =
 
 pub pairs-loop-held-preserved : goal.pairs-loop-held-preserved
 pairs-loop-held-preserved t c =
-    let now = rw c.loop-held.invariant.0 at c.in-Ok-true.ensures.parsed in
-    let more = rw c.in-Ok-true.field-0-test at now in
+    let more = rw c.loop-held.invariant.0 at (rw c.in-Ok-true.field-0-test at c.in-Ok-true.ensures.parsed) in
     (c.in-Ok-true.ensures.spans ∙ c.loop-held.invariant.0, rounds_go _ (pairs_fall _ c.args.left) _ _ _ _ _ _ c.loop-held.invariant.1 more)
 
 pub pairs-loop-held-smaller : goal.pairs-loop-held-smaller
@@ -161,8 +151,7 @@ pairs-loop-held-smaller t c =
 
 pub written-returns-in-Ok-false-clause-parsed : goal.written-returns-in-Ok-false-clause-parsed
 written-returns-in-Ok-false-clause-parsed t c =
-    let now = rw c.loop-held.invariant.0 at c.in-Ok-false.ensures.parsed in
-    let ended = rw c.in-Ok-false.field-0-test at now in
+    let ended = rw c.loop-held.invariant.0 at (rw c.in-Ok-false.field-0-test at c.in-Ok-false.ensures.parsed) in
     rounds_end _ _ _ _ _ _ _ c.loop-held.invariant.1 ended
 
 pub written-returns-in-Err-clause-parsed : goal.written-returns-in-Err-clause-parsed
@@ -172,8 +161,7 @@ written-returns-in-Err-clause-parsed t c =
 
 pub written-loop-held-preserved : goal.written-loop-held-preserved
 written-loop-held-preserved t c =
-    let now = rw c.loop-held.invariant.0 at c.in-Ok-true.ensures.parsed in
-    let more = rw c.in-Ok-true.field-0-test at now in
+    let more = rw c.loop-held.invariant.0 at (rw c.in-Ok-true.field-0-test at c.in-Ok-true.ensures.parsed) in
     (c.in-Ok-true.ensures.spans ∙ c.loop-held.invariant.0, rounds_go _ (arguments_fall _ c.args.left) _ _ _ _ _ _ c.loop-held.invariant.1 more)
 
 pub written-loop-held-smaller : goal.written-loop-held-smaller
@@ -183,16 +171,65 @@ written-loop-held-smaller t c =
 
 pub next_item-returns-clause-parsed : goal.next_item-returns-clause-parsed
 next_item-returns-clause-parsed t c =
-    item_goes _ _ _ _ (node_of c.in-Ok.item) _ _ _ (sym c.closes.ensures ∙ c.if-closes.false) c.in-Ok.ensures.parsed
+    item_goes c.args.tokens.now.spans
+    (expression_by c.args.tokens.now.spans (deeper c.args.tokens.now.spans c.args.left)) _ _ (node_of c.in-Ok.item) _ _ _ (sym c.closes.ensures ∙ c.if-closes.false) c.in-Ok.ensures.parsed
     (ap nodes_in c.in_ok-push.ensures.items ∙ nodes_push _ _) c.in_ok-separated.ensures.parsed
 
 pub next_pair-returns-clause-parsed : goal.next_pair-returns-clause-parsed
 next_pair-returns-clause-parsed t c =
     let value = rw c.in-Ok.ensures.spans at c.in-Ok-expression.ensures.parsed in
-    pair_goes _ _ _ _ (node_of c.in-Ok.key) (node_of c.in-Ok-expression.value) _ _ _ _ (sym c.closes.ensures ∙ c.if-closes.false)
+    pair_goes c.args.tokens.now.spans
+    (expression_by c.args.tokens.now.spans (deeper c.args.tokens.now.spans c.args.left)) _ _ (node_of c.in-Ok.key) (node_of c.in-Ok-expression.value) _ _ _ _ (sym c.closes.ensures ∙ c.if-closes.false)
     c.in-Ok.ensures.parsed value c.in_ok-push.ensures c.in_ok-separated.ensures.parsed
 
 pub next_argument-returns-clause-parsed : goal.next_argument-returns-clause-parsed
 next_argument-returns-clause-parsed t c =
-    argument_goes _ _ _ _ (placed_argument_of c.in-Ok.argument) _ _ _ (sym c.closes.ensures ∙ c.if-closes.false)
+    argument_goes c.args.tokens.now.spans
+    (expression_by c.args.tokens.now.spans (deeper c.args.tokens.now.spans c.args.left)) _ _ (placed_argument_of c.in-Ok.argument) _ _ _ (sym c.closes.ensures ∙ c.if-closes.false)
     c.in-Ok.ensures.parsed c.in_ok-push.ensures c.in_ok-separated.ensures.parsed
+
+pub next_item-returns-in-Err-clause-parsed : goal.next_item-returns-in-Err-clause-parsed
+next_item-returns-in-Err-clause-parsed t c =
+    item_refused c.args.tokens.now.spans
+    (expression_by c.args.tokens.now.spans (deeper c.args.tokens.now.spans c.args.left)) _ _ c.in-Err.refusal (sym c.closes.ensures ∙ c.if-closes.false) c.in-Err.ensures.parsed
+
+pub next_pair-returns-in-Err-clause-parsed : goal.next_pair-returns-in-Err-clause-parsed
+next_pair-returns-in-Err-clause-parsed t c =
+    key_refused c.args.tokens.now.spans
+    (expression_by c.args.tokens.now.spans (deeper c.args.tokens.now.spans c.args.left)) _ _ c.in-Err.refusal (sym c.closes.ensures ∙ c.if-closes.false) c.in-Err.ensures.parsed
+
+pub next_pair-returns-in-Err-expression-clause-parsed : goal.next_pair-returns-in-Err-expression-clause-parsed
+next_pair-returns-in-Err-expression-clause-parsed t c =
+    let value = rw c.in-Ok.ensures.spans at c.in-Err-expression.ensures.parsed in
+    value_refused c.args.tokens.now.spans
+    (expression_by c.args.tokens.now.spans (deeper c.args.tokens.now.spans c.args.left)) _ (node_of c.in-Ok.key) _ _ c.in-Err-expression.refusal (sym c.closes.ensures ∙ c.if-closes.false)
+    c.in-Ok.ensures.parsed value
+
+pub next_item-returns-in_err-separated-clause-parsed : goal.next_item-returns-in_err-separated-clause-parsed
+next_item-returns-in_err-separated-clause-parsed t c =
+    let refused : RefusedStep (items_step c.args.tokens.now.spans (expression_by c.args.tokens.now.spans (deeper c.args.tokens.now.spans c.args.left))
+    (nodes_in c.args.held.now.items) c.args.tokens.now.left) c.in_err-separated.field-0.0 =
+    item_unseparated c.args.tokens.now.spans
+    (expression_by c.args.tokens.now.spans (deeper c.args.tokens.now.spans c.args.left)) _ (node_of c.in-Ok.item) _ _ c.in_err-separated.field-0.0 (sym c.closes.ensures ∙ c.if-closes.false)
+    c.in-Ok.ensures.parsed c.in_err-separated.ensures.parsed in
+    search rules
+
+pub next_pair-returns-in_err-separated-clause-parsed : goal.next_pair-returns-in_err-separated-clause-parsed
+next_pair-returns-in_err-separated-clause-parsed t c =
+    let value = rw c.in-Ok.ensures.spans at c.in-Ok-expression.ensures.parsed in
+    let refused : RefusedStep (pairs_step c.args.tokens.now.spans (expression_by c.args.tokens.now.spans (deeper c.args.tokens.now.spans c.args.left))
+    (paired_in c.args.held.now) c.args.tokens.now.left) c.in_err-separated.field-0.0 =
+    pair_unseparated c.args.tokens.now.spans
+    (expression_by c.args.tokens.now.spans (deeper c.args.tokens.now.spans c.args.left)) _ (node_of c.in-Ok.key) (node_of c.in-Ok-expression.value) _ _ _ c.in_err-separated.field-0.0
+    (sym c.closes.ensures ∙ c.if-closes.false) c.in-Ok.ensures.parsed value c.in_err-separated.ensures.parsed in
+    search rules
+
+pub subscript-returns-in-Some-clause-parsed : goal.subscript-returns-in-Some-clause-parsed
+subscript-returns-in-Some-clause-parsed t c =
+    let bare = rw c.if-skip.false at c.skip.ensures.passed in
+    let found = rw c.in-Some.is at c.in_ok-start.ensures.parsed in
+    item_read c.args.tokens.now.spans c.skip.new.self.spans (expression_by c.args.tokens.now.spans (deeper c.args.tokens.now.spans c.args.left))
+    c.args.span c.span_through_next-span.result (node_of c.args.value) (node_of c.in-Some.key) c.in_ok-item-in-Some.field-0 c.args.tokens.now.left
+    c.bound.new.tokens.left c.skip.new.self.left c.in_brackets.new.tokens.left c.in_brackets.result found bare.0 bare.1
+    (c.skip.ensures.spans ∙ c.in_ok-start.ensures.spans) c.span_through_next-span.ensures c.in_ok-item-in-Some.ensures.tree
+    c.in_ok-item-in-Some.ensures.places c.in_brackets.ensures.parsed

@@ -6,4 +6,4 @@ use Rattle.template_compiler_expression_parser.proofs.read.read_filter.Goals as 
 pub returns-clause-tree : goal.returns-clause-tree
 unfolding filter_at
 returns-clause-tree c =
-    filter_tree c.args.tokens.now.spans c.args.left (optional_node_in c.args.value) c.args.tokens.now.left c.filter.new.tokens.left c.filter.result c.filter.ensures.parsed
+    filter_tree c.args.tokens.now.spans c.args.left (optional_node_in c.args.value) c.args.tokens.now.left c.filter.new.tokens.left c.filter.result (rw c.span-span.ensures at c.filter.ensures.parsed)

@@ -5,12 +5,11 @@ use Rattle.template_compiler_expression_parts.proofs.Takes.{dotted_takes}
 use Rattle.template_compiler_expression_parts.proofs.literals.parts.Goals as goal
 
 pub loop-part-preserved : goal.loop-part-preserved
-loop-part-preserved c =
-    (
-      c.in-Some.ensures.spans ∙ c.loop-part.invariant.0,
-      rounds_go dotted_step dotted_takes _ _ _ _ _ _ c.loop-part.invariant.1
+loop-part-preserved c = (
+  c.in-Some.ensures.spans ∙ c.loop-part.invariant.0,
+  rounds_go dotted_step dotted_takes _ _ _ _ _ _ c.loop-part.invariant.1
       (dotted_goes _ _ _ _ _ c.in-Some.ensures.passed c.in_ok-put_part-in-Some.ensures),
-    )
+)
 
 pub returns-in-None-clause-parsed : goal.returns-in-None-clause-parsed
 returns-in-None-clause-parsed c =
