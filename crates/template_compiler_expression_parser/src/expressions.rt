@@ -3,12 +3,16 @@ ghost use Rattle.std.specs.Prelude.{◌≡◌, true, false, Some, Ok, suc};
 ghost use Rattle.std.specs.Cow.{cow_str_bytes};
 ghost use Rattle.template_compiler_expression_parts.specs.Parsed.{Parsed, ParsedAs, ParsedOptional, Stepped, SteppedTo, WentOn, paired_in, unnamed_by, written_in};
 ghost use Rattle.template_compiler_stream.specs.Signs.{level_of};
-ghost use Rattle.template_compiler_grammar.specs.Reader.{link_behind, argument_by, arguments_by, arguments_step, binary_by, bound_by, colon_end, comparison_by, deeper, else_behind, expression_by, filter_by, filter_step, filtered_by, is_by, items_step, link_step, list_by, map_by, negation_by, not_in_link, operand_by, operand_step, optional_arguments_by, paren_by, paren_end, part_step, parts_by, pairs_step, power_by, primary_by, slice_by, step_by, subscript_by, terms_by, test_arguments_by, test_by, unary_by};
-ghost use Rattle.template_compiler_grammar.specs.Trees.{nothing_paired, nothing_written};
+ghost use Rattle.template_compiler_grammar.specs.Reader.{colon_end, paren_end};
+ghost use Rattle.template_compiler_placed_grammar.specs.Reader.{link_behind, argument_by, arguments_by, arguments_step, binary_by, bound_by, comparison_by, deeper, else_behind, expression_by, filter_by, filter_step, filtered_by, is_by, items_step, link_step, list_by, map_by, negation_by, not_in_link, operand_by, operand_step, optional_arguments_by, paren_by, part_step, parts_by, pairs_step, power_by, primary_by, slice_by, step_by, subscript_by, terms_by, test_arguments_by, test_by, through_next, unary_by, up_to};
+ghost use Rattle.template_compiler_placed_grammar.specs.Nodes.{first_node, given_node, no_placed_links, no_placed_pairs, no_placed_written, node};
+ghost use Rattle.template_compiler_placed_grammar.specs.Views.{node_of, nodes_in, optional_node_in, placed_argument_of, placed_arguments_in, placed_links_in};
+ghost use Rattle.template_tree.specs.ExpressionPlaces.{places_of};
+ghost use Rattle.template_tree.specs.NodePlaces.{parts_more};
 ghost use Rattle.template_compiler_grammar.specs.Words.{disjunction};
 ghost use Rattle.template_compiler_tokens.specs.Steps.{and_then, all, goes, under};
-ghost use Rattle.template_tree.specs.Tree.{call, expressions_more, given, no_expressions, no_links, tuple_literal};
-ghost use Rattle.template_tree.specs.View.{argument_of, arguments_in, expression_of, expressions_in, links_in, optional_in};
+ghost use Rattle.template_tree.specs.Tree.{call, tuple_literal};
+ghost use Rattle.template_tree.specs.View.{expression_of};
 
 use std::alloc::Global;
 use std::borrow::CowStr;
@@ -21,13 +25,15 @@ use template_tree::{BinOpKind, CallArg, CompareOp, CompareOpKind, Expr, Span, Un
 
 // An expression, with so many nesting levels left.
 #[cycle(parser)]
-#[tactic(auto, unfolding(template_compiler_tokens::specs::Steps::and_then, template_compiler_grammar::specs::Reader::expression_by, template_compiler_grammar::specs::Reader::if_behind, template_compiler_grammar::specs::Reader::deeper))]
+#[tactic(auto, unfolding(template_compiler_tokens::specs::Steps::and_then, template_compiler_placed_grammar::specs::Reader::expression_by, template_compiler_placed_grammar::specs::Reader::if_behind, template_compiler_placed_grammar::specs::Reader::deeper))]
 pub(crate) fn expression<'source>(
     alloc: Global,
     tokens: &mut TokenStream<'source>,
     left: u32,
 ) -> Result<Expr<'source>, Refusal>
-    ensures { Parsed (expression_by (deeper left) tokens.old.left) tokens.new.left result }
+    ensures parsed { let table = tokens.old.spans in
+        Parsed (expression_by table (deeper table left) tokens.old.left) tokens.new.left result }
+    ensures spans { tokens.new.spans ≡ tokens.old.spans }
 {
     let span = tokens.span();
     let value = binary(alloc, tokens, left, Level::Disjunction)?;
@@ -40,7 +46,7 @@ pub(crate) fn expression<'source>(
 
 // Behind `if`: the condition, and the other branch where there is one.
 #[cycle(parser)]
-#[tactic(auto, unfolding(template_compiler_tokens::specs::Steps::and_then, template_compiler_grammar::specs::Reader::else_behind, template_compiler_grammar::specs::Reader::deeper))]
+#[tactic(auto, unfolding(template_compiler_tokens::specs::Steps::and_then, template_compiler_placed_grammar::specs::Reader::else_behind, template_compiler_placed_grammar::specs::Reader::deeper))]
 fn branches<'source>(
     alloc: Global,
     tokens: &mut TokenStream<'source>,
@@ -48,8 +54,10 @@ fn branches<'source>(
     value: Expr<'source>,
     span: Span,
 ) -> Result<Expr<'source>, Refusal>
-    ensures { Parsed (and_then (binary_by (deeper left) disjunction tokens.old.left)
-        (else_behind (deeper (suc left)) (expression_of value.entry))) tokens.new.left result }
+    ensures parsed { let table = tokens.old.spans in
+        Parsed (and_then (binary_by table (deeper table left) disjunction tokens.old.left) (else_behind table (deeper table (suc left)) span
+        (node_of value.entry))) tokens.new.left result }
+    ensures spans { tokens.new.spans ≡ tokens.old.spans }
 {
     let test = binary(alloc, tokens, left, Level::Disjunction)?;
     let other = if tokens.skip_word("else") {
@@ -62,14 +70,16 @@ fn branches<'source>(
 
 // Operands with the operators of a level between them. Most are alone, and go through no level below.
 #[cycle(parser)]
-#[tactic(auto, unfolding(template_compiler_tokens::specs::Steps::and_then, template_compiler_grammar::specs::Reader::binary_by, template_compiler_grammar::specs::Reader::binary_of))]
+#[tactic(auto, unfolding(template_compiler_tokens::specs::Steps::and_then, template_compiler_placed_grammar::specs::Reader::binary_by, template_compiler_placed_grammar::specs::Reader::binary_of))]
 pub(crate) fn binary<'source>(
     alloc: Global,
     tokens: &mut TokenStream<'source>,
     left: u32,
     level: Level,
 ) -> Result<Expr<'source>, Refusal>
-    ensures { Parsed (binary_by (deeper left) (level_of level) tokens.old.left) tokens.new.left result }
+    ensures parsed { let table = tokens.old.spans in
+        Parsed (binary_by table (deeper table left) (level_of level) tokens.old.left) tokens.new.left result }
+    ensures spans { tokens.new.spans ≡ tokens.old.spans }
 {
     if tokens.begins_alone() {
         return literal(alloc, tokens);
@@ -88,8 +98,10 @@ fn operands<'source>(
     value: Expr<'source>,
     span: Span,
 ) -> Result<Expr<'source>, Refusal>
-    ensures { Parsed (all (operand_step (level_of level) (operand_by (deeper left) (level_of level))) (expression_of value.entry)
+    ensures parsed { let table = tokens.old.spans in
+        Parsed (all (operand_step table (level_of level) (operand_by table (deeper table left) (level_of level)) span) (node_of value.entry)
         tokens.old.left) tokens.new.left result }
+    ensures spans { tokens.new.spans ≡ tokens.old.spans }
 {
     let mut value = value;
     loop {
@@ -111,8 +123,10 @@ fn next_operand<'source>(
     value: Expr<'source>,
     span: Span,
 ) -> Result<Behind<'source>, Refusal>
-    ensures { Stepped (operand_step (level_of level) (operand_by (deeper left) (level_of level)) (expression_of value.entry)
-        tokens.old.left) (expression_of value.entry) tokens.old.left tokens.new.left result }
+    ensures parsed { let table = tokens.old.spans in
+        Stepped (operand_step table (level_of level) (operand_by table (deeper table left) (level_of level)) span (node_of value.entry)
+        tokens.old.left) (node_of value.entry) tokens.old.left tokens.new.left result }
+    ensures spans { tokens.new.spans ≡ tokens.old.spans }
 {
     match tokens.skip_operator(level) {
         Some(op) => {
@@ -127,14 +141,16 @@ fn next_operand<'source>(
 }
 
 #[cycle(parser)]
-#[tactic(auto, unfolding(template_compiler_grammar::specs::Reader::operand_by, template_compiler_grammar::specs::Reader::binary_by))]
+#[tactic(auto, unfolding(template_compiler_placed_grammar::specs::Reader::operand_by, template_compiler_placed_grammar::specs::Reader::binary_by))]
 fn operand<'source>(
     alloc: Global,
     tokens: &mut TokenStream<'source>,
     left: u32,
     level: Level,
 ) -> Result<Expr<'source>, Refusal>
-    ensures { Parsed (operand_by (deeper left) (level_of level) tokens.old.left) tokens.new.left result }
+    ensures parsed { let table = tokens.old.spans in
+        Parsed (operand_by table (deeper table left) (level_of level) tokens.old.left) tokens.new.left result }
+    ensures spans { tokens.new.spans ≡ tokens.old.spans }
 {
     match level {
         Level::Factors => power(alloc, tokens, left),
@@ -146,13 +162,15 @@ fn operand<'source>(
 }
 
 #[cycle(parser)]
-#[tactic(auto, unfolding(template_compiler_tokens::specs::Steps::and_then, template_compiler_grammar::specs::Reader::negation_by, template_compiler_grammar::specs::Reader::deeper))]
+#[tactic(auto, unfolding(template_compiler_tokens::specs::Steps::and_then, template_compiler_placed_grammar::specs::Reader::negation_by, template_compiler_placed_grammar::specs::Reader::deeper))]
 fn negation<'source>(
     alloc: Global,
     tokens: &mut TokenStream<'source>,
     left: u32,
 ) -> Result<Expr<'source>, Refusal>
-    ensures { Parsed (negation_by (deeper left) tokens.old.left) tokens.new.left result }
+    ensures parsed { let table = tokens.old.spans in
+        Parsed (negation_by table (deeper table left) tokens.old.left) tokens.new.left result }
+    ensures spans { tokens.new.spans ≡ tokens.old.spans }
 {
     let span = tokens.span();
     if tokens.skip_word("not") {
@@ -167,13 +185,15 @@ fn negation<'source>(
 
 // A sum, with comparisons behind it.
 #[cycle(parser)]
-#[tactic(auto, unfolding(template_compiler_tokens::specs::Steps::and_then, template_compiler_grammar::specs::Reader::comparison_by, template_compiler_grammar::specs::Reader::terms_by, template_compiler_grammar::specs::Reader::binary_by, template_compiler_grammar::specs::Reader::operand_by))]
+#[tactic(auto, unfolding(template_compiler_tokens::specs::Steps::and_then, template_compiler_placed_grammar::specs::Reader::comparison_by, template_compiler_placed_grammar::specs::Reader::terms_by, template_compiler_placed_grammar::specs::Reader::binary_by, template_compiler_placed_grammar::specs::Reader::operand_by))]
 fn comparison<'source>(
     alloc: Global,
     tokens: &mut TokenStream<'source>,
     left: u32,
 ) -> Result<Expr<'source>, Refusal>
-    ensures { Parsed (comparison_by (deeper left) tokens.old.left) tokens.new.left result }
+    ensures parsed { let table = tokens.old.spans in
+        Parsed (comparison_by table (deeper table left) tokens.old.left) tokens.new.left result }
+    ensures spans { tokens.new.spans ≡ tokens.old.spans }
 {
     let span = tokens.span();
     let value = binary(alloc, tokens, left, Level::Terms)?;
@@ -187,7 +207,10 @@ fn links<'source>(
     tokens: &mut TokenStream<'source>,
     left: u32,
 ) -> Result<Vec<CompareOp<'source>>, Refusal>
-    ensures { ParsedAs (λ v. links_in v.items) (all (link_step (terms_by (deeper left))) no_links tokens.old.left) tokens.new.left result }
+    ensures parsed { let table = tokens.old.spans in
+        ParsedAs (λ v. placed_links_in v.items) (all (link_step table (terms_by table (deeper table left))) no_placed_links tokens.old.left)
+        tokens.new.left result }
+    ensures spans { tokens.new.spans ≡ tokens.old.spans }
 {
     let mut links = Vec::new(alloc);
     loop {
@@ -207,8 +230,10 @@ fn next_link<'source>(
     left: u32,
     links: &mut Vec<CompareOp<'source>>,
 ) -> Result<bool, Refusal>
-    ensures { SteppedTo (link_step (terms_by (deeper left)) (links_in links.old.items) tokens.old.left) (links_in links.old.items)
-        tokens.old.left (links_in links.new.items) tokens.new.left result }
+    ensures parsed { let table = tokens.old.spans in
+        SteppedTo (link_step table (terms_by table (deeper table left)) (placed_links_in links.old.items) tokens.old.left) (placed_links_in
+        links.old.items) tokens.old.left (placed_links_in links.new.items) tokens.new.left result }
+    ensures spans { tokens.new.spans ≡ tokens.old.spans }
 {
     match tokens.skip_comparison() {
         Some(op) => put_link(alloc, tokens, left, op, links),
@@ -224,7 +249,7 @@ fn next_link<'source>(
 
 // Behind a comparison: its right side.
 #[cycle(parser)]
-#[tactic(auto, using(template_compiler_expression_parts::proofs::Pushes::links_push), unfolding(template_compiler_tokens::specs::Steps::under, template_compiler_grammar::specs::Reader::link_behind, template_compiler_grammar::specs::Reader::terms_by, template_compiler_grammar::specs::Reader::binary_by, template_compiler_grammar::specs::Reader::operand_by))]
+#[tactic(auto, using(template_compiler_placed_grammar::proofs::Pushes::placed_links_push), unfolding(template_compiler_tokens::specs::Steps::under, template_compiler_placed_grammar::specs::Reader::link_behind, template_compiler_placed_grammar::specs::Reader::terms_by, template_compiler_placed_grammar::specs::Reader::binary_by, template_compiler_placed_grammar::specs::Reader::operand_by))]
 fn put_link<'source>(
     alloc: Global,
     tokens: &mut TokenStream<'source>,
@@ -232,8 +257,10 @@ fn put_link<'source>(
     op: CompareOpKind,
     links: &mut Vec<CompareOp<'source>>,
 ) -> Result<bool, Refusal>
-    ensures { SteppedTo (link_behind (Some op) false (terms_by (deeper left)) (links_in links.old.items) tokens.old.left)
-        (links_in links.old.items) tokens.old.left (links_in links.new.items) tokens.new.left result }
+    ensures parsed { let table = tokens.old.spans in
+        SteppedTo (link_behind table (Some op) false (terms_by table (deeper table left)) (placed_links_in links.old.items) tokens.old.left)
+        (placed_links_in links.old.items) tokens.old.left (placed_links_in links.new.items) tokens.new.left result }
+    ensures spans { tokens.new.spans ≡ tokens.old.spans }
 {
     let right = match binary(alloc, tokens, left, Level::Terms) {
         Ok(right) => right,
@@ -245,15 +272,17 @@ fn put_link<'source>(
 
 // Behind the `not` of a `not in`.
 #[cycle(parser)]
-#[tactic(auto, unfolding(template_compiler_tokens::specs::Steps::under, template_compiler_grammar::specs::Reader::link_behind, template_compiler_grammar::specs::Reader::not_in_link))]
+#[tactic(auto, unfolding(template_compiler_tokens::specs::Steps::under, template_compiler_placed_grammar::specs::Reader::link_behind, template_compiler_placed_grammar::specs::Reader::not_in_link))]
 fn next_not_in<'source>(
     alloc: Global,
     tokens: &mut TokenStream<'source>,
     left: u32,
     links: &mut Vec<CompareOp<'source>>,
 ) -> Result<bool, Refusal>
-    ensures { SteppedTo (not_in_link (terms_by (deeper left)) (links_in links.old.items) tokens.old.left) (links_in links.old.items)
-        tokens.old.left (links_in links.new.items) tokens.new.left result }
+    ensures parsed { let table = tokens.old.spans in
+        SteppedTo (not_in_link table (terms_by table (deeper table left)) (placed_links_in links.old.items) tokens.old.left)
+        (placed_links_in links.old.items) tokens.old.left (placed_links_in links.new.items) tokens.new.left result }
+    ensures spans { tokens.new.spans ≡ tokens.old.spans }
 {
     if tokens.skip_word("in") {
         put_link(alloc, tokens, left, CompareOpKind::NotIn, links)
@@ -263,13 +292,15 @@ fn next_not_in<'source>(
 }
 
 #[cycle(parser)]
-#[tactic(auto, unfolding(template_compiler_tokens::specs::Steps::and_then, template_compiler_grammar::specs::Reader::power_by, template_compiler_grammar::specs::Reader::power_behind, template_compiler_grammar::specs::Reader::deeper))]
+#[tactic(auto, unfolding(template_compiler_tokens::specs::Steps::and_then, template_compiler_placed_grammar::specs::Reader::power_by, template_compiler_placed_grammar::specs::Reader::power_behind, template_compiler_placed_grammar::specs::Reader::deeper))]
 fn power<'source>(
     alloc: Global,
     tokens: &mut TokenStream<'source>,
     left: u32,
 ) -> Result<Expr<'source>, Refusal>
-    ensures { Parsed (power_by (deeper left) tokens.old.left) tokens.new.left result }
+    ensures parsed { let table = tokens.old.spans in
+        Parsed (power_by table (deeper table left) tokens.old.left) tokens.new.left result }
+    ensures spans { tokens.new.spans ≡ tokens.old.spans }
 {
     let span = tokens.span();
     let value = filtered(alloc, tokens, left)?;
@@ -289,13 +320,15 @@ fn power<'source>(
 
 // An unary, with filters and tests behind it.
 #[cycle(parser)]
-#[tactic(auto, unfolding(template_compiler_tokens::specs::Steps::and_then, template_compiler_grammar::specs::Reader::filtered_by))]
+#[tactic(auto, unfolding(template_compiler_tokens::specs::Steps::and_then, template_compiler_placed_grammar::specs::Reader::filtered_by))]
 fn filtered<'source>(
     alloc: Global,
     tokens: &mut TokenStream<'source>,
     left: u32,
 ) -> Result<Expr<'source>, Refusal>
-    ensures { Parsed (filtered_by (deeper left) tokens.old.left) tokens.new.left result }
+    ensures parsed { let table = tokens.old.spans in
+        Parsed (filtered_by table (deeper table left) tokens.old.left) tokens.new.left result }
+    ensures spans { tokens.new.spans ≡ tokens.old.spans }
 {
     let span = tokens.span();
     let value = unary(alloc, tokens, left)?;
@@ -310,7 +343,9 @@ fn filters<'source>(
     value: Expr<'source>,
     span: Span,
 ) -> Result<Expr<'source>, Refusal>
-    ensures { Parsed (all (filter_step (deeper left)) (expression_of value.entry) tokens.old.left) tokens.new.left result }
+    ensures parsed { let table = tokens.old.spans in
+        Parsed (all (filter_step table (deeper table left) span) (node_of value.entry) tokens.old.left) tokens.new.left result }
+    ensures spans { tokens.new.spans ≡ tokens.old.spans }
 {
     let mut value = value;
     loop {
@@ -323,7 +358,7 @@ fn filters<'source>(
 }
 
 #[cycle(parser)]
-#[tactic(auto, using(template_compiler_expression_parts::proofs::Rounds::filter_none), unfolding(template_compiler_tokens::specs::Steps::under, template_compiler_grammar::specs::Reader::filter_step))]
+#[tactic(auto, using(template_compiler_expression_parts::proofs::Rounds::filter_none), unfolding(template_compiler_tokens::specs::Steps::under, template_compiler_placed_grammar::specs::Reader::filter_step))]
 fn next_filter<'source>(
     alloc: Global,
     tokens: &mut TokenStream<'source>,
@@ -331,8 +366,10 @@ fn next_filter<'source>(
     value: Expr<'source>,
     span: Span,
 ) -> Result<Behind<'source>, Refusal>
-    ensures { Stepped (filter_step (deeper left) (expression_of value.entry) tokens.old.left) (expression_of value.entry) tokens.old.left
+    ensures parsed { let table = tokens.old.spans in
+        Stepped (filter_step table (deeper table left) span (node_of value.entry) tokens.old.left) (node_of value.entry) tokens.old.left
         tokens.new.left result }
+    ensures spans { tokens.new.spans ≡ tokens.old.spans }
 {
     if tokens.skip(Sign::Pipe) {
         piped(alloc, tokens, left, value, span).map(Behind::Goes)
@@ -345,7 +382,7 @@ fn next_filter<'source>(
 
 // Behind `|`: a filter, with the parts of its result.
 #[cycle(parser)]
-#[tactic(auto, unfolding(template_compiler_tokens::specs::Steps::and_then, template_compiler_grammar::specs::Reader::parts_by))]
+#[tactic(auto, unfolding(template_compiler_tokens::specs::Steps::and_then, template_compiler_placed_grammar::specs::Reader::parts_by))]
 fn piped<'source>(
     alloc: Global,
     tokens: &mut TokenStream<'source>,
@@ -353,8 +390,10 @@ fn piped<'source>(
     value: Expr<'source>,
     span: Span,
 ) -> Result<Expr<'source>, Refusal>
-    ensures { Parsed (and_then (filter_by (deeper left) (given (expression_of value.entry)) tokens.old.left) (parts_by (deeper left)))
-        tokens.new.left result }
+    ensures parsed { let table = tokens.old.spans in
+        Parsed (and_then (filter_by table (deeper table left) span (given_node (node_of value.entry)) tokens.old.left) (parts_by table
+        (deeper table left) span)) tokens.new.left result }
+    ensures spans { tokens.new.spans ≡ tokens.old.spans }
 {
     let filtered = filter(alloc, tokens, left, Some(value), span)?;
     parts(alloc, tokens, left, filtered, span)
@@ -362,7 +401,7 @@ fn piped<'source>(
 
 // A filter's name and its arguments.
 #[cycle(parser)]
-#[tactic(auto, unfolding(template_compiler_tokens::specs::Steps::and_then, template_compiler_grammar::specs::Reader::filter_by))]
+#[tactic(auto, unfolding(template_compiler_tokens::specs::Steps::and_then, template_compiler_placed_grammar::specs::Reader::filter_by))]
 pub(crate) fn filter<'source>(
     alloc: Global,
     tokens: &mut TokenStream<'source>,
@@ -370,7 +409,9 @@ pub(crate) fn filter<'source>(
     value: Option<Expr<'source>>,
     span: Span,
 ) -> Result<Expr<'source>, Refusal>
-    ensures { Parsed (filter_by (deeper left) (optional_in value.entry) tokens.old.left) tokens.new.left result }
+    ensures parsed { let table = tokens.old.spans in
+        Parsed (filter_by table (deeper table left) span (optional_node_in value.entry) tokens.old.left) tokens.new.left result }
+    ensures spans { tokens.new.spans ≡ tokens.old.spans }
 {
     let name = name(alloc, tokens)?;
     let arguments = optional_arguments(alloc, tokens, left)?;
@@ -379,13 +420,16 @@ pub(crate) fn filter<'source>(
 
 // Arguments in parentheses, where a `(` stands next.
 #[cycle(parser)]
-#[tactic(auto, using(template_compiler_expression_parts::proofs::Nothing::no_arguments_list), unfolding(template_compiler_grammar::specs::Reader::optional_arguments_by, template_compiler_grammar::specs::Reader::deeper))]
+#[tactic(auto, using(template_compiler_expression_parts::proofs::Nothing::no_arguments_list), unfolding(template_compiler_placed_grammar::specs::Reader::optional_arguments_by, template_compiler_placed_grammar::specs::Reader::deeper))]
 fn optional_arguments<'source>(
     alloc: Global,
     tokens: &mut TokenStream<'source>,
     left: u32,
 ) -> Result<Vec<CallArg<'source>>, Refusal>
-    ensures { ParsedAs (λ v. arguments_in v.items) (optional_arguments_by (deeper left) tokens.old.left) tokens.new.left result }
+    ensures parsed { let table = tokens.old.spans in
+        ParsedAs (λ v. placed_arguments_in v.items) (optional_arguments_by table (deeper table left) tokens.old.left) tokens.new.left
+        result }
+    ensures spans { tokens.new.spans ≡ tokens.old.spans }
 {
     if tokens.skip(Sign::ParenOpen) {
         arguments(alloc, tokens, deeper(left)?)
@@ -404,7 +448,9 @@ fn asked<'source>(
     value: Expr<'source>,
     span: Span,
 ) -> Result<Expr<'source>, Refusal>
-    ensures { Parsed (is_by (deeper left) (expression_of value.entry) tokens.old.left) tokens.new.left result }
+    ensures parsed { let table = tokens.old.spans in
+        Parsed (is_by table (deeper table left) span (node_of value.entry) tokens.old.left) tokens.new.left result }
+    ensures spans { tokens.new.spans ≡ tokens.old.spans }
 {
     let negated = tokens.skip_word("not");
     test(alloc, tokens, left, negated, value, span)
@@ -412,7 +458,7 @@ fn asked<'source>(
 
 // A test's name and its arguments, with the parts behind it.
 #[cycle(parser)]
-#[tactic(auto, unfolding(template_compiler_tokens::specs::Steps::and_then, template_compiler_grammar::specs::Reader::test_by))]
+#[tactic(auto, unfolding(template_compiler_tokens::specs::Steps::and_then, template_compiler_placed_grammar::specs::Reader::test_by))]
 fn test<'source>(
     alloc: Global,
     tokens: &mut TokenStream<'source>,
@@ -421,7 +467,9 @@ fn test<'source>(
     value: Expr<'source>,
     span: Span,
 ) -> Result<Expr<'source>, Refusal>
-    ensures { Parsed (test_by (deeper left) negated (expression_of value.entry) tokens.old.left) tokens.new.left result }
+    ensures parsed { let table = tokens.old.spans in
+        Parsed (test_by table (deeper table left) negated span (node_of value.entry) tokens.old.left) tokens.new.left result }
+    ensures spans { tokens.new.spans ≡ tokens.old.spans }
 {
     let name = name(alloc, tokens)?;
     if tokens.begins_argument() {
@@ -433,7 +481,7 @@ fn test<'source>(
 
 // A test with one argument, which stands without parentheses.
 #[cycle(parser)]
-#[tactic(auto, unfolding(template_compiler_tokens::specs::Steps::and_then, template_compiler_grammar::specs::Reader::test_arguments_by))]
+#[tactic(auto, unfolding(template_compiler_tokens::specs::Steps::and_then, template_compiler_placed_grammar::specs::Reader::test_arguments_by))]
 fn bare_test<'source>(
     alloc: Global,
     tokens: &mut TokenStream<'source>,
@@ -443,8 +491,10 @@ fn bare_test<'source>(
     value: Expr<'source>,
     span: Span,
 ) -> Result<Expr<'source>, Refusal>
-    ensures { Parsed (test_arguments_by (deeper left) true negated (expression_of value.entry) (cow_str_bytes name.entry) tokens.old.left)
-        tokens.new.left result }
+    ensures parsed { let table = tokens.old.spans in
+        Parsed (test_arguments_by table (deeper table left) true negated span (node_of value.entry) (cow_str_bytes name.entry)
+        tokens.old.left) tokens.new.left result }
+    ensures spans { tokens.new.spans ≡ tokens.old.spans }
 {
     let argument = unary(alloc, tokens, left)?;
     let mut arguments = Vec::new(alloc);
@@ -461,7 +511,7 @@ fn bare_test<'source>(
 
 // A test with arguments in parentheses, or with none.
 #[cycle(parser)]
-#[tactic(auto, unfolding(template_compiler_tokens::specs::Steps::and_then, template_compiler_grammar::specs::Reader::test_arguments_by, template_compiler_grammar::specs::Reader::parts_by))]
+#[tactic(auto, unfolding(template_compiler_tokens::specs::Steps::and_then, template_compiler_placed_grammar::specs::Reader::test_arguments_by, template_compiler_placed_grammar::specs::Reader::parts_by))]
 fn plain_test<'source>(
     alloc: Global,
     tokens: &mut TokenStream<'source>,
@@ -471,8 +521,10 @@ fn plain_test<'source>(
     value: Expr<'source>,
     span: Span,
 ) -> Result<Expr<'source>, Refusal>
-    ensures { Parsed (test_arguments_by (deeper left) false negated (expression_of value.entry) (cow_str_bytes name.entry) tokens.old.left)
-        tokens.new.left result }
+    ensures parsed { let table = tokens.old.spans in
+        Parsed (test_arguments_by table (deeper table left) false negated span (node_of value.entry) (cow_str_bytes name.entry)
+        tokens.old.left) tokens.new.left result }
+    ensures spans { tokens.new.spans ≡ tokens.old.spans }
 {
     let arguments = optional_arguments(alloc, tokens, left)?;
     let test = tested(
@@ -488,13 +540,15 @@ fn plain_test<'source>(
 
 // A minus, or a primary with its parts.
 #[cycle(parser)]
-#[tactic(auto, unfolding(template_compiler_tokens::specs::Steps::and_then, template_compiler_grammar::specs::Reader::unary_by, template_compiler_grammar::specs::Reader::parts_by, template_compiler_grammar::specs::Reader::deeper))]
+#[tactic(auto, unfolding(template_compiler_tokens::specs::Steps::and_then, template_compiler_placed_grammar::specs::Reader::unary_by, template_compiler_placed_grammar::specs::Reader::parts_by, template_compiler_placed_grammar::specs::Reader::deeper))]
 fn unary<'source>(
     alloc: Global,
     tokens: &mut TokenStream<'source>,
     left: u32,
 ) -> Result<Expr<'source>, Refusal>
-    ensures { Parsed (unary_by (deeper left) tokens.old.left) tokens.new.left result }
+    ensures parsed { let table = tokens.old.spans in
+        Parsed (unary_by table (deeper table left) tokens.old.left) tokens.new.left result }
+    ensures spans { tokens.new.spans ≡ tokens.old.spans }
 {
     let span = tokens.span();
     if tokens.skip(Sign::Minus) {
@@ -516,7 +570,9 @@ fn parts<'source>(
     value: Expr<'source>,
     span: Span,
 ) -> Result<Expr<'source>, Refusal>
-    ensures { Parsed (all (part_step (deeper left)) (expression_of value.entry) tokens.old.left) tokens.new.left result }
+    ensures parsed { let table = tokens.old.spans in
+        Parsed (all (part_step table (deeper table left) span) (node_of value.entry) tokens.old.left) tokens.new.left result }
+    ensures spans { tokens.new.spans ≡ tokens.old.spans }
 {
     let mut value = value;
     loop {
@@ -529,7 +585,7 @@ fn parts<'source>(
 }
 
 #[cycle(parser)]
-#[tactic(auto, using(template_compiler_expression_parts::proofs::Rounds::part_none), unfolding(template_compiler_tokens::specs::Steps::under, template_compiler_grammar::specs::Reader::part_step, template_compiler_grammar::specs::Reader::deeper))]
+#[tactic(auto, using(template_compiler_expression_parts::proofs::Rounds::part_none), unfolding(template_compiler_tokens::specs::Steps::under, template_compiler_placed_grammar::specs::Reader::part_step, template_compiler_placed_grammar::specs::Reader::deeper))]
 fn next_part<'source>(
     alloc: Global,
     tokens: &mut TokenStream<'source>,
@@ -537,8 +593,10 @@ fn next_part<'source>(
     value: Expr<'source>,
     span: Span,
 ) -> Result<Behind<'source>, Refusal>
-    ensures { Stepped (part_step (deeper left) (expression_of value.entry) tokens.old.left) (expression_of value.entry) tokens.old.left
+    ensures parsed { let table = tokens.old.spans in
+        Stepped (part_step table (deeper table left) span (node_of value.entry) tokens.old.left) (node_of value.entry) tokens.old.left
         tokens.new.left result }
+    ensures spans { tokens.new.spans ≡ tokens.old.spans }
 {
     if tokens.skip(Sign::Dot) {
         attribute(alloc, tokens, value, span).map(Behind::Goes)
@@ -561,8 +619,11 @@ fn call<'source>(
     value: Expr<'source>,
     span: Span,
 ) -> Result<Expr<'source>, Refusal>
-    ensures { WentOn (under (arguments_by (expression_by (deeper left)) tokens.old.left)
-        (λ args us. goes (call (expression_of value.entry) args) us)) tokens.new.left result }
+    ensures parsed { let table = tokens.old.spans in
+        WentOn (under (arguments_by table (expression_by table (deeper table left)) tokens.old.left) (λ args us. goes (node (call
+        (expression_of value.entry) args.tree) (up_to table span us) (parts_more (places_of value.entry) args.places)) us)) tokens.new.left
+        result }
+    ensures spans { tokens.new.spans ≡ tokens.old.spans }
 {
     let arguments = arguments(alloc, tokens, left)?;
     Expr::call(alloc, value, arguments, tokens.expand_span(span)).map_err(Refusal::from)
@@ -570,7 +631,7 @@ fn call<'source>(
 
 // Behind the `[` of an item or a slice.
 #[cycle(parser)]
-#[tactic(auto, using(template_compiler_expression_parts::proofs::Nothing::a_key, template_compiler_expression_parts::proofs::Nothing::no_key), unfolding(template_compiler_tokens::specs::Steps::and_then, template_compiler_grammar::specs::Reader::subscript_by, template_compiler_grammar::specs::Reader::subscript_behind))]
+#[tactic(auto, using(template_compiler_expression_parts::proofs::Nothing::a_key, template_compiler_expression_parts::proofs::Nothing::no_key), unfolding(template_compiler_tokens::specs::Steps::and_then, template_compiler_placed_grammar::specs::Reader::subscript_by, template_compiler_placed_grammar::specs::Reader::subscript_behind))]
 fn subscript<'source>(
     alloc: Global,
     tokens: &mut TokenStream<'source>,
@@ -578,7 +639,10 @@ fn subscript<'source>(
     value: Expr<'source>,
     span: Span,
 ) -> Result<Expr<'source>, Refusal>
-    ensures { Parsed (subscript_by (expression_by (deeper left)) (expression_of value.entry) tokens.old.left) tokens.new.left result }
+    ensures parsed { let table = tokens.old.spans in
+        Parsed (subscript_by table (expression_by table (deeper table left)) span (node_of value.entry) tokens.old.left) tokens.new.left
+        result }
+    ensures spans { tokens.new.spans ≡ tokens.old.spans }
 {
     let start = bound(alloc, tokens, left)?;
     if tokens.skip(Sign::Colon) {
@@ -593,7 +657,7 @@ fn subscript<'source>(
 
 // Behind the first colon of a slice.
 #[cycle(parser)]
-#[tactic(auto, unfolding(template_compiler_tokens::specs::Steps::and_then, template_compiler_grammar::specs::Reader::slice_by))]
+#[tactic(auto, unfolding(template_compiler_tokens::specs::Steps::and_then, template_compiler_placed_grammar::specs::Reader::slice_by))]
 fn slice<'source>(
     alloc: Global,
     tokens: &mut TokenStream<'source>,
@@ -602,8 +666,10 @@ fn slice<'source>(
     start: Option<Expr<'source>>,
     span: Span,
 ) -> Result<Expr<'source>, Refusal>
-    ensures { Parsed (slice_by (expression_by (deeper left)) (expression_of value.entry) (optional_in start.entry) tokens.old.left)
-        tokens.new.left result }
+    ensures parsed { let table = tokens.old.spans in
+        Parsed (slice_by table (expression_by table (deeper table left)) span (node_of value.entry) (optional_node_in start.entry)
+        tokens.old.left) tokens.new.left result }
+    ensures spans { tokens.new.spans ≡ tokens.old.spans }
 {
     let stop = bound(alloc, tokens, left)?;
     let step = step(alloc, tokens, left)?;
@@ -613,13 +679,15 @@ fn slice<'source>(
 
 // A bound of a slice, where it is not left out.
 #[cycle(parser)]
-#[tactic(auto, unfolding(template_compiler_tokens::specs::Steps::and_then, template_compiler_grammar::specs::Reader::bound_by))]
+#[tactic(auto, unfolding(template_compiler_tokens::specs::Steps::and_then, template_compiler_placed_grammar::specs::Reader::bound_by))]
 fn bound<'source>(
     alloc: Global,
     tokens: &mut TokenStream<'source>,
     left: u32,
 ) -> Result<Option<Expr<'source>>, Refusal>
-    ensures { ParsedOptional (bound_by (expression_by (deeper left)) tokens.old.left) tokens.new.left result }
+    ensures parsed { let table = tokens.old.spans in
+        ParsedOptional (bound_by table (expression_by table (deeper table left)) tokens.old.left) tokens.new.left result }
+    ensures spans { tokens.new.spans ≡ tokens.old.spans }
 {
     if tokens.ends_bound() {
         Ok(None)
@@ -630,13 +698,15 @@ fn bound<'source>(
 
 // The step of a slice, where a second colon stands next.
 #[cycle(parser)]
-#[tactic(auto, using(template_compiler_expression_parts::proofs::Nothing::no_step), unfolding(template_compiler_grammar::specs::Reader::step_by))]
+#[tactic(auto, using(template_compiler_expression_parts::proofs::Nothing::no_step), unfolding(template_compiler_placed_grammar::specs::Reader::step_by))]
 fn step<'source>(
     alloc: Global,
     tokens: &mut TokenStream<'source>,
     left: u32,
 ) -> Result<Option<Expr<'source>>, Refusal>
-    ensures { ParsedOptional (step_by (expression_by (deeper left)) tokens.old.left) tokens.new.left result }
+    ensures parsed { let table = tokens.old.spans in
+        ParsedOptional (step_by table (expression_by table (deeper table left)) tokens.old.left) tokens.new.left result }
+    ensures spans { tokens.new.spans ≡ tokens.old.spans }
 {
     if tokens.skip(Sign::Colon) {
         bound(alloc, tokens, left)
@@ -646,13 +716,15 @@ fn step<'source>(
 }
 
 #[cycle(parser)]
-#[tactic(auto, using(template_compiler_expression_parts::proofs::Nothing::no_bracket_opens), unfolding(template_compiler_grammar::specs::Reader::primary_by, template_compiler_grammar::specs::Reader::deeper))]
+#[tactic(auto, using(template_compiler_expression_parts::proofs::Nothing::no_bracket_opens), unfolding(template_compiler_placed_grammar::specs::Reader::primary_by, template_compiler_placed_grammar::specs::Reader::deeper))]
 fn primary<'source>(
     alloc: Global,
     tokens: &mut TokenStream<'source>,
     left: u32,
 ) -> Result<Expr<'source>, Refusal>
-    ensures { Parsed (primary_by (deeper left) tokens.old.left) tokens.new.left result }
+    ensures parsed { let table = tokens.old.spans in
+        Parsed (primary_by table (deeper table left) tokens.old.left) tokens.new.left result }
+    ensures spans { tokens.new.spans ≡ tokens.old.spans }
 {
     let span = tokens.span();
     if tokens.skip(Sign::ParenOpen) {
@@ -668,14 +740,16 @@ fn primary<'source>(
 
 // Behind `(`.
 #[cycle(parser)]
-#[tactic(auto, using(template_compiler_expression_parts::proofs::Nothing::not_empty, template_compiler_expression_parts::proofs::Nothing::no_tuple), unfolding(template_compiler_tokens::specs::Steps::and_then, template_compiler_grammar::specs::Reader::paren_by, template_compiler_grammar::specs::Reader::paren_behind, template_compiler_grammar::specs::Reader::items_by))]
+#[tactic(auto, using(template_compiler_expression_parts::proofs::Nothing::not_empty, template_compiler_expression_parts::proofs::Nothing::no_tuple), unfolding(template_compiler_tokens::specs::Steps::and_then, template_compiler_placed_grammar::specs::Reader::paren_by, template_compiler_placed_grammar::specs::Reader::paren_behind, template_compiler_placed_grammar::specs::Reader::items_by))]
 fn paren<'source>(
     alloc: Global,
     tokens: &mut TokenStream<'source>,
     left: u32,
     span: Span,
 ) -> Result<Expr<'source>, Refusal>
-    ensures { Parsed (paren_by (expression_by (deeper left)) tokens.old.left) tokens.new.left result }
+    ensures parsed { let table = tokens.old.spans in
+        Parsed (paren_by table (expression_by table (deeper table left)) span tokens.old.left) tokens.new.left result }
+    ensures spans { tokens.new.spans ≡ tokens.old.spans }
 {
     if tokens.skip(Sign::ParenClose) {
         return Expr::tuple(alloc, Vec::new(alloc), tokens.expand_span(span)).map_err(Refusal::from);
@@ -698,9 +772,11 @@ fn tuple<'source>(
     first: Expr<'source>,
     span: Span,
 ) -> Result<Expr<'source>, Refusal>
-    ensures { Parsed (and_then (all (items_step (expression_by (deeper left)))
-        (expressions_more (expression_of first.entry) no_expressions) tokens.old.left) (λ es us. paren_end (tuple_literal es) us))
-        tokens.new.left result }
+    ensures parsed { let table = tokens.old.spans in
+        Parsed (and_then (all (items_step table (expression_by table (deeper table left))) (first_node (node_of first.entry))
+        tokens.old.left) (λ es us. paren_end (node (tuple_literal es.tree) (through_next table span us) es.places) us)) tokens.new.left
+        result }
+    ensures spans { tokens.new.spans ≡ tokens.old.spans }
 {
     let mut held = Vec::new(alloc);
     held.push(first)?;
@@ -711,14 +787,16 @@ fn tuple<'source>(
 
 // Behind the `[` of a list.
 #[cycle(parser)]
-#[tactic(auto, unfolding(template_compiler_tokens::specs::Steps::and_then, template_compiler_grammar::specs::Reader::list_by, template_compiler_grammar::specs::Reader::items_by))]
+#[tactic(auto, unfolding(template_compiler_tokens::specs::Steps::and_then, template_compiler_placed_grammar::specs::Reader::list_by, template_compiler_placed_grammar::specs::Reader::items_by))]
 fn list<'source>(
     alloc: Global,
     tokens: &mut TokenStream<'source>,
     left: u32,
     span: Span,
 ) -> Result<Expr<'source>, Refusal>
-    ensures { Parsed (list_by (expression_by (deeper left)) tokens.old.left) tokens.new.left result }
+    ensures parsed { let table = tokens.old.spans in
+        Parsed (list_by table (expression_by table (deeper table left)) span tokens.old.left) tokens.new.left result }
+    ensures spans { tokens.new.spans ≡ tokens.old.spans }
 {
     let held = items(alloc, tokens, left, Vec::new(alloc))?;
     let span = tokens.span_through_next(span);
@@ -733,8 +811,10 @@ fn items<'source>(
     left: u32,
     held: Vec<Expr<'source>>,
 ) -> Result<Vec<Expr<'source>>, Refusal>
-    ensures { ParsedAs (λ v. expressions_in v.items) (all (items_step (expression_by (deeper left))) (expressions_in held.entry.items)
+    ensures parsed { let table = tokens.old.spans in
+        ParsedAs (λ v. nodes_in v.items) (all (items_step table (expression_by table (deeper table left))) (nodes_in held.entry.items)
         tokens.old.left) tokens.new.left result }
+    ensures spans { tokens.new.spans ≡ tokens.old.spans }
 {
     let mut held = held;
     loop {
@@ -747,15 +827,17 @@ fn items<'source>(
 }
 
 #[cycle(parser)]
-#[tactic(auto, using(template_compiler_expression_parts::proofs::Pushes::expressions_push, crate::proofs::Items::closing_stops, crate::proofs::Items::item_goes, crate::proofs::Items::item_refused, crate::proofs::Items::item_unseparated))]
+#[tactic(auto, using(template_compiler_placed_grammar::proofs::Pushes::nodes_push, crate::proofs::Items::closing_stops, crate::proofs::Items::item_goes, crate::proofs::Items::item_refused, crate::proofs::Items::item_unseparated))]
 fn next_item<'source>(
     alloc: Global,
     tokens: &mut TokenStream<'source>,
     left: u32,
     held: &mut Vec<Expr<'source>>,
 ) -> Result<bool, Refusal>
-    ensures { SteppedTo (items_step (expression_by (deeper left)) (expressions_in held.old.items) tokens.old.left)
-        (expressions_in held.old.items) tokens.old.left (expressions_in held.new.items) tokens.new.left result }
+    ensures parsed { let table = tokens.old.spans in
+        SteppedTo (items_step table (expression_by table (deeper table left)) (nodes_in held.old.items) tokens.old.left) (nodes_in
+        held.old.items) tokens.old.left (nodes_in held.new.items) tokens.new.left result }
+    ensures spans { tokens.new.spans ≡ tokens.old.spans }
 {
     if tokens.closes() {
         return Ok(false);
@@ -771,14 +853,16 @@ fn next_item<'source>(
 
 // Behind the `{` of a map.
 #[cycle(parser)]
-#[tactic(auto, unfolding(template_compiler_tokens::specs::Steps::and_then, template_compiler_grammar::specs::Reader::map_by, template_compiler_grammar::specs::Reader::pairs_by))]
+#[tactic(auto, unfolding(template_compiler_tokens::specs::Steps::and_then, template_compiler_placed_grammar::specs::Reader::map_by, template_compiler_placed_grammar::specs::Reader::pairs_by))]
 fn map<'source>(
     alloc: Global,
     tokens: &mut TokenStream<'source>,
     left: u32,
     span: Span,
 ) -> Result<Expr<'source>, Refusal>
-    ensures { Parsed (map_by (expression_by (deeper left)) tokens.old.left) tokens.new.left result }
+    ensures parsed { let table = tokens.old.spans in
+        Parsed (map_by table (expression_by table (deeper table left)) span tokens.old.left) tokens.new.left result }
+    ensures spans { tokens.new.spans ≡ tokens.old.spans }
 {
     let Pairs { keys, values } = pairs(alloc, tokens, left)?;
     let span = tokens.span_through_next(span);
@@ -792,7 +876,10 @@ fn pairs<'source>(
     tokens: &mut TokenStream<'source>,
     left: u32,
 ) -> Result<Pairs<'source>, Refusal>
-    ensures { ParsedAs paired_in (all (pairs_step (expression_by (deeper left))) nothing_paired tokens.old.left) tokens.new.left result }
+    ensures parsed { let table = tokens.old.spans in
+        ParsedAs paired_in (all (pairs_step table (expression_by table (deeper table left))) no_placed_pairs tokens.old.left)
+        tokens.new.left result }
+    ensures spans { tokens.new.spans ≡ tokens.old.spans }
 {
     let mut held = Pairs {
         keys: Vec::new(alloc),
@@ -815,8 +902,10 @@ fn next_pair<'source>(
     left: u32,
     held: &mut Pairs<'source>,
 ) -> Result<bool, Refusal>
-    ensures { SteppedTo (pairs_step (expression_by (deeper left)) (paired_in held.old) tokens.old.left) (paired_in held.old) tokens.old.left
-        (paired_in held.new) tokens.new.left result }
+    ensures parsed { let table = tokens.old.spans in
+        SteppedTo (pairs_step table (expression_by table (deeper table left)) (paired_in held.old) tokens.old.left) (paired_in held.old)
+        tokens.old.left (paired_in held.new) tokens.new.left result }
+    ensures spans { tokens.new.spans ≡ tokens.old.spans }
 {
     if tokens.closes() {
         return Ok(false);
@@ -842,7 +931,9 @@ fn key<'source>(
     tokens: &mut TokenStream<'source>,
     left: u32,
 ) -> Result<Expr<'source>, Refusal>
-    ensures { Parsed (and_then (expression_by (deeper left) tokens.old.left) colon_end) tokens.new.left result }
+    ensures parsed { let table = tokens.old.spans in
+        Parsed (and_then (expression_by table (deeper table left) tokens.old.left) colon_end) tokens.new.left result }
+    ensures spans { tokens.new.spans ≡ tokens.old.spans }
 {
     let key = expression(alloc, tokens, left)?;
     before_colon(tokens, key)
@@ -850,13 +941,16 @@ fn key<'source>(
 
 // Behind the `(` of arguments.
 #[cycle(parser)]
-#[tactic(auto, unfolding(template_compiler_tokens::specs::Steps::and_then, template_compiler_grammar::specs::Reader::arguments_by))]
+#[tactic(auto, unfolding(template_compiler_tokens::specs::Steps::and_then, template_compiler_placed_grammar::specs::Reader::arguments_by))]
 fn arguments<'source>(
     alloc: Global,
     tokens: &mut TokenStream<'source>,
     left: u32,
 ) -> Result<Vec<CallArg<'source>>, Refusal>
-    ensures { ParsedAs (λ v. arguments_in v.items) (arguments_by (expression_by (deeper left)) tokens.old.left) tokens.new.left result }
+    ensures parsed { let table = tokens.old.spans in
+        ParsedAs (λ v. placed_arguments_in v.items) (arguments_by table (expression_by table (deeper table left)) tokens.old.left)
+        tokens.new.left result }
+    ensures spans { tokens.new.spans ≡ tokens.old.spans }
 {
     let held = written(alloc, tokens, left)?;
     in_order(tokens, held)
@@ -869,8 +963,10 @@ fn written<'source>(
     tokens: &mut TokenStream<'source>,
     left: u32,
 ) -> Result<Written<'source>, Refusal>
-    ensures { ParsedAs written_in (all (arguments_step (expression_by (deeper left))) nothing_written tokens.old.left)
+    ensures parsed { let table = tokens.old.spans in
+        ParsedAs written_in (all (arguments_step table (expression_by table (deeper table left))) no_placed_written tokens.old.left)
         tokens.new.left result }
+    ensures spans { tokens.new.spans ≡ tokens.old.spans }
 {
     let mut held = Written {
         by_place: Vec::new(alloc),
@@ -893,8 +989,10 @@ fn next_argument<'source>(
     left: u32,
     held: &mut Written<'source>,
 ) -> Result<bool, Refusal>
-    ensures { SteppedTo (arguments_step (expression_by (deeper left)) (written_in held.old) tokens.old.left) (written_in held.old)
-        tokens.old.left (written_in held.new) tokens.new.left result }
+    ensures parsed { let table = tokens.old.spans in
+        SteppedTo (arguments_step table (expression_by table (deeper table left)) (written_in held.old) tokens.old.left) (written_in
+        held.old) tokens.old.left (written_in held.new) tokens.new.left result }
+    ensures spans { tokens.new.spans ≡ tokens.old.spans }
 {
     if tokens.closes() {
         return Ok(false);
@@ -909,13 +1007,15 @@ fn next_argument<'source>(
 }
 
 #[cycle(parser)]
-#[tactic(auto, using(template_compiler_expression_parts::proofs::Nothing::not_named), unfolding(template_compiler_tokens::specs::Steps::and_then, template_compiler_grammar::specs::Reader::argument_by, template_compiler_grammar::specs::Reader::named_argument))]
+#[tactic(auto, using(template_compiler_expression_parts::proofs::Nothing::not_named), unfolding(template_compiler_tokens::specs::Steps::and_then, template_compiler_placed_grammar::specs::Reader::argument_by, template_compiler_placed_grammar::specs::Reader::named_argument))]
 fn argument<'source>(
     alloc: Global,
     tokens: &mut TokenStream<'source>,
     left: u32,
 ) -> Result<CallArg<'source>, Refusal>
-    ensures { ParsedAs argument_of (argument_by (expression_by (deeper left)) tokens.old.left) tokens.new.left result }
+    ensures parsed { let table = tokens.old.spans in
+        ParsedAs placed_argument_of (argument_by table (expression_by table (deeper table left)) tokens.old.left) tokens.new.left result }
+    ensures spans { tokens.new.spans ≡ tokens.old.spans }
 {
     match tokens.skip_keyword() {
         Some(name) => Ok(CallArg::Kwarg(name, expression(alloc, tokens, left)?)),
@@ -930,7 +1030,9 @@ fn unnamed<'source>(
     tokens: &mut TokenStream<'source>,
     left: u32,
 ) -> Result<CallArg<'source>, Refusal>
-    ensures { ParsedAs argument_of (unnamed_by (expression_by (deeper left)) tokens.old.left) tokens.new.left result }
+    ensures parsed { let table = tokens.old.spans in
+        ParsedAs placed_argument_of (unnamed_by (expression_by table (deeper table left)) tokens.old.left) tokens.new.left result }
+    ensures spans { tokens.new.spans ≡ tokens.old.spans }
 {
     if tokens.skip(Sign::Mul) {
         expression(alloc, tokens, left).map(CallArg::PosSplat)

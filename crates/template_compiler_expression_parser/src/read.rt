@@ -1,8 +1,11 @@
 //! What the parser of statements reads of expressions. Each function takes the nesting levels that are left, and takes the
 //! tokens of what it reads off the stream. Where it refuses, nothing is said of the tokens that are left.
-ghost use Rattle.template_compiler_expression_parts.specs.Parsed.{Parsed, ParsedOptional};
-ghost use Rattle.template_compiler_grammar.specs.Reader.{expression_at, condition_at, filter_at, filter_chain_at};
-ghost use Rattle.template_tree.specs.View.{optional_in};
+ghost use Rattle.template_compiler_expression_parts.specs.Parsed.{Parsed, ParsedAs, ParsedOptional};
+ghost use Rattle.template_compiler_grammar.specs.Reader as plain;
+ghost use Rattle.template_compiler_placed_grammar.specs.Reader.{expression_at, condition_at, filter_at, filter_chain_at};
+ghost use Rattle.template_compiler_placed_grammar.specs.Views.{optional_node_in};
+ghost use Rattle.template_tree.specs.View.{expression_of, optional_in};
+ghost use Rattle.std.specs.Prelude.{◌≡◌};
 
 use crate::expressions::{binary, expression, filter};
 use std::alloc::Global;
@@ -14,13 +17,15 @@ use template_tree::Expr;
 /// # Errors
 ///
 /// The fault of the token that does not fit, or want of memory.
-#[tactic(auto, unfolding(template_compiler_grammar::specs::Reader::expression_at))]
+#[tactic(auto, unfolding(template_compiler_placed_grammar::specs::Reader::expression_at))]
 pub fn read_expression<'source>(
     alloc: Global,
     tokens: &mut TokenStream<'source>,
     left: u32,
 ) -> Result<Expr<'source>, Refusal>
-    ensures { Parsed (expression_at left tokens.old.left) tokens.new.left result }
+    ensures tree { ParsedAs expression_of (plain.expression_at left tokens.old.left) tokens.new.left result }
+    ensures placed { Parsed (expression_at tokens.old.spans left tokens.old.left) tokens.new.left result }
+    ensures spans { tokens.new.spans ≡ tokens.old.spans }
 {
     expression(alloc, tokens, left)
 }
@@ -30,13 +35,15 @@ pub fn read_expression<'source>(
 /// # Errors
 ///
 /// The fault of the token that does not fit, or want of memory.
-#[tactic(auto, unfolding(template_compiler_grammar::specs::Reader::condition_at))]
+#[tactic(auto, unfolding(template_compiler_placed_grammar::specs::Reader::condition_at))]
 pub fn read_condition<'source>(
     alloc: Global,
     tokens: &mut TokenStream<'source>,
     left: u32,
 ) -> Result<Expr<'source>, Refusal>
-    ensures { Parsed (condition_at left tokens.old.left) tokens.new.left result }
+    ensures tree { ParsedAs expression_of (plain.condition_at left tokens.old.left) tokens.new.left result }
+    ensures placed { Parsed (condition_at tokens.old.spans left tokens.old.left) tokens.new.left result }
+    ensures spans { tokens.new.spans ≡ tokens.old.spans }
 {
     binary(alloc, tokens, left, Level::Disjunction)
 }
@@ -46,14 +53,16 @@ pub fn read_condition<'source>(
 /// # Errors
 ///
 /// The fault of the token that does not fit, or want of memory.
-#[tactic(auto, unfolding(template_compiler_grammar::specs::Reader::filter_at))]
+#[tactic(auto, unfolding(template_compiler_placed_grammar::specs::Reader::filter_at))]
 pub fn read_filter<'source>(
     alloc: Global,
     tokens: &mut TokenStream<'source>,
     left: u32,
     value: Option<Expr<'source>>,
 ) -> Result<Expr<'source>, Refusal>
-    ensures { Parsed (filter_at left (optional_in value.entry) tokens.old.left) tokens.new.left result }
+    ensures tree { ParsedAs expression_of (plain.filter_at left (optional_in value.entry) tokens.old.left) tokens.new.left result }
+    ensures placed { Parsed (filter_at tokens.old.spans left (optional_node_in value.entry) tokens.old.left) tokens.new.left result }
+    ensures spans { tokens.new.spans ≡ tokens.old.spans }
 {
     let span = tokens.span();
     filter(alloc, tokens, left, value, span)
@@ -64,14 +73,30 @@ pub fn read_filter<'source>(
 /// # Errors
 ///
 /// The fault of the token that does not fit, or want of memory.
-#[tactic(auto, using(crate::proofs::Chains::chain_more, crate::proofs::Chains::chain_falls, crate::proofs::Chains::chain_ends, crate::proofs::Chains::chain_fails_at), unfolding(template_compiler_grammar::specs::Reader::filter_chain_at, template_compiler_grammar::specs::Reader::filter_chain_by))]
 pub fn read_filter_chain<'source>(
     alloc: Global,
     tokens: &mut TokenStream<'source>,
     left: u32,
     value: Option<Expr<'source>>,
 ) -> Result<Option<Expr<'source>>, Refusal>
-    ensures { ParsedOptional (filter_chain_at left (optional_in value.entry) tokens.old.left) tokens.new.left result }
+    ensures tree { ParsedAs optional_in (plain.filter_chain_at left (optional_in value.entry) tokens.old.left) tokens.new.left result }
+    ensures placed { ParsedOptional (filter_chain_at tokens.old.spans left (optional_node_in value.entry) tokens.old.left) tokens.new.left
+        result }
+    ensures spans { tokens.new.spans ≡ tokens.old.spans }
+{
+    chain(alloc, tokens, left, value)
+}
+
+#[tactic(auto, using(crate::proofs::Chains::chain_more, crate::proofs::Chains::chain_falls, crate::proofs::Chains::chain_ends, crate::proofs::Chains::chain_fails_at), unfolding(template_compiler_placed_grammar::specs::Reader::filter_chain_at, template_compiler_placed_grammar::specs::Reader::filter_chain_by))]
+fn chain<'source>(
+    alloc: Global,
+    tokens: &mut TokenStream<'source>,
+    left: u32,
+    value: Option<Expr<'source>>,
+) -> Result<Option<Expr<'source>>, Refusal>
+    ensures parsed { ParsedOptional (filter_chain_at tokens.old.spans left (optional_node_in value.entry) tokens.old.left) tokens.new.left
+        result }
+    ensures spans { tokens.new.spans ≡ tokens.old.spans }
 {
     let mut value = value;
     while tokens.skip(Sign::Pipe) {

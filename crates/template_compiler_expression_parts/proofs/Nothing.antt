@@ -1,10 +1,13 @@
 -- What stands next, where a sign does not.
-use Rattle.std.proofs.Common.{◌≡◌, Bool, true, false, if◌then◌else◌, List, [], ◌∷◌, Result, Ok, Err, refl, sym, subst, ap, ◌∙◌}
-use Rattle.template_tree.specs.Tree.{Arguments, Expression, item, Optional, absent, given, no_arguments, positional}
+use Rattle.std.proofs.Common.{◌≡◌, Bool, true, false, if◌then◌else◌, List, [], ◌∷◌, Result, Ok, Err, refl, sym, subst, ap}
+use Rattle.template_tree.specs.Tree.{item, positional}
+use Rattle.template_tree.specs.NodePlaces.{parts_more, one}
 use Rattle.template_compiler_tokens.specs.Token.{Token, TokenFault, symbol, identifier, mul, pow, comma, colon, assign, bracket_open, bracket_close, paren_open, paren_close, brace_open, brace_close}
-use Rattle.template_compiler_tokens.specs.Steps.{Read, fault, and_then, Step, goes, fails}
-use Rattle.template_compiler_grammar.specs.Reader.{Deeper, nothing_deeper, few_arguments, paren_end, bracket_end, brace_end, colon_end, begins_closing, separated, primary_by, optional_arguments_by, paren_behind, paren_by, step_by, subscript_behind, named_argument, argument_by}
-use Rattle.template_compiler_grammar.specs.Trees.{Written}
+use Rattle.template_compiler_tokens.specs.Steps.{Read, fault, and_then, goes, fails}
+use Rattle.template_compiler_grammar.specs.Reader.{paren_end, bracket_end, brace_end, colon_end, begins_closing, separated}
+use Rattle.template_tree.specs.declared.span.Span.{Span}
+use Rattle.template_compiler_placed_grammar.specs.Nodes.{placed, Node, node, no_node, given_node, PlacedArguments, no_placed_arguments, PlacedWritten}
+use Rattle.template_compiler_placed_grammar.specs.Reader.{Deeper, nothing_deeper, few_arguments, primary_by, optional_arguments_by, paren_behind, paren_by, step_by, item_by, subscript_behind, named_argument, argument_by, through_next}
 use Rattle.template_compiler_stream.specs.declared.refusal.Refusal.{Refusal}
 use Rattle.template_compiler_stream.specs.Signs.{begins_symbol}
 use Rattle.template_compiler_stream.specs.Skips.{begins_keyword}
@@ -66,75 +69,80 @@ separated_fails a (symbol comma ∷ ts) f e = cc
 separated_fails a (t ∷ ts) f e = closing_fails a (begins_closing (t ∷ ts)) (fault (t ∷ ts)) f (t ∷ ts) e
 
 -- arguments
-pub no_arguments_list : (r : Deeper) (ts : List Token) → begins_symbol paren_open ts ≡ false → optional_arguments_by r ts ≡ Ok (no_arguments, ts)
+pub no_arguments_list : (spans : List Span) (r : Deeper) (ts : List Token) → begins_symbol paren_open ts ≡ false →
+    optional_arguments_by spans r ts ≡ Ok (no_placed_arguments, ts)
 unfolding optional_arguments_by
-no_arguments_list r [] e = refl
-no_arguments_list r (symbol paren_open ∷ ts) e = cc
-no_arguments_list r (t ∷ ts) e = refl
+no_arguments_list spans r [] e = refl
+no_arguments_list spans r (symbol paren_open ∷ ts) e = cc
+no_arguments_list spans r (t ∷ ts) e = refl
 
-pub not_named : (read : List Token → Read Expression) (ts : List Token) → begins_keyword ts ≡ false → argument_by read ts ≡ unnamed_by read ts
-unfolding argument_by named_argument unnamed_by
-not_named read [] e = refl
-not_named read (identifier n ∷ []) e = refl
-not_named read (identifier n ∷ symbol assign ∷ ts) e = cc
-not_named read (identifier n ∷ t ∷ ts) e = refl
-not_named read (t ∷ ts) e = refl
+module _ (spans : List Span) (read : List Token → Read Node) where
+  pub not_named : (ts : List Token) → begins_keyword ts ≡ false → argument_by spans read ts ≡ unnamed_by read ts
+  unfolding argument_by named_argument unnamed_by
+  not_named [] e = refl
+  not_named (identifier n ∷ []) e = refl
+  not_named (identifier n ∷ symbol assign ∷ ts) e = cc
+  not_named (identifier n ∷ t ∷ ts) e = refl
+  not_named (t ∷ ts) e = refl
 
-pub no_spread : (read : List Token → Read Expression) (ts : List Token) → begins_symbol mul ts ≡ false → begins_symbol pow ts ≡ false →
-    unnamed_by read ts ≡ and_then (read ts) (λ e us. Ok (positional e, us))
-unfolding unnamed_by
-no_spread read [] e f = refl
-no_spread read (symbol mul ∷ ts) e f = cc
-no_spread read (symbol pow ∷ ts) e f = cc
-no_spread read (t ∷ ts) e f = refl
+  pub no_spread : (ts : List Token) → begins_symbol mul ts ≡ false → begins_symbol pow ts ≡ false →
+      unnamed_by read ts ≡ and_then (read ts) (λ e us. Ok (placed (positional e.tree) e.places, us))
+  unfolding unnamed_by
+  no_spread [] e f = refl
+  no_spread (symbol mul ∷ ts) e f = cc
+  no_spread (symbol pow ∷ ts) e f = cc
+  no_spread (t ∷ ts) e f = refl
 
--- subscripts
-pub a_key : (read : List Token → Read Expression) (a key : Expression) (ts : List Token) → begins_symbol colon ts ≡ false →
-    subscript_behind read a (given key) ts ≡ bracket_end (item a key) ts
-unfolding subscript_behind
-a_key read a key [] e = refl
-a_key read a key (symbol colon ∷ ts) e = cc
-a_key read a key (t ∷ ts) e = refl
+  -- subscripts
+  pub a_key : (start : Span) (a key : Node) (ts : List Token) → begins_symbol colon ts ≡ false →
+      subscript_behind spans read start a (given_node key) ts ≡
+      bracket_end (node (item a.tree key.tree) (through_next spans start ts) (parts_more a.places (one key.places))) ts
+  unfolding subscript_behind item_by
+  a_key start a key [] e = refl
+  a_key start a key (symbol colon ∷ ts) e = cc
+  a_key start a key (t ∷ ts) e = refl
 
-pub no_key : (read : List Token → Read Expression) (a : Expression) (ts : List Token) → begins_symbol colon ts ≡ false →
-    subscript_behind read a absent ts ≡ Err (fault ts)
-unfolding subscript_behind
-no_key read a [] e = refl
-no_key read a (symbol colon ∷ ts) e = cc
-no_key read a (t ∷ ts) e = refl
+  pub no_key : (start : Span) (a : Node) (ts : List Token) → begins_symbol colon ts ≡ false →
+      subscript_behind spans read start a no_node ts ≡ Err (fault ts)
+  unfolding subscript_behind item_by
+  no_key start a [] e = refl
+  no_key start a (symbol colon ∷ ts) e = cc
+  no_key start a (t ∷ ts) e = refl
 
-pub no_step : (read : List Token → Read Expression) (ts : List Token) → begins_symbol colon ts ≡ false → step_by read ts ≡ Ok (absent, ts)
-unfolding step_by
-no_step read [] e = refl
-no_step read (symbol colon ∷ ts) e = cc
-no_step read (t ∷ ts) e = refl
+  pub no_step : (ts : List Token) → begins_symbol colon ts ≡ false → step_by spans read ts ≡ Ok (no_node, ts)
+  unfolding step_by
+  no_step [] e = refl
+  no_step (symbol colon ∷ ts) e = cc
+  no_step (t ∷ ts) e = refl
+
+  pub not_empty : (start : Span) (ts : List Token) → begins_symbol paren_close ts ≡ false →
+      paren_by spans read start ts ≡ and_then (read ts) (paren_behind spans read start)
+  unfolding paren_by
+  not_empty start [] e = refl
+  not_empty start (symbol paren_close ∷ ts) e = cc
+  not_empty start (t ∷ ts) e = refl
+
+  pub no_tuple : (start : Span) (e : Node) (ts : List Token) → begins_symbol comma ts ≡ false →
+      paren_behind spans read start e ts ≡ paren_end e ts
+  unfolding paren_behind
+  no_tuple start e [] f = refl
+  no_tuple start e (symbol comma ∷ ts) f = cc
+  no_tuple start e (t ∷ ts) f = refl
 
 -- primaries
-pub no_bracket_opens : (r : Deeper) (ts : List Token) → begins_symbol paren_open ts ≡ false → begins_symbol bracket_open ts ≡ false →
-    begins_symbol brace_open ts ≡ false → primary_by r ts ≡ primary_by nothing_deeper ts
+pub no_bracket_opens : (spans : List Span) (r : Deeper) (ts : List Token) → begins_symbol paren_open ts ≡ false →
+    begins_symbol bracket_open ts ≡ false → begins_symbol brace_open ts ≡ false →
+    primary_by spans r ts ≡ primary_by spans nothing_deeper ts
 unfolding primary_by
-no_bracket_opens r [] e f g = refl
-no_bracket_opens r (symbol paren_open ∷ ts) e f g = cc
-no_bracket_opens r (symbol bracket_open ∷ ts) e f g = cc
-no_bracket_opens r (symbol brace_open ∷ ts) e f g = cc
-no_bracket_opens r (t ∷ ts) e f g = refl
-
-pub not_empty : (read : List Token → Read Expression) (ts : List Token) → begins_symbol paren_close ts ≡ false →
-    paren_by read ts ≡ and_then (read ts) (paren_behind read)
-unfolding paren_by
-not_empty read [] e = refl
-not_empty read (symbol paren_close ∷ ts) e = cc
-not_empty read (t ∷ ts) e = refl
-
-pub no_tuple : (read : List Token → Read Expression) (e : Expression) (ts : List Token) → begins_symbol comma ts ≡ false →
-    paren_behind read e ts ≡ paren_end e ts
-unfolding paren_behind
-no_tuple read e [] f = refl
-no_tuple read e (symbol comma ∷ ts) f = cc
-no_tuple read e (t ∷ ts) f = refl
+no_bracket_opens spans r [] e f g = refl
+no_bracket_opens spans r (symbol paren_open ∷ ts) e f g = cc
+no_bracket_opens spans r (symbol bracket_open ∷ ts) e f g = cc
+no_bracket_opens spans r (symbol brace_open ∷ ts) e f g = cc
+no_bracket_opens spans r (t ∷ ts) e f g = refl
 
 -- behind the arguments
-pub order_at : {B : Type 0} (view : B → Arguments) (w : Written) (old new : List Token) (r : Result B Refusal) → old ≡ symbol paren_close ∷ new →
-    ParsedAs view (few_arguments w new) new r → ParsedAs view (and_then (paren_end w old) few_arguments) new r
+pub order_at : {B : Type 0} (view : B → PlacedArguments) (spans : List Span) (w : PlacedWritten) (old new : List Token)
+    (r : Result B Refusal) → old ≡ symbol paren_close ∷ new → ParsedAs view (few_arguments spans w new) new r →
+    ParsedAs view (and_then (paren_end w old) (few_arguments spans)) new r
 unfolding and_then paren_end
-order_at view w old new r e h = subst (λ ts. ParsedAs view (and_then (paren_end w ts) few_arguments) new r) (sym e) h
+order_at view spans w old new r e h = subst (λ ts. ParsedAs view (and_then (paren_end w ts) (few_arguments spans)) new r) (sym e) h

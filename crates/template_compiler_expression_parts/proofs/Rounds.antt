@@ -1,18 +1,26 @@
 -- Rounds of repetitions, by what stands next.
-use Rattle.std.proofs.Common.{◌≡◌, codes, Bool, true, false, if◌then◌else◌, ℕ, Result, Ok, Err, List, [], ◌∷◌, None, Some, refl, sym, ap, subst, ◌∙◌}
-use Rattle.template_tree.specs.Tree.{Expression, binary, Optional, given}
+use Rattle.std.proofs.Common.{◌≡◌, codes, true, false, if◌then◌else◌, ℕ, Result, Ok, Err, List, [], ◌∷◌, None, Some, refl, sym, ap, subst, ◌∙◌}
+use Rattle.template_tree.specs.Tree.{Expression, binary}
 use Rattle.template_tree.specs.declared.operators.BinOpKind.{BinOpKind}
 use Rattle.template_tree.specs.declared.expressions.Expr.{Expr}
-use Rattle.template_compiler_tokens.specs.Token.{Token, TokenFault, bad, symbol, identifier, dot, pipe, bracket_open, paren_open}
+use Rattle.template_compiler_tokens.specs.Token.{Token, TokenFault, bad, symbol, identifier, number, dot, pipe, bracket_open, paren_open}
 use Rattle.template_compiler_grammar.specs.Words.{begins_dotted, begins_word, word_not, Level, factors, texts, terms, conjunction, disjunction, operator}
 use Rattle.template_compiler_grammar.specs.Trees.{dotted}
 use Rattle.template_compiler_tokens.specs.Steps.{Read, and_then, Step, goes, stops, fails, under, all}
-use Rattle.template_compiler_grammar.specs.Reader.{Deeper, deeper, dot_part, dotted_step, operand_by, operand_behind, operand_step, part_step, name_of, is_by, test_by, filter_by, filter_step, chain_step}
+use Rattle.template_compiler_grammar.specs.Reader.{dotted_step, name_of}
 use Rattle.template_compiler_tokens.proofs.Loops.{Shrinks, all_goes, all_stops, all_fails}
 use Rattle.template_compiler_stream.specs.declared.refusal.Refusal.{Refusal}
 use Rattle.template_compiler_stream.specs.declared.refusal.Refusal.TheVariants as refusals
 use Rattle.template_compiler_stream.specs.Refusals.{Refused, fault_of}
-use Rattle.template_compiler_expression_parts.specs.Parsed.{RefusedStep, WentOn}
+use Rattle.template_tree.specs.declared.span.Span.{Span}
+use Rattle.template_compiler_tokens.specs.Places.{next_span}
+use Rattle.template_compiler_placed_grammar.specs.Nodes.{Placed, placed, Node, OptionalNode, given_node, binary_node, bare_step}
+use Rattle.template_compiler_placed_grammar.specs.Reader.{Deeper, dot_part, operand_behind, operand_step, part_step, is_by, test_by, filter_by, filter_step, chain_step, up_to}
+use Rattle.template_compiler_placed_grammar.specs.Views.{node_of}
+use Rattle.template_tree.specs.View.{expression_of}
+use Rattle.template_tree.specs.ExpressionPlaces.{places_of}
+use Rattle.template_tree.specs.NodePlaces.{Places, at, parts_more, one}
+use Rattle.template_compiler_expression_parts.specs.Parsed.{RefusedStep, WentOn, dotted_by}
 use Rattle.template_compiler_stream.specs.Left.{passed}
 use Rattle.template_compiler_stream.specs.Signs.{next_operator, next_word, begins_symbol}
 use Rattle.template_compiler_expression_parts.proofs.Takes.{dotted_takes}
@@ -28,29 +36,35 @@ operator_passed : (k : Level) (t : Token) (ts : List Token) (op : BinOpKind) →
 operator_passed k (bad f) ts op e = let none = bad_operator k f in cc
 operator_passed k _ ts op e = refl
 
-pub operand_found : (k : Level) (read : List Token → Read Expression) (a : Expression) (ts : List Token) (op : BinOpKind) →
-    next_operator k ts ≡ Some op → operand_step k read a ts ≡ under (read (passed ts)) (λ b us. goes (binary op a b) us)
-unfolding operand_step operand_behind
-operand_found k read a [] op e = cc
-operand_found k read a (t ∷ ts) op e =
-    ap (λ o. operand_behind o read a ts) e ∙
-    ap (λ us. under (read us) (λ b us. goes (binary op a b) us)) (sym (operator_passed k t ts op e))
+-- a node by its tree and its places
+pub node_is : (e : Expr) (tree : Expression) (places : Places) → expression_of e ≡ tree → places_of e ≡ places → node_of e ≡ placed tree places
+node_is e tree places p q = ap (λ t. placed t (places_of e)) p ∙ ap (λ q. placed tree q) q
 
-pub operand_none : (k : Level) (read : List Token → Read Expression) (a : Expression) (ts : List Token) →
-    next_operator k ts ≡ None → operand_step k read a ts ≡ stops
-unfolding operand_step operand_behind
-operand_none k read a [] e = refl
-operand_none k read a (t ∷ ts) e = ap (λ o. operand_behind o read a ts) e
+module _ (spans : List Span) (k : Level) (read : List Token → Read Node) (start : Span) (a : Node) where
+  pub operand_found : (ts : List Token) (op : BinOpKind) → next_operator k ts ≡ Some op →
+      operand_step spans k read start a ts ≡ under (read (passed ts)) (λ b us. goes (binary_node op a b (up_to spans start us)) us)
+  unfolding operand_step operand_behind
+  operand_found [] op e = cc
+  operand_found (t ∷ ts) op e =
+      ap (λ o. operand_behind spans o read start a ts) e ∙
+      ap (λ us. under (read us) (λ b us. goes (binary_node op a b (up_to spans start us)) us)) (sym (operator_passed k t ts op e))
 
-pub operand_goes : (k : Level) (read : List Token → Read Expression) (a b : Expression) (ts us : List Token) (op : BinOpKind) →
-    next_operator k ts ≡ Some op → read (passed ts) ≡ Ok (b, us) → operand_step k read a ts ≡ goes (binary op a b) us
-unfolding under
-operand_goes k read a b ts us op e f = operand_found k read a ts op e ∙ ap (λ m. under m (λ b us. goes (binary op a b) us)) f
+  pub operand_none : (ts : List Token) → next_operator k ts ≡ None → operand_step spans k read start a ts ≡ stops
+  unfolding operand_step operand_behind
+  operand_none [] e = refl
+  operand_none (t ∷ ts) e = ap (λ o. operand_behind spans o read start a ts) e
 
-pub operand_fails : (k : Level) (read : List Token → Read Expression) (a : Expression) (ts : List Token) (op : BinOpKind) (f : TokenFault) →
-    next_operator k ts ≡ Some op → read (passed ts) ≡ Err f → operand_step k read a ts ≡ fails f
-unfolding under
-operand_fails k read a ts op f e g = operand_found k read a ts op e ∙ ap (λ m. under m (λ b us. goes (binary op a b) us)) g
+  pub operand_goes : (b : Node) (ts us : List Token) (op : BinOpKind) → next_operator k ts ≡ Some op → read (passed ts) ≡ Ok (b, us) →
+      operand_step spans k read start a ts ≡ goes (binary_node op a b (up_to spans start us)) us
+  unfolding under
+  operand_goes b ts us op e f =
+      operand_found ts op e ∙ ap (λ m. under m (λ b us. goes (binary_node op a b (up_to spans start us)) us)) f
+
+  pub operand_fails : (ts : List Token) (op : BinOpKind) (f : TokenFault) → next_operator k ts ≡ Some op → read (passed ts) ≡ Err f →
+      operand_step spans k read start a ts ≡ fails f
+  unfolding under
+  operand_fails ts op f e g =
+      operand_found ts op e ∙ ap (λ m. under m (λ b us. goes (binary_node op a b (up_to spans start us)) us)) g
 
 -- a refusal, from one reading to the one around it
 pub refused_under : {A B : Type 0} (m : Read A) (s : Step B) (e : Refusal) →
@@ -58,9 +72,11 @@ pub refused_under : {A B : Type 0} (m : Read A) (s : Step B) (e : Refusal) →
 refused_under m s (refusals.Token f) go h = go (fault_of f) h
 refused_under m s refusals.OutOfMemory go h = tt
 
-pub operand_refused : (k : Level) (read : List Token → Read Expression) (a : Expression) (ts : List Token) (op : BinOpKind) (e : Refusal) →
-    next_operator k ts ≡ Some op → Refused (read (passed ts)) e → RefusedStep (operand_step k read a ts) e
-operand_refused k read a ts op e h = refused_under (read (passed ts)) (operand_step k read a ts) e (λ f g. operand_fails k read a ts op f h g)
+pub operand_refused : (spans : List Span) (k : Level) (read : List Token → Read Node) (start : Span) (a : Node) (ts : List Token)
+    (op : BinOpKind) (e : Refusal) → next_operator k ts ≡ Some op → Refused (read (passed ts)) e →
+    RefusedStep (operand_step spans k read start a ts) e
+operand_refused spans k read start a ts op e h =
+    refused_under (read (passed ts)) (operand_step spans k read start a ts) e (λ f g. operand_fails spans k read start a ts op f h g)
 
 -- rounds, as a loop takes them off
 module _ {A : Type 0} (step : A → List Token → Step A) where
@@ -79,69 +95,95 @@ module _ {A : Type 0} (step : A → List Token → Step A) where
   rounds_refused a c ts vs refusals.OutOfMemory same h = tt
 
 -- the same, as the parser's function has them
-pub next_operand_goes : (k : Level) (read : List Token → Read Expression) (a b e : Expression) (ts mid us : List Token) (op : BinOpKind) →
-    Some op ≡ next_operator k ts → mid ≡ passed ts → read mid ≡ Ok (b, us) → e ≡ binary op a b → operand_step k read a ts ≡ goes e us
-next_operand_goes k read a b e ts mid us op f g h i =
-    operand_goes k read a b ts us op (sym f) (ap read (sym g) ∙ h) ∙ ap (λ e. goes e us) (sym i)
+pub next_operand_goes : (spans : List Span) (k : Level) (read : List Token → Read Node) (start whole : Span) (a b : Node) (e : Expr)
+    (ts mid us : List Token) (op : BinOpKind) → Some op ≡ next_operator k ts → mid ≡ passed ts → read mid ≡ Ok (b, us) →
+    expression_of e ≡ binary op a.tree b.tree → places_of e ≡ at whole (parts_more a.places (one b.places)) →
+    whole ≡ up_to spans start us → operand_step spans k read start a ts ≡ goes (node_of e) us
+next_operand_goes spans k read start whole a b e ts mid us op f g h i j l =
+    operand_goes spans k read start a b ts us op (sym f) (ap read (sym g) ∙ h) ∙
+    ap (λ e. goes e us) (sym (node_is e _ _ i j ∙ ap (λ s. binary_node op a b s) l))
 
-pub next_operand_refused : (k : Level) (read : List Token → Read Expression) (a : Expression) (ts mid : List Token) (op : BinOpKind) (e : Refusal) →
-    Some op ≡ next_operator k ts → mid ≡ passed ts → Refused (read mid) e → RefusedStep (operand_step k read a ts) e
-next_operand_refused k read a ts mid op e f g h =
-    operand_refused k read a ts op e (sym f) (subst (λ us. Refused (read us) e) g h)
+pub next_operand_refused : (spans : List Span) (k : Level) (read : List Token → Read Node) (start : Span) (a : Node) (ts mid : List Token)
+    (op : BinOpKind) (e : Refusal) → Some op ≡ next_operator k ts → mid ≡ passed ts → Refused (read mid) e →
+    RefusedStep (operand_step spans k read start a ts) e
+next_operand_refused spans k read start a ts mid op e f g h =
+    operand_refused spans k read start a ts op e (sym f) (subst (λ us. Refused (read us) e) g h)
+
+-- what takes a token at least without its places does so with them
+module _ {A P : Type 0} (step : Placed A P → List Token → Step (Placed A P)) (on : A → List Token → Step A)
+    (same : (a : Placed A P) (ts : List Token) → bare_step (step a ts) ≡ on a.tree ts) where
+  pub placed_shrinks : Shrinks on → Shrinks step
+  unfolding bare_step
+  placed_shrinks falls a b ts us e = falls a.tree b.tree ts us (sym (same a ts) ∙ ap bare_step e)
 
 -- what stands behind a dot
-pub dot_at : (a : Expression) (t : Token) (old new : List Token) (r : Result Expr Refusal) → old ≡ t ∷ new →
-    WentOn (dot_part a (t ∷ new)) new r → WentOn (dot_part a old) new r
-dot_at a t old new r e h = subst (λ ts. WentOn (dot_part a ts) new r) (sym e) h
+dotted_same : (spans : List Span) (start : Span) (a : Node) (t : Token) (ts : List Token) →
+    dot_part spans start a (t ∷ ts) ≡ dotted_by (next_span spans (t ∷ ts)) (up_to spans start ts) a t ts
+unfolding dot_part dotted_by
+dotted_same spans start a (identifier n) ts = refl
+dotted_same spans start a (number n) ts = refl
+dotted_same spans start a t ts = refl
+
+pub dot_at : (spans all : List Span) (start place whole : Span) (a : Node) (t : Token) (old new : List Token) (r : Result Expr Refusal) →
+    old ≡ t ∷ new → place ≡ next_span spans old → all ≡ spans → whole ≡ up_to all start new → WentOn (dotted_by place whole a t new) new r →
+    WentOn (dot_part spans start a old) new r
+dot_at spans all start place whole a t old new r e f g i h =
+    let here = subst (λ s. WentOn (dotted_by place s a t new) new r) (i ∙ ap (λ spans. up_to spans start new) g) h in
+    let there = subst (λ s. WentOn (dotted_by s (up_to spans start new) a t new) new r) (f ∙ ap (next_span spans) e) here in
+    subst (λ m. WentOn m new r) (sym (ap (dot_part spans start a) e ∙ dotted_same spans start a t new)) there
 
 -- what stands next goes on with no filter, and with no part
-pub filter_none : (r : Deeper) (a : Expression) (ts : List Token) → begins_symbol pipe ts ≡ false → begins_word (codes "is") ts ≡ false →
-    filter_step r a ts ≡ stops
+pub filter_none : (spans : List Span) (r : Deeper) (start : Span) (a : Node) (ts : List Token) → begins_symbol pipe ts ≡ false →
+    begins_word (codes "is") ts ≡ false → filter_step spans r start a ts ≡ stops
 unfolding filter_step
-filter_none r a [] e f = refl
-filter_none r a (symbol pipe ∷ ts) e f = cc
-filter_none r a (identifier n ∷ ts) e f = ap (λ b. if b then under (is_by r a ts) goes else stops) f
-filter_none r a (t ∷ ts) e f = refl
+filter_none spans r start a [] e f = refl
+filter_none spans r start a (symbol pipe ∷ ts) e f = cc
+filter_none spans r start a (identifier n ∷ ts) e f = ap (λ b. if b then under (is_by spans r start a ts) goes else stops) f
+filter_none spans r start a (t ∷ ts) e f = refl
 
-pub part_none : (r : Deeper) (a : Expression) (ts : List Token) → begins_symbol dot ts ≡ false → begins_symbol bracket_open ts ≡ false →
-    begins_symbol paren_open ts ≡ false → part_step r a ts ≡ stops
+pub part_none : (spans : List Span) (r : Deeper) (start : Span) (a : Node) (ts : List Token) → begins_symbol dot ts ≡ false →
+    begins_symbol bracket_open ts ≡ false → begins_symbol paren_open ts ≡ false → part_step spans r start a ts ≡ stops
 unfolding part_step
-part_none r a [] e f g = refl
-part_none r a (symbol dot ∷ ts) e f g = cc
-part_none r a (symbol bracket_open ∷ ts) e f g = cc
-part_none r a (symbol paren_open ∷ ts) e f g = cc
-part_none r a (t ∷ ts) e f g = refl
+part_none spans r start a [] e f g = refl
+part_none spans r start a (symbol dot ∷ ts) e f g = cc
+part_none spans r start a (symbol bracket_open ∷ ts) e f g = cc
+part_none spans r start a (symbol paren_open ∷ ts) e f g = cc
+part_none spans r start a (t ∷ ts) e f g = refl
 
 -- behind `is`
-pub is_plain : (r : Deeper) (a : Expression) (ts : List Token) → begins_word (codes "not") ts ≡ false → is_by r a ts ≡ test_by r false a ts
+pub is_plain : (spans : List Span) (r : Deeper) (start : Span) (a : Node) (ts : List Token) → begins_word (codes "not") ts ≡ false →
+    is_by spans r start a ts ≡ test_by spans r false start a ts
 unfolding is_by test_by name_of and_then
-is_plain r a [] e = refl
-is_plain r a (t ∷ ts) e = ap (λ b. if b then test_by r true a ts else test_by r false a (t ∷ ts)) e
+is_plain spans r start a [] e = refl
+is_plain spans r start a (t ∷ ts) e = ap (λ b. if b then test_by spans r true start a ts else test_by spans r false start a (t ∷ ts)) e
 
-pub is_not : (r : Deeper) (a : Expression) (ts : List Token) → is_by r a (word_not ∷ ts) ≡ test_by r true a ts
+pub is_not : (spans : List Span) (r : Deeper) (start : Span) (a : Node) (ts : List Token) →
+    is_by spans r start a (word_not ∷ ts) ≡ test_by spans r true start a ts
 unfolding is_by
-is_not r a ts = refl
+is_not spans r start a ts = refl
 
 -- filters behind one another
-pub chain_goes : (r : Deeper) (value : Optional) (e : Expression) (old ts us : List Token) → old ≡ symbol pipe ∷ ts →
-    filter_by r value ts ≡ Ok (e, us) → chain_step r value old ≡ goes (given e) us
-unfolding chain_step under
-chain_goes r value e old ts us h i = ap (λ ts. chain_step r value ts) h ∙ ap (λ m. under m (λ e us. goes (given e) us)) i
+module _ (spans : List Span) (r : Deeper) (value : OptionalNode) where
+  pub chain_goes : (e : Node) (old ts us : List Token) → old ≡ symbol pipe ∷ ts →
+      filter_by spans r (next_span spans ts) value ts ≡ Ok (e, us) → chain_step spans r value old ≡ goes (given_node e) us
+  unfolding chain_step under
+  chain_goes e old ts us h i = ap (λ ts. chain_step spans r value ts) h ∙ ap (λ m. under m (λ e us. goes (given_node e) us)) i
 
-pub chain_fails : (r : Deeper) (value : Optional) (f : TokenFault) (old ts : List Token) → old ≡ symbol pipe ∷ ts →
-    filter_by r value ts ≡ Err f → chain_step r value old ≡ fails f
-unfolding chain_step under
-chain_fails r value f old ts h i = ap (λ ts. chain_step r value ts) h ∙ ap (λ m. under m (λ e us. goes (given e) us)) i
+  pub chain_fails : (f : TokenFault) (old ts : List Token) → old ≡ symbol pipe ∷ ts →
+      filter_by spans r (next_span spans ts) value ts ≡ Err f → chain_step spans r value old ≡ fails f
+  unfolding chain_step under
+  chain_fails f old ts h i = ap (λ ts. chain_step spans r value ts) h ∙ ap (λ m. under m (λ e us. goes (given_node e) us)) i
 
-pub chain_refused : (r : Deeper) (value : Optional) (e : Refusal) (old ts : List Token) → old ≡ symbol pipe ∷ ts →
-    Refused (filter_by r value ts) e → RefusedStep (chain_step r value old) e
-chain_refused r value e old ts h i = refused_under (filter_by r value ts) (chain_step r value old) e (λ f g. chain_fails r value f old ts h g) i
+  pub chain_refused : (e : Refusal) (old ts : List Token) → old ≡ symbol pipe ∷ ts →
+      Refused (filter_by spans r (next_span spans ts) value ts) e → RefusedStep (chain_step spans r value old) e
+  chain_refused e old ts h i =
+      refused_under (filter_by spans r (next_span spans ts) value ts) (chain_step spans r value old) e (λ f g. chain_fails f old ts h g) i
 
-pub chain_none : (r : Deeper) (value : Optional) (ts : List Token) → begins_symbol pipe ts ≡ false → chain_step r value ts ≡ stops
-unfolding chain_step
-chain_none r value [] e = refl
-chain_none r value (symbol pipe ∷ ts) e = cc
-chain_none r value (t ∷ ts) e = refl
+  pub chain_none : (ts : List Token) → begins_symbol pipe ts ≡ false → chain_step spans r value ts ≡ stops
+  unfolding chain_step
+  chain_none [] e = refl
+  chain_none (symbol pipe ∷ ts) e = cc
+  chain_none (t ∷ ts) e = refl
 
 -- parts of a name
 pub dotted_goes : (n m part : List ℕ) (ts us : List Token) → ts ≡ symbol dot ∷ identifier part ∷ us → m ≡ dotted n part → dotted_step n ts ≡ goes m us

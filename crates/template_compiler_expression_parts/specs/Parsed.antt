@@ -1,11 +1,19 @@
 -- What a function of the parser answers, against what the reader reads.
-use Rattle.std.specs.Prelude.{◌≡◌, ◌∷◌, ℕ, suc, Bool, true, false, List, Option, Result, Ok, Err}
-use Rattle.template_tree.specs.Tree.{Expression, Optional, Argument, positional, positional_spread, keyword_spread}
-use Rattle.template_tree.specs.View.{expression_of, optional_in, expressions_in, arguments_in}
+use Rattle.std.specs.Prelude.{◌≡◌, ◌∷◌, ℕ, suc, pos, Bool, true, false, List, Option, Result, Ok, Err}
+use Rattle.template_tree.specs.Tree.{constant, attribute, item, positional, positional_spread, keyword_spread}
+use Rattle.template_tree.specs.declared.span.Span.{Span}
+use Rattle.template_tree.specs.View.{expressions_in, arguments_in}
+use Rattle.template_tree.specs.ExpressionPlaces.{places_in, places_in_arguments}
+use Rattle.template_tree.specs.NodePlaces.{at, no_parts, parts_more, one}
 use Rattle.template_tree.specs.declared.expressions.Expr.{Expr}
-use Rattle.template_compiler_tokens.specs.Token.{Token, symbol, mul, pow}
-use Rattle.template_compiler_tokens.specs.Steps.{Read, and_then, Step, goes, stops, fails}
-use Rattle.template_compiler_grammar.specs.Trees as trees
+use Rattle.template_compiler_tokens.specs.Token.{Token, identifier, string, number, symbol, mul, pow}
+use Rattle.template_values_model.specs.Val.{int, text}
+use Rattle.template_compiler_tokens.specs.Steps.{Read, fault, and_then, Step, goes, stops, fails, all}
+use Rattle.template_compiler_grammar.specs.Words.{literal_word}
+use Rattle.template_compiler_grammar.specs.Reader.{text_step, word_tree}
+use Rattle.template_compiler_placed_grammar.specs.Nodes.{placed, Node, node, OptionalNode, PlacedPairs, PlacedArgument, PlacedWritten}
+use Rattle.template_compiler_placed_grammar.specs.Reader.{up_to}
+use Rattle.template_compiler_placed_grammar.specs.Views.{node_of, optional_node_in}
 use Rattle.template_compiler_stream.specs.Refusals.{Refused, fault_of}
 use Rattle.template_compiler_expression_parts.specs.declared.behind.Behind.{Behind}
 use Rattle.template_compiler_expression_parts.specs.declared.behind.Behind.TheVariants.{Goes, Stops}
@@ -16,11 +24,13 @@ use Rattle.template_compiler_stream.specs.declared.refusal.Refusal.{Refusal}
 use Rattle.template_compiler_stream.specs.declared.refusal.Refusal.TheVariants as refusals
 
 -- a map's keys and values, and arguments, as far as they are read
-abbrev pub paired_in : Pairs → trees.Paired
-paired_in p = (expressions_in p.keys.items, expressions_in p.values.items)
+abbrev pub paired_in : Pairs → PlacedPairs
+paired_in p = placed (expressions_in p.keys.items, expressions_in p.values.items) (places_in p.keys.items, places_in p.values.items)
 
-abbrev pub written_in : Written → trees.Written
-written_in w = (arguments_in w.by_place.items, arguments_in w.by_keyword.items)
+abbrev pub written_in : Written → PlacedWritten
+written_in w =
+    placed (arguments_in w.by_place.items, arguments_in w.by_keyword.items)
+    (places_in_arguments w.by_place.items, places_in_arguments w.by_keyword.items)
 
 -- one nesting level less
 abbrev pub IsDeeper : ℕ → Result ℕ Refusal → Type 0
@@ -33,13 +43,13 @@ ParsedAs view r new (Ok b) = r ≡ Ok (view b, new)
 ParsedAs view r new (Err e) = Refused r e
 
 -- an expression
-abbrev pub Parsed : Read Expression → List Token → Result Expr Refusal → Type 0
-Parsed r new (Ok e) = r ≡ Ok (expression_of e, new)
+abbrev pub Parsed : Read Node → List Token → Result Expr Refusal → Type 0
+Parsed r new (Ok e) = r ≡ Ok (node_of e, new)
 Parsed r new (Err e) = Refused r e
 
 -- an expression that may be left out
-abbrev pub ParsedOptional : Read Optional → List Token → Result (Option Expr) Refusal → Type 0
-ParsedOptional r new (Ok o) = r ≡ Ok (optional_in o, new)
+abbrev pub ParsedOptional : Read OptionalNode → List Token → Result (Option Expr) Refusal → Type 0
+ParsedOptional r new (Ok o) = r ≡ Ok (optional_node_in o, new)
 ParsedOptional r new (Err e) = Refused r e
 
 abbrev pub RefusedStep : {A : Type 0} → Step A → Refusal → Type 0
@@ -47,14 +57,14 @@ RefusedStep s (refusals.Token f) = s ≡ fails (fault_of f)
 RefusedStep s refusals.OutOfMemory = Unit {0}
 
 -- a part that must stand behind an expression
-abbrev pub WentOn : Step Expression → List Token → Result Expr Refusal → Type 0
-WentOn s new (Ok e) = s ≡ goes (expression_of e) new
+abbrev pub WentOn : Step Node → List Token → Result Expr Refusal → Type 0
+WentOn s new (Ok e) = s ≡ goes (node_of e) new
 WentOn s new (Err e) = RefusedStep s e
 
 -- a round of a repetition: it goes on, or it stops with what it began with
-abbrev pub Stepped : Step Expression → Expression → List Token → List Token → Result Behind Refusal → Type 0
-Stepped s a old new (Ok (Goes e)) = s ≡ goes (expression_of e) new
-Stepped s a old new (Ok (Stops e)) = (s ≡ stops) × (new ≡ old) × (expression_of e ≡ a)
+abbrev pub Stepped : Step Node → Node → List Token → List Token → Result Behind Refusal → Type 0
+Stepped s a old new (Ok (Goes e)) = s ≡ goes (node_of e) new
+Stepped s a old new (Ok (Stops e)) = (s ≡ stops) × (new ≡ old) × (node_of e ≡ a)
 Stepped s a old new (Err e) = RefusedStep s e
 
 -- the same, where what is put together is changed in its place
@@ -69,7 +79,22 @@ Separated s new (Ok x) = s ≡ goes true new
 Separated s new (Err e) = RefusedStep s e
 
 -- an argument without a name
-unfoldable pub unnamed_by : (List Token → Read Expression) → List Token → Read Argument
-unnamed_by read (symbol mul ∷ ts) = and_then (read ts) (λ e us. Ok (positional_spread e, us))
-unnamed_by read (symbol pow ∷ ts) = and_then (read ts) (λ e us. Ok (keyword_spread e, us))
-unnamed_by read ts = and_then (read ts) (λ e us. Ok (positional e, us))
+unfoldable pub unnamed_by : (List Token → Read Node) → List Token → Read PlacedArgument
+unnamed_by read (symbol mul ∷ ts) = and_then (read ts) (λ e us. Ok (placed (positional_spread e.tree) e.places, us))
+unnamed_by read (symbol pow ∷ ts) = and_then (read ts) (λ e us. Ok (placed (keyword_spread e.tree) e.places, us))
+unnamed_by read ts = and_then (read ts) (λ e us. Ok (placed (positional e.tree) e.places, us))
+
+-- a literal that begins with a token, which starts there; behind it the tokens stand
+unfoldable pub literal_at : List Span → Span → Token → List Token → Read Node
+literal_at spans start (identifier n) ts = Ok (node (word_tree (literal_word n) n) start no_parts, ts)
+literal_at spans start (number n) ts = Ok (node (constant (int (pos n))) start no_parts, ts)
+literal_at spans start (string s) ts =
+    and_then (all text_step s ts) (λ t us. Ok (node (constant (text t)) (up_to spans start us) no_parts, us))
+literal_at spans start t ts = Err (fault (t ∷ ts))
+
+-- the attribute or the item by a token that stands at a place, with the span of the whole
+unfoldable pub dotted_by : Span → Span → Node → Token → List Token → Step Node
+dotted_by place span a (identifier n) ts = goes (node (attribute a.tree n) span (one a.places)) ts
+dotted_by place span a (number n) ts =
+    goes (node (item a.tree (constant (int (pos n)))) span (parts_more a.places (one (at place no_parts)))) ts
+dotted_by place span a t ts = fails (fault (t ∷ ts))

@@ -1,8 +1,8 @@
 //! What repetitions put together.
 ghost use Rattle.std.specs.Prelude.{◌≡◌, IfOk, [], ◌∷◌, ◌++◌};
-ghost use Rattle.template_compiler_grammar.specs.Trees.{and_pair, and_written};
+ghost use Rattle.template_compiler_placed_grammar.specs.Nodes.{and_placed_pair, and_placed_written};
+ghost use Rattle.template_compiler_placed_grammar.specs.Views.{node_of, placed_argument_of};
 ghost use Rattle.template_compiler_expression_parts.specs.Parsed.{paired_in, written_in};
-ghost use Rattle.template_tree.specs.View.{argument_of, expression_of};
 
 use std::alloc::AllocError;
 use template_tree::{CallArg, Expr};
@@ -25,10 +25,10 @@ pub struct Pairs<'source> {
 
 impl<'source> Pairs<'source> {
     /// Puts a key and its value behind the others.
-    #[tactic(auto, using(crate::proofs::Pushes::expressions_push))]
+    #[tactic(auto, using(crate::proofs::Pushes::expressions_push, crate::proofs::Pushes::places_push))]
     pub fn push(&mut self, key: Expr<'source>, value: Expr<'source>) -> Result<(), AllocError>
-        ensures { IfOk result (λ _. paired_in self.new ≡ and_pair (paired_in self.old) (expression_of key.entry)
-            (expression_of value.entry)) }
+        ensures { IfOk result (λ _. paired_in self.new ≡ and_placed_pair (paired_in self.old) (node_of key.entry)
+            (node_of value.entry)) }
     {
         put(&mut self.keys, key)?;
         put(&mut self.values, value)
@@ -44,9 +44,9 @@ pub struct Written<'source> {
 
 impl<'source> Written<'source> {
     /// Puts an argument behind the others of its kind.
-    #[tactic(auto, using(crate::proofs::Pushes::arguments_push))]
+    #[tactic(auto, using(crate::proofs::Pushes::arguments_push, crate::proofs::Pushes::argument_places_push))]
     pub fn push(&mut self, argument: CallArg<'source>) -> Result<(), AllocError>
-        ensures { IfOk result (λ _. written_in self.new ≡ and_written (written_in self.old) (argument_of argument.entry)) }
+        ensures { IfOk result (λ _. written_in self.new ≡ and_placed_written (written_in self.old) (placed_argument_of argument.entry)) }
     {
         match argument {
             CallArg::Pos(expr) => put(&mut self.by_place, CallArg::Pos(expr)),

@@ -1,10 +1,12 @@
 //! What must stand behind something.
 ghost use Rattle.std.specs.Prelude.{◌≡◌, true, List};
 ghost use Rattle.template_compiler_expression_parts.specs.Parsed.{IsDeeper, Parsed, ParsedAs, Separated, written_in};
-ghost use Rattle.template_compiler_grammar.specs.Reader.{brace_end, bracket_end, colon_end, few_arguments, paren_end, separated};
+ghost use Rattle.template_compiler_grammar.specs.Reader.{brace_end, bracket_end, colon_end, paren_end, separated};
+ghost use Rattle.template_compiler_placed_grammar.specs.Reader.{few_arguments};
+ghost use Rattle.template_compiler_placed_grammar.specs.Views.{node_of, placed_arguments_in};
+ghost use Rattle.template_tree.specs.declared.span.Span.{Span};
 ghost use Rattle.template_compiler_tokens.specs.Steps.{and_then};
 ghost use Rattle.template_compiler_tokens.specs.Token.{Token};
-ghost use Rattle.template_tree.specs.View.{arguments_in, expression_of};
 
 use crate::behind::Written;
 use template_compiler_stream::{Fault, Refusal, Sign, TokenStream};
@@ -34,7 +36,8 @@ pub fn in_parens<'source>(
     tokens: &mut TokenStream<'source>,
     value: Expr<'source>,
 ) -> Result<Expr<'source>, Refusal>
-    ensures { Parsed (paren_end (expression_of value.entry) tokens.old.left) tokens.new.left result }
+    ensures parsed { Parsed (paren_end (node_of value.entry) tokens.old.left) tokens.new.left result }
+    ensures spans { tokens.new.spans ≡ tokens.old.spans }
 {
     if tokens.skip(Sign::ParenClose) {
         Ok(value)
@@ -49,7 +52,8 @@ pub fn in_brackets<'source>(
     tokens: &mut TokenStream<'source>,
     value: Expr<'source>,
 ) -> Result<Expr<'source>, Refusal>
-    ensures { Parsed (bracket_end (expression_of value.entry) tokens.old.left) tokens.new.left result }
+    ensures parsed { Parsed (bracket_end (node_of value.entry) tokens.old.left) tokens.new.left result }
+    ensures spans { tokens.new.spans ≡ tokens.old.spans }
 {
     if tokens.skip(Sign::BracketClose) {
         Ok(value)
@@ -64,7 +68,8 @@ pub fn in_braces<'source>(
     tokens: &mut TokenStream<'source>,
     value: Expr<'source>,
 ) -> Result<Expr<'source>, Refusal>
-    ensures { Parsed (brace_end (expression_of value.entry) tokens.old.left) tokens.new.left result }
+    ensures parsed { Parsed (brace_end (node_of value.entry) tokens.old.left) tokens.new.left result }
+    ensures spans { tokens.new.spans ≡ tokens.old.spans }
 {
     if tokens.skip(Sign::BraceClose) {
         Ok(value)
@@ -79,7 +84,8 @@ pub fn before_colon<'source>(
     tokens: &mut TokenStream<'source>,
     key: Expr<'source>,
 ) -> Result<Expr<'source>, Refusal>
-    ensures { Parsed (colon_end (expression_of key.entry) tokens.old.left) tokens.new.left result }
+    ensures parsed { Parsed (colon_end (node_of key.entry) tokens.old.left) tokens.new.left result }
+    ensures spans { tokens.new.spans ≡ tokens.old.spans }
 {
     if tokens.skip(Sign::Colon) {
         Ok(key)
@@ -91,7 +97,8 @@ pub fn before_colon<'source>(
 /// Passes the comma behind an item; a closing bracket may stand there too, and stays.
 #[tactic(auto, using(crate::proofs::Nothing::no_comma), unfolding(template_compiler_grammar::specs::Reader::separated))]
 pub fn separated(tokens: &mut TokenStream) -> Result<(), Refusal>
-    ensures { Separated (separated true tokens.old.left) tokens.new.left result }
+    ensures parsed { Separated (separated true tokens.old.left) tokens.new.left result }
+    ensures spans { tokens.new.spans ≡ tokens.old.spans }
 {
     if tokens.skip(Sign::Comma) || tokens.closes() {
         Ok(())
@@ -106,8 +113,9 @@ pub fn in_order<'source>(
     tokens: &mut TokenStream<'source>,
     written: Written<'source>,
 ) -> Result<Vec<CallArg<'source>>, Refusal>
-    ensures { ParsedAs (λ v. arguments_in v.items) (and_then (paren_end (written_in written.entry) tokens.old.left) few_arguments)
-        tokens.new.left result }
+    ensures parsed { ParsedAs (λ v. placed_arguments_in v.items)
+        (and_then (paren_end (written_in written.entry) tokens.old.left) (few_arguments tokens.old.spans)) tokens.new.left result }
+    ensures spans { tokens.new.spans ≡ tokens.old.spans }
 {
     if tokens.skip(Sign::ParenClose) {
         few(written)
@@ -119,7 +127,8 @@ pub fn in_order<'source>(
 // Those by place, and behind them those by keyword.
 #[tactic(auto, using(crate::proofs::Pushes::few_in, crate::proofs::Pushes::few_over))]
 fn few<'source>(written: Written<'source>) -> Result<Vec<CallArg<'source>>, Refusal>
-    ensures { (ts : List Token) → ParsedAs (λ v. arguments_in v.items) (few_arguments (written_in written.entry) ts) ts result }
+    ensures { (spans : List Span) (ts : List Token) → ParsedAs (λ v. placed_arguments_in v.items)
+        (few_arguments spans (written_in written.entry) ts) ts result }
 {
     let Written {
         by_place,

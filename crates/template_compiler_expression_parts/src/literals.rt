@@ -1,9 +1,14 @@
 //! Names, numbers, texts, and the words that are literals.
-ghost use Rattle.std.specs.Prelude.{◌≡◌, ◌∷◌, pos, IfOk, IfErr, List, Ok, string_bytes};
+ghost use Rattle.std.specs.Prelude.{◌≡◌, pos, IfOk, IfErr, List, Ok, string_bytes};
 ghost use Rattle.std.specs.Cow.{cow_str_bytes};
-ghost use Rattle.template_compiler_expression_parts.specs.Parsed.{Parsed, ParsedAs, SteppedTo, WentOn};
+ghost use Rattle.template_compiler_expression_parts.specs.Parsed.{Parsed, ParsedAs, WentOn, dotted_by, literal_at};
 ghost use Rattle.template_compiler_stream.specs.declared.refusal.Refusal.TheVariants as refusals;
-ghost use Rattle.template_compiler_grammar.specs.Reader.{dot_part, dotted_step, name_of, nothing_deeper, primary_by, text_step, word_tree};
+ghost use Rattle.template_compiler_grammar.specs.Reader.{dotted_step, name_of, text_step, word_tree};
+ghost use Rattle.template_compiler_placed_grammar.specs.Nodes.{node};
+ghost use Rattle.template_compiler_placed_grammar.specs.Reader.{dot_part, nothing_deeper, primary_by, up_to};
+ghost use Rattle.template_compiler_placed_grammar.specs.Views.{node_of};
+ghost use Rattle.template_tree.specs.ExpressionPlaces.{places_of};
+ghost use Rattle.template_tree.specs.NodePlaces.{at, no_parts, one, parts_more};
 ghost use Rattle.template_compiler_grammar.specs.Trees.{dotted};
 ghost use Rattle.template_compiler_grammar.specs.Words.{literal_word};
 ghost use Rattle.template_compiler_tokens.specs.Steps.{all, and_then};
@@ -30,7 +35,8 @@ pub fn name<'source>(
     alloc: Global,
     tokens: &mut TokenStream<'source>,
 ) -> Result<CowStr<'source>, Refusal>
-    ensures { ParsedAs cow_str_bytes (name_of tokens.old.left) tokens.new.left result }
+    ensures parsed { ParsedAs cow_str_bytes (name_of tokens.old.left) tokens.new.left result }
+    ensures spans { tokens.new.spans ≡ tokens.old.spans }
 {
     let first = match tokens.word() {
         Some(first) => first,
@@ -60,7 +66,8 @@ fn put_part(name: &mut String, part: &str) -> Result<(), AllocError>
 
 // The name with the parts behind it.
 fn parts(tokens: &mut TokenStream, name: String) -> Result<String, AllocError>
-    ensures { IfOk result (λ s. all dotted_step (string_bytes name) tokens.old.left ≡ Ok (string_bytes s, tokens.new.left)) }
+    ensures parsed { IfOk result (λ s. all dotted_step (string_bytes name) tokens.old.left ≡ Ok (string_bytes s, tokens.new.left)) }
+    ensures spans { tokens.new.spans ≡ tokens.old.spans }
 {
     let mut name = name;
     loop {
@@ -76,13 +83,14 @@ fn parts(tokens: &mut TokenStream, name: String) -> Result<String, AllocError>
 /// # Errors
 ///
 /// The fault of the token that is none of these, or want of memory.
-#[tactic(auto, using(crate::proofs::Words::word_primary), unfolding(template_compiler_grammar::specs::Reader::primary_by))]
+#[tactic(auto, using(crate::proofs::Words::word_primary), unfolding(template_compiler_placed_grammar::specs::Reader::primary_by))]
 #[inline(always)]
 pub fn literal<'source>(
     alloc: Global,
     tokens: &mut TokenStream<'source>,
 ) -> Result<Expr<'source>, Refusal>
-    ensures { Parsed (primary_by nothing_deeper tokens.old.left) tokens.new.left result }
+    ensures parsed { Parsed (primary_by tokens.old.spans nothing_deeper tokens.old.left) tokens.new.left result }
+    ensures spans { tokens.new.spans ≡ tokens.old.spans }
 {
     if let Some(name) = tokens.word() {
         let span = tokens.span();
@@ -97,14 +105,15 @@ pub fn literal<'source>(
 }
 
 // The literal that begins with the token, behind which the tokens stand.
-#[tactic(auto, unfolding(template_compiler_grammar::specs::Reader::primary_by))]
+#[tactic(auto, unfolding(crate::specs::Parsed::literal_at))]
 fn literal_from<'source>(
     alloc: Global,
     tokens: &mut TokenStream<'source>,
     token: Token<'source>,
     span: Span,
 ) -> Result<Expr<'source>, Refusal>
-    ensures { Parsed (primary_by nothing_deeper (token_of token.entry ∷ tokens.old.left)) tokens.new.left result }
+    ensures parsed { Parsed (literal_at tokens.old.spans span (token_of token.entry) tokens.old.left) tokens.new.left result }
+    ensures spans { tokens.new.spans ≡ tokens.old.spans }
 {
     match token {
         Token::Ident(name) => word(alloc, name, span).map_err(Refusal::from),
@@ -120,7 +129,7 @@ fn literal_from<'source>(
 
 // A name, or a word that is a literal.
 fn word<'source>(alloc: Global, name: &'source str, span: Span) -> Result<Expr<'source>, AllocError>
-    ensures { IfOk result (λ e. expression_of e ≡ word_tree (literal_word name.now) name.now) }
+    ensures { IfOk result (λ e. node_of e ≡ node (word_tree (literal_word name.now) name.now) span no_parts) }
 {
     match literal_word(name) {
         Some(value) => Expr::constant(alloc, value, span),
@@ -165,8 +174,9 @@ fn texts<'source>(
     first: String,
     span: Span,
 ) -> Result<Expr<'source>, Refusal>
-    ensures { Parsed (and_then (all text_step (string_bytes first) tokens.old.left) (λ t us. Ok (constant (text t), us)))
-        tokens.new.left result }
+    ensures parsed { Parsed (and_then (all text_step (string_bytes first) tokens.old.left)
+        (λ t us. Ok (node (constant (text t)) (up_to tokens.old.spans span us) no_parts, us))) tokens.new.left result }
+    ensures spans { tokens.new.spans ≡ tokens.old.spans }
 {
     match Value::from_text(adjacent(tokens, first)?) {
         Ok(value) => Expr::constant(alloc, value, tokens.expand_span(span)).map_err(Refusal::from),
@@ -175,7 +185,8 @@ fn texts<'source>(
 }
 
 fn adjacent(tokens: &mut TokenStream, first: String) -> Result<String, AllocError>
-    ensures { IfOk result (λ s. all text_step (string_bytes first) tokens.old.left ≡ Ok (string_bytes s, tokens.new.left)) }
+    ensures parsed { IfOk result (λ s. all text_step (string_bytes first) tokens.old.left ≡ Ok (string_bytes s, tokens.new.left)) }
+    ensures spans { tokens.new.spans ≡ tokens.old.spans }
 {
     let mut text = first;
     loop {
@@ -192,14 +203,15 @@ fn adjacent(tokens: &mut TokenStream, first: String) -> Result<String, AllocErro
 /// # Errors
 ///
 /// The fault of the token that is neither a name nor a number, or want of memory.
-#[tactic(auto, unfolding(template_compiler_grammar::specs::Reader::dot_part))]
+#[tactic(auto, unfolding(template_compiler_placed_grammar::specs::Reader::dot_part))]
 pub fn attribute<'source>(
     alloc: Global,
     tokens: &mut TokenStream<'source>,
     value: Expr<'source>,
     span: Span,
 ) -> Result<Expr<'source>, Refusal>
-    ensures { WentOn (dot_part (expression_of value.entry) tokens.old.left) tokens.new.left result }
+    ensures parsed { WentOn (dot_part tokens.old.spans span (node_of value.entry) tokens.old.left) tokens.new.left result }
+    ensures spans { tokens.new.spans ≡ tokens.old.spans }
 {
     match tokens.take() {
         First::Token(token, place) => {
@@ -210,7 +222,7 @@ pub fn attribute<'source>(
     }
 }
 
-#[tactic(auto, unfolding(template_compiler_grammar::specs::Reader::dot_part))]
+#[tactic(auto, unfolding(crate::specs::Parsed::dotted_by))]
 fn attribute_from<'source>(
     alloc: Global,
     token: Token<'source>,
@@ -218,7 +230,7 @@ fn attribute_from<'source>(
     value: Expr<'source>,
     span: Span,
 ) -> Result<Expr<'source>, Refusal>
-    ensures { (ts : List lexed.Token) → WentOn (dot_part (expression_of value.entry) (token_of token.entry ∷ ts)) ts result }
+    ensures { (ts : List lexed.Token) → WentOn (dotted_by place span (node_of value.entry) (token_of token.entry) ts) ts result }
 {
     match token {
         Token::Ident(name) => Expr::attribute(alloc, value, name, span).map_err(Refusal::from),
@@ -242,7 +254,8 @@ fn numbered<'source>(
     place: Span,
     span: Span,
 ) -> Result<Expr<'source>, AllocError>
-    ensures { IfOk result (λ e. expression_of e ≡ item (expression_of value.entry) (constant number)) }
+    ensures { IfOk result (λ e. node_of e ≡ node (item (expression_of value.entry) (constant number)) span
+        (parts_more (places_of value.entry) (one (at place no_parts)))) }
 {
     let key = Expr::constant(alloc, number, place)?;
     Expr::item(alloc, value, key, span)

@@ -1,22 +1,21 @@
 //! The trees of comparisons and of tests.
-ghost use Rattle.std.specs.Prelude.{◌≡◌, IfOk};
+ghost use Rattle.std.specs.Prelude.{◌≡◌, [], ◌∷◌, IfOk};
 ghost use Rattle.std.specs.Cow.{cow_str_bytes};
-ghost use Rattle.template_compiler_grammar.specs.Trees.{compared, compared_once, tested_as};
-ghost use Rattle.template_tree.specs.View.{arguments_in, expression_of, links_in};
+ghost use Rattle.template_compiler_placed_grammar.specs.Nodes.{compared_node, tested_node};
+ghost use Rattle.template_compiler_placed_grammar.specs.Views.{node_of, placed_arguments_in, placed_links_in};
 
 use std::alloc::{AllocError, Global};
 use std::borrow::CowStr;
 use template_tree::{BinOpKind, CallArg, CompareOp, CompareOpKind, Expr, Span, UnaryOpKind};
 
 /// A value with the comparisons behind it: none is the value, one an operator, more are a chain.
-#[tactic(auto, using(crate::proofs::Pushes::compared_chain))]
 pub fn compared<'source>(
     alloc: Global,
     value: Expr<'source>,
     links: Vec<CompareOp<'source>>,
     span: Span,
 ) -> Result<Expr<'source>, AllocError>
-    ensures { IfOk result (λ e. expression_of e ≡ compared (expression_of value.entry) (links_in links.entry.items)) }
+    ensures { IfOk result (λ e. node_of e ≡ compared_node (node_of value.entry) (placed_links_in links.entry.items) span) }
 {
     let mut links = links;
     if links.len() > 1 {
@@ -35,7 +34,7 @@ fn compared_once<'source>(
     link: CompareOp<'source>,
     span: Span,
 ) -> Result<Expr<'source>, AllocError>
-    ensures { IfOk result (λ e. expression_of e ≡ compared_once (expression_of value.entry) link.entry.op (expression_of link.entry.expr)) }
+    ensures { IfOk result (λ e. node_of e ≡ compared_node (node_of value.entry) (placed_links_in (link.entry ∷ [])) span) }
 {
     let CompareOp { op, expr } = link;
     let kind = match op {
@@ -64,8 +63,8 @@ pub fn tested<'source>(
     span: Span,
 ) -> Result<Expr<'source>, AllocError>
     ensures { IfOk result
-        (λ e. expression_of e ≡ tested_as negated (cow_str_bytes name.entry) (expression_of value.entry)
-        (arguments_in arguments.entry.items)) }
+        (λ e. node_of e ≡ tested_node negated (cow_str_bytes name.entry) (node_of value.entry)
+        (placed_arguments_in arguments.entry.items) span) }
 {
     let test = Expr::tested(alloc, name, value, arguments, span)?;
     if negated {

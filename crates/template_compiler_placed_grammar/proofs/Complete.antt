@@ -9,7 +9,7 @@ use Rattle.template_tree.specs.declared.operators.BinOpKind.{BinOpKind}
 use Rattle.template_tree.specs.declared.operators.CompareOpKind.{CompareOpKind}
 use Rattle.template_tree.specs.declared.operators.CompareOpKind.TheVariants as comparisons
 use Rattle.template_tree.specs.Tree.{Expression, unary, Optional, Expressions, Links, Arguments, Argument, positional}
-use Rattle.template_compiler_placed_grammar.specs.Places.{Places, Parts, no_parts, one}
+use Rattle.template_tree.specs.NodePlaces.{Places, Parts, no_parts, one}
 use Rattle.template_compiler_tokens.specs.Places.{stretch, next_span}
 use Rattle.template_compiler_tokens.specs.Token.{Token, bad_syntax, identifier, symbol, assign, mul, pow, paren_open, pipe}
 use Rattle.template_compiler_tokens.specs.Steps.{Read, goes, stops, and_then, under, goes_on, many, all}
@@ -77,9 +77,9 @@ step_front (a_step b) h = refl
 module _ (spans : List Span) where
   -- a word or an operator in front
   word_literal : (n : List ℕ) (o : Option Val) → literal_word n ≡ o → (r : Deeper) (ts : List Token) →
-      primary_by spans r (identifier n ∷ ts) ≡ Ok (node (word_tree o n) (stretch spans (identifier n ∷ ts) ts) no_parts, ts)
+      primary_by spans r (identifier n ∷ ts) ≡ Ok (node (word_tree o n) (next_span spans (identifier n ∷ ts)) no_parts, ts)
   unfolding primary_by
-  word_literal n o e r ts = ap (λ v. Ok (node (word_tree v n) (stretch spans (identifier n ∷ ts) ts) no_parts, ts)) e
+  word_literal n o e r ts = ap (λ v. Ok (node (word_tree v n) (next_span spans (identifier n ∷ ts)) no_parts, ts)) e
 
   operator_goes : (k : Level) (t : Token) (op : BinOpKind) (read : List Token → Read Node) (start : Span) (a b : Node)
       (ts us : List Token) →
@@ -145,8 +145,7 @@ module _ (spans : List Span) where
   identifier_alone : (r : Deeper) (n : List ℕ) (vs : List Token) → is_word (codes "not") (identifier n) ≡ false →
       expression_by spans r (identifier n ∷ symbol assign ∷ vs) ≡
       Ok (
-        node (word_tree (literal_word n) n) (stretch spans (identifier n ∷ symbol assign ∷ vs)
-            (symbol assign ∷ vs)) no_parts,
+        node (word_tree (literal_word n) n) (next_span spans (identifier n ∷ symbol assign ∷ vs)) no_parts,
         symbol assign ∷ vs,
       )
   unfolding and_then under goes_on many all expression_by binary_by operand_by binary_of operand_step operand_behind if_behind comparison_by terms_by link_step link_behind power_by power_behind filtered_by filter_step parts_by part_step primary_by unary_by

@@ -5,7 +5,7 @@ use Rattle.template_tree.specs.declared.span.Span.{Span}
 use Rattle.template_tree.specs.declared.operators.BinOpKind.{BinOpKind}
 use Rattle.template_tree.specs.declared.operators.CompareOpKind.{CompareOpKind}
 use Rattle.template_tree.specs.Tree.{Expression, Optional, absent, given}
-use Rattle.template_compiler_placed_grammar.specs.Places.{Parts}
+use Rattle.template_tree.specs.NodePlaces.{Parts}
 use Rattle.template_compiler_tokens.specs.Places.{next_span}
 use Rattle.template_compiler_tokens.specs.Token.{Token, identifier, string, number, symbol, minus, mul, pow, dot, comma, colon, assign, pipe, bracket_open, paren_open, paren_close, brace_open}
 use Rattle.template_compiler_tokens.specs.Steps.{Read, and_then}
@@ -349,3 +349,40 @@ module _ (spans : List Span) where
       bare (filter_chain_at spans d value ts) ≡ plain.filter_chain_at d value.tree ts
   unfolding filter_chain_at plain.filter_chain_at
   filter_chain_erased d value ts = chain_bare spans _ _ (deeper_bare d) value ts
+
+  -- rounds of repetitions
+  pub part_step_erased : (d : ℕ) (start : Span) (a : Node) (ts : List Token) →
+      bare_step (part_step spans (deeper spans d) start a ts) ≡ plain.part_step (plain.deeper d) a.tree ts
+  part_step_erased d start a ts = part_bare spans _ _ (deeper_bare d) start a ts
+
+  pub filter_step_erased : (d : ℕ) (start : Span) (a : Node) (ts : List Token) →
+      bare_step (filter_step spans (deeper spans d) start a ts) ≡ plain.filter_step (plain.deeper d) a.tree ts
+  filter_step_erased d start a ts = filter_step_bare spans _ _ (deeper_bare d) start a ts
+
+  pub chain_step_erased : (d : ℕ) (value : OptionalNode) (ts : List Token) →
+      bare_step (chain_step spans (deeper spans d) value ts) ≡ plain.chain_step (plain.deeper d) value.tree ts
+  chain_step_erased d value ts = chain_step_bare spans _ _ (deeper_bare d) value ts
+
+  pub operand_step_erased : (d : ℕ) (k : Level) (start : Span) (a : Node) (ts : List Token) →
+      bare_step (operand_step spans k (operand_by spans (deeper spans d) k) start a ts) ≡
+      plain.operand_step k (plain.operand_by (plain.deeper d) k) a.tree ts
+  operand_step_erased d k start a ts = operand_step_bare spans _ _ (operand_bare spans _ _ (deeper_bare d) k) k start a ts
+
+  pub link_step_erased : (d : ℕ) (ls : PlacedLinks) (ts : List Token) →
+      bare_step (link_step spans (terms_by spans (deeper spans d)) ls ts) ≡ plain.link_step (plain.terms_by (plain.deeper d)) ls.tree ts
+  link_step_erased d ls ts = link_step_bare spans _ _ (terms_bare spans _ _ (deeper_bare d)) ls ts
+
+  pub items_step_erased : (d : ℕ) (es : Nodes) (ts : List Token) →
+      bare_step (items_step spans (expression_by spans (deeper spans d)) es ts) ≡
+      plain.items_step (plain.expression_by (plain.deeper d)) es.tree ts
+  items_step_erased d es ts = items_step_bare spans _ _ (expression_bare spans _ _ (deeper_bare d)) es ts
+
+  pub pairs_step_erased : (d : ℕ) (ps : PlacedPairs) (ts : List Token) →
+      bare_step (pairs_step spans (expression_by spans (deeper spans d)) ps ts) ≡
+      plain.pairs_step (plain.expression_by (plain.deeper d)) ps.tree ts
+  pairs_step_erased d ps ts = pairs_step_bare spans _ _ (expression_bare spans _ _ (deeper_bare d)) ps ts
+
+  pub arguments_step_erased : (d : ℕ) (w : PlacedWritten) (ts : List Token) →
+      bare_step (arguments_step spans (expression_by spans (deeper spans d)) w ts) ≡
+      plain.arguments_step (plain.expression_by (plain.deeper d)) w.tree ts
+  arguments_step_erased d w ts = arguments_step_bare spans _ _ (expression_bare spans _ _ (deeper_bare d)) w ts

@@ -10,3 +10,4 @@ mod TemplateLaws
 mod First
 mod Wholes
 mod Last
+pub mod Pushes

@@ -3,7 +3,7 @@ use Rattle.std.proofs.Common.{◌≡◌, ℕ, zero, suc, Bool, true, false, if�
 use Rattle.template_tree.specs.declared.span.Span.{Span}
 use Rattle.template_tree.specs.Tree.{Expression, Arguments, Statement, print, Statements, break_loop, continue_loop}
 use Rattle.template_tree.specs.Kinds.{call_parts}
-use Rattle.template_compiler_placed_grammar.specs.Places.{Places, at}
+use Rattle.template_tree.specs.NodePlaces.{Places, at}
 use Rattle.template_compiler_tokens.specs.Places.{next_span}
 use Rattle.template_compiler_tokens.specs.Token.{Token, bad_syntax, template_data, variable_start, block_start, block_end, identifier, symbol, dot, assign, paren_open, paren_close}
 use Rattle.template_compiler_tokens.specs.Steps.{Read, and_then}

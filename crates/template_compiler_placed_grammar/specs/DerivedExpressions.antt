@@ -3,13 +3,13 @@
 use Rattle.std.specs.Prelude.{ℕ, List, ◌∷◌}
 use Rattle.template_tree.specs.declared.span.Span.{Span}
 use Rattle.template_tree.specs.Tree.{Expression, Optional, Expressions, Links, Arguments, Argument}
-use Rattle.template_compiler_placed_grammar.specs.Places.{Places, at, Parts, no_parts, parts_more, one, and_parts}
-use Rattle.template_compiler_tokens.specs.Places.{stretch}
-use Rattle.template_compiler_tokens.specs.Token.{Token, identifier, string, number, symbol, minus, bracket_open, brace_open, paren_open}
+use Rattle.template_tree.specs.NodePlaces.{Places, at, Parts, no_parts, parts_more, one, and_parts}
+use Rattle.template_compiler_tokens.specs.Places.{next_span, stretch}
+use Rattle.template_compiler_tokens.specs.Token.{Token, identifier, string, number, symbol, minus, bracket_open, bracket_close, brace_open, brace_close, paren_open, paren_close}
 use Rattle.template_compiler_grammar.specs.Words.{Level, word_not}
 use Rattle.template_compiler_grammar.specs.Trees.{Paired, Written}
 use Rattle.template_compiler_grammar.specs.Grammar.{IsExpression, unconditional, if_alone, if_else, IsBinary, operands, IsOperands, operands_end, operands_more, IsOperand, factor, text_operand, term, conjunct, disjunct, IsNegation, negation, no_negation, IsComparison, comparison, IsLinks, links_end, links_operator, links_not_in, IsPower, no_power, power, IsFiltered, filtered_value, IsFilters, filters_end, filters_more, IsFilterParts, filter_parts, is_test, is_not_test, IsFilter, filter, IsTest, test, bare_test, IsOptionalArguments, no_list, a_list, IsUnary, minus_sign, primary, IsParts, parts_end, parts_more, IsPart, attribute_part, number_part, subscript_part, call_part, IsSubscript, item_subscript, slice_subscript, IsBound, no_bound, a_bound, IsStep, no_step, a_step, IsPrimary, name_primary, word_primary, number_primary, text_primary, paren_primary, list_primary, map_primary, IsParen, empty_tuple, in_parens, tuple, IsItems, items_end, items_last, items_more, IsPairs, pairs_end, pairs_last, pairs_more, IsArgumentList, argument_list, IsArguments, arguments_end, arguments_last, arguments_next, IsArgument, positional_argument, keyword_argument, spread_argument, keyword_spread_argument}
-use Rattle.template_compiler_placed_grammar.specs.DerivedNodes.{and_place, negated_at, compared_at, WrittenPlaces, and_written_place, PairedPlaces, and_pair_place}
+use Rattle.template_compiler_placed_grammar.specs.DerivedNodes.{enclosed, and_place, negated_at, compared_at, WrittenPlaces, and_written_place, PairedPlaces, and_pair_place}
 
 abbrev mutual
   pub expression_places : {d : ℕ} {ts us : List Token} {e : Expression} → List Span → IsExpression d ts e us → Places
@@ -91,15 +91,15 @@ abbrev mutual
   pub part_places : {d : ℕ} {ts us : List Token} {a e : Expression} → List Span → List Token → Places → IsPart d a ts e us → Places
   part_places spans from a (attribute_part {ts = ts}) = at (stretch spans from ts) (one a)
   part_places spans from a (number_part {n = n} {ts = ts}) =
-      at (stretch spans from ts) (parts_more a (one (at (stretch spans (number n ∷ ts) ts) no_parts)))
+      at (stretch spans from ts) (parts_more a (one (at (next_span spans (number n ∷ ts)) no_parts)))
   part_places spans from a (subscript_part e) = subscript_places spans from a e
   part_places spans from a (call_part {us = us} args) = at (stretch spans from us) (parts_more a (argument_list_places spans args))
 
   pub subscript_places : {d : ℕ} {ts us : List Token} {a e : Expression} → List Span → List Token → Places → IsSubscript d a ts e us → Places
   subscript_places spans from a (item_subscript {us = us} key) =
-      at (stretch spans from us) (parts_more a (one (expression_places spans key)))
+      at (enclosed spans from (symbol bracket_close ∷ us)) (parts_more a (one (expression_places spans key)))
   subscript_places spans from a (slice_subscript {ws = ws} start stop step) =
-      at (stretch spans from ws) (parts_more a (and_parts (bound_places spans start)
+      at (enclosed spans from (symbol bracket_close ∷ ws)) (parts_more a (and_parts (bound_places spans start)
       (and_parts (bound_places spans stop) (step_places spans step))))
 
   pub bound_places : {d : ℕ} {ts us : List Token} {bound : Optional} → List Span → IsBound d ts bound us → Parts
@@ -111,21 +111,23 @@ abbrev mutual
   step_places spans (a_step e) = bound_places spans e
 
   pub primary_places : {d : ℕ} {ts us : List Token} {e : Expression} → List Span → IsPrimary d ts e us → Places
-  primary_places spans (name_primary {n = n} {ts = ts} none) = at (stretch spans (identifier n ∷ ts) ts) no_parts
-  primary_places spans (word_primary {n = n} {ts = ts} some) = at (stretch spans (identifier n ∷ ts) ts) no_parts
-  primary_places spans (number_primary {n = n} {ts = ts}) = at (stretch spans (number n ∷ ts) ts) no_parts
+  primary_places spans (name_primary {n = n} {ts = ts} none) = at (next_span spans (identifier n ∷ ts)) no_parts
+  primary_places spans (word_primary {n = n} {ts = ts} some) = at (next_span spans (identifier n ∷ ts)) no_parts
+  primary_places spans (number_primary {n = n} {ts = ts}) = at (next_span spans (number n ∷ ts)) no_parts
   primary_places spans (text_primary {s = s} {ts = ts} {us = us} texts) = at (stretch spans (string s ∷ ts) us) no_parts
   primary_places spans (paren_primary {ts = ts} e) = paren_places spans (symbol paren_open ∷ ts) e
   primary_places spans (list_primary {ts = ts} {us = us} es) =
-      at (stretch spans (symbol bracket_open ∷ ts) us) (items_places spans no_parts es)
+      at (enclosed spans (symbol bracket_open ∷ ts) (symbol bracket_close ∷ us)) (items_places spans no_parts es)
   primary_places spans (map_primary {ts = ts} {us = us} p is) =
-      let places = pairs_places spans (no_parts, no_parts) p in at (stretch spans (symbol brace_open ∷ ts) us) (and_parts places.0 places.1)
+      let places = pairs_places spans (no_parts, no_parts) p in
+      at (enclosed spans (symbol brace_open ∷ ts) (symbol brace_close ∷ us)) (and_parts places.0 places.1)
 
   -- parentheses around one expression are no part of it
   pub paren_places : {d : ℕ} {ts us : List Token} {e : Expression} → List Span → List Token → IsParen d ts e us → Places
   paren_places spans from (empty_tuple {ts = ts}) = at (stretch spans from ts) no_parts
   paren_places spans from (in_parens e) = expression_places spans e
-  paren_places spans from (tuple {vs = vs} a es) = at (stretch spans from vs) (items_places spans (one (expression_places spans a)) es)
+  paren_places spans from (tuple {vs = vs} a es) =
+      at (enclosed spans from (symbol paren_close ∷ vs)) (items_places spans (one (expression_places spans a)) es)
 
   pub items_places : {d : ℕ} {ts us : List Token} {es fs : Expressions} → List Span → Parts → IsItems d es ts fs us → Parts
   items_places spans ps items_end = ps

@@ -2,8 +2,8 @@
 use Rattle.std.specs.Prelude.{ℕ, Bool, List, ◌∷◌}
 use Rattle.template_tree.specs.declared.span.Span.{Span}
 use Rattle.template_tree.specs.Tree.{Expression, Optional, Expressions, Assignments, Imports}
-use Rattle.template_compiler_placed_grammar.specs.Places.{Places, at, Parts, no_parts, parts_more, one, and_parts}
-use Rattle.template_compiler_tokens.specs.Places.{stretch}
+use Rattle.template_tree.specs.NodePlaces.{Places, at, Parts, no_parts, parts_more, one, and_parts}
+use Rattle.template_compiler_tokens.specs.Places.{next_span, stretch}
 use Rattle.template_compiler_tokens.specs.Token.{Token, identifier}
 use Rattle.template_compiler_grammar.specs.Grammar.{IsFilterChain, chain_end, chain_more}
 use Rattle.template_compiler_placed_grammar.specs.DerivedNodes.{and_place, PairedPlaces}
@@ -17,7 +17,7 @@ alone_or span (parts_more p no_parts) = p
 alone_or span ps = at span ps
 
 abbrev pub stored_places : {ts us : List Token} {e : Expression} → List Span → IsStored ts e us → Places
-stored_places spans (stored {n = n} {ts = ts} free) = at (stretch spans (identifier n ∷ ts) ts) no_parts
+stored_places spans (stored {n = n} {ts = ts} free) = at (next_span spans (identifier n ∷ ts)) no_parts
 
 abbrev pub path_places : {ts us : List Token} {a e : Expression} → List Span → List Token → Places → IsPath a ts e us → Places
 path_places spans from a path_end = a

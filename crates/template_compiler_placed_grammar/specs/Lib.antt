@@ -1,9 +1,8 @@
 pub mod Nodes
 pub mod Reader
+pub mod Views
 pub mod TemplateNodes
 pub mod TemplateReader
-pub mod Places
-pub mod TreeExpressions
 pub mod TreeStatements
 pub mod DerivedNodes
 pub mod DerivedExpressions

@@ -10,9 +10,9 @@ use Rattle.template_tree.specs.declared.operators.BinOpKind.{BinOpKind}
 use Rattle.template_tree.specs.declared.operators.BinOpKind.TheVariants as operators
 use Rattle.template_tree.specs.declared.operators.CompareOpKind.{CompareOpKind}
 use Rattle.template_tree.specs.declared.operators.CompareOpKind.TheVariants as comparisons
-use Rattle.template_compiler_placed_grammar.specs.Places.{at, Parts, no_parts, parts_more, one, and_parts}
+use Rattle.template_tree.specs.NodePlaces.{at, Parts, no_parts, parts_more, one, and_parts}
 use Rattle.template_compiler_tokens.specs.Places.{last_span, next_span, until, stretch}
-use Rattle.template_compiler_tokens.specs.Token.{Token, bad, bad_syntax, identifier, string, number, symbol, minus, mul, pow, dot, comma, colon, assign, pipe, bracket_open, paren_open, paren_close, brace_open}
+use Rattle.template_compiler_tokens.specs.Token.{Token, bad_syntax, identifier, string, number, symbol, minus, mul, pow, dot, comma, colon, assign, pipe, bracket_open, paren_open, paren_close, brace_open}
 use Rattle.template_compiler_tokens.specs.Steps.{Read, fault, and_then, Step, goes, stops, fails, under, all}
 use Rattle.template_compiler_grammar.specs.Words.{is_word, begins_bare, literal_word, Level, factors, texts, terms, conjunction, disjunction, operator, comparison_operator}
 use Rattle.template_compiler_grammar.specs.Trees.{argument_count, in_order}
@@ -46,12 +46,6 @@ nothing_deeper = record {
   arguments = too_deep;
 }
 
--- the tokens behind the next one; what is none is not passed
-abbrev pub passed : List Token → List Token
-passed [] = []
-passed (bad f ∷ ts) = bad f ∷ ts
-passed (t ∷ ts) = ts
-
 -- by the spans of all tokens
 module _ (spans : List Span) where
   -- from where it starts to the last token before the others
@@ -60,13 +54,13 @@ module _ (spans : List Span) where
 
   -- from where it starts to the next token
   abbrev pub through_next : Span → List Token → Span
-  through_next start ts = up_to start (passed ts)
+  through_next start ts = until start (next_span spans ts)
 
   -- primaries and their parts
   unfoldable pub primary_by : Deeper → List Token → Read Node
   primary_by r (identifier n ∷ ts) =
-      Ok (node (word_tree (literal_word n) n) (stretch spans (identifier n ∷ ts) ts) no_parts, ts)
-  primary_by r (number n ∷ ts) = Ok (node (constant (int (pos n))) (stretch spans (number n ∷ ts) ts) no_parts, ts)
+      Ok (node (word_tree (literal_word n) n) (next_span spans (identifier n ∷ ts)) no_parts, ts)
+  primary_by r (number n ∷ ts) = Ok (node (constant (int (pos n))) (next_span spans (number n ∷ ts)) no_parts, ts)
   primary_by r (string s ∷ ts) =
       and_then (all text_step s ts) (λ t us. Ok (node (constant (text t)) (stretch spans (string s ∷ ts) us) no_parts, us))
   primary_by r (symbol paren_open ∷ ts) = r.paren (next_span spans (symbol paren_open ∷ ts)) ts
@@ -78,7 +72,7 @@ module _ (spans : List Span) where
   dot_part start a (identifier n ∷ ts) = goes (node (attribute a.tree n) (up_to start ts) (one a.places)) ts
   dot_part start a (number n ∷ ts) =
       goes (node (item a.tree (constant (int (pos n)))) (up_to start ts)
-      (parts_more a.places (one (at (stretch spans (number n ∷ ts) ts) no_parts)))) ts
+      (parts_more a.places (one (at (next_span spans (number n ∷ ts)) no_parts)))) ts
   dot_part start a ts = fails (fault ts)
 
   unfoldable pub part_step : Deeper → Span → Node → List Token → Step Node

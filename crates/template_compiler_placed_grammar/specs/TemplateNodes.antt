@@ -2,7 +2,7 @@
 use Rattle.std.specs.Prelude.{List, [], ◌∷◌, ◌++◌, Result, Ok, Err}
 use Rattle.template_tree.specs.declared.span.Span.{Span}
 use Rattle.template_tree.specs.Tree.{Expression, Statement, if_condition, Statements, no_statements, Assignments, no_assignments, Imports, no_imports}
-use Rattle.template_compiler_placed_grammar.specs.Places.{Places, at, Parts, no_parts, parts_more, one, and_parts}
+use Rattle.template_tree.specs.NodePlaces.{Places, at, Parts, no_parts, parts_more, one, and_parts}
 use Rattle.template_compiler_tokens.specs.Places.{until}
 use Rattle.template_compiler_tokens.specs.Token.{TokenFault}
 use Rattle.template_compiler_placed_grammar.specs.DerivedNodes.{and_place, PairedPlaces}

@@ -5,7 +5,7 @@ use Rattle.std.specs.Prelude.{ℕ, zero, suc, Bool, true, false, if◌then◌els
 use Rattle.template_tree.specs.declared.span.Span.{Span}
 use Rattle.template_tree.specs.Tree.{Expression, variable, attribute, Arguments, Statement, raw, print, for_loop, with_block, set, set_block, auto_escape, block, import, from_import, extends, include, macro, call_block, continue_loop, break_loop, do_call}
 use Rattle.template_tree.specs.Kinds.{call_parts}
-use Rattle.template_compiler_placed_grammar.specs.Places.{Places, at, no_parts, parts_more, one, and_parts}
+use Rattle.template_tree.specs.NodePlaces.{Places, at, no_parts, parts_more, one, and_parts}
 use Rattle.template_compiler_tokens.specs.Places.{next_span, stretch}
 use Rattle.template_compiler_tokens.specs.Token.{Token, TokenFault, bad_syntax, template_data, variable_start, block_start, block_end, identifier, symbol, dot, assign, paren_open, paren_close}
 use Rattle.template_compiler_tokens.specs.Steps.{Read, fault, and_then, Step, goes, stops, under, all}
@@ -38,7 +38,7 @@ module _ (spans : List Span) where
 
   unfoldable pub stored_by : List Token → Read Node
   stored_by (identifier n ∷ ts) =
-      if is_reserved n then Err bad_syntax else Ok (node (variable n) (stretch spans (identifier n ∷ ts) ts) no_parts, ts)
+      if is_reserved n then Err bad_syntax else Ok (node (variable n) (next_span spans (identifier n ∷ ts)) no_parts, ts)
   stored_by ts = Err (fault ts)
 
   unfoldable pub path_by : Bool → Span → Node → List Token → Read Node

@@ -3,3 +3,5 @@ pub mod View
 pub mod Places
 pub mod Kinds
 pub mod CallView
+pub mod NodePlaces
+pub mod ExpressionPlaces

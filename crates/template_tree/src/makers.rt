@@ -1,6 +1,8 @@
 //! Makers of nodes: each takes one allocation at most, and drops its parts where that is refused.
 ghost use Rattle.std.specs.Prelude.{◌≡◌, IfOk};
 ghost use Rattle.std.specs.Cow.{cow_str_bytes};
+ghost use Rattle.template_tree.specs.ExpressionPlaces.{places_of, places_optional, places_in, places_in_links, places_in_arguments};
+ghost use Rattle.template_tree.specs.NodePlaces.{at, no_parts, parts_more, one, and_parts};
 ghost use Rattle.template_tree.specs.Places.{expression_span};
 ghost use Rattle.template_tree.specs.Tree.{variable, constant, slice, unary, binary, chain, conditional, filtered, tested, attribute, item, call, list_literal, tuple_literal, map_literal};
 ghost use Rattle.template_tree.specs.View.{expression_of, optional_in, expressions_in, links_in, arguments_in};
@@ -21,6 +23,7 @@ impl<'source> Expr<'source> {
     pub fn variable(id: &'source str, span: Span) -> Expr<'source>
         ensures tree { expression_of result ≡ variable id.now }
         ensures span { expression_span result ≡ span }
+        ensures places { places_of result ≡ at span no_parts }
     {
         Expr::Var(Spanned::new(Var { id }, span))
     }
@@ -29,6 +32,7 @@ impl<'source> Expr<'source> {
     pub fn constant(alloc: Global, value: Value, span: Span) -> Result<Expr<'source>, AllocError>
         ensures tree { IfOk result (λ e. expression_of e ≡ constant value) }
         ensures span { IfOk result (λ e. expression_span e ≡ span) }
+        ensures places { IfOk result (λ e. places_of e ≡ at span no_parts) }
     {
         Ok(Expr::Const(Spanned::boxed(alloc, Const { value }, span)?))
     }
@@ -46,6 +50,8 @@ impl<'source> Expr<'source> {
             (λ e. expression_of e ≡ slice (expression_of expr.entry)
             (optional_in start.entry) (optional_in stop.entry) (optional_in step.entry)) }
         ensures span { IfOk result (λ e. expression_span e ≡ span) }
+        ensures places { IfOk result (λ e. places_of e ≡ at span (parts_more (places_of expr.entry)
+            (and_parts (places_optional start.entry) (and_parts (places_optional stop.entry) (places_optional step.entry))))) }
     {
         let node = Spanned::boxed(
             alloc,
@@ -69,6 +75,7 @@ impl<'source> Expr<'source> {
     ) -> Result<Expr<'source>, AllocError>
         ensures tree { IfOk result (λ e. expression_of e ≡ unary op (expression_of expr.entry)) }
         ensures span { IfOk result (λ e. expression_span e ≡ span) }
+        ensures places { IfOk result (λ e. places_of e ≡ at span (one (places_of expr.entry))) }
     {
         let node = Spanned::boxed(alloc, UnaryOp { op, expr }, span)?;
         Ok(Expr::UnaryOp(node))
@@ -84,6 +91,7 @@ impl<'source> Expr<'source> {
     ) -> Result<Expr<'source>, AllocError>
         ensures tree { IfOk result (λ e. expression_of e ≡ binary op (expression_of left.entry) (expression_of right.entry)) }
         ensures span { IfOk result (λ e. expression_span e ≡ span) }
+        ensures places { IfOk result (λ e. places_of e ≡ at span (parts_more (places_of left.entry) (one (places_of right.entry)))) }
     {
         let node = Spanned::boxed(alloc, BinOp { op, left, right }, span)?;
         Ok(Expr::BinOp(node))
@@ -98,6 +106,7 @@ impl<'source> Expr<'source> {
     ) -> Result<Expr<'source>, AllocError>
         ensures tree { IfOk result (λ e. expression_of e ≡ chain (expression_of expr.entry) (links_in ops.entry.items)) }
         ensures span { IfOk result (λ e. expression_span e ≡ span) }
+        ensures places { IfOk result (λ e. places_of e ≡ at span (parts_more (places_of expr.entry) (places_in_links ops.entry.items))) }
     {
         let node = Spanned::boxed(alloc, Compare { expr, ops }, span)?;
         Ok(Expr::Compare(node))
@@ -115,6 +124,8 @@ impl<'source> Expr<'source> {
             (λ e. expression_of e ≡ conditional (expression_of test_expr.entry)
             (expression_of true_expr.entry) (optional_in false_expr.entry)) }
         ensures span { IfOk result (λ e. expression_span e ≡ span) }
+        ensures places { IfOk result (λ e. places_of e ≡ at span (parts_more (places_of test_expr.entry)
+            (parts_more (places_of true_expr.entry) (places_optional false_expr.entry)))) }
     {
         let node = Spanned::boxed(
             alloc,
@@ -139,6 +150,8 @@ impl<'source> Expr<'source> {
         ensures tree { IfOk result
             (λ e. expression_of e ≡ filtered (cow_str_bytes name.entry) (optional_in expr.entry) (arguments_in args.entry.items)) }
         ensures span { IfOk result (λ e. expression_span e ≡ span) }
+        ensures places { IfOk result
+            (λ e. places_of e ≡ at span (and_parts (places_optional expr.entry) (places_in_arguments args.entry.items))) }
     {
         let node = Spanned::boxed(alloc, Filter { name, expr, args }, span)?;
         Ok(Expr::Filter(node))
@@ -155,6 +168,7 @@ impl<'source> Expr<'source> {
         ensures tree { IfOk result
             (λ e. expression_of e ≡ tested (cow_str_bytes name.entry) (expression_of expr.entry) (arguments_in args.entry.items)) }
         ensures span { IfOk result (λ e. expression_span e ≡ span) }
+        ensures places { IfOk result (λ e. places_of e ≡ at span (parts_more (places_of expr.entry) (places_in_arguments args.entry.items))) }
     {
         let node = Spanned::boxed(alloc, Test { name, expr, args }, span)?;
         Ok(Expr::Test(node))
@@ -169,6 +183,7 @@ impl<'source> Expr<'source> {
     ) -> Result<Expr<'source>, AllocError>
         ensures tree { IfOk result (λ e. expression_of e ≡ attribute (expression_of expr.entry) name.now) }
         ensures span { IfOk result (λ e. expression_span e ≡ span) }
+        ensures places { IfOk result (λ e. places_of e ≡ at span (one (places_of expr.entry))) }
     {
         let node = Spanned::boxed(alloc, GetAttr { expr, name }, span)?;
         Ok(Expr::GetAttr(node))
@@ -183,6 +198,7 @@ impl<'source> Expr<'source> {
     ) -> Result<Expr<'source>, AllocError>
         ensures tree { IfOk result (λ e. expression_of e ≡ item (expression_of expr.entry) (expression_of subscript_expr.entry)) }
         ensures span { IfOk result (λ e. expression_span e ≡ span) }
+        ensures places { IfOk result (λ e. places_of e ≡ at span (parts_more (places_of expr.entry) (one (places_of subscript_expr.entry)))) }
     {
         let node = Spanned::boxed(
             alloc,
@@ -204,6 +220,7 @@ impl<'source> Expr<'source> {
     ) -> Result<Expr<'source>, AllocError>
         ensures tree { IfOk result (λ e. expression_of e ≡ call (expression_of expr.entry) (arguments_in args.entry.items)) }
         ensures span { IfOk result (λ e. expression_span e ≡ span) }
+        ensures places { IfOk result (λ e. places_of e ≡ at span (parts_more (places_of expr.entry) (places_in_arguments args.entry.items))) }
     {
         let node = Spanned::boxed(alloc, Call { expr, args }, span)?;
         Ok(Expr::Call(node))
@@ -217,6 +234,7 @@ impl<'source> Expr<'source> {
     ) -> Result<Expr<'source>, AllocError>
         ensures tree { IfOk result (λ e. expression_of e ≡ list_literal (expressions_in items.entry.items)) }
         ensures span { IfOk result (λ e. expression_span e ≡ span) }
+        ensures places { IfOk result (λ e. places_of e ≡ at span (places_in items.entry.items)) }
     {
         let node = Spanned::boxed(alloc, List { items }, span)?;
         Ok(Expr::List(node))
@@ -230,6 +248,7 @@ impl<'source> Expr<'source> {
     ) -> Result<Expr<'source>, AllocError>
         ensures tree { IfOk result (λ e. expression_of e ≡ tuple_literal (expressions_in items.entry.items)) }
         ensures span { IfOk result (λ e. expression_span e ≡ span) }
+        ensures places { IfOk result (λ e. places_of e ≡ at span (places_in items.entry.items)) }
     {
         let node = Spanned::boxed(alloc, Tuple { items }, span)?;
         Ok(Expr::Tuple(node))
@@ -245,6 +264,7 @@ impl<'source> Expr<'source> {
         ensures tree { IfOk result
             (λ e. expression_of e ≡ map_literal (expressions_in keys.entry.items) (expressions_in values.entry.items)) }
         ensures span { IfOk result (λ e. expression_span e ≡ span) }
+        ensures places { IfOk result (λ e. places_of e ≡ at span (and_parts (places_in keys.entry.items) (places_in values.entry.items))) }
     {
         let node = Spanned::boxed(alloc, Map { keys, values }, span)?;
         Ok(Expr::Map(node))

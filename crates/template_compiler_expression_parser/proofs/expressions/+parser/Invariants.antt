@@ -1,8 +1,7 @@
 use Rattle.std.proofs.Common.{◌≡◌, ℕ, ◌+◌, ◌*◌, length}
-use Rattle.template_tree.specs.Tree.{no_links}
-use Rattle.template_tree.specs.View.{expression_of, expressions_in, links_in}
-use Rattle.template_compiler_grammar.specs.Reader.{deeper, expression_by, operand_by, operand_step, part_step, filter_step, link_step, terms_by, items_step, pairs_step, arguments_step}
-use Rattle.template_compiler_grammar.specs.Trees.{nothing_paired, nothing_written}
+use Rattle.template_compiler_placed_grammar.specs.Nodes.{no_placed_links, no_placed_pairs, no_placed_written}
+use Rattle.template_compiler_placed_grammar.specs.Views.{node_of, nodes_in, placed_links_in}
+use Rattle.template_compiler_placed_grammar.specs.Reader.{deeper, expression_by, operand_by, operand_step, part_step, filter_step, link_step, terms_by, items_step, pairs_step, arguments_step}
 use Rattle.template_compiler_grammar.specs.Words.{Level, factors, texts, terms, conjunction, disjunction}
 use Rattle.template_compiler_tokens.specs.Steps.{all}
 use Rattle.template_compiler_stream.specs.Signs.{level_of}
@@ -157,56 +156,63 @@ decreases-key l = 100 * l.left + 78
 
 abbrev pub invariant-operands-loop-next : goal.invariant-operands-loop-next
 invariant-operands-loop-next l =
-    all (operand_step (level_of l.level) (operand_by (deeper l.left) (level_of l.level))) (expression_of l.value) l.tokens.left ≡
-    all (operand_step (level_of l.level) (operand_by (deeper l.left) (level_of l.level))) (expression_of l.initial.value) l.initial.tokens.left
+    (l.tokens.spans ≡ l.initial.tokens.spans) ×
+    (all (operand_step l.initial.tokens.spans (level_of l.level) (operand_by l.initial.tokens.spans (deeper l.initial.tokens.spans l.left) (level_of l.level)) l.span) (node_of l.value) l.tokens.left ≡
+    all (operand_step l.initial.tokens.spans (level_of l.level) (operand_by l.initial.tokens.spans (deeper l.initial.tokens.spans l.left) (level_of l.level)) l.span) (node_of l.initial.value) l.initial.tokens.left)
 
 abbrev pub decreases-operands-loop-next : goal.decreases-operands-loop-next
 decreases-operands-loop-next l = length l.tokens.left
 
 abbrev pub invariant-parts-loop-next : goal.invariant-parts-loop-next
 invariant-parts-loop-next l =
-    all (part_step (deeper l.left)) (expression_of l.value) l.tokens.left ≡
-    all (part_step (deeper l.left)) (expression_of l.initial.value) l.initial.tokens.left
+    (l.tokens.spans ≡ l.initial.tokens.spans) ×
+    (all (part_step l.initial.tokens.spans (deeper l.initial.tokens.spans l.left) l.span) (node_of l.value) l.tokens.left ≡
+    all (part_step l.initial.tokens.spans (deeper l.initial.tokens.spans l.left) l.span) (node_of l.initial.value) l.initial.tokens.left)
 
 abbrev pub decreases-parts-loop-next : goal.decreases-parts-loop-next
 decreases-parts-loop-next l = length l.tokens.left
 
 abbrev pub invariant-filters-loop-next : goal.invariant-filters-loop-next
 invariant-filters-loop-next l =
-    all (filter_step (deeper l.left)) (expression_of l.value) l.tokens.left ≡
-    all (filter_step (deeper l.left)) (expression_of l.initial.value) l.initial.tokens.left
+    (l.tokens.spans ≡ l.initial.tokens.spans) ×
+    (all (filter_step l.initial.tokens.spans (deeper l.initial.tokens.spans l.left) l.span) (node_of l.value) l.tokens.left ≡
+    all (filter_step l.initial.tokens.spans (deeper l.initial.tokens.spans l.left) l.span) (node_of l.initial.value) l.initial.tokens.left)
 
 abbrev pub decreases-filters-loop-next : goal.decreases-filters-loop-next
 decreases-filters-loop-next l = length l.tokens.left
 
 abbrev pub invariant-links-loop-links : goal.invariant-links-loop-links
 invariant-links-loop-links l =
-    all (link_step (terms_by (deeper l.left))) (links_in l.links.items) l.tokens.left ≡
-    all (link_step (terms_by (deeper l.left))) (no_links) l.initial.tokens.left
+    (l.tokens.spans ≡ l.initial.tokens.spans) ×
+    (all (link_step l.initial.tokens.spans (terms_by l.initial.tokens.spans (deeper l.initial.tokens.spans l.left))) (placed_links_in l.links.items) l.tokens.left ≡
+    all (link_step l.initial.tokens.spans (terms_by l.initial.tokens.spans (deeper l.initial.tokens.spans l.left))) (no_placed_links) l.initial.tokens.left)
 
 abbrev pub decreases-links-loop-links : goal.decreases-links-loop-links
 decreases-links-loop-links l = length l.tokens.left
 
 abbrev pub invariant-items-loop-held : goal.invariant-items-loop-held
 invariant-items-loop-held l =
-    all (items_step (expression_by (deeper l.left))) (expressions_in l.held.items) l.tokens.left ≡
-    all (items_step (expression_by (deeper l.left))) (expressions_in l.initial.held.items) l.initial.tokens.left
+    (l.tokens.spans ≡ l.initial.tokens.spans) ×
+    (all (items_step l.initial.tokens.spans (expression_by l.initial.tokens.spans (deeper l.initial.tokens.spans l.left))) (nodes_in l.held.items) l.tokens.left ≡
+    all (items_step l.initial.tokens.spans (expression_by l.initial.tokens.spans (deeper l.initial.tokens.spans l.left))) (nodes_in l.initial.held.items) l.initial.tokens.left)
 
 abbrev pub decreases-items-loop-held : goal.decreases-items-loop-held
 decreases-items-loop-held l = length l.tokens.left
 
 abbrev pub invariant-pairs-loop-held : goal.invariant-pairs-loop-held
 invariant-pairs-loop-held l =
-    all (pairs_step (expression_by (deeper l.left))) (paired_in l.held) l.tokens.left ≡
-    all (pairs_step (expression_by (deeper l.left))) (nothing_paired) l.initial.tokens.left
+    (l.tokens.spans ≡ l.initial.tokens.spans) ×
+    (all (pairs_step l.initial.tokens.spans (expression_by l.initial.tokens.spans (deeper l.initial.tokens.spans l.left))) (paired_in l.held) l.tokens.left ≡
+    all (pairs_step l.initial.tokens.spans (expression_by l.initial.tokens.spans (deeper l.initial.tokens.spans l.left))) (no_placed_pairs) l.initial.tokens.left)
 
 abbrev pub decreases-pairs-loop-held : goal.decreases-pairs-loop-held
 decreases-pairs-loop-held l = length l.tokens.left
 
 abbrev pub invariant-written-loop-held : goal.invariant-written-loop-held
 invariant-written-loop-held l =
-    all (arguments_step (expression_by (deeper l.left))) (written_in l.held) l.tokens.left ≡
-    all (arguments_step (expression_by (deeper l.left))) (nothing_written) l.initial.tokens.left
+    (l.tokens.spans ≡ l.initial.tokens.spans) ×
+    (all (arguments_step l.initial.tokens.spans (expression_by l.initial.tokens.spans (deeper l.initial.tokens.spans l.left))) (written_in l.held) l.tokens.left ≡
+    all (arguments_step l.initial.tokens.spans (expression_by l.initial.tokens.spans (deeper l.initial.tokens.spans l.left))) (no_placed_written) l.initial.tokens.left)
 
 abbrev pub decreases-written-loop-held : goal.decreases-written-loop-held
 decreases-written-loop-held l = length l.tokens.left

@@ -4,7 +4,7 @@ use Rattle.template_tree.specs.declared.expressions.Expr.{Expr, Var, Const, Slic
 use Rattle.template_tree.specs.declared.expressions.Compare.{Compare, Compare' as compared, Row_of-CompareOp, end_of-CompareOp, more_of-CompareOp}
 use Rattle.template_tree.specs.declared.expressions.CompareOp.{CompareOp}
 use Rattle.template_tree.specs.declared.calls.CallArg.{CallArg, Pos, Kwarg, PosSplat, KwargSplat}
-use Rattle.template_compiler_placed_grammar.specs.Places.{Places, at, Parts, no_parts, parts_more, one, and_parts}
+use Rattle.template_tree.specs.NodePlaces.{Places, at, Parts, no_parts, parts_more, one, and_parts}
 
 abbrev mutual
   pub places_of : Expr → Places
@@ -37,7 +37,7 @@ abbrev mutual
   places_of_items end_of-Expr = no_parts
   places_of_items (more_of-Expr expr rest) = parts_more (places_of expr) (places_of_items rest)
 
-  places_of_links : {n : _} → Row_of-CompareOp n → Parts
+  pub places_of_links : {n : _} → Row_of-CompareOp n → Parts
   places_of_links end_of-CompareOp = no_parts
   places_of_links (more_of-CompareOp op expr rest) = parts_more (places_of expr) (places_of_links rest)
 
