@@ -17,6 +17,7 @@ use Rattle.template_tree_statements.specs.declared.statements.Stmt.{Stmt, size-S
 use Rattle.template_compiler_statement_makers.specs.Listed.{statements_in}
 use Rattle.template_compiler_statement_makers.proofs.Rows.{statements_row}
 use Rattle.template_compiler_grammar.specs.TemplateTrees.{blocks_in, blocks_among}
+use Rattle.template_compiler_block_names.proofs.Deep.{all_below, body_deep}
 
 abbrev blocks_of : List Stmt → List (List ℕ)
 blocks_of body = blocks_among (statements_in body)
@@ -63,6 +64,18 @@ pub call_blocks : (n : Box (Spanned CallBlockNode) Global) → blocks_in (statem
     ≡ blocks_of (out-CallBlock n.value.node).macro_decl.value.node.body.items
 unfolding with_value
 call_blocks n = call_by n n.value.node
+
+-- the body of its macro is less deep than it
+call_below : (n : Box (Spanned CallBlockNode) Global) (v : CallBlockNode) →
+    body_deep (out-CallBlock v).macro_decl.value.node.body.items < size-Stmt (CallBlock (with_value n v))
+unfolding with_value out-CallBlock
+call_below n (called call q name args defaults shape body inner) =
+    all_below size-Stmt _ _ (search (rules, the_lemmas)) (λ i d h. search (rules, the_lemmas))
+
+pub call_deep : (s : Stmt) (n : Box (Spanned CallBlockNode) Global) (body : List Stmt) → s ≡ CallBlock n →
+    body ≡ (out-CallBlock n.value.node).macro_decl.value.node.body.items → body_deep body < size-Stmt s
+unfolding with_value
+call_deep s n body node read = rw (node, read) (call_below n n.value.node)
 
 -- what is still to be taken: a statement's parts, the parts behind one that is taken, and a body to its end
 pub parts : {bs : List (List ℕ)} (ns : List (List ℕ)) {s x : Stmt} {all : List (List ℕ)} → s ≡ x → blocks_in (statement_of x) ≡ bs →

@@ -1,3 +1,4 @@
 mod Blocks
+mod Deep
 pub mod Lists
 pub mod Seeing

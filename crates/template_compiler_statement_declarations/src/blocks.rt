@@ -78,7 +78,7 @@ pub fn read_block_end<'source>(
     }
     expect_block_end(tokens, head.name)?;
     let whole = tokens.expand_span(span);
-    Ok(makers::block(alloc, head.name, head.required, body, whole)?)
+    makers::block(alloc, head.name, head.required, body, whole).map_err(Refusal::from)
 }
 
 // A required block has a blank body. Linear.

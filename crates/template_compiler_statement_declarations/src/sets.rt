@@ -88,7 +88,7 @@ fn read_set_value<'source, R: ReadsExpressions>(
         target,
         expr: value,
     };
-    Ok(Spanned::boxed(alloc, node, tokens.expand_span(span))?)
+    Spanned::boxed(alloc, node, tokens.expand_span(span)).map_err(Refusal::from)
 }
 
 // The head of a set block, behind its target.
@@ -109,5 +109,5 @@ fn read_set_block<'source, R: ReadsExpressions>(
         filter,
         body: Vec::new(alloc),
     };
-    Ok(Spanned::boxed(alloc, node, span)?)
+    Spanned::boxed(alloc, node, span).map_err(Refusal::from)
 }

@@ -13,6 +13,10 @@ in_head r t ts =
     and_then (r.condition ts) (λ i us. and_then (loop_filter_by r.expression us) (λ f vs.
     and_then (word_by (codes "recursive") vs) (λ b ws. tag_end (t, i, f, b) ws)))
 
+-- the rest of it, behind the condition on its items
+abbrev pub in_end : Expression → Expression → Optional → List Token → Read (Expression × Expression × Optional × Bool)
+in_end t i f ts = and_then (word_by (codes "recursive") ts) (λ b us. tag_end (t, i, f, b) us)
+
 abbrev pub for_head : Here → List Token → Read (Expression × Expression × Optional × Bool)
 for_head r ts =
     and_then (targets_by false (r.inner false) ts) (λ t us. and_then (expect_word (codes "in") t us) (in_head r))

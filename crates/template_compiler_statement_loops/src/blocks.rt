@@ -2,7 +2,7 @@
 ghost use Rattle.std.specs.Prelude.{◌≡◌, [], IfOk};
 ghost use Rattle.template_compiler_statement_loops.specs.Heads.{expression_head, filter_head, with_head};
 ghost use Rattle.template_compiler_statement_parts.specs.Parsed.{ParsedAs};
-ghost use Rattle.template_compiler_grammar.specs.TemplateReader.{here};
+ghost use Rattle.template_compiler_grammar.specs.TemplateReader.{here, tag_end};
 ghost use Rattle.template_tree.specs.Tree.{given};
 ghost use Rattle.template_tree.specs.View.{expression_of};
 ghost use Rattle.template_tree_statements.specs.View.{assignments_in};
@@ -53,7 +53,7 @@ pub fn read_auto_escape<'source, R: ReadsExpressions>(
         enabled,
         body: Vec::new(alloc),
     };
-    Ok(Spanned::boxed(alloc, node, span)?)
+    Spanned::boxed(alloc, node, span).map_err(Refusal::from)
 }
 
 /// Reads the head of a condition, an `if` or an `elif`.
@@ -81,7 +81,7 @@ pub fn read_branch<'source, R: ReadsExpressions>(
         true_body: Vec::new(alloc),
         false_body: Vec::new(alloc),
     };
-    Ok(Spanned::boxed(alloc, node, span)?)
+    Spanned::boxed(alloc, node, span).map_err(Refusal::from)
 }
 
 /// Reads the head of a filter block. The chain of its filters is never empty.
@@ -94,7 +94,7 @@ pub fn read_branch<'source, R: ReadsExpressions>(
 /// # Errors
 ///
 /// The fault of the token that does not fit, or want of memory.
-#[tactic(auto, using(template_compiler_statement_parts::proofs::Again::tag_end_again, crate::proofs::Filters::filters_given), unfolding(template_compiler_tokens::specs::Steps::and_then, template_compiler_grammar::specs::TemplateReader::here, template_compiler_grammar::specs::TemplateReader::here_by))]
+#[tactic(auto, using(crate::proofs::Filters::filters_given), unfolding(template_compiler_tokens::specs::Steps::and_then, template_compiler_grammar::specs::TemplateReader::here, template_compiler_grammar::specs::TemplateReader::here_by))]
 pub fn read_filter_block<'source, R: ReadsExpressions>(
     alloc: Global,
     tokens: &mut TokenStream<'source>,
@@ -107,16 +107,30 @@ pub fn read_filter_block<'source, R: ReadsExpressions>(
 {
     let first = R::read_filter(alloc, tokens, left, None)?;
     match R::read_filter_chain(alloc, tokens, left, Some(first))? {
-        Some(filter) => {
-            expect_tag_end(tokens)?;
-            let node = FilterBlock {
-                filter,
-                body: Vec::new(alloc),
-            };
-            Ok(Spanned::boxed(alloc, node, span)?)
-        }
+        Some(filter) => read_filter_end(alloc, tokens, filter, span),
         None => Err(Refusal::Token(Fault::Syntax)),
     }
+}
+
+// The head of a filter block, behind its filters.
+#[inline(always)]
+#[tactic(auto, using(template_compiler_statement_parts::proofs::Again::tag_end_again))]
+fn read_filter_end<'source>(
+    alloc: Global,
+    tokens: &mut TokenStream<'source>,
+    filter: Expr<'source>,
+    span: Span,
+) -> Result<Box<Spanned<FilterBlock<'source>>>, Refusal>
+    ensures read { ParsedAs (λ n. given (expression_of n.value.node.filter)) (tag_end (given (expression_of filter.entry)) tokens.old.left)
+        tokens.new.left result }
+    ensures empty { IfOk result (λ n. n.value.node.body.items ≡ []) }
+{
+    expect_tag_end(tokens)?;
+    let node = FilterBlock {
+        filter,
+        body: Vec::new(alloc),
+    };
+    Spanned::boxed(alloc, node, span).map_err(Refusal::from)
 }
 
 /// Reads the targets of a `with` and their values, and the end of its tag.

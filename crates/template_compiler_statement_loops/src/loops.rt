@@ -1,10 +1,10 @@
 //! The heads of loops.
 ghost use Rattle.std.specs.Prelude.{◌≡◌, [], IfOk};
-ghost use Rattle.template_compiler_statement_loops.specs.Heads.{for_head, in_head};
+ghost use Rattle.template_compiler_statement_loops.specs.Heads.{for_head, in_end, in_head};
 ghost use Rattle.template_compiler_statement_makers.specs.Begun.{loop_head};
 ghost use Rattle.template_compiler_statement_parts.specs.Parsed.{ParsedAs};
 ghost use Rattle.template_compiler_grammar.specs.TemplateReader.{here};
-ghost use Rattle.template_tree.specs.View.{expression_of};
+ghost use Rattle.template_tree.specs.View.{expression_of, optional_in};
 
 use std::alloc::Global;
 use template_compiler_statement_parts::{expect_tag_end, expect_word, read_flag, read_targets};
@@ -40,7 +40,7 @@ pub fn read_for<'source, R: ReadsExpressions>(
 }
 
 // The head of a loop, behind its `in`.
-#[tactic(auto, using(template_compiler_statement_parts::proofs::Again::tag_end_again), unfolding(template_compiler_tokens::specs::Steps::and_then, template_compiler_grammar::specs::TemplateReader::here, template_compiler_grammar::specs::TemplateReader::here_by))]
+#[tactic(auto, unfolding(template_compiler_tokens::specs::Steps::and_then, template_compiler_grammar::specs::TemplateReader::here, template_compiler_grammar::specs::TemplateReader::here_by))]
 fn read_in<'source, R: ReadsExpressions>(
     alloc: Global,
     tokens: &mut TokenStream<'source>,
@@ -54,6 +54,25 @@ fn read_in<'source, R: ReadsExpressions>(
 {
     let iter = R::read_condition(alloc, tokens, left)?;
     let filter_expr = read_loop_filter::<R>(alloc, tokens, left)?;
+    read_in_end(alloc, tokens, target, iter, filter_expr, span)
+}
+
+// The head of a loop, behind what it goes over.
+#[inline(always)]
+#[tactic(auto, using(template_compiler_statement_parts::proofs::Again::tag_end_again), unfolding(template_compiler_tokens::specs::Steps::and_then))]
+fn read_in_end<'source>(
+    alloc: Global,
+    tokens: &mut TokenStream<'source>,
+    target: Expr<'source>,
+    iter: Expr<'source>,
+    filter_expr: Option<Expr<'source>>,
+    span: Span,
+) -> Result<Box<Spanned<ForLoop<'source>>>, Refusal>
+    ensures read { ParsedAs loop_head (in_end (expression_of target.entry) (expression_of iter.entry) (optional_in filter_expr.entry)
+        tokens.old.left) tokens.new.left result }
+    ensures empty { IfOk result (λ n. n.value.node.body.items ≡ []) }
+    ensures no_other { IfOk result (λ n. n.value.node.else_body.items ≡ []) }
+{
     let recursive = read_flag(tokens, "recursive");
     expect_tag_end(tokens)?;
     let node = ForLoop {
@@ -64,5 +83,5 @@ fn read_in<'source, R: ReadsExpressions>(
         body: Vec::new(alloc),
         else_body: Vec::new(alloc),
     };
-    Ok(Spanned::boxed(alloc, node, span)?)
+    Spanned::boxed(alloc, node, span).map_err(Refusal::from)
 }

@@ -9,7 +9,7 @@ ghost use Rattle.template_compiler_tokens.specs.Steps.{all};
 
 use crate::expressions::ReadsExpressions;
 use std::alloc::Global;
-use template_compiler_statement_parts::{expect_paren_end, read_stored};
+use template_compiler_statement_parts::{expect_paren_end, put, read_stored};
 use template_compiler_stream::{Fault, Refusal, Sign, TokenStream};
 use template_tree::Expr;
 
@@ -108,12 +108,10 @@ fn read_parameter<'source, R: ReadsExpressions>(
     let name = read_stored(tokens)?;
     if tokens.skip(Sign::Assign) {
         let default = R::read_expression(alloc, tokens, left)?;
-        parameters.args.push(name)?;
-        parameters.defaults.push(default)?;
-        Ok(())
+        put(&mut parameters.args, name)?;
+        put(&mut parameters.defaults, default)
     } else if has_no_default(parameters) {
-        parameters.args.push(name)?;
-        Ok(())
+        put(&mut parameters.args, name)
     } else {
         Err(Refusal::Token(Fault::Syntax))
     }

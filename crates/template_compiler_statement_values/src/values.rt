@@ -10,7 +10,7 @@ ghost use Rattle.template_tree_statements.specs.View.{assignments_in};
 
 use crate::expressions::ReadsExpressions;
 use std::alloc::{AllocError, Global};
-use template_compiler_statement_parts::{expect_assign, read_target};
+use template_compiler_statement_parts::{expect_assign, put, read_target};
 use template_compiler_stream::{Refusal, Sign, TokenStream};
 use template_tree::{Expr, Span};
 
@@ -36,7 +36,7 @@ pub fn read_values<'source, R: ReadsExpressions>(
     let mut values = Vec::new(alloc);
     read_value::<R>(alloc, tokens, left, &mut values)?;
     all_values::<R>(alloc, tokens, left, &mut values)?;
-    Ok(together(alloc, values, tokens.expand_span(span))?)
+    together(alloc, values, tokens.expand_span(span)).map_err(Refusal::from)
 }
 
 #[tactic(auto, using(template_compiler_statement_parts::proofs::Lists::expressions_push), unfolding(crate::proofs::Opened::value_read))]
@@ -49,9 +49,7 @@ fn read_value<'source, R: ReadsExpressions>(
     ensures { ParsedInto (value_by (expression_at left) (expressions_in values.old.items) tokens.old.left)
         (expressions_in values.new.items) tokens.new.left result }
 {
-    let value = R::read_expression(alloc, tokens, left)?;
-    values.push(value)?;
-    Ok(())
+    put(values, R::read_expression(alloc, tokens, left)?)
 }
 
 fn all_values<'source, R: ReadsExpressions>(
@@ -147,8 +145,7 @@ fn read_assignment<'source, R: ReadsExpressions>(
     let target = read_target(alloc, tokens, left, false)?;
     expect_assign(tokens)?;
     let value = R::read_expression(alloc, tokens, left)?;
-    pairs.push((target, value))?;
-    Ok(())
+    put(pairs, (target, value))
 }
 
 fn all_assignments<'source, R: ReadsExpressions>(

@@ -1,5 +1,5 @@
 -- The laws of the order, kind by kind.
-use Rattle.std.proofs.Common.{◌≡◌, ℕ, pos, ◌<◌, ◌<ℤ◌, ◌∙◌, sym, ap, refl, List, [], true, false, Less, Equal, Greater, arith}
+use Rattle.std.proofs.Common.{◌≡◌, ℕ, ℤ, pos, ◌<◌, ◌<ℤ◌, ◌∙◌, sym, ap, refl, List, [], true, false, Less, Equal, Greater, arith}
 use Rattle.std.proofs.lemmas.Int.{ints}
 use Rattle.std.specs.declared.cmp.Ordering.{Ordering}
 use Rattle.std.specs.Cmp.{int_cmp_is, ranks, tied_itself}
@@ -23,7 +23,7 @@ lifted n m Less h = below_pos n m h
 lifted n m Equal h = ap pos h
 lifted n m Greater h = below_pos m n h
 
-signed : (n m : ℕ) → int_cmp (pos n) (pos m) ≡ nat_cmp n m
+pub signed : (n m : ℕ) → int_cmp (pos n) (pos m) ≡ nat_cmp n m
 signed n m = sym (int_cmp_is (pos n) (pos m) (nat_cmp n m) (lifted n m (nat_cmp n m) (ranks n m)))
 
 int_below : (m n : ℕ) → m < n → int_cmp (pos m) (pos n) ≡ Less
@@ -33,6 +33,33 @@ then_assoc : (p q r : Ordering) → ordering_then (ordering_then p q) r ≡ orde
 then_assoc Less q r = refl
 then_assoc Equal q r = refl
 then_assoc Greater q r = refl
+
+-- numbers stand by their size
+pub numbers_by_size : (n m : ℤ) → int_cmp n m ≡ val_cmp (int n) (int m)
+numbers_by_size n m = sym (then_end (ordering_then (int_cmp n m) Equal) ∙ then_end (int_cmp n m))
+
+-- parts that are compared in turn, each with what stands before it or behind it
+turned_round : (r n t s i e : Ordering) → ordering_then (ordering_then (ordering_then (ordering_then (ordering_then r n) t) s) i) e
+    ≡ ordering_then (ordering_then r Equal) (ordering_then (ordering_then n t) (ordering_then (ordering_then s Equal) (ordering_then i e)))
+turned_round Less n t s i e = refl
+turned_round Greater n t s i e = refl
+turned_round Equal Less t s i e = refl
+turned_round Equal Greater t s i e = refl
+turned_round Equal Equal Less s i e = refl
+turned_round Equal Equal Greater s i e = refl
+turned_round Equal Equal Equal Less i e = refl
+turned_round Equal Equal Equal Greater i e = refl
+turned_round Equal Equal Equal Equal i e = refl
+
+pub in_turn : {r n t s i e a b c d r' n' t' s' i' e' : Ordering} (o : Ordering) → r ≡ r' → n ≡ n' → t ≡ t' → s ≡ s' → i ≡ i' → e ≡ e' →
+    a ≡ ordering_then r n → b ≡ ordering_then a t → c ≡ ordering_then b s → d ≡ ordering_then c i → o ≡ ordering_then d e →
+    o ≡ ordering_then (ordering_then r' Equal) (ordering_then (ordering_then n' t') (ordering_then (ordering_then s' Equal) (ordering_then i' e')))
+in_turn {r} {n} {t} {s} {i} {e} o rank number texts second items entries first next third fourth last =
+    last
+    ∙ ap (λ x. ordering_then x e) (fourth ∙ ap (λ x. ordering_then x i) (third ∙ ap (λ x. ordering_then x s) (next ∙ ap (λ x. ordering_then x t) first)))
+    ∙ turned_round r n t s i e
+    ∙ (λ k. ordering_then (ordering_then (rank k) Equal) (ordering_then (ordering_then (number k) (texts k))
+    (ordering_then (ordering_then (second k) Equal) (ordering_then (items k) (entries k)))))
 
 -- texts stand by their bytes
 pub texts_by_bytes : (s t : List ℕ) → slice_cmp nat_cmp s t ≡ val_cmp (text s) (text t)

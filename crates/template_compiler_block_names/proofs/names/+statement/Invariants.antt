@@ -1,11 +1,18 @@
 -- The names so far, and those of what is left.
-use Rattle.std.proofs.Common.{◌≡◌, ◌≤◌, ◌++◌, drop}
+use Rattle.std.proofs.Common.{◌≡◌, ◌≤◌, ◌+◌, ◌*◌, ◌++◌, drop}
 use Rattle.template_tree_statements.specs.View.{statement_of}
 use Rattle.template_tree_statements.specs.declared.statements.Stmt.{size-Stmt}
 use Rattle.template_compiler_grammar.specs.TemplateTrees.{blocks_among, blocks_in}
 use Rattle.template_compiler_statement_makers.specs.Listed.{statements_in}
 use Rattle.template_compiler_block_names.specs.Waiting.{texts_in}
+use Rattle.template_compiler_block_names.proofs.Deep.{body_deep}
 use Rattle.template_compiler_block_names.proofs.names.+statement.Given as goal
+
+abbrev pub decreases-take_names : goal.decreases-take_names
+decreases-take_names l = 2 * body_deep l.body.now + 1
+
+abbrev pub decreases-take_names_of : goal.decreases-take_names_of
+decreases-take_names_of l = 2 * size-Stmt l.statement.now
 
 abbrev pub invariant-take_names-loop-statement : goal.invariant-take_names-loop-statement
 invariant-take_names-loop-statement l =
