@@ -214,15 +214,12 @@ fn group(head: &str, items: &[Expr], out: &mut Form, left: u32) {
 #[cycle(expressions)]
 fn map(map: &Map, out: &mut Form, left: u32) {
     open("map", out);
-    entries(map.keys.as_slice(), map.values.as_slice(), out, left);
-    out.push(')');
-}
-
-#[cycle(expressions)]
-fn entries(keys: &[Expr], values: &[Expr], out: &mut Form, left: u32) {
-    for (key, value) in keys.iter().zip(values.iter()) {
-        entry(key, value, out, left);
+    for place in 0..map.keys.len() {
+        if let (Some(key), Some(value)) = (map.keys.get(place), map.values.get(place)) {
+            entry(key, value, out, left);
+        }
     }
+    out.push(')');
 }
 
 // Two parts without a head, behind what stands there.

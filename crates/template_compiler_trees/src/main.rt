@@ -87,42 +87,24 @@ fn write_answer(rt: &HostRuntime, line: &str, answer: &Form) -> io::Result<()> {
 // What comes of the JSON in a line.
 fn answer(alloc: Global, line: &str) -> Form {
     let mut out = Form::new(alloc);
-    match Json::from_str(alloc, line) {
-        Ok(json) => about_json(alloc, &json, &mut out),
-        Err(error) => out.refuse(kind_of(&error)),
+    match &Json::from_str(alloc, line) {
+        Ok(Json::String(source)) => about_template(alloc, source.as_str(), Asked::Form, &mut out),
+        Ok(Json::Object(entries)) => about_entries(alloc, entries, &mut out),
+        Err(error) if error.is_memory() => out.refuse(ErrorKind::OutOfMemory),
+        _ => out.refuse(ErrorKind::SyntaxError),
     }
     out
 }
 
-fn kind_of(error: &serde_json::Error) -> ErrorKind {
-    if error.is_memory() {
-        ErrorKind::OutOfMemory
-    } else {
-        ErrorKind::SyntaxError
-    }
-}
-
-fn about_json(alloc: Global, json: &Json, out: &mut Form) {
-    match json {
-        Json::String(source) => {
-            about_template(
-                alloc,
-                source.as_str(),
-                SyntaxConfig::new(),
-                Asked::Form,
-                out,
-            )
-        }
-        Json::Object(entries) => about_entries(alloc, entries, out),
-        _ => out.refuse(ErrorKind::SyntaxError),
-    }
-}
-
 fn about_entries(alloc: Global, entries: &Map<String, Json>, out: &mut Form) {
     out.with_places = entries.get("places").is_some();
-    match text_in(entries, "source") {
-        Some(source) => about_source(alloc, source, entries, out),
-        None => about_others(alloc, entries, out),
+    match (text_in(entries, "source"), text_in(entries, "expression")) {
+        (Some(source), _) => about_source(alloc, source, entries, out),
+        (None, Some(source)) => {
+            let mut parser = Parser::new(alloc, source, NAME, SyntaxConfig::new());
+            about_expression(&mut parser, text_in(entries, "ask"), out)
+        }
+        (None, None) => about_texts(alloc, entries, out),
     }
 }
 
@@ -133,108 +115,76 @@ fn text_in<'line>(entries: &'line Map<String, Json>, name: &str) -> Option<&'lin
     }
 }
 
+// What comes of a template under a syntax of its own.
 fn about_source(alloc: Global, source: &str, entries: &Map<String, Json>, out: &mut Form) {
     match syntax_of(alloc, entries) {
-        Ok(syntax) => about_template(alloc, source, syntax, Asked::Form, out),
-        Err(error) => out.refuse(error.kind()),
-    }
-}
-
-fn about_template(alloc: Global, source: &str, syntax: SyntaxConfig, asked: Asked, out: &mut Form) {
-    let mut parser = Parser::new(alloc, source, NAME, syntax);
-    about_read(&parser.parse(), asked, out);
-}
-
-fn about_read(read: &Result<Stmt<'_>, Error>, asked: Asked, out: &mut Form) {
-    match read {
-        Ok(tree) => about_tree(tree, asked, out),
-        Err(error) => out.refuse(error.kind()),
-    }
-}
-
-fn about_tree(tree: &Stmt<'_>, asked: Asked, out: &mut Form) {
-    match asked {
-        Asked::Form => statement(tree, out, LEVELS),
-        Asked::Count => statement_count(tree, out),
-    }
-}
-
-// What is asked of an expression, or of a text that is told by its parts.
-fn about_others(alloc: Global, entries: &Map<String, Json>, out: &mut Form) {
-    match text_in(entries, "expression") {
-        Some(source) => about_expression(alloc, source, text_in(entries, "ask"), out),
-        None => about_texts(alloc, entries, out),
-    }
-}
-
-fn about_expression(alloc: Global, source: &str, ask: Option<&str>, out: &mut Form) {
-    let mut parser = Parser::new(alloc, source, NAME, SyntaxConfig::new());
-    about_read_expr(&parser.parse_standalone_expr(), ask, out);
-}
-
-fn about_read_expr(read: &Result<Expr<'_>, Error>, ask: Option<&str>, out: &mut Form) {
-    match read {
-        Ok(expr) => about_expr(expr, ask, out),
-        Err(error) => out.refuse(error.kind()),
-    }
-}
-
-fn about_expr(expr: &Expr<'_>, ask: Option<&str>, out: &mut Form) {
-    match ask {
-        None => expression(expr, out, LEVELS),
-        Some("words") => out.push_str(expr.description()),
-        Some("callee") => callee(expr, out),
-        Some(_) => out.refuse(ErrorKind::SyntaxError),
-    }
-}
-
-fn about_texts(alloc: Global, entries: &Map<String, Json>, out: &mut Form) {
-    match repeated(alloc, entries.get("repeat")) {
-        Ok(source) => {
-            about_template(
-                alloc,
-                source.as_str(),
-                SyntaxConfig::new(),
-                Asked::Count,
-                out,
-            )
+        Ok(syntax) => {
+            let mut parser = Parser::new(alloc, source, NAME, syntax);
+            about_parsed(&mut parser, Asked::Form, out)
         }
         Err(error) => out.refuse(error.kind()),
     }
 }
 
-// The text that repeats each text so many times.
-fn repeated(alloc: Global, parts: Option<&Json>) -> Result<String, Error> {
-    let mut source = String::new(alloc);
-    match parts {
-        Some(Json::Array(parts)) => push_parts(parts.as_slice(), &mut source)?,
-        _ => unreadable()?,
-    }
-    Ok(source)
+// What comes of a template under the default syntax.
+fn about_template(alloc: Global, source: &str, asked: Asked, out: &mut Form) {
+    let mut parser = Parser::new(alloc, source, NAME, SyntaxConfig::new());
+    about_parsed(&mut parser, asked, out)
 }
 
-fn push_parts(parts: &[Json], source: &mut String) -> Result<(), Error> {
+fn about_parsed(parser: &mut Parser<'_>, asked: Asked, out: &mut Form) {
+    about_tree(&parser.parse(), asked, out)
+}
+
+fn about_tree(read: &Result<Stmt<'_>, Error>, asked: Asked, out: &mut Form) {
+    match (read, asked) {
+        (Ok(tree), Asked::Form) => statement(tree, out, LEVELS),
+        (Ok(tree), Asked::Count) => statement_count(tree, out),
+        (Err(error), _) => out.refuse(error.kind()),
+    }
+}
+
+fn about_expression(parser: &mut Parser<'_>, ask: Option<&str>, out: &mut Form) {
+    about_expr(&parser.parse_standalone_expr(), ask, out)
+}
+
+fn about_expr(read: &Result<Expr<'_>, Error>, ask: Option<&str>, out: &mut Form) {
+    match (read, ask) {
+        (Ok(expr), None) => expression(expr, out, LEVELS),
+        (Ok(expr), Some("words")) => out.push_str(expr.description()),
+        (Ok(expr), Some("callee")) => callee(expr, out),
+        (Ok(_), Some(_)) => out.refuse(ErrorKind::SyntaxError),
+        (Err(error), _) => out.refuse(error.kind()),
+    }
+}
+
+// How many statements the text has that repeats each text so many times.
+fn about_texts(alloc: Global, entries: &Map<String, Json>, out: &mut Form) {
+    let mut source = String::new(alloc);
+    match entries.get("repeat") {
+        Some(Json::Array(parts)) => push_parts(parts.as_slice(), &mut source, out),
+        _ => out.refuse(ErrorKind::SyntaxError),
+    }
+    about_template(alloc, source.as_str(), Asked::Count, out)
+}
+
+fn push_parts(parts: &[Json], source: &mut String, out: &mut Form) {
     for part in parts {
         match part {
-            Json::Array(pair) => push_pair(pair.as_slice(), source)?,
-            _ => unreadable()?,
+            Json::Array(pair) => push_pair(pair.as_slice(), source, out),
+            _ => out.refuse(ErrorKind::SyntaxError),
         }
     }
-    Ok(())
 }
 
-fn push_pair(pair: &[Json], source: &mut String) -> Result<(), Error> {
+fn push_pair(pair: &[Json], source: &mut String, out: &mut Form) {
     match pair {
         [Json::String(text), times] => {
             for _ in 0..times.as_u64().unwrap_or(0) {
-                source.push_str(text.as_str())?;
+                let pushed = source.push_str(text.as_str());
+                out.note(pushed)
             }
-            Ok(())
         }
-        _ => unreadable(),
+        _ => out.refuse(ErrorKind::SyntaxError),
     }
-}
-
-fn unreadable() -> Result<(), Error> {
-    Err(Error::new(ErrorKind::SyntaxError))
 }

@@ -1,26 +1,26 @@
 //! A syntax from the entries of an object.
-use crate::unreadable;
 use serde_json::{Map, Value as Json};
 use std::alloc::Global;
 use template_compiler_syntax::{SyntaxConfig, SyntaxConfigBuilder};
-use template_values_errors::Error;
+use template_values_errors::{Error, ErrorKind};
 
 /// The default syntax with what the entries change, `source` and `places` aside. An entry of another name or kind
 /// is a SyntaxError.
 pub(crate) fn syntax_of(alloc: Global, entries: &Map<String, Json>) -> Result<SyntaxConfig, Error> {
-    let mut builder = SyntaxConfig::builder(alloc);
-    set_all(&mut builder, entries)?;
-    builder.build()
+    built(&mut SyntaxConfig::builder(alloc), entries)
 }
 
-fn set_all(builder: &mut SyntaxConfigBuilder, entries: &Map<String, Json>) -> Result<(), Error> {
+fn built(
+    builder: &mut SyntaxConfigBuilder,
+    entries: &Map<String, Json>,
+) -> Result<SyntaxConfig, Error> {
     for (name, value) in entries {
         match name.as_str() {
             "source" | "places" => {}
             name => set(builder, name, value)?,
         }
     }
-    Ok(())
+    builder.build()
 }
 
 fn set(builder: &mut SyntaxConfigBuilder, name: &str, value: &Json) -> Result<(), Error> {
@@ -30,6 +30,10 @@ fn set(builder: &mut SyntaxConfigBuilder, name: &str, value: &Json) -> Result<()
         Json::Bool(yes) => set_option(builder, name, *yes),
         _ => unreadable(),
     }
+}
+
+fn unreadable() -> Result<(), Error> {
+    Err(Error::new(ErrorKind::SyntaxError))
 }
 
 fn set_texts(builder: &mut SyntaxConfigBuilder, name: &str, texts: &[Json]) -> Result<(), Error> {

@@ -12,21 +12,21 @@ use template_machine_surroundings::{AutoEscapeRule, StateIds};
 use template_values_errors::Error;
 
 /// What comes of the case, in one line.
-pub(crate) fn answer(alloc: Global, case: &Case<'_>) -> Result<String, Error> {
+pub(crate) fn answer(alloc: Global, case: &Case<'_>, out: &mut Report) {
     let mut ids = StateIds::new(0);
     match case.setting.escapes {
         Escapes::ByName => {
             let environment = Environment::new(alloc, &mut ids);
-            answer_in(alloc, environment, &mut ids, case)
+            answer_in(alloc, environment, &mut ids, case, out)
         }
         Escapes::Never => {
             let environment = Environment::empty(alloc, &mut ids);
-            answer_in(alloc, environment, &mut ids, case)
+            answer_in(alloc, environment, &mut ids, case, out)
         }
         Escapes::Shorter(length) => {
             let rule = ShortNames::shorter_than(length);
             let environment = Environment::with_auto_escape_callback(alloc, rule, &mut ids);
-            answer_in(alloc, environment, &mut ids, case)
+            answer_in(alloc, environment, &mut ids, case, out)
         }
     }
 }
@@ -36,11 +36,12 @@ fn answer_in<'line, R: NumberedRule>(
     environment: Result<Environment<'line, R>, Error>,
     ids: &mut StateIds,
     case: &Case<'line>,
-) -> Result<String, Error> {
-    let mut environment = environment?;
-    let mut report = Report::new(alloc);
-    tell(alloc, &mut environment, ids, case, &mut report);
-    report.finish()
+    out: &mut Report,
+) {
+    match environment {
+        Ok(mut environment) => tell(alloc, &mut environment, ids, case, out),
+        Err(error) => out.refuse(error.kind()),
+    }
 }
 
 fn tell<'line, R: NumberedRule>(

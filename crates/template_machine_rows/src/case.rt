@@ -1,10 +1,11 @@
 //! What a line asks for.
+use crate::report::Report;
 use crate::steps::{Step, first_name, steps_of};
 use serde_json::{Map, Value as Json};
 use std::alloc::Global;
-use template_rows::{behavior_of, count_of, expect_names, number_of, unreadable};
+use template_rows::{behavior_of, count_of, expect_names, number_of, text_of};
 use template_values_core::Value;
-use template_values_errors::{Error, UndefinedBehavior};
+use template_values_errors::{Error, ErrorKind, UndefinedBehavior};
 use template_values_json::context_from_json;
 
 // The names of a case's entries.
@@ -104,65 +105,75 @@ impl<'line> Case<'line> {
     pub(crate) fn read(
         alloc: Global,
         entries: &'line Map<String, Json>,
-    ) -> Result<Case<'line>, Error> {
-        expect_names(entries, &KNOWN)?;
-        let setting = Setting::read(entries)?;
-        let steps = steps_of(alloc, entries.get("templates"))?;
-        Ok(Case {
-            subject: subject_of(entries, steps.as_slice())?,
-            setting,
-            context: context_of(alloc, entries.get("context"))?,
+        out: &mut Report,
+    ) -> Case<'line> {
+        out.or(expect_names(entries, &KNOWN), ());
+        let steps = steps_of(alloc, entries.get("templates"), out);
+        let context = context_of(alloc, entries.get("context"));
+        Case {
+            subject: subject_of(entries, steps.as_slice(), out),
+            setting: Setting::read(entries, out),
+            context: out.or(context, Value::none()),
             steps,
-        })
+        }
     }
 }
 
 impl Setting {
-    fn read(entries: &Map<String, Json>) -> Result<Setting, Error> {
-        Ok(Setting {
-            call: call_of(entries)?,
-            place: place_of(entries.get("room"))?,
-            fuel: number_of(entries.get("fuel"))?,
-            limit: count_of(entries.get("limit"))?,
-            undefined: behavior_of(entries.get("undefined"))?,
-            escapes: escapes_of(entries.get("escapes"))?,
-            is_owned: truth_of(entries.get("owned"))?,
-            tells_state: truth_of(entries.get("state"))?,
-            skips_refusals: truth_of(entries.get("skip"))?,
-        })
+    fn read(entries: &Map<String, Json>, out: &mut Report) -> Setting {
+        Setting {
+            call: call_of(entries, out),
+            place: place_of(entries.get("room"), out),
+            fuel: out.or(number_of(entries.get("fuel")), None),
+            limit: out.or(count_of(entries.get("limit")), None),
+            undefined: out.or(
+                behavior_of(entries.get("undefined")),
+                UndefinedBehavior::Lenient,
+            ),
+            escapes: escapes_of(entries.get("escapes"), out),
+            is_owned: truth_of(entries.get("owned"), out),
+            tells_state: truth_of(entries.get("state"), out),
+            skips_refusals: truth_of(entries.get("skip"), out),
+        }
     }
 }
 
 fn subject_of<'line>(
     entries: &'line Map<String, Json>,
     steps: &[Step<'line>],
-) -> Result<Subject<'line>, Error> {
+    out: &mut Report,
+) -> Subject<'line> {
     match (entries.get("expression"), entries.get("source")) {
-        (Some(Json::String(expression)), None) => Ok(Subject::Expression(expression.as_str())),
-        (None, Some(source)) => source_of(source),
-        (None, None) => main_of(entries.get("main"), steps),
-        _ => unreadable(),
+        (Some(Json::String(expression)), None) => Subject::Expression(expression.as_str()),
+        (None, Some(source)) => source_of(source, out),
+        (None, None) => main_of(entries.get("main"), steps, out),
+        _ => unreadable(out),
     }
 }
 
-fn source_of(source: &Json) -> Result<Subject<'_>, Error> {
+fn unreadable<'line>(out: &mut Report) -> Subject<'line> {
+    out.refuse(ErrorKind::SyntaxError);
+    Subject::Main("")
+}
+
+fn source_of<'line>(source: &'line Json, out: &mut Report) -> Subject<'line> {
     match source {
-        Json::String(source) => Ok(Subject::Source(Source {
+        Json::String(source) => Subject::Source(Source {
             name: None,
             text: source.as_str(),
-        })),
-        Json::Array(pair) => named_source(pair.as_slice()),
-        _ => unreadable(),
+        }),
+        Json::Array(pair) => named_source(pair.as_slice(), out),
+        _ => unreadable(out),
     }
 }
 
-fn named_source(pair: &[Json]) -> Result<Subject<'_>, Error> {
+fn named_source<'line>(pair: &'line [Json], out: &mut Report) -> Subject<'line> {
     match pair {
-        [Json::String(name), Json::String(source)] => Ok(Subject::Source(Source {
+        [Json::String(name), Json::String(source)] => Subject::Source(Source {
             name: Some(name.as_str()),
             text: source.as_str(),
-        })),
-        _ => unreadable(),
+        }),
+        _ => unreadable(out),
     }
 }
 
@@ -170,54 +181,51 @@ fn named_source(pair: &[Json]) -> Result<Subject<'_>, Error> {
 fn main_of<'line>(
     name: Option<&'line Json>,
     steps: &[Step<'line>],
-) -> Result<Subject<'line>, Error> {
+    out: &mut Report,
+) -> Subject<'line> {
     match name {
-        None => Ok(Subject::Main(first_name(steps).unwrap_or(""))),
-        Some(Json::String(name)) => Ok(Subject::Main(name.as_str())),
-        Some(_) => unreadable(),
+        None => Subject::Main(first_name(steps).unwrap_or("")),
+        Some(Json::String(name)) => Subject::Main(name.as_str()),
+        Some(_) => unreadable(out),
     }
 }
 
-fn call_of(entries: &Map<String, Json>) -> Result<Call, Error> {
-    if truth_of(entries.get("names"))? {
-        return Ok(Call::ContextNames);
+fn call_of(entries: &Map<String, Json>, out: &mut Report) -> Call {
+    if truth_of(entries.get("names"), out) {
+        return Call::ContextNames;
     }
-    match entries.get("call") {
-        None => Ok(Call::Usual),
-        Some(Json::String(word)) => call_of_word(word.as_str()),
-        Some(_) => unreadable(),
-    }
-}
-
-fn call_of_word(word: &str) -> Result<Call, Error> {
-    match word {
-        "render" => Ok(Call::Render),
-        "render_captured" => Ok(Call::RenderCaptured),
-        "states" => Ok(Call::States),
-        "undeclared_variables" => Ok(Call::UsedNames),
-        "initial_auto_escape" => Ok(Call::Escape),
-        "templates" => Ok(Call::Templates),
-        _ => unreadable(),
+    match out.or(text_of(entries.get("call")), None) {
+        None => Call::Usual,
+        Some("render") => Call::Render,
+        Some("render_captured") => Call::RenderCaptured,
+        Some("states") => Call::States,
+        Some("undeclared_variables") => Call::UsedNames,
+        Some("initial_auto_escape") => Call::Escape,
+        Some("templates") => Call::Templates,
+        Some(_) => {
+            out.refuse(ErrorKind::SyntaxError);
+            Call::Usual
+        }
     }
 }
 
-fn place_of(room: Option<&Json>) -> Result<Place, Error> {
+fn place_of(room: Option<&Json>, out: &mut Report) -> Place {
     if let Some(Json::Null) = room {
-        return Ok(Place::Nowhere);
+        return Place::Nowhere;
     }
-    match count_of(room)? {
-        None => Ok(Place::Text),
-        Some(room) => Ok(Place::Room(room)),
+    match out.or(count_of(room), None) {
+        None => Place::Text,
+        Some(room) => Place::Room(room),
     }
 }
 
-fn escapes_of(escapes: Option<&Json>) -> Result<Escapes, Error> {
+fn escapes_of(escapes: Option<&Json>, out: &mut Report) -> Escapes {
     if let Some(Json::Bool(false)) = escapes {
-        return Ok(Escapes::Never);
+        return Escapes::Never;
     }
-    match count_of(escapes)? {
-        None => Ok(Escapes::ByName),
-        Some(length) => Ok(Escapes::Shorter(length)),
+    match out.or(count_of(escapes), None) {
+        None => Escapes::ByName,
+        Some(length) => Escapes::Shorter(length),
     }
 }
 
@@ -228,10 +236,13 @@ fn context_of(alloc: Global, context: Option<&Json>) -> Result<Value, Error> {
     }
 }
 
-fn truth_of(truth: Option<&Json>) -> Result<bool, Error> {
+fn truth_of(truth: Option<&Json>, out: &mut Report) -> bool {
     match truth {
-        None => Ok(false),
-        Some(Json::Bool(truth)) => Ok(*truth),
-        Some(_) => unreadable(),
+        None => false,
+        Some(Json::Bool(truth)) => *truth,
+        Some(_) => {
+            out.refuse(ErrorKind::SyntaxError);
+            false
+        }
     }
 }

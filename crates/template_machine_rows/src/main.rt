@@ -61,11 +61,12 @@ mod times;
 
 use crate::answers::answer;
 use crate::case::Case;
-use crate::times::answer_time;
+use crate::report::Report;
+use crate::times::about_time;
 use serde_json::{Map, Value as Json};
+use std::alloc::Global;
 use std::io;
-use template_rows::unreadable;
-use template_values_errors::{Error, ErrorKind};
+use template_values_errors::ErrorKind;
 
 fn main(rt: HostRuntime) -> io::Result<()> {
     for line in rt.lines(rt.alloc()) {
@@ -78,37 +79,39 @@ fn write_line(rt: &HostRuntime, line: &str) -> io::Result<()> {
     if line.starts_with('#') || line.is_empty() {
         println!(rt; "{line}")
     } else {
-        write_answer(rt, line, &answer_of_line(rt, line))
+        write_report(rt, line, &report_of(rt, line))
     }
 }
 
-fn write_answer(rt: &HostRuntime, line: &str, answer: &Result<String, Error>) -> io::Result<()> {
-    match answer {
-        Ok(text) => println!(rt; "{line} = {text}"),
-        Err(error) => println!(rt; "{line} = ? {error}"),
+fn write_report(rt: &HostRuntime, line: &str, report: &Report) -> io::Result<()> {
+    match report.refused {
+        None => println!(rt; "{line} = {}", report.text),
+        Some(kind) => println!(rt; "{line} = ? {}", kind.name()),
     }
 }
 
 // What comes of a line of JSON.
-fn answer_of_line(rt: &HostRuntime, line: &str) -> Result<String, Error> {
-    match Json::from_str(rt.alloc(), line).map_err(refusal)? {
-        Json::Object(entries) => answer_of_entries(rt, &entries),
-        _ => unreadable(),
+fn report_of(rt: &HostRuntime, line: &str) -> Report {
+    let mut out = Report::new(rt.alloc());
+    match &Json::from_str(rt.alloc(), line) {
+        Ok(Json::Object(entries)) => about_entries(rt, entries, &mut out),
+        Err(error) if error.is_memory() => out.refuse(ErrorKind::OutOfMemory),
+        _ => out.refuse(ErrorKind::SyntaxError),
     }
+    out
 }
 
 // The time of a task, or what comes of the case.
-fn answer_of_entries(rt: &HostRuntime, entries: &Map<String, Json>) -> Result<String, Error> {
+fn about_entries(rt: &HostRuntime, entries: &Map<String, Json>, out: &mut Report) {
     match entries.get("time") {
-        Some(Json::String(task)) => answer_time(rt, task.as_str()),
-        _ => answer(rt.alloc(), &Case::read(rt.alloc(), entries)?),
+        Some(Json::String(task)) => about_time(rt, task.as_str(), out),
+        _ => about_case(rt.alloc(), entries, out),
     }
 }
 
-fn refusal(error: serde_json::Error) -> Error {
-    if error.is_memory() {
-        Error::new(ErrorKind::OutOfMemory)
-    } else {
-        Error::new(ErrorKind::SyntaxError)
+fn about_case(alloc: Global, entries: &Map<String, Json>, out: &mut Report) {
+    let case = Case::read(alloc, entries, out);
+    if out.refused.is_none() {
+        answer(alloc, &case, out)
     }
 }

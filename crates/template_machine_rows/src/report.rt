@@ -11,9 +11,9 @@ use template_values_print::json_outer;
 /// What comes of a case, as far as it is written. What is refused on the way is kept, so that what writes need not ask.
 #[derive(Drop)]
 pub(crate) struct Report {
-    text: String,
-    // Why it is not whole, where it is not.
-    refused: Option<ErrorKind>,
+    pub(crate) text: String,
+    /// Why it is not whole, where it is not.
+    pub(crate) refused: Option<ErrorKind>,
 }
 
 impl Report {
@@ -25,14 +25,6 @@ impl Report {
         }
     }
 
-    /// All that is written, or why it is not whole.
-    pub(crate) fn finish(self) -> Result<String, Error> {
-        match self.refused {
-            None => Ok(self.text),
-            Some(kind) => Err(Error::new(kind)),
-        }
-    }
-
     pub(crate) fn alloc(&self) -> Global {
         *self.text.allocator()
     }
@@ -41,6 +33,17 @@ impl Report {
     pub(crate) fn refuse(&mut self, kind: ErrorKind) {
         if self.refused.is_none() {
             self.refused = Some(kind);
+        }
+    }
+
+    /// What was read, or another one in its place where it was refused.
+    pub(crate) fn or<T: Drop>(&mut self, read: Result<T, Error>, otherwise: T) -> T {
+        match read {
+            Ok(read) => read,
+            Err(error) => {
+                self.refuse(error.kind());
+                otherwise
+            }
         }
     }
 

@@ -1,8 +1,9 @@
 //! What is done with the templates, and with the syntax and the rule that they are read under, before a render.
+use crate::report::Report;
 use serde_json::{Map, Value as Json};
 use std::alloc::Global;
 use template_rows::count_of;
-use template_values_errors::{Error, ErrorKind};
+use template_values_errors::ErrorKind;
 
 /// A change of the templates that stand, or of the syntax or the rule of escapes of those that are added from then on.
 #[derive(Clone, Copy)]
@@ -27,58 +28,64 @@ pub(crate) enum Step<'line> {
 }
 
 /// The steps that an array lists; SyntaxError where it lists something else.
-pub(crate) fn steps_of(alloc: Global, steps: Option<&Json>) -> Result<Vec<Step<'_>>, Error> {
+pub(crate) fn steps_of<'line>(
+    alloc: Global,
+    steps: Option<&'line Json>,
+    out: &mut Report,
+) -> Vec<Step<'line>> {
+    let mut listed = Vec::new(alloc);
     match steps {
-        None => Ok(Vec::new(alloc)),
-        Some(Json::Array(steps)) => listed_steps(alloc, steps.as_slice()),
-        Some(_) => Err(Error::new(ErrorKind::SyntaxError)),
+        None => {}
+        Some(Json::Array(steps)) => list_all(&mut listed, steps.as_slice(), out),
+        Some(_) => out.refuse(ErrorKind::SyntaxError),
     }
+    listed
 }
 
-fn listed_steps(alloc: Global, steps: &[Json]) -> Result<Vec<Step<'_>>, Error> {
-    let mut listed = Vec::with_capacity(alloc, steps.len())?;
+fn list_all<'line>(listed: &mut Vec<Step<'line>>, steps: &'line [Json], out: &mut Report) {
     for step in steps {
-        listed.push(step_of(step)?)?;
+        if listed.push(step_of(step, out)).is_err() {
+            out.refuse(ErrorKind::OutOfMemory)
+        }
     }
-    Ok(listed)
 }
 
-fn step_of(step: &Json) -> Result<Step<'_>, Error> {
+fn step_of<'line>(step: &'line Json, out: &mut Report) -> Step<'line> {
     match step {
-        Json::Null => Ok(Step::Clear),
-        Json::Array(pair) => pair_step(pair.as_slice()),
-        Json::Object(entries) => prefixes_step(entries),
-        _ => rule_step(step),
+        Json::Null => Step::Clear,
+        Json::Array(pair) => pair_step(pair.as_slice(), out),
+        Json::Object(entries) => prefixes_step(entries, out),
+        _ => Step::Rule {
+            length: out.or(count_of(Some(step)), None).unwrap_or(0),
+        },
     }
 }
 
-fn rule_step(step: &Json) -> Result<Step<'_>, Error> {
-    match count_of(Some(step))? {
-        Some(length) => Ok(Step::Rule { length }),
-        None => Err(Error::new(ErrorKind::SyntaxError)),
-    }
-}
-
-fn pair_step(pair: &[Json]) -> Result<Step<'_>, Error> {
+fn pair_step<'line>(pair: &'line [Json], out: &mut Report) -> Step<'line> {
     match pair {
-        [Json::String(name), Json::String(source)] => Ok(Step::Add {
+        [Json::String(name), Json::String(source)] => Step::Add {
             name: name.as_str(),
             source: source.as_str(),
-        }),
-        [Json::String(name), Json::Null] => Ok(Step::Remove {
+        },
+        [Json::String(name), Json::Null] => Step::Remove {
             name: name.as_str(),
-        }),
-        _ => Err(Error::new(ErrorKind::SyntaxError)),
+        },
+        _ => unreadable(out),
     }
 }
 
-fn prefixes_step(entries: &Map<String, Json>) -> Result<Step<'_>, Error> {
+fn unreadable<'line>(out: &mut Report) -> Step<'line> {
+    out.refuse(ErrorKind::SyntaxError);
+    Step::Clear
+}
+
+fn prefixes_step<'line>(entries: &'line Map<String, Json>, out: &mut Report) -> Step<'line> {
     match (entries.get("line_statement"), entries.get("line_comment")) {
-        (Some(Json::String(statement)), Some(Json::String(comment))) => Ok(Step::Prefixes {
+        (Some(Json::String(statement)), Some(Json::String(comment))) => Step::Prefixes {
             statement: statement.as_str(),
             comment: comment.as_str(),
-        }),
-        _ => Err(Error::new(ErrorKind::SyntaxError)),
+        },
+        _ => unreadable(out),
     }
 }
 

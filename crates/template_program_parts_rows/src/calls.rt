@@ -27,7 +27,7 @@ pub(crate) fn constant(name: &str) -> Result<Value, Error> {
             order_laws();
             Ok(Value::none())
         }
-        _ => Err(unknown()),
+        _ => Err(Error::new(ErrorKind::UnknownFunction)),
     }
 }
 
@@ -75,30 +75,42 @@ fn text_behind(
 }
 
 /// Writes the value as it prints, or under an escape.
-pub(crate) fn write_to(
+pub(crate) fn write_to<R: Records>(
     value: &Value,
     escape: Option<AutoEscape>,
-    scene: &Scene,
+    records: &R,
     text: &mut String,
 ) -> Result<(), Error> {
     match escape {
-        Some(escape) => escape_to(value, escape, scene, text),
-        None => print_to(value, scene, text),
+        Some(escape) => escape_to(value, escape, records, text),
+        None => print_to(value, records, text),
     }
 }
 
 // What is large, or is made of JSON, and what an error prints.
 fn made(alloc: Global, scene: &Scene, name: &str, value: &Value) -> Result<Value, Error> {
     match name {
-        "numbers" => numbers(alloc, place(value)?),
-        "names" => numbered_names(alloc, place(value)?),
-        "nested" => nested(alloc, place(value)?),
-        "octets" => octets(alloc, place(value)?),
-        "digest" => digest(alloc, text_of(value)?),
-        "context" => context_from_json(alloc, text_of(value)?.as_bytes()),
-        "entries" => entry_count(alloc, text_of(value)?),
+        "numbers" | "names" | "nested" | "octets" => large(alloc, name, place(value)?),
+        "digest" | "context" | "entries" => read(alloc, name, text_of(value)?),
         "error" => error_text(alloc, value),
         _ => fact(alloc, scene, name, value),
+    }
+}
+
+fn large(alloc: Global, name: &str, count: usize) -> Result<Value, Error> {
+    match name {
+        "numbers" => numbers(alloc, count),
+        "names" => numbered_names(alloc, count),
+        "nested" => nested(alloc, count),
+        _ => octets(alloc, count),
+    }
+}
+
+fn read(alloc: Global, name: &str, text: &str) -> Result<Value, Error> {
+    match name {
+        "digest" => digest(alloc, text),
+        "context" => context_from_json(alloc, text.as_bytes()),
+        _ => entry_count(alloc, text),
     }
 }
 
@@ -126,8 +138,8 @@ fn fact(alloc: Global, scene: &Scene, name: &str, value: &Value) -> Result<Value
         "as_str" => text_or_none(alloc, value),
         "has_items" => Ok(Value::from_bool(value.items().is_some())),
         "has_entries" => Ok(Value::from_bool(value.entries().is_some())),
-        "kwargs_names" => names(alloc, value),
-        _ => Err(unknown()),
+        "kwargs_names" => of_keywords(alloc, value, None),
+        _ => Err(Error::new(ErrorKind::UnknownFunction)),
     }
 }
 
@@ -164,7 +176,7 @@ fn looked_up(
         "contains" => Ok(Value::from_bool(contains(left, right, scene)?)),
         "get_attr" => get_attr(alloc, left, text_of(right)?, scene),
         "get_item" => get_item(alloc, left, right, scene),
-        "kwargs_get" => keyword(left, text_of(right)?),
+        "kwargs_get" => of_keywords(alloc, left, Some(text_of(right)?)),
         _ => Ok(Value::from_bool(compare(alloc, name, left, right)?)),
     }
 }
@@ -188,12 +200,8 @@ fn same_named(name: &str, left: &str, right: &str) -> Result<bool, Error> {
     match name {
         "same_escape" => Ok(escape_named(left) == escape_named(right)),
         "same_behavior" => Ok(behavior_named(left) == behavior_named(right)),
-        _ => Err(unknown()),
+        _ => Err(Error::new(ErrorKind::UnknownFunction)),
     }
-}
-
-fn unknown() -> Error {
-    Error::new(ErrorKind::UnknownFunction)
 }
 
 // The number of those digits.
@@ -206,12 +214,9 @@ fn int(digits: &Value) -> Result<Value, Error> {
 
 /// The number from 0 on that the value is.
 pub(crate) fn place(value: &Value) -> Result<usize, Error> {
-    match value
-        .as_int()
-        .and_then(|number| usize::try_from(number).ok())
-    {
-        Some(place) => Ok(place),
-        None => Err(Error::new(ErrorKind::SyntaxError)),
+    match usize::try_from(value.as_int().unwrap_or(-1)) {
+        Ok(place) => Ok(place),
+        Err(_) => Err(Error::new(ErrorKind::SyntaxError)),
     }
 }
 
@@ -222,31 +227,12 @@ fn text_or_none(alloc: Global, value: &Value) -> Result<Value, Error> {
     }
 }
 
-fn keywords(value: &Value) -> Result<Kwargs, Error> {
-    match Kwargs::extract(value)? {
-        Some(keywords) => Ok(keywords),
-        None => Err(Error::new(ErrorKind::SyntaxError)),
-    }
-}
-
-fn keyword(value: &Value, name: &str) -> Result<Value, Error> {
-    match keywords(value) {
-        Ok(keywords) => keywords.get(name),
-        Err(error) => Err(error),
-    }
-}
-
-fn names(alloc: Global, value: &Value) -> Result<Value, Error> {
-    match names_in(alloc, value) {
-        Ok(names) => list_of(alloc, &names),
-        Err(error) => Err(error),
-    }
-}
-
-fn names_in(alloc: Global, value: &Value) -> Result<BTreeSet<String>, Error> {
-    match keywords(value) {
-        Ok(keywords) => keywords.names(alloc),
-        Err(error) => Err(error),
+// The argument of that name, or the list of the names of all.
+fn of_keywords(alloc: Global, value: &Value, name: Option<&str>) -> Result<Value, Error> {
+    match (Kwargs::extract(value)?, name) {
+        (Some(keywords), Some(name)) => keywords.get(name),
+        (Some(keywords), None) => list_of(alloc, &keywords.names(alloc)?),
+        (None, _) => Err(Error::new(ErrorKind::SyntaxError)),
     }
 }
 

@@ -7,6 +7,13 @@ pub(crate) fn put<T: Drop>(items: &mut Vec<T>, item: Result<T, Error>) -> Result
     Ok(items.push(item?)?)
 }
 
+/// The list of the one item that was made.
+pub(crate) fn list_of_one(alloc: Global, item: Result<Value, Error>) -> Result<Value, Error> {
+    let mut items = Vec::new(alloc);
+    put(&mut items, item)?;
+    Value::from_list(alloc, items)
+}
+
 /// Copies of the values.
 pub(crate) fn copies(alloc: Global, values: &[Value]) -> Result<Vec<Value>, Error> {
     let mut copies = Vec::new(alloc);
@@ -48,8 +55,8 @@ fn both<A: Drop, B: Drop>(
 pub(crate) fn module(alloc: Global, arguments: &[Value]) -> Result<Value, Error> {
     match arguments {
         [text, members @ ..] => {
-            let text = owned(alloc, text)?;
-            Value::from_module(alloc, entries(alloc, members)?, text)
+            let (text, members) = both(owned(alloc, text), entries(alloc, members))?;
+            Value::from_module(alloc, members, text)
         }
         [] => Err(Error::new(ErrorKind::MissingArgument)),
     }
@@ -65,9 +72,9 @@ pub(crate) fn bytes(alloc: Global, values: &[Value]) -> Result<Vec<u8>, Error> {
 }
 
 fn byte(value: &Value) -> Result<u8, Error> {
-    match value.as_int().and_then(|number| u8::try_from(number).ok()) {
-        Some(byte) => Ok(byte),
-        None => Err(Error::new(ErrorKind::SyntaxError)),
+    match u8::try_from(value.as_int().unwrap_or(-1)) {
+        Ok(byte) => Ok(byte),
+        Err(_) => Err(Error::new(ErrorKind::SyntaxError)),
     }
 }
 

@@ -3,7 +3,7 @@ use crate::report::Report;
 use serde_json::{Map, Value as Json};
 use std::alloc::Global;
 use template_program_parts::read_context;
-use template_rows::{bytes_of, expect_names, pairs_of};
+use template_rows::pairs_of;
 use template_values::{Error, Value};
 
 /// The levels of a context and what it prints, or why it is refused.
@@ -13,7 +13,7 @@ pub(crate) fn about_context(
     entries: &Map<String, Json>,
     out: &mut Report,
 ) {
-    out.or(expect_names(entries, &["json", "definitions"]), ());
+    out.expect_names(entries, &["json", "definitions"]);
     let definitions = pairs_of(alloc, entries.get("definitions"));
     let definitions = out.or(definitions, Vec::new(alloc));
     about_json(alloc, json, definitions.as_slice(), out)
@@ -23,7 +23,7 @@ fn about_json(alloc: Global, json: &Json, definitions: &[(String, String)], out:
     match json {
         Json::Null => tell(read_context(alloc, None, definitions), out),
         json => {
-            let json = out.or(bytes_of(alloc, json), Vec::new(alloc));
+            let json = out.bytes_of(json);
             tell(read_context(alloc, Some(json.as_slice()), definitions), out)
         }
     }
@@ -31,14 +31,12 @@ fn about_json(alloc: Global, json: &Json, definitions: &[(String, String)], out:
 
 fn tell(read: Result<Value, Error>, out: &mut Report) {
     match &read {
-        Ok(context) => tell_context(context, out),
+        Ok(context) => {
+            out.tell("levels ", &context.levels());
+            out.push_str(": ");
+            out.value(context)
+        }
         Err(error) => out.error("! ", error),
     }
     drop(read)
-}
-
-fn tell_context(context: &Value, out: &mut Report) {
-    out.tell("levels ", &context.levels());
-    out.push_str(": ");
-    out.value(context)
 }

@@ -1,7 +1,7 @@
 //! Expressions in JSON: `null` is none, an array is a call of the name that stands first with the values
 //! of the others, and all else is itself.
 use crate::calls::{constant, of_one, of_two};
-use crate::constructors::{bytes, copies, entries, module, put};
+use crate::constructors::{bytes, copies, entries, list_of_one, module, put};
 use crate::report::Report;
 use crate::scene::Scene;
 use serde_json::Value as Json;
@@ -12,17 +12,12 @@ use template_values::{Error, ErrorKind, Value, print_to, slice};
 pub(crate) fn about_expression(alloc: Global, expression: &Json, out: &mut Report) {
     match Scene::new(alloc) {
         Ok(scene) => {
-            tell(&scene, list_of_one(alloc, &scene, expression), out);
+            let value = value_of(alloc, &scene, expression);
+            tell(&scene, list_of_one(alloc, value), out);
             drop(scene)
         }
         Err(error) => out.refuse(error.kind()),
     }
-}
-
-fn list_of_one(alloc: Global, scene: &Scene, expression: &Json) -> Result<Value, Error> {
-    let mut items = Vec::new(alloc);
-    put(&mut items, value_of(alloc, scene, expression))?;
-    Value::from_list(alloc, items)
 }
 
 fn tell(scene: &Scene, list: Result<Value, Error>, out: &mut Report) {
@@ -37,14 +32,12 @@ fn tell(scene: &Scene, list: Result<Value, Error>, out: &mut Report) {
 fn tell_item(scene: &Scene, list: &Value, out: &mut Report) {
     let mut text = String::new(*out.text.allocator());
     match print_to(list, scene, &mut text) {
-        Ok(()) => out.push_str(without_brackets(text.as_str())),
+        Ok(()) => {
+            let item = 1..text.len().saturating_sub(1);
+            out.push_str(text.as_str().get(item).unwrap_or(""))
+        }
         Err(error) => out.refuse(error.kind()),
     }
-}
-
-fn without_brackets(text: &str) -> &str {
-    let inner = text.strip_prefix("[").unwrap_or(text);
-    inner.strip_suffix("]").unwrap_or(inner)
 }
 
 #[cycle(expressions)]
@@ -56,7 +49,7 @@ fn value_of(alloc: Global, scene: &Scene, expression: &Json) -> Result<Value, Er
             Some(number) => Ok(Value::from_int(number)),
             None => Err(Error::new(ErrorKind::NoFloats)),
         },
-        Json::String(text) => Value::from_text(String::from_str(alloc, text.as_str())?),
+        Json::String(text) => Value::from_str(alloc, text.as_str()),
         Json::Array(words) => {
             let words = values_of(alloc, scene, words.as_slice())?;
             call(alloc, scene, words.as_slice())

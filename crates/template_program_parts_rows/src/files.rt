@@ -2,13 +2,12 @@
 use crate::report::Report;
 use serde_json::{Map, Value as Json};
 use std::fs;
-use template_rows::bytes_of;
 use template_values_errors::ErrorKind;
 
 /// Writes each file to its path.
 pub(crate) fn write_files(rt: &HostRuntime, files: &Map<String, Json>, out: &mut Report) {
     for (path, bytes) in files {
-        let bytes = out.or(bytes_of(rt.alloc(), bytes), Vec::new(rt.alloc()));
+        let bytes = out.bytes_of(bytes);
         if fs::write(rt, path.as_str(), bytes.as_slice()).is_err() {
             out.refuse(ErrorKind::WriteFailure);
         }

@@ -3,7 +3,7 @@ use crate::report::Report;
 use serde_json::{Map, Value as Json};
 use std::alloc::Global;
 use template_program_parts::{FileFault, ReadWrapper, read_file, read_whole};
-use template_rows::{Input, bytes_of, count_of, expect_names, kind_of};
+use template_rows::{Input, kind_of};
 use template_values_errors::ErrorKind;
 
 /// What is read of an input, and what is read then without a limit.
@@ -13,24 +13,17 @@ pub(crate) fn about_input(
     entries: &Map<String, Json>,
     out: &mut Report,
 ) {
-    out.or(
-        expect_names(entries, &["source", "input_fails", "limit"]),
-        (),
-    );
+    out.expect_names(entries, &["source", "input_fails", "limit"]);
     let fails = out.or(kind_of(entries.get("input_fails")), None);
-    let limit = limit_of(entries, out);
-    let bytes = out.or(bytes_of(alloc, bytes), Vec::new(alloc));
+    let limit = out.count_of(entries.get("limit"), usize::MAX);
+    let bytes = out.bytes_of(bytes);
     let mut input = Input {
         bytes: bytes.as_slice(),
         fails,
     };
-    read_twice(alloc, &mut input, limit, out)
-}
-
-fn read_twice(alloc: Global, input: &mut Input<'_>, limit: usize, out: &mut Report) {
-    read(alloc, input, limit, out);
+    read(alloc, &mut input, limit, out);
     out.push_str(", then ");
-    read(alloc, input, usize::MAX, out)
+    read(alloc, &mut input, usize::MAX, out)
 }
 
 fn read(alloc: Global, input: &mut Input<'_>, limit: usize, out: &mut Report) {
@@ -44,17 +37,10 @@ pub(crate) fn about_file(
     entries: &Map<String, Json>,
     out: &mut Report,
 ) {
-    out.or(expect_names(entries, &["file", "files", "limit"]), ());
-    let limit = limit_of(entries, out);
-    match path {
-        Json::String(path) => tell(&read_file(rt, path.as_str(), limit), out),
-        _ => out.refuse(ErrorKind::SyntaxError),
-    }
-}
-
-fn limit_of(entries: &Map<String, Json>, out: &mut Report) -> usize {
-    out.or(count_of(entries.get("limit")), None)
-        .unwrap_or(usize::MAX)
+    out.expect_names(entries, &["file", "files", "limit"]);
+    let limit = out.count_of(entries.get("limit"), usize::MAX);
+    let path = out.text_of(Some(path));
+    tell(&read_file(rt, path, limit), out)
 }
 
 fn tell(read: &Result<Vec<u8>, FileFault>, out: &mut Report) {

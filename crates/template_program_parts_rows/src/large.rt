@@ -1,5 +1,5 @@
 //! Large values, and what tells of a large text without writing it.
-use crate::constructors::{entry, put};
+use crate::constructors::{entry, list_of_one, put};
 use std::alloc::Global;
 use template_values::{Error, Value};
 
@@ -24,13 +24,11 @@ pub(crate) fn numbered_names(alloc: Global, count: usize) -> Result<Value, Error
 
 /// So many lists, one in the other.
 pub(crate) fn nested(alloc: Global, count: usize) -> Result<Value, Error> {
-    let mut value = Value::none();
+    let mut value = Ok(Value::none());
     for _ in 0..count {
-        let mut items = Vec::new(alloc);
-        items.push(value)?;
-        value = Value::from_list(alloc, items)?;
+        value = list_of_one(alloc, value);
     }
-    Ok(value)
+    value
 }
 
 /// The bytes from 0 to 255 so many times over.
@@ -46,10 +44,8 @@ pub(crate) fn octets(alloc: Global, count: usize) -> Result<Value, Error> {
 
 /// How many bytes a text has, and their Adler-32 checksum.
 pub(crate) fn digest(alloc: Global, text: &str) -> Result<Value, Error> {
-    let mut parts = Vec::new(alloc);
-    parts.push(int(text.len()))?;
-    parts.push(Value::from_int(i128::from(checksum(text.as_bytes()))))?;
-    Value::from_tuple(alloc, parts)
+    let sum = Value::from_int(i128::from(checksum(text.as_bytes())));
+    Value::from_tuple(alloc, vec![in alloc; int(text.len()), sum]?)
 }
 
 // The sum of the bytes and 1, and the sum of all those sums, each modulo the largest prime below 2^16.

@@ -66,10 +66,8 @@ mod inputs;
 mod large;
 mod modes;
 mod pieces;
-mod readers;
 mod report;
 mod scene;
-mod sinks;
 mod sizes;
 mod states;
 mod tasks;
@@ -115,25 +113,12 @@ fn write_report(rt: &HostRuntime, line: &str, report: &Report) -> io::Result<()>
 fn report_of(rt: &HostRuntime, line: &str) -> Report {
     let mut out = Report::new(rt.alloc());
     match &Json::from_str(rt.alloc(), line) {
-        Ok(json) => about_json(rt, json, &mut out),
-        Err(error) => out.refuse(kind_of(error)),
+        Ok(Json::Object(entries)) => about_entries(rt, entries, &mut out),
+        Ok(expression) => about_expression(rt.alloc(), expression, &mut out),
+        Err(error) if error.is_memory() => out.refuse(ErrorKind::OutOfMemory),
+        Err(_unreadable) => out.refuse(ErrorKind::SyntaxError),
     }
     out
-}
-
-fn kind_of(error: &serde_json::Error) -> ErrorKind {
-    if error.is_memory() {
-        ErrorKind::OutOfMemory
-    } else {
-        ErrorKind::SyntaxError
-    }
-}
-
-fn about_json(rt: &HostRuntime, json: &Json, out: &mut Report) {
-    match json {
-        Json::Object(entries) => about_entries(rt, entries, out),
-        expression => about_expression(rt.alloc(), expression, out),
-    }
 }
 
 // What comes of an object, while its files stand.

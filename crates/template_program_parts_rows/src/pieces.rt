@@ -1,9 +1,9 @@
 //! Pieces of a text that go to an output, one behind the other.
 use crate::report::Report;
 use serde_json::{Map, Value as Json};
-use std::alloc::Global;
+use std::alloc::{AllocError, Global};
 use template_machine_output::{SinkFault, WriteWrapper, write_text};
-use template_rows::{Output, count_of, expect_names, kind_of, texts_of};
+use template_rows::{Output, kind_of, texts_of};
 use template_values_errors::{Error, ErrorKind};
 
 /// What the output takes; and where it fails the fault, the error that this is, and what `take_err` makes of
@@ -14,22 +14,22 @@ pub(crate) fn about_pieces(
     entries: &Map<String, Json>,
     out: &mut Report,
 ) {
-    out.or(
-        expect_names(entries, &["pieces", "output_room", "write_fails"]),
-        (),
-    );
+    out.expect_names(entries, &["pieces", "output_room", "write_fails"]);
     let pieces = out.or(texts_of(alloc, pieces), Vec::new(alloc));
-    match output_of(alloc, entries) {
+    match output_of(alloc, entries, out) {
         Ok(output) => tell(&mut WriteWrapper::new(output), pieces.as_slice(), out),
-        Err(error) => out.refuse(error.kind()),
+        Err(_refused) => out.refuse(ErrorKind::OutOfMemory),
     }
 }
 
-fn output_of(alloc: Global, entries: &Map<String, Json>) -> Result<Output, Error> {
-    let room = count_of(entries.get("output_room"))?.unwrap_or(usize::MAX);
-    let write_fails = kind_of(entries.get("write_fails"))?;
+fn output_of(
+    alloc: Global,
+    entries: &Map<String, Json>,
+    out: &mut Report,
+) -> Result<Output, AllocError> {
+    let room = out.count_of(entries.get("output_room"), usize::MAX);
     let mut output = Output::new(alloc, room)?;
-    output.write_fails = write_fails;
+    output.write_fails = out.or(kind_of(entries.get("write_fails")), None);
     Ok(output)
 }
 

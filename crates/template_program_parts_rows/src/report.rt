@@ -1,7 +1,8 @@
 //! What comes of a line, as it is written.
+use serde_json::{Map, Value as Json};
 use std::alloc::Global;
 use std::fmt::Debug;
-use template_rows::quoted;
+use template_rows::{bytes_of, count_of, expect_names, quoted, text_of};
 use template_values::{Error, ErrorKind, NoRecords, Value, print_to};
 
 /// What comes of a line, as far as it is written. What is refused on the way is kept, so that what writes need not ask.
@@ -37,6 +38,27 @@ impl Report {
                 otherwise
             }
         }
+    }
+
+    /// Refuses entries of other names than these.
+    pub(crate) fn expect_names(&mut self, entries: &Map<String, Json>, known: &[&str]) {
+        self.or(expect_names(entries, known), ())
+    }
+
+    /// The text of an entry; empty, if left out.
+    pub(crate) fn text_of<'line>(&mut self, text: Option<&'line Json>) -> &'line str {
+        self.or(text_of(text), None).unwrap_or("")
+    }
+
+    /// The count of an entry, or another one, if left out.
+    pub(crate) fn count_of(&mut self, count: Option<&Json>, otherwise: usize) -> usize {
+        self.or(count_of(count), None).unwrap_or(otherwise)
+    }
+
+    /// The bytes that are told.
+    pub(crate) fn bytes_of(&mut self, bytes: &Json) -> Vec<u8> {
+        let alloc = *self.text.allocator();
+        self.or(bytes_of(alloc, bytes), Vec::new(alloc))
     }
 
     pub(crate) fn push_str(&mut self, text: &str) {

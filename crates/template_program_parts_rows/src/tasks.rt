@@ -3,11 +3,10 @@ use crate::calls::write_to;
 use crate::constructors::{entry, put};
 use crate::large::numbers;
 use crate::report::Report;
-use crate::scene::Scene;
 use std::alloc::Global;
 use std::hint::black_box;
-use std::time::{Duration, Instant};
-use template_values::{AutoEscape, Entry, Error, ErrorKind, Value, add};
+use std::time::Instant;
+use template_values::{AutoEscape, Entry, Error, ErrorKind, NoRecords, Value, add};
 
 // 10 MB of text, as so many lines.
 const LINE: &str =
@@ -28,37 +27,33 @@ const ADDITIONS: u32 = 10_000_000;
 
 const COPIES: u32 = 1_000_000;
 
-/// The time of the task of that name, in words; `SyntaxError` where there is no such task, or something was refused.
+/// The time of the task of that name, in words; `SyntaxError` where there is no such task, or its work is not done.
 pub(crate) fn about_time(rt: &HostRuntime, task: &str, out: &mut Report) {
-    match measure(rt, task) {
+    match task {
+        "print" => write(rt, LINE, LINES, None, out),
+        "escape-html" => write(rt, LINE, LINES, Some(AutoEscape::Html), out),
+        "escape-dense" => write(rt, DENSE, DENSE_TIMES, Some(AutoEscape::Html), out),
+        "escape-json" => write(rt, LINE, LINES, Some(AutoEscape::Json), out),
+        "sort-map" => sort_map(rt, out),
+        "look-up" => look_up(rt, out),
+        "add" => add_up(rt, out),
+        "copy" => copy(rt, out),
+        _ => out.refuse(ErrorKind::SyntaxError),
+    }
+}
+
+// The time since the start, where there was one and the work is done.
+fn tell_time(rt: &HostRuntime, start: Option<Instant>, is_done: bool, out: &mut Report) {
+    let time = match start {
+        Some(start) if is_done => start.elapsed(rt).ok(),
+        _ => None,
+    };
+    match time {
         Some(time) => {
             out.tell("", &time.as_micros());
             out.push_str(" microseconds")
         }
         None => out.refuse(ErrorKind::SyntaxError),
-    }
-}
-
-// The time of the task of that name; none where there is no such task, or something was refused.
-fn measure(rt: &HostRuntime, task: &str) -> Option<Duration> {
-    match task {
-        "print" => write(rt, LINE, LINES, None),
-        "escape-html" => write(rt, LINE, LINES, Some(AutoEscape::Html)),
-        "escape-dense" => write(rt, DENSE, DENSE_TIMES, Some(AutoEscape::Html)),
-        "escape-json" => write(rt, LINE, LINES, Some(AutoEscape::Json)),
-        "sort-map" => sort_map(rt),
-        "look-up" => look_up(rt),
-        "add" => add_up(rt),
-        "copy" => copy(rt),
-        _ => None,
-    }
-}
-
-// The time since the start, where there was one and the work is done.
-fn time_since(rt: &HostRuntime, start: Option<Instant>, is_done: bool) -> Option<Duration> {
-    match start {
-        Some(start) if is_done => start.elapsed(rt).ok(),
-        _ => None,
     }
 }
 
@@ -68,77 +63,17 @@ fn repeated(alloc: Global, text: &str, times: usize) -> Result<Value, Error> {
 }
 
 // The same, as it prints or under an escape.
-fn write(
-    rt: &HostRuntime,
-    text: &str,
-    times: usize,
-    escape: Option<AutoEscape>,
-) -> Option<Duration> {
-    let scene = Scene::new(rt.alloc()).ok()?;
-    let value = repeated(rt.alloc(), text, times);
-    let time = match &value {
-        Ok(value) => write_value(rt, &scene, value, escape),
-        Err(_refused) => None,
-    };
-    drop(value);
-    drop(scene);
-    time
-}
-
-fn write_value(
-    rt: &HostRuntime,
-    scene: &Scene,
-    value: &Value,
-    escape: Option<AutoEscape>,
-) -> Option<Duration> {
-    let mut out = String::new(rt.alloc());
+fn write(rt: &HostRuntime, text: &str, times: usize, escape: Option<AutoEscape>, out: &mut Report) {
+    let value = out.or(repeated(rt.alloc(), text, times), Value::none());
+    let mut text = String::new(rt.alloc());
     let start = Instant::now(rt).ok();
-    let written = write_to(value, escape, scene, &mut out);
-    let time = time_since(rt, start, written.is_ok());
-    black_box(out.as_str().len());
-    time
+    let is_done = write_to(&value, escape, &NoRecords, &mut text).is_ok();
+    tell_time(rt, start, is_done, out);
+    black_box(text.as_str().len());
+    drop(value)
 }
 
-// The numbers from 0 to `KEYS` in an order that is far from sorted.
-fn shuffled(number: u32) -> u32 {
-    (number % KEYS) * 7919 % KEYS
-}
-
-fn name(alloc: Global, number: u32) -> Result<String, Error> {
-    Ok(format!(in alloc; "key {}", shuffled(number))?)
-}
-
-fn key(alloc: Global, number: u32) -> Result<Value, Error> {
-    Value::from_text(name(alloc, number)?)
-}
-
-fn entries(alloc: Global) -> Result<Vec<Entry>, Error> {
-    let mut entries = Vec::new(alloc);
-    for number in 0..KEYS {
-        let value = Value::from_int(i128::from(number));
-        put(&mut entries, entry(key(alloc, number), Ok(value)))?;
-    }
-    Ok(entries)
-}
-
-fn sort_map(rt: &HostRuntime) -> Option<Duration> {
-    let entries = entries(rt.alloc()).ok()?;
-    let start = Instant::now(rt).ok();
-    let map = Value::from_map(rt.alloc(), entries);
-    let time = time_since(rt, start, black_box(map.is_ok()));
-    drop(map);
-    time
-}
-
-fn look_up(rt: &HostRuntime) -> Option<Duration> {
-    let names = names(rt.alloc()).ok()?;
-    let map = Value::from_map(rt.alloc(), entries(rt.alloc()).ok()?).ok()?;
-    let time = look_up_in(rt, &map, names.as_slice());
-    drop(map);
-    time
-}
-
-// The keys in the order in which they are looked up.
+// The keys in the order in which they are looked up, which is far from sorted.
 fn names(alloc: Global) -> Result<Vec<String>, Error> {
     let mut names = Vec::new(alloc);
     for number in 0..KEYS {
@@ -147,7 +82,42 @@ fn names(alloc: Global) -> Result<Vec<String>, Error> {
     Ok(names)
 }
 
-fn look_up_in(rt: &HostRuntime, map: &Value, names: &[String]) -> Option<Duration> {
+// Of the numbers from 0 to `KEYS` each has a name.
+fn name(alloc: Global, number: u32) -> Result<String, Error> {
+    Ok(format!(in alloc; "key {}", (number % KEYS) * 7919 % KEYS)?)
+}
+
+// Each name with its place.
+fn entries(alloc: Global, names: &[String]) -> Result<Vec<Entry>, Error> {
+    let mut entries = Vec::new(alloc);
+    for name in names {
+        let place = Value::from_int(entries.len() as i128);
+        let name = Value::from_str(alloc, name.as_str());
+        put(&mut entries, entry(name, Ok(place)))?;
+    }
+    Ok(entries)
+}
+
+fn sort_map(rt: &HostRuntime, out: &mut Report) {
+    let alloc = rt.alloc();
+    let names = out.or(names(alloc), Vec::new(alloc));
+    let entries = out.or(entries(alloc, names.as_slice()), Vec::new(alloc));
+    let start = Instant::now(rt).ok();
+    let map = Value::from_map(alloc, entries);
+    tell_time(rt, start, black_box(map.is_ok()), out);
+    drop(map)
+}
+
+fn look_up(rt: &HostRuntime, out: &mut Report) {
+    let alloc = rt.alloc();
+    let names = out.or(names(alloc), Vec::new(alloc));
+    let entries = out.or(entries(alloc, names.as_slice()), Vec::new(alloc));
+    let map = out.or(Value::from_map(alloc, entries), Value::none());
+    look_up_in(rt, &map, names.as_slice(), out);
+    drop(map)
+}
+
+fn look_up_in(rt: &HostRuntime, map: &Value, names: &[String], out: &mut Report) {
     let mut found = 0u32;
     let start = Instant::now(rt).ok();
     for _ in 0..LOOK_UPS / KEYS {
@@ -157,42 +127,46 @@ fn look_up_in(rt: &HostRuntime, map: &Value, names: &[String]) -> Option<Duratio
             }
         }
     }
-    time_since(rt, start, found == LOOK_UPS)
+    tell_time(rt, start, found == LOOK_UPS, out)
 }
 
-fn add_up(rt: &HostRuntime) -> Option<Duration> {
+fn add_up(rt: &HostRuntime, out: &mut Report) {
     let mut sum = Value::from_int(0);
     let one = Value::from_int(1);
-    let time = add_up_to(rt, &mut sum, &one);
+    let start = Instant::now(rt).ok();
+    let is_done = is_added_up(rt.alloc(), &mut sum, &one);
+    tell_time(rt, start, is_done, out);
     drop(sum);
-    drop(one);
-    time
+    drop(one)
 }
 
-fn add_up_to(rt: &HostRuntime, sum: &mut Value, one: &Value) -> Option<Duration> {
-    let start = Instant::now(rt).ok();
+// Adds so often, and tells whether that gives the sum.
+fn is_added_up(alloc: Global, sum: &mut Value, one: &Value) -> bool {
     for _ in 0..ADDITIONS {
-        *sum = add(rt.alloc(), sum, one).ok()?;
-    }
-    time_since(rt, start, sum.as_int() == Some(i128::from(ADDITIONS)))
-}
-
-fn copy(rt: &HostRuntime) -> Option<Duration> {
-    let list = numbers(rt.alloc(), KEYS as usize).ok()?;
-    let time = copies_of(rt, &list);
-    drop(list);
-    time
-}
-
-fn copies_of(rt: &HostRuntime, list: &Value) -> Option<Duration> {
-    let mut copied = 0u32;
-    let start = Instant::now(rt).ok();
-    for _ in 0..COPIES {
-        if has_one_level(list.copy()) {
-            copied = copied.wrapping_add(1);
+        match add(alloc, sum, one) {
+            Ok(more) => *sum = more,
+            Err(_refused) => return false,
         }
     }
-    time_since(rt, start, copied == COPIES)
+    sum.as_int() == Some(i128::from(ADDITIONS))
+}
+
+fn copy(rt: &HostRuntime, out: &mut Report) {
+    let list = out.or(numbers(rt.alloc(), KEYS as usize), Value::none());
+    let start = Instant::now(rt).ok();
+    let is_done = is_copied(&list);
+    tell_time(rt, start, is_done, out);
+    drop(list)
+}
+
+// Copies so often, and tells whether each copy has one level.
+fn is_copied(list: &Value) -> bool {
+    for _ in 0..COPIES {
+        if !has_one_level(list.copy()) {
+            return false;
+        }
+    }
+    true
 }
 
 fn has_one_level(copy: Result<Value, Error>) -> bool {

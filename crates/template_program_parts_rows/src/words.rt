@@ -3,7 +3,7 @@ use crate::report::Report;
 use serde_json::{Map, Value as Json};
 use std::alloc::Global;
 use template_program_words::{Words, WordsFault, read_words};
-use template_rows::{expect_names, text_of, texts_of};
+use template_rows::texts_of;
 use template_values_errors::ErrorKind;
 
 /// What is read of the words, or why they are refused.
@@ -13,7 +13,7 @@ pub(crate) fn about_words(
     entries: &Map<String, Json>,
     out: &mut Report,
 ) {
-    out.or(expect_names(entries, &["read", "begins", "holds"]), ());
+    out.expect_names(entries, &["read", "begins", "holds"]);
     let words = out.or(texts_of(alloc, words), Vec::new(alloc));
     tell(&read_words(alloc, words.as_slice()), entries, out)
 }
@@ -28,16 +28,12 @@ fn tell(read: &Result<Words<'_>, WordsFault>, entries: &Map<String, Json>, out: 
     }
 }
 
+// The word for a text, and whether it begins with what the entries say, and holds it.
 fn tell_text(word: &str, text: &str, entries: &Map<String, Json>, out: &mut Report) {
-    if !is_wanted(text, entries, out) {
+    let begins = out.text_of(entries.get("begins"));
+    let holds = out.text_of(entries.get("holds"));
+    if !text.starts_with(begins) || !text.contains(holds) {
         out.push_str("another ");
     }
     out.push_str(word)
-}
-
-// Whether a text begins with what the entries say, and holds it.
-fn is_wanted(text: &str, entries: &Map<String, Json>, out: &mut Report) -> bool {
-    let begins = out.or(text_of(entries.get("begins")), None).unwrap_or("");
-    let holds = out.or(text_of(entries.get("holds")), None).unwrap_or("");
-    text.starts_with(begins) && text.contains(holds)
 }

@@ -1,21 +1,21 @@
 //! What comes of requests.
+use crate::report::Report;
 use crate::works::DEFAULT_LIMIT;
 use serde_json::{Map, Value as Json};
 use std::alloc::{AllocError, Global};
 use template_machine_surroundings::StateIds;
 use template_program_run::{Command, Outcome, Request, run};
-use template_rows::{
-    behavior_of, count_of, expect_names, number_of, pairs_of, quoted, text_of, unreadable,
-};
-use template_values_errors::Error;
+use template_rows::{behavior_of, number_of, pairs_of, text_of};
+use template_values_errors::{ErrorKind, UndefinedBehavior};
 
 /// What a request writes, and how it ends.
-pub(crate) fn answer_request(
+pub(crate) fn about_request(
     alloc: Global,
     templates: &Json,
     entries: &Map<String, Json>,
-) -> Result<String, Error> {
-    expect_names(
+    out: &mut Report,
+) {
+    out.expect_names(
         entries,
         &[
             "templates",
@@ -26,58 +26,66 @@ pub(crate) fn answer_request(
             "names",
             "first_id",
         ],
-    )?;
-    let templates = pairs_of(alloc, Some(templates))?;
-    answer(alloc, templates.as_slice(), entries)
+    );
+    let templates = out.or(pairs_of(alloc, Some(templates)), Vec::new(alloc));
+    about_templates(alloc, templates.as_slice(), entries, out)
+}
+
+fn about_templates(
+    alloc: Global,
+    templates: &[(String, String)],
+    entries: &Map<String, Json>,
+    out: &mut Report,
+) {
+    match request_of(alloc, first_name(templates), entries, out) {
+        Ok(request) => answer(alloc, &request, templates, entries, out),
+        Err(_refused) => out.refuse(ErrorKind::OutOfMemory),
+    }
 }
 
 fn answer(
     alloc: Global,
-    templates: &[(String, String)],
-    entries: &Map<String, Json>,
-) -> Result<String, Error> {
-    let context = text_of(entries.get("context"))?.unwrap_or("{}");
-    let mut ids = StateIds::new(number_of(entries.get("first_id"))?.unwrap_or(0));
-    let request = request_of(alloc, first_name(templates), entries)?;
-    answer_over(alloc, &request, templates, context.as_bytes(), &mut ids)
-}
-
-// The same over the bytes of a context.
-fn answer_over(
-    alloc: Global,
     request: &Request,
     templates: &[(String, String)],
-    context: &[u8],
-    ids: &mut StateIds,
-) -> Result<String, Error> {
-    let mut out = String::new(alloc);
-    let outcome = run(alloc, request, templates, Some(context), ids, &mut out);
-    ended(alloc, out.as_bytes(), &outcome)
+    entries: &Map<String, Json>,
+    out: &mut Report,
+) {
+    let context = out.or(text_of(entries.get("context")), None);
+    let context = Some(context.unwrap_or("{}").as_bytes());
+    let first = out.or(number_of(entries.get("first_id")), None);
+    let mut ids = StateIds::new(first.unwrap_or(0));
+    let mut written = String::new(alloc);
+    let outcome = run(alloc, request, templates, context, &mut ids, &mut written);
+    out.quoted(written.as_bytes());
+    tell_end(&outcome, out)
 }
 
-fn ended(alloc: Global, written: &[u8], outcome: &Outcome) -> Result<String, Error> {
-    let mut answer = quoted(alloc, written)?;
-    write_end(outcome, &mut answer)?;
-    Ok(answer)
-}
-
-fn write_end(outcome: &Outcome, answer: &mut String) -> Result<(), AllocError> {
+fn tell_end(outcome: &Outcome, out: &mut Report) {
     match outcome {
-        Outcome::Done => Ok(()),
-        Outcome::Render(error) => write!(answer, " ! render {error}"),
-        Outcome::Context(error) => write!(answer, " ! context {error}"),
-        Outcome::Template(error) => write!(answer, " ! template {error}"),
+        Outcome::Done => {}
+        Outcome::Render(error) => out.error(" ! render ", error),
+        Outcome::Context(error) => out.error(" ! context ", error),
+        Outcome::Template(error) => out.error(" ! template ", error),
     }
 }
 
-fn request_of(alloc: Global, main: &str, entries: &Map<String, Json>) -> Result<Request, Error> {
+fn request_of(
+    alloc: Global,
+    main: &str,
+    entries: &Map<String, Json>,
+    out: &mut Report,
+) -> Result<Request, AllocError> {
+    let main = String::from_str(alloc, main)?;
     Ok(Request {
-        fuel: number_of(entries.get("fuel"))?,
-        limit: count_of(entries.get("limit"))?.unwrap_or(DEFAULT_LIMIT),
-        undefined: behavior_of(entries.get("undefined"))?,
-        command: command_of(entries.get("names"))?,
-        main: String::from_str(alloc, main)?,
+        main,
         texts: Vec::new(alloc),
+        fuel: out.or(number_of(entries.get("fuel")), None),
+        limit: out.count_of(entries.get("limit"), DEFAULT_LIMIT),
+        undefined: out.or(
+            behavior_of(entries.get("undefined")),
+            UndefinedBehavior::Lenient,
+        ),
+        command: command_of(entries.get("names"), out),
     })
 }
 
@@ -89,10 +97,13 @@ fn first_name(templates: &[(String, String)]) -> &str {
     }
 }
 
-fn command_of(names: Option<&Json>) -> Result<Command, Error> {
+fn command_of(names: Option<&Json>, out: &mut Report) -> Command {
     match names {
-        None => Ok(Command::Render),
-        Some(Json::Bool(true)) => Ok(Command::Names),
-        Some(_) => unreadable(),
+        None => Command::Render,
+        Some(Json::Bool(true)) => Command::Names,
+        Some(_) => {
+            out.refuse(ErrorKind::SyntaxError);
+            Command::Render
+        }
     }
 }

@@ -32,67 +32,75 @@
 
 mod answers;
 mod files;
+mod report;
 mod sizes;
 mod starts;
 mod works;
 
-use crate::answers::answer_request;
+use crate::answers::about_request;
 use crate::files::{remove_files, write_files};
-use crate::sizes::answer_size;
-use crate::starts::answer_start;
-use anyhow::bail;
+use crate::report::Report;
+use crate::sizes::about_size;
+use crate::starts::about_start;
 use serde_json::{Map, Value as Json};
 use std::io;
-use template_rows::unreadable;
-use template_values_errors::Error;
+use template_values_errors::ErrorKind;
 
 fn main(rt: HostRuntime) -> io::Result<()> {
     for line in rt.lines(rt.alloc()) {
-        let line = line?;
-        if line.starts_with('#') || line.is_empty() {
-            println!(rt; "{line}")?;
-            continue;
-        }
-        match answer_of_line(&rt, line.as_str()) {
-            Ok(text) => println!(rt; "{line} = {text}")?,
-            Err(error) => println!(rt; "{line} = ? {error}")?,
-        }
+        write_line(&rt, line?.as_str())?;
     }
     Ok(())
 }
 
-// What comes of a line of JSON.
-fn answer_of_line(rt: &HostRuntime, line: &str) -> anyhow::Result<String> {
-    match Json::from_str(rt.alloc(), line)? {
-        Json::Object(entries) => answer_among_files(rt, &entries),
-        _ => bail!("no object"),
+fn write_line(rt: &HostRuntime, line: &str) -> io::Result<()> {
+    if line.starts_with('#') || line.is_empty() {
+        println!(rt; "{line}")
+    } else {
+        write_report(rt, line, &report_of(rt, line))
     }
 }
 
-// The same, while its files stand.
-fn answer_among_files(rt: &HostRuntime, entries: &Map<String, Json>) -> anyhow::Result<String> {
+fn write_report(rt: &HostRuntime, line: &str, report: &Report) -> io::Result<()> {
+    match report.refused {
+        None => println!(rt; "{line} = {}", report.text),
+        Some(kind) => println!(rt; "{line} = ? {}", kind.name()),
+    }
+}
+
+// What comes of a line of JSON.
+fn report_of(rt: &HostRuntime, line: &str) -> Report {
+    let mut out = Report::new(rt.alloc());
+    match &Json::from_str(rt.alloc(), line) {
+        Ok(Json::Object(entries)) => about_entries(rt, entries, &mut out),
+        Err(error) if error.is_memory() => out.refuse(ErrorKind::OutOfMemory),
+        _ => out.refuse(ErrorKind::SyntaxError),
+    }
+    out
+}
+
+// What comes of an object, while its files stand.
+fn about_entries(rt: &HostRuntime, entries: &Map<String, Json>, out: &mut Report) {
     match entries.get("files") {
-        None => Ok(answer(rt, entries)?),
+        None => about_kind(rt, entries, out),
         Some(Json::Object(files)) => {
-            write_files(rt, files)?;
-            let answer = answer(rt, entries);
-            remove_files(rt, files)?;
-            Ok(answer?)
+            write_files(rt, files, out);
+            about_kind(rt, entries, out);
+            remove_files(rt, files, out)
         }
-        Some(_) => Ok(unreadable()?),
+        Some(_) => out.refuse(ErrorKind::SyntaxError),
     }
 }
 
 // The entry that only lines of one kind have tells the kind.
-fn answer(rt: &HostRuntime, entries: &Map<String, Json>) -> Result<String, Error> {
+fn about_kind(rt: &HostRuntime, entries: &Map<String, Json>, out: &mut Report) {
     if let Some(Json::String(work)) = entries.get("size") {
-        return answer_size(rt.alloc(), work.as_str());
-    }
-    if let Some(words) = entries.get("words") {
-        return answer_start(rt, words, entries);
-    }
-    match entries.get("templates") {
-        Some(templates) => answer_request(rt.alloc(), templates, entries),
-        None => unreadable(),
+        about_size(rt.alloc(), work.as_str(), out)
+    } else if let Some(words) = entries.get("words") {
+        about_start(rt, words, entries, out)
+    } else if let Some(templates) = entries.get("templates") {
+        about_request(rt.alloc(), templates, entries, out)
+    } else {
+        out.refuse(ErrorKind::SyntaxError)
     }
 }

@@ -1,19 +1,18 @@
 //! Runs of the program's body, with their inputs and outputs.
+use crate::report::Report;
 use serde_json::{Map, Value as Json};
-use std::alloc::Global;
+use std::alloc::{AllocError, Global};
 use template_program_run::start;
-use template_rows::{
-    Input, Output, READY, bytes_of, count_of, expect_names, kind_of, quoted, texts_of,
-};
-use template_values_errors::Error;
+use template_rows::{Input, Output, READY, kind_of, texts_of};
 
 /// What a run writes, its status and what it tells.
-pub(crate) fn answer_start(
+pub(crate) fn about_start(
     rt: &HostRuntime,
     words: &Json,
     entries: &Map<String, Json>,
-) -> Result<String, Error> {
-    expect_names(
+    out: &mut Report,
+) {
+    out.expect_names(
         entries,
         &[
             "words",
@@ -23,27 +22,24 @@ pub(crate) fn answer_start(
             "output_room",
             "flush_fails",
         ],
-    )?;
-    let words = texts_of(rt.alloc(), words)?;
-    start_over(rt, words.as_slice(), entries)
+    );
+    let words = out.or(texts_of(rt.alloc(), words), Vec::new(rt.alloc()));
+    start_over(rt, words.as_slice(), entries, out)
 }
 
 // A run over the input that the entries tell.
-fn start_over(
-    rt: &HostRuntime,
-    words: &[&str],
-    entries: &Map<String, Json>,
-) -> Result<String, Error> {
-    let fails = kind_of(entries.get("input_fails"))?;
+fn start_over(rt: &HostRuntime, words: &[&str], entries: &Map<String, Json>, out: &mut Report) {
+    let fails = out.or(kind_of(entries.get("input_fails")), None);
     let bytes = match entries.get("input") {
         None => Vec::new(rt.alloc()),
-        Some(bytes) => bytes_of(rt.alloc(), bytes)?,
+        Some(bytes) => out.bytes_of(bytes),
     };
     let mut input = Input {
         bytes: bytes.as_slice(),
         fails,
     };
-    start_into(rt, words, &mut input, entries)
+    let started = start_into(rt, words, &mut input, entries, out);
+    out.note(started)
 }
 
 // A run over the input, into the output that the entries tell.
@@ -52,26 +48,31 @@ fn start_into(
     words: &[&str],
     input: &mut Input<'_>,
     entries: &Map<String, Json>,
-) -> Result<String, Error> {
+    out: &mut Report,
+) -> Result<(), AllocError> {
     let mut told = Vec::with_capacity(rt.alloc(), READY)?;
-    let mut output = output_of(rt.alloc(), entries)?;
+    let mut output = output_of(rt.alloc(), entries, out)?;
     let status = start(rt, words, input, &mut output, &mut told);
-    ended(rt.alloc(), output.bytes.as_slice(), status, told.as_slice())
+    tell(output.bytes.as_slice(), status, told.as_slice(), out);
+    Ok(())
 }
 
-fn output_of(alloc: Global, entries: &Map<String, Json>) -> Result<Output, Error> {
-    let room = count_of(entries.get("output_room"))?.unwrap_or(usize::MAX);
-    let flush_fails = kind_of(entries.get("flush_fails"))?;
+fn output_of(
+    alloc: Global,
+    entries: &Map<String, Json>,
+    out: &mut Report,
+) -> Result<Output, AllocError> {
+    let room = out.count_of(entries.get("output_room"), usize::MAX);
     let mut output = Output::new(alloc, room)?;
-    output.flush_fails = flush_fails;
+    output.flush_fails = out.or(kind_of(entries.get("flush_fails")), None);
     Ok(output)
 }
 
-fn ended(alloc: Global, written: &[u8], status: u8, told: &[u8]) -> Result<String, Error> {
-    let mut answer = quoted(alloc, written)?;
-    write!(answer, " status {status}")?;
+fn tell(written: &[u8], status: u8, told: &[u8], out: &mut Report) {
+    out.quoted(written);
+    out.tell(" status ", &status);
     if !told.is_empty() {
-        write!(answer, " {}", quoted(alloc, told)?)?;
+        out.push_str(" ");
+        out.quoted(told)
     }
-    Ok(answer)
 }

@@ -1,7 +1,8 @@
 //! The works: requests with long sources, and with many statements, templates, names, definitions, rounds and includes.
+use crate::report::Report;
 use std::alloc::{AllocError, Global};
 use template_program_run::{Command, Request};
-use template_values_errors::UndefinedBehavior;
+use template_values_errors::{ErrorKind, UndefinedBehavior};
 
 // The name of the main template, but where a work names another.
 const MAIN: &str = "t.txt";
@@ -39,9 +40,11 @@ impl Work {
     }
 
     // Adds the main template, of that source.
-    fn add_main(&mut self, source: String) -> Result<(), AllocError> {
-        let name = String::from_str(*source.allocator(), MAIN)?;
-        Ok(self.templates.push((name, source))?)
+    fn add_main(&mut self, source: String, out: &mut Report) {
+        let name = out.made(String::from_str(*source.allocator(), MAIN));
+        if self.templates.push((name, source)).is_err() {
+            out.refuse(ErrorKind::OutOfMemory)
+        }
     }
 }
 
@@ -57,172 +60,157 @@ fn render_of(main: String, texts: Vec<(String, String)>) -> Request {
 }
 
 // Adds a name with a text, as templates and definitions have them.
-fn add(
-    alloc: Global,
-    name: &str,
-    text: &str,
-    pairs: &mut Vec<(String, String)>,
-) -> Result<(), AllocError> {
-    let name = String::from_str(alloc, name)?;
-    let text = String::from_str(alloc, text)?;
-    Ok(pairs.push((name, text))?)
+fn add(alloc: Global, name: &str, text: &str, pairs: &mut Vec<(String, String)>, out: &mut Report) {
+    let name = out.made(String::from_str(alloc, name));
+    let text = out.made(String::from_str(alloc, text));
+    if pairs.push((name, text)).is_err() {
+        out.refuse(ErrorKind::OutOfMemory)
+    }
 }
 
 /// A source without markers gives itself.
-pub(crate) fn one_text(
-    alloc: Global,
-    text: &str,
-    times: usize,
-    work: &mut Work,
-) -> Result<(), AllocError> {
-    work.add_main(text.repeat(alloc, times)?)?;
-    work.wanted = text.repeat(alloc, times)?;
-    Ok(())
+pub(crate) fn one_text(alloc: Global, text: &str, times: usize, work: &mut Work, out: &mut Report) {
+    work.add_main(out.made(text.repeat(alloc, times)), out);
+    work.wanted = out.made(text.repeat(alloc, times));
 }
 
 /// Texts and prints of one name, in turn.
-pub(crate) fn many_prints(alloc: Global, work: &mut Work) -> Result<(), AllocError> {
-    work.add_main("line {{ x }}".repeat(alloc, 5000)?)?;
-    add(alloc, "x", "é", &mut work.request.texts)?;
-    work.wanted = "line é".repeat(alloc, 5000)?;
-    Ok(())
+pub(crate) fn many_prints(alloc: Global, work: &mut Work, out: &mut Report) {
+    work.add_main(out.made("line {{ x }}".repeat(alloc, 5000)), out);
+    add(alloc, "x", "é", &mut work.request.texts, out);
+    work.wanted = out.made("line é".repeat(alloc, 5000));
 }
 
 /// Templates that each write their own name, of which the last one is rendered.
-pub(crate) fn many_templates(alloc: Global, work: &mut Work) -> Result<(), AllocError> {
+pub(crate) fn many_templates(alloc: Global, work: &mut Work, out: &mut Report) {
     for number in 0..MANY {
-        add_named_template(alloc, number, work)?;
+        add_named_template(alloc, number, work, out)
     }
-    work.request.main = String::from_str(alloc, "t999.txt")?;
-    work.wanted = String::from_str(alloc, "This is t999.txt")?;
-    Ok(())
+    work.request.main = out.made(String::from_str(alloc, "t999.txt"));
+    work.wanted = out.made(String::from_str(alloc, "This is t999.txt"));
 }
 
-fn add_named_template(alloc: Global, number: usize, work: &mut Work) -> Result<(), AllocError> {
-    let name = format!(in alloc; "t{number}.txt")?;
-    let source = format!(in alloc; "This is {name}")?;
-    add(alloc, name.as_str(), source.as_str(), &mut work.templates)
+fn add_named_template(alloc: Global, number: usize, work: &mut Work, out: &mut Report) {
+    let name = out.made(format!(in alloc; "t{number}.txt"));
+    let source = out.made(format!(in alloc; "This is {name}"));
+    if work.templates.push((name, source)).is_err() {
+        out.refuse(ErrorKind::OutOfMemory)
+    }
 }
 
 /// A template that prints a thousand names, which are told.
-pub(crate) fn many_names(alloc: Global, work: &mut Work) -> Result<(), AllocError> {
-    work.add_main(printed_names(alloc)?)?;
+pub(crate) fn many_names(alloc: Global, work: &mut Work, out: &mut Report) {
+    work.add_main(printed_names(alloc, out), out);
     work.request.command = Command::Names;
-    work.wanted = told_names(alloc)?;
-    Ok(())
+    tell_names(&mut work.wanted, out)
 }
 
-fn printed_names(alloc: Global) -> Result<String, AllocError> {
+fn printed_names(alloc: Global, out: &mut Report) -> String {
     let mut source = String::new(alloc);
     for number in 0..MANY {
-        write!(source, "{{{{ n{:03} }}}}", number)?;
+        let written = write!(source, "{{{{ n{:03} }}}}", number);
+        out.note(written)
     }
-    Ok(source)
+    source
 }
 
-fn told_names(alloc: Global) -> Result<String, AllocError> {
-    let mut told = String::from_str(alloc, "caller\nloop\n")?;
+fn tell_names(told: &mut String, out: &mut Report) {
+    out.note(told.push_str("caller\nloop\n"));
     for number in 0..MANY {
-        write!(told, "n{:03}\n", number)?;
+        let written = write!(told, "n{:03}\n", number);
+        out.note(written)
     }
-    told.push_str("self\nsuper\n")?;
-    Ok(told)
+    out.note(told.push_str("self\nsuper\n"))
 }
 
 /// A template that prints a thousand names, of which each has a definition.
-pub(crate) fn many_definitions(alloc: Global, work: &mut Work) -> Result<(), AllocError> {
-    work.add_main(printed_names(alloc)?)?;
+pub(crate) fn many_definitions(alloc: Global, work: &mut Work, out: &mut Report) {
+    work.add_main(printed_names(alloc, out), out);
     for number in 0..MANY {
-        add_definition(alloc, number, work)?;
+        add_definition(alloc, number, work, out)
     }
-    Ok(())
 }
 
-fn add_definition(alloc: Global, number: usize, work: &mut Work) -> Result<(), AllocError> {
-    let name = format!(in alloc; "n{:03}", number)?;
-    let text = format!(in alloc; "<{number}>")?;
-    work.wanted.push_str(text.as_str())?;
-    add(alloc, name.as_str(), text.as_str(), &mut work.request.texts)
+fn add_definition(alloc: Global, number: usize, work: &mut Work, out: &mut Report) {
+    let name = out.made(format!(in alloc; "n{:03}", number));
+    let text = out.made(format!(in alloc; "<{number}>"));
+    out.note(work.wanted.push_str(text.as_str()));
+    if work.request.texts.push((name, text)).is_err() {
+        out.refuse(ErrorKind::OutOfMemory)
+    }
 }
 
 // The context `{"x": [0, 0, ..]}`.
-fn zeros(alloc: Global, count: usize) -> Result<String, AllocError> {
-    let zeros = "0,".repeat(alloc, count.saturating_sub(1))?;
-    format!(in alloc; "{{\"x\": [{zeros}0]}}")
+fn zeros(alloc: Global, count: usize, out: &mut Report) -> String {
+    let zeros = out.made("0,".repeat(alloc, count.saturating_sub(1)));
+    out.made(format!(in alloc; "{{\"x\": [{zeros}0]}}"))
 }
 
 // A list of zeros, as it prints.
-fn printed_zeros(alloc: Global) -> Result<String, AllocError> {
-    let zeros = "0, ".repeat(alloc, ITEMS - 1)?;
-    format!(in alloc; "[{zeros}0]")
+fn printed_zeros(alloc: Global, out: &mut Report) -> String {
+    let zeros = out.made("0, ".repeat(alloc, ITEMS - 1));
+    out.made(format!(in alloc; "[{zeros}0]"))
 }
 
 /// A print of a list with many items, which the context has.
-pub(crate) fn many_items(alloc: Global, work: &mut Work) -> Result<(), AllocError> {
-    add(alloc, MAIN, "{{ x }}", &mut work.templates)?;
-    work.context = zeros(alloc, ITEMS)?;
-    work.wanted = printed_zeros(alloc)?;
-    Ok(())
+pub(crate) fn many_items(alloc: Global, work: &mut Work, out: &mut Report) {
+    add(alloc, MAIN, "{{ x }}", &mut work.templates, out);
+    work.context = zeros(alloc, ITEMS, out);
+    work.wanted = printed_zeros(alloc, out);
 }
 
 /// A loop over a list with many items.
-pub(crate) fn many_rounds(alloc: Global, work: &mut Work) -> Result<(), AllocError> {
+pub(crate) fn many_rounds(alloc: Global, work: &mut Work, out: &mut Report) {
     let source = "{% for y in x %}{{ y + 1 }},{% endfor %}";
-    add(alloc, MAIN, source, &mut work.templates)?;
-    work.context = zeros(alloc, ITEMS)?;
-    work.wanted = "1,".repeat(alloc, ITEMS)?;
-    Ok(())
+    add(alloc, MAIN, source, &mut work.templates, out);
+    work.context = zeros(alloc, ITEMS, out);
+    work.wanted = out.made("1,".repeat(alloc, ITEMS));
 }
 
 /// A loop that includes another template in each round.
-pub(crate) fn many_includes(alloc: Global, work: &mut Work) -> Result<(), AllocError> {
+pub(crate) fn many_includes(alloc: Global, work: &mut Work, out: &mut Report) {
     let source = "{% for y in x %}{% include 'part' %}{% endfor %}";
-    add(alloc, MAIN, source, &mut work.templates)?;
-    add(alloc, "part", "<{{ y }}>", &mut work.templates)?;
-    work.context = zeros(alloc, MANY)?;
-    work.wanted = "<0>".repeat(alloc, MANY)?;
-    Ok(())
+    add(alloc, MAIN, source, &mut work.templates, out);
+    add(alloc, "part", "<{{ y }}>", &mut work.templates, out);
+    work.context = zeros(alloc, MANY, out);
+    work.wanted = out.made("<0>".repeat(alloc, MANY));
 }
 
 /// Braces alone begin a print and never end it, so the source is refused, and nothing is written.
-pub(crate) fn many_braces(alloc: Global, work: &mut Work) -> Result<(), AllocError> {
+pub(crate) fn many_braces(alloc: Global, work: &mut Work, out: &mut Report) {
     work.is_refused = true;
-    work.add_main("{".repeat(alloc, 1_000_000)?)
+    work.add_main(out.made("{".repeat(alloc, 1_000_000)), out)
 }
 
 /// A list of many parts, each of them a name.
-pub(crate) fn many_parts(alloc: Global, work: &mut Work) -> Result<(), AllocError> {
-    work.add_main(print_of_parts(alloc)?)?;
-    work.context = String::from_str(alloc, "{\"y\": 0}")?;
-    work.wanted = printed_zeros(alloc)?;
-    Ok(())
-}
-
-fn print_of_parts(alloc: Global) -> Result<String, AllocError> {
-    let parts = "y, ".repeat(alloc, ITEMS - 1)?;
-    format!(in alloc; "{{{{ [{parts}y] }}}}")
+pub(crate) fn many_parts(alloc: Global, work: &mut Work, out: &mut Report) {
+    let parts = out.made("y, ".repeat(alloc, ITEMS - 1));
+    work.add_main(out.made(format!(in alloc; "{{{{ [{parts}y] }}}}")), out);
+    work.context = out.made(String::from_str(alloc, "{\"y\": 0}"));
+    work.wanted = printed_zeros(alloc, out);
 }
 
 /// A print of a name of ten thousand letters.
-pub(crate) fn long_name(alloc: Global, work: &mut Work) -> Result<(), AllocError> {
-    print_name(alloc, "n".repeat(alloc, 10_000)?.as_str(), work)
-}
-
-fn print_name(alloc: Global, name: &str, work: &mut Work) -> Result<(), AllocError> {
-    work.add_main(format!(in alloc; "{{{{ {name} }}}}")?)?;
-    work.context = format!(in alloc; "{{\"{name}\": 1}}")?;
-    work.wanted = String::from_str(alloc, "1")?;
-    Ok(())
+pub(crate) fn long_name(alloc: Global, work: &mut Work, out: &mut Report) {
+    let name = out.made("n".repeat(alloc, 10_000));
+    work.add_main(out.made(format!(in alloc; "{{{{ {name} }}}}")), out);
+    work.context = out.made(format!(in alloc; "{{\"{name}\": 1}}"));
+    work.wanted = out.made(String::from_str(alloc, "1"));
 }
 
 /// A loop over a list with many items, ten times in a loop.
-pub(crate) fn many_rounds_in_rounds(alloc: Global, work: &mut Work) -> Result<(), AllocError> {
+pub(crate) fn many_rounds_in_rounds(alloc: Global, work: &mut Work, out: &mut Report) {
     let source =
         "{% for z in [0, 1, 2, 3, 4, 5, 6, 7, 8, 9] %}{% for y in x %}{{ z }}{% endfor %}{% endfor %}";
-    add(alloc, MAIN, source, &mut work.templates)?;
-    work.context = zeros(alloc, ITEMS)?;
-    for digit in ["0", "1", "2", "3", "4", "5", "6", "7", "8", "9"] {
-        work.wanted.push_str(digit.repeat(alloc, ITEMS)?.as_str())?;
+    add(alloc, MAIN, source, &mut work.templates, out);
+    work.context = zeros(alloc, ITEMS, out);
+    for digit in "0123456789".chars() {
+        push_rounds(digit, work, out)
     }
-    Ok(())
+}
+
+fn push_rounds(digit: char, work: &mut Work, out: &mut Report) {
+    for _ in 0..ITEMS {
+        out.note(work.wanted.push(digit))
+    }
 }

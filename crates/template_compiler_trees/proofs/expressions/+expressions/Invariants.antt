@@ -62,10 +62,7 @@ abbrev pub decreases-group : goal.decreases-group
 decreases-group l = 10 * l.left + 2
 
 abbrev pub decreases-map : goal.decreases-map
-decreases-map l = 10 * l.left + 4
-
-abbrev pub decreases-entries : goal.decreases-entries
-decreases-entries l = 10 * l.left + 3
+decreases-map l = 10 * l.left + 3
 
 abbrev pub decreases-entry : goal.decreases-entry
 decreases-entry l = 10 * l.left + 2

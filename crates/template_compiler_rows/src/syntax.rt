@@ -1,6 +1,5 @@
 //! A syntax from the entries of an object, and what stands in one.
-use crate::forms::Form;
-use crate::unreadable;
+use crate::report::{Report, unreadable};
 use serde_json::{Map, Value as Json};
 use std::alloc::Global;
 use template_compiler_syntax::{SyntaxConfig, SyntaxConfigBuilder};
@@ -76,12 +75,11 @@ fn set_option(builder: &mut SyntaxConfigBuilder, name: &str, yes: bool) -> Resul
 }
 
 /// What stands in a syntax that is copied, and built again of that.
-pub(crate) fn parts_of_syntax(
-    alloc: Global,
-    syntax: &SyntaxConfig,
-    out: &mut Form,
-) -> Result<(), Error> {
-    write_parts(&built_again(alloc, syntax)?, out)
+pub(crate) fn parts_of_syntax(alloc: Global, syntax: &SyntaxConfig, out: &mut Report) {
+    match &built_again(alloc, syntax) {
+        Ok(syntax) => write_parts(syntax, out),
+        Err(error) => out.refuse(error.kind()),
+    }
 }
 
 fn built_again(alloc: Global, syntax: &SyntaxConfig) -> Result<SyntaxConfig, Error> {
@@ -90,26 +88,14 @@ fn built_again(alloc: Global, syntax: &SyntaxConfig) -> Result<SyntaxConfig, Err
     builder.build()
 }
 
-fn write_parts(syntax: &SyntaxConfig, out: &mut Form) -> Result<(), Error> {
-    write!(
-        out.text,
-        "(syntax {:?} {:?} {:?}",
-        syntax.block_delimiters(),
-        syntax.variable_delimiters(),
-        syntax.comment_delimiters()
-    )?;
-    write!(
-        out.text,
-        " {:?} {:?}",
-        syntax.line_statement_prefix(),
-        syntax.line_comment_prefix()
-    )?;
-    write!(
-        out.text,
-        " {} {} {})",
-        syntax.trim_blocks(),
-        syntax.lstrip_blocks(),
-        syntax.keep_trailing_newline()
-    )?;
-    Ok(())
+fn write_parts(syntax: &SyntaxConfig, out: &mut Report) {
+    out.tell("(syntax ", &syntax.block_delimiters());
+    out.tell(" ", &syntax.variable_delimiters());
+    out.tell(" ", &syntax.comment_delimiters());
+    out.tell(" ", &syntax.line_statement_prefix());
+    out.tell(" ", &syntax.line_comment_prefix());
+    out.tell(" ", &syntax.trim_blocks());
+    out.tell(" ", &syntax.lstrip_blocks());
+    out.tell(" ", &syntax.keep_trailing_newline());
+    out.push(')')
 }

@@ -1,15 +1,17 @@
 //! Instructions that calls of a generator make, one behind the other.
+use crate::NAME;
 use crate::code::write_instructions;
-use crate::{NAME, unreadable};
+use crate::listed::{added, line_in, span_from, write_places};
+use crate::report::{Report, unreadable};
 use serde_json::{Map, Value as Json};
 use std::alloc::Global;
 use std::borrow::CowStr;
-use template_code::{Instruction, Instructions};
+use template_code::Instruction;
 use template_compiler_generator::CodeGenerator;
 use template_compiler_runnable::{is_runnable, is_runnable_expr};
 use template_tree::{Expr, Span};
 use template_tree_statements::Stmt;
-use template_values_errors::Error;
+use template_values_errors::{Error, ErrorKind};
 
 /// How many instructions the calls make, the hint of room for them, where those at some places come from, and all of
 /// them, where no block is open. The tree is what the call `template` compiles.
@@ -17,13 +19,13 @@ pub(crate) fn generated<'line>(
     alloc: Global,
     tree: &Stmt<'line>,
     entries: &'line Map<String, Json>,
-    out: &mut String,
-) -> Result<(), Error> {
+    out: &mut Report,
+) {
     match (entries.get("calls"), entries.get("places")) {
         (Some(Json::Array(calls)), Some(Json::Array(places))) => {
             generate(alloc, tree, calls.as_slice(), places.as_slice(), out)
         }
-        _ => unreadable(),
+        _ => out.refuse(ErrorKind::SyntaxError),
     }
 }
 
@@ -32,14 +34,16 @@ fn generate<'line>(
     tree: &Stmt<'line>,
     calls: &'line [Json],
     places: &[Json],
-    out: &mut String,
-) -> Result<(), Error> {
+    out: &mut Report,
+) {
     let mut generator = CodeGenerator::new(alloc, NAME, "");
-    make_all(&mut generator, tree, calls, out)?;
+    make_all(&mut generator, tree, calls, out);
     if generator.is_closed() {
-        write_generated(&generator.finish(), places, out)
+        let code = generator.finish();
+        write_places(&code, places, out);
+        write_instructions(&code, out)
     } else {
-        unreadable()
+        out.refuse(ErrorKind::SyntaxError)
     }
 }
 
@@ -47,13 +51,15 @@ fn make_all<'line>(
     generator: &mut CodeGenerator<'line>,
     tree: &Stmt<'line>,
     calls: &'line [Json],
-    out: &mut String,
-) -> Result<(), Error> {
+    out: &mut Report,
+) {
     for call in calls {
-        make(generator, tree, call)?;
+        if let Err(error) = make(generator, tree, call) {
+            return out.refuse(error.kind());
+        }
     }
-    let (count, hint) = (generator.next_instruction(), generator.buffer_size_hint());
-    Ok(write!(out, "{count};{hint};")?)
+    out.answer(&generator.next_instruction());
+    out.answer(&generator.buffer_size_hint())
 }
 
 // A call by its name, alone or with a text or a line.
@@ -63,18 +69,20 @@ fn make<'line>(
     call: &'line Json,
 ) -> Result<(), Error> {
     match call {
-        Json::String(name) if name.as_str() == "template" => make_tree(generator, tree),
-        Json::String(name) => make_plain(generator, name.as_str()),
+        Json::String(name) => make_named(generator, tree, name.as_str()),
         Json::Array(parts) => make_of_parts(generator, parts.as_slice()),
         _ => unreadable(),
     }
 }
 
-fn make_tree<'line>(generator: &mut CodeGenerator<'line>, tree: &Stmt<'line>) -> Result<(), Error> {
-    if is_runnable(tree) {
-        generator.compile_stmt(tree)
-    } else {
-        unreadable()
+fn make_named<'line>(
+    generator: &mut CodeGenerator<'line>,
+    tree: &Stmt<'line>,
+    name: &str,
+) -> Result<(), Error> {
+    match name {
+        "template" if is_runnable(tree) => generator.compile_stmt(tree),
+        _ => make_plain(generator, name),
     }
 }
 
@@ -98,10 +106,7 @@ fn add<'line>(
     generator: &mut CodeGenerator<'line>,
     instruction: Instruction<'line>,
 ) -> Result<(), Error> {
-    match generator.add(instruction) {
-        Ok(_place) => Ok(()),
-        Err(error) => Err(error),
-    }
+    added(generator.add(instruction))
 }
 
 // A call that needs an open block.
@@ -145,20 +150,9 @@ fn make_of_text<'line>(
     let variable = Expr::variable(name, Span::default());
     match call {
         "lookup" => add(generator, Instruction::Lookup(CowStr::Borrowed(name))),
-        "expression" => make_expression(generator, &variable),
+        "expression" if is_runnable_expr(&variable) => generator.compile_expr(&variable),
         "target" => generator.compile_assignment(&variable),
         _ => unreadable(),
-    }
-}
-
-fn make_expression<'line>(
-    generator: &mut CodeGenerator<'line>,
-    expr: &Expr<'line>,
-) -> Result<(), Error> {
-    if is_runnable_expr(expr) {
-        generator.compile_expr(expr)
-    } else {
-        unreadable()
     }
 }
 
@@ -168,47 +162,8 @@ fn make_at(generator: &mut CodeGenerator<'_>, name: &str, line: u16) -> Result<(
         "line" => generator.set_line(line),
         "line_of_span" => generator.set_line_from_span(span_from(line)),
         "span" => return generator.push_span(span_from(line)),
-        "emit" => return emit_from(generator, span_from(line)),
+        "emit" => return added(generator.add_with_span(Instruction::Emit, span_from(line))),
         _ => return unreadable(),
-    }
-    Ok(())
-}
-
-fn emit_from(generator: &mut CodeGenerator<'_>, span: Span) -> Result<(), Error> {
-    match generator.add_with_span(Instruction::Emit, span) {
-        Ok(_place) => Ok(()),
-        Err(error) => Err(error),
-    }
-}
-
-// A number that is no line is line 0.
-fn line_in(number: &Json) -> u16 {
-    u16::try_from(number.as_u64().unwrap_or(0)).unwrap_or(0)
-}
-
-// A span that starts in a line, and has nothing else.
-fn span_from(line: u16) -> Span {
-    Span {
-        start_line: line,
-        ..Span::default()
-    }
-}
-
-fn write_generated(
-    code: &Instructions<'_>,
-    places: &[Json],
-    out: &mut String,
-) -> Result<(), Error> {
-    write_places(code, places, out)?;
-    write_instructions(code, out)
-}
-
-// The line and the span of the instructions at some places.
-fn write_places(code: &Instructions<'_>, places: &[Json], out: &mut String) -> Result<(), Error> {
-    for place in places {
-        let place = u32::from(line_in(place));
-        let (line, span) = (code.get_line(place), code.get_span(place));
-        write!(out, "{line:?} {span:?};")?;
     }
     Ok(())
 }

@@ -1,6 +1,5 @@
 //! Instructions that are listed one by one, and where they come from.
-use crate::forms::Form;
-use crate::unreadable;
+use crate::report::{Report, unreadable};
 use serde_json::Value as Json;
 use std::alloc::Global;
 use template_code::{Instruction, Instructions};
@@ -8,24 +7,15 @@ use template_tree::Span;
 use template_values_errors::Error;
 
 /// Where the instructions at some places come from, as a copy with texts of its own has it.
-pub(crate) fn listed(
-    alloc: Global,
-    steps: &[Json],
-    places: &[Json],
-    out: &mut Form,
-) -> Result<(), Error> {
-    match copied(alloc, steps) {
-        Ok(code) => write_places(&code, places, out),
-        Err(error) => Err(error),
-    }
-}
-
-fn copied(alloc: Global, steps: &[Json]) -> Result<Instructions<'static>, Error> {
+pub(crate) fn listed(alloc: Global, steps: &[Json], places: &[Json], out: &mut Report) {
     let mut code = Instructions::new(alloc, "t.txt", "");
     for step in steps {
-        list(&mut code, step)?;
+        out.done(list(&mut code, step))
     }
-    code.into_owned(alloc)
+    match &code.into_owned(alloc) {
+        Ok(code) => write_places(code, places, out),
+        Err(error) => out.refuse(error.kind()),
+    }
 }
 
 // An instruction alone, with a line, or with a span that starts in a line; all else drops the last one.
@@ -52,25 +42,25 @@ pub(crate) fn added(place: Result<u32, Error>) -> Result<(), Error> {
     }
 }
 
-// A line. A number that is none is line 0.
-fn line_in(number: &Json) -> u16 {
+/// A line. A number that is none is line 0.
+pub(crate) fn line_in(number: &Json) -> u16 {
     u16::try_from(number.as_u64().unwrap_or(0)).unwrap_or(0)
 }
 
-// A span that starts in a line, and has nothing else.
-fn span_from(line: u16) -> Span {
+/// A span that starts in a line, and has nothing else.
+pub(crate) fn span_from(line: u16) -> Span {
     Span {
         start_line: line,
         ..Span::default()
     }
 }
 
-// The line and the span of the instructions at some places.
-fn write_places(code: &Instructions<'_>, places: &[Json], out: &mut Form) -> Result<(), Error> {
+/// The line and the span of the instructions at some places.
+pub(crate) fn write_places(code: &Instructions<'_>, places: &[Json], out: &mut Report) {
     for place in places {
         let place = u32::from(line_in(place));
-        let (line, span) = (code.get_line(place), code.get_span(place));
-        write!(out.text, "{line:?} {span:?};")?;
+        out.tell("", &code.get_line(place));
+        out.tell(" ", &code.get_span(place));
+        out.push(';')
     }
-    Ok(())
 }

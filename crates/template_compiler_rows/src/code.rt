@@ -1,0 +1,166 @@
+//! The code of templates.
+use crate::NAME;
+use crate::report::Report;
+use crate::runs::write_runs;
+use std::alloc::Global;
+use std::borrow::CowStr;
+use template_code::{Instruction, Instructions, LOOP_FLAG_WITH_LOOP_VAR};
+use template_code_references::get_referenced_names;
+use template_compiled::{CompiledTemplate, CompiledTemplates, TemplateConfig};
+use template_values_core::{Content, Value};
+use template_values_errors::Error;
+
+/// What is asked of the code of a template: `code`, `owned`, `runs` or `references`.
+pub(crate) fn about_code(alloc: Global, source: &str, ask: &str, out: &mut Report) {
+    let compiled = compiled(alloc, source, ask == "owned");
+    about_compiled(alloc, &compiled, ask, out)
+}
+
+// The template, with a name and a source that it lends, or with copies of them.
+fn compiled(alloc: Global, source: &str, is_owned: bool) -> Result<CompiledTemplate<'_>, Error> {
+    let config = TemplateConfig::new();
+    if is_owned {
+        let (name, source) = (CowStr::Borrowed(NAME), CowStr::Borrowed(source));
+        return CompiledTemplate::from_owned(alloc, name, source, &config);
+    }
+    CompiledTemplate::new(alloc, NAME, source, &config)
+}
+
+fn about_compiled(
+    alloc: Global,
+    compiled: &Result<CompiledTemplate<'_>, Error>,
+    ask: &str,
+    out: &mut Report,
+) {
+    match compiled {
+        Ok(template) => write_code(alloc, template, ask, out),
+        Err(error) => out.refuse(error.kind()),
+    }
+}
+
+fn write_code(alloc: Global, template: &CompiledTemplate<'_>, ask: &str, out: &mut Report) {
+    out.push('(');
+    out.push_str(ask);
+    let code = template.instructions();
+    match ask {
+        "runs" => write_runs(template.source(), code, out),
+        "references" => write_references(alloc, code, out),
+        "owned" => write_owned(template, out),
+        _ => write_instructions(code, out),
+    }
+    out.push(')')
+}
+
+// The instructions behind the name and the source.
+fn write_owned(template: &CompiledTemplate<'_>, out: &mut Report) {
+    out.word(template.name());
+    out.tell(" ", &template.source());
+    write_instructions(template.instructions(), out)
+}
+
+pub(crate) fn write_instructions(code: &Instructions<'_>, out: &mut Report) {
+    for index in 0..code.len() as u32 {
+        out.push(' ');
+        if let Some(instruction) = code.get(index) {
+            write_instruction(instruction, out)
+        }
+    }
+}
+
+fn write_instruction(instruction: &Instruction<'_>, out: &mut Report) {
+    match instruction {
+        Instruction::EmitRaw(text) => out.group("raw", &text.as_str()),
+        Instruction::Lookup(name) => write_named("(lookup", name.as_str(), out),
+        Instruction::LoadConst(value) => write_load(value, out),
+        Instruction::StoreLocal(name) => write_named("(store", name.as_str(), out),
+        Instruction::Emit => out.push_str("emit"),
+        _ => write_control(instruction, out),
+    }
+}
+
+fn write_named(head: &str, name: &str, out: &mut Report) {
+    out.push_str(head);
+    out.word(name);
+    out.push(')')
+}
+
+// A jump, or what opens or closes a frame.
+fn write_control(instruction: &Instruction<'_>, out: &mut Report) {
+    match instruction {
+        Instruction::Jump(to) => out.group("jump", to),
+        Instruction::JumpIfFalse(to) => out.group("jump_if_false", to),
+        Instruction::JumpIfFalseOrPop(to) => out.group("jump_if_false_or_pop", to),
+        Instruction::JumpIfTrueOrPop(to) => out.group("jump_if_true_or_pop", to),
+        Instruction::Iterate(to) => out.group("iterate", to),
+        Instruction::PushWith => out.push_str("with"),
+        Instruction::PopFrame => out.push_str("end_frame"),
+        Instruction::PushLoop(LOOP_FLAG_WITH_LOOP_VAR) => out.push_str("loop_with_variable"),
+        Instruction::PushDidNotIterate => out.push_str("did_not_iterate"),
+        Instruction::PopLoopFrame => out.push_str("end_loop"),
+        _ => out.push('?'),
+    }
+}
+
+// A constant of a kind that literals have.
+fn write_load(value: &Value, out: &mut Report) {
+    match value.content() {
+        Content::None => out.push_str("(load none)"),
+        Content::Truth(truth) => out.group("load", &truth),
+        Content::Int(number) => out.group("load", &number),
+        Content::Text(text) => out.group("load", &text),
+        _ => out.push_str("(load ?)"),
+    }
+}
+
+// The names that the instructions refer to, up to each of them and past the last one.
+fn write_references(alloc: Global, code: &Instructions<'_>, out: &mut Report) {
+    let count = code.len() as u32;
+    for index in 0..count {
+        references_at(alloc, code, index, out)
+    }
+    references_at(alloc, code, count, out)
+}
+
+fn references_at(alloc: Global, code: &Instructions<'_>, index: u32, out: &mut Report) {
+    match &get_referenced_names(alloc, code, index) {
+        Ok(names) => write_references_at(index, names.as_slice(), out),
+        Err(error) => out.refuse(error.kind()),
+    }
+}
+
+fn write_references_at(index: u32, names: &[&str], out: &mut Report) {
+    out.tell(" (", &index);
+    for name in names {
+        out.word(name)
+    }
+    out.push(')')
+}
+
+/// The source that stands under a name after two were put there, and what stands there when it is removed.
+pub(crate) fn standing(alloc: Global, first: &str, second: &str, out: &mut Report) {
+    let mut templates = CompiledTemplates::new(alloc);
+    out.done(put(alloc, &mut templates, first));
+    out.done(put(alloc, &mut templates, second));
+    write_standing(&templates, out);
+    templates.remove(NAME);
+    out.push(' ');
+    write_standing(&templates, out)
+}
+
+fn put<'source>(
+    alloc: Global,
+    templates: &mut CompiledTemplates<'source>,
+    source: &'source str,
+) -> Result<(), Error> {
+    match compiled(alloc, source, false) {
+        Ok(template) => templates.insert(alloc, template),
+        Err(error) => Err(error),
+    }
+}
+
+fn write_standing(templates: &CompiledTemplates<'_>, out: &mut Report) {
+    match templates.get(NAME) {
+        Some(template) => out.tell("", &template.source()),
+        None => out.push('-'),
+    }
+}
