@@ -1,5 +1,6 @@
 -- A statement's blocks, by its parts.
-use Rattle.std.proofs.Common.{◌≡◌, ℕ, ◌<◌, ◌≤◌, length, get_or, Result, Ok, Err, IfOk, List, [], ◌∷◌, ◌++◌, sym, ap, ◌∙◌, arith, rules, Box, Global}
+use Rattle.std.proofs.Common.{◌≡◌, ℕ, zero, suc, ◌+◌, ◌<◌, ◌≤◌, length, get_or, drop, refl, Result, Ok, Err, IfOk, List, [], ◌∷◌, ◌++◌, sym, ap, ◌∙◌, arith, rules, Box, Global}
+use Rattle.std.proofs.Math.Seq.{drop-cons}
 use Rattle.std.proofs.lemmas.List.{append-nil, append_assoc}
 use Rattle.template_tree_statements.specs.View.{statement_of}
 use Rattle.template_tree.specs.declared.span.Spanned.{Spanned}
@@ -99,6 +100,28 @@ pub body_end : {T E : Type 0} {all : List (List ℕ)} {read body : List Stmt} (n
 body_end ns ms (Ok value) same taken left = taken ∙ ap (λ (ss : List Stmt). ns ++ blocks_of ss) same ∙ left
 body_end ns ms (Err error) same taken left = tt
 
+-- the statements of a body, one behind the other
+drop_at : (xs : List Stmt) (i : ℕ) (x : Stmt) → i < length xs → x ≡ get_or xs i x → drop i xs ≡ x ∷ drop (i + 1) xs
+drop_at xs i x within read =
+    let more : suc i ≡ i + 1 = omega arith in
+    drop-cons xs i x within ∙ ap (λ (n : ℕ). get_or xs i x ∷ drop n xs) more ∙ ap (λ y. y ∷ drop (i + 1) xs) (sym read)
+
+drop_none : (xs : List Stmt) (i : ℕ) → length xs ≤ i → drop i xs ≡ []
+drop_none [] zero h = refl
+drop_none [] (suc i) h = refl
+drop_none (x ∷ xs) zero h = absurd (omega (arith, h))
+drop_none (x ∷ xs) (suc i) h = drop_none xs i (omega (arith, h))
+
+pub body_item : {all : List (List ℕ)} (ns ms : List (List ℕ)) (xs : List Stmt) (i : ℕ) (x : Stmt) → i < length xs → x ≡ get_or xs i x →
+    ms ≡ ns ++ blocks_in (statement_of x) → ns ++ blocks_of (drop i xs) ≡ all → ms ++ blocks_of (drop (i + 1) xs) ≡ all
+body_item ns ms xs i x within read taken left =
+    behind ns ms (blocks_in (statement_of x)) (blocks_of (drop (i + 1) xs)) taken
+    (ap (λ (ss : List Stmt). ns ++ blocks_of ss) (sym (drop_at xs i x within read)) ∙ left)
+
+pub body_done : {all : List (List ℕ)} (ns : List (List ℕ)) (xs : List Stmt) (i : ℕ) → length xs ≤ i → ns ++ blocks_of (drop i xs) ≡ all → ns ≡ all
+body_done ns xs i past left =
+    sym (append-nil ns) ∙ ap (λ (ss : List Stmt). ns ++ blocks_of ss) (sym (drop_none xs i past)) ∙ left
+
 -- an `elif`
 pub only_blocks : (body : List Stmt) (s : Stmt) → length body ≡ 1 → s ≡ get_or body 0 s → blocks_in (statement_of s) ≡ blocks_of body
 only_blocks [] s one read = absurd (omega (arith, one))
@@ -108,6 +131,10 @@ only_blocks (x ∷ y ∷ body) s one read = absurd (omega (arith, one))
 else_below : (n : Box (Spanned IfCondNode) Global) (i : ℕ) (d : Stmt) → i < length n.value.node.false_body.items
     → size-Stmt (get_or n.value.node.false_body.items i d) < size-Stmt (IfCond n)
 else_below n i d within = search (rules, the_lemmas)
+
+pub else_less : (s : Stmt) (n : Box (Spanned IfCondNode) Global) (i : ℕ) (d : Stmt) → s ≡ IfCond n → i < length n.value.node.false_body.items
+    → size-Stmt (get_or n.value.node.false_body.items i d) < size-Stmt s
+else_less s n i d node within = rw node (else_below n i d within)
 
 pub else_smaller : (s : Stmt) (n : Box (Spanned IfCondNode) Global) (i : ℕ) (d : Stmt) → s ≡ IfCond n → i < length n.value.node.false_body.items
     → size-Stmt (get_or n.value.node.false_body.items i d) ≤ size-Stmt s

@@ -1,5 +1,5 @@
 -- How deep lists are: what a node holds is less deep than the node.
-use Rattle.std.proofs.Common.{◌≡◌, ℕ, zero, suc, ◌<◌, ◌≤◌, max, List as Items, [], ◌∷◌, length, get_or, Box, Global, rules, arith, ap}
+use Rattle.std.proofs.Common.{◌≡◌, ℕ, zero, suc, ◌+◌, ◌*◌, ◌<◌, ◌≤◌, max, List as Items, [], ◌∷◌, length, get_or, Box, Global, rules, arith, ap}
 use Rattle.template_tree.specs.declared.span.Spanned.{Spanned}
 use Rattle.template_tree_statements.specs.declared.statements.AutoEscape.{AutoEscape as AutoEscapeNode}
 use Rattle.template_tree_statements.specs.declared.statements.Block.{Block as BlockNode}
@@ -28,6 +28,13 @@ all_below deep (x ∷ xs) m h all =
     let first : deep x < m = all 0 x (omega arith) in
     let rest : deepest deep xs < m = all_below deep xs m h (λ i d within. all (suc i) d (omega (arith, within))) in
     omega (arith, first, rest)
+
+-- measures of the walk: a body in a statement, and a statement in a body
+pub body_falls : (d s r t : ℕ) → d < s → s ≤ r → 2 * r ≡ t → 2 * d + 1 < t
+body_falls d s r t less within is = omega (arith, less, within, is)
+
+pub item_falls : (m d t : ℕ) → m ≤ d → 2 * d + 1 ≡ t → 2 * m < t
+item_falls m d t within is = omega (arith, within, is)
 
 abbrev pub body_deep : Items Stmt → ℕ
 body_deep body = deepest size-Stmt body

@@ -1,5 +1,5 @@
 -- The trees of statements, from the parts that a node holds, and walks of statements seen by their trees.
-use Rattle.std.proofs.Common.{◌≡◌, ℕ, Bool, false, Result, OnOk, List as Items, Box, Global, rules, sym, ap, ◌∙◌}
+use Rattle.std.proofs.Common.{◌≡◌, ◌<◌, ℕ, Bool, false, Result, OnOk, List as Items, Box, Global, rules, sym, ap, ◌∙◌}
 use Rattle.template_tree.specs.Tree.{Statement, set_block, filter_block, block, macro, call_block}
 use Rattle.template_tree.specs.View.{expression_of, expressions_in, arguments_in, optional_in}
 use Rattle.template_tree_statements.specs.View.{statement_of}
@@ -10,14 +10,15 @@ use Rattle.template_tree_statements.specs.declared.statements.CallBlock.{CallBlo
 use Rattle.template_tree_statements.specs.declared.statements.FilterBlock.{FilterBlock as FilterBlockNode}
 use Rattle.template_tree_statements.specs.declared.statements.Macro.{Macro as MacroNode}
 use Rattle.template_tree_statements.specs.declared.statements.SetBlock.{SetBlock as SetBlockNode}
-use Rattle.template_tree_statements.specs.declared.statements.Stmt.{Stmt, Block, CallBlock as calls, FilterBlock, Macro, SetBlock, the_lemmas}
+use Rattle.template_tree_statements.specs.declared.statements.Stmt.{Stmt, size-Stmt, Block, CallBlock as calls, FilterBlock, Macro, SetBlock, the_lemmas}
 use Rattle.template_tree_parts.specs.Listed.{statements_in}
 use Rattle.template_tree_parts.proofs.Rows.{statements_row}
 use Rattle.template_names.specs.Names.{Places, is_stored_by, place_by, place_of_macro, place_within}
 use Rattle.template_names.specs.declared.state.Names.{Names}
 use Rattle.template_names.specs.Among.{Among, nothing}
 use Rattle.template_names.specs.Goes.{Goes}
-use Rattle.template_names.proofs.Laws.{goes_on}
+use Rattle.template_names_statements.proofs.Deep.{all_below, body_deep}
+use Rattle.template_names.proofs.Laws.{goes_as, goes_nowhere, goes_on}
 
 -- a walk of a node is one of the statement that it stands in
 pub at_node : {T E : Type 0} {s x : Stmt} (a b : Names) (r : Result T E) → s ≡ x → ((q : Items ℕ) → false ≡ is_stored_by q (statement_of x)) →
@@ -32,6 +33,21 @@ pub at_tree : {T E : Type 0} {u : Places → Bool} {k : Among} (s : Stmt) (t : S
     OnOk r (Goes (λ q. place_by q (statement_of s)) (λ q. is_stored_by q (statement_of s)) a b)
 at_tree s t a b r tree uses stores goes =
     goes_on a b r (λ q. uses q ∙ ap (λ (x : Statement). place_by q x) (sym tree)) (λ q. stores q ∙ ap (λ (x : Statement). is_stored_by q x) (sym tree)) goes
+
+-- an arm of the match on it, by what is seen of its node
+pub at_arm : {T E : Type 0} {u : Places → Bool} {k : Among} {s x : Stmt} (a b : Names) (r : Result T E) → s ≡ x →
+    ((q : Places) → u q ≡ place_by q (statement_of x)) → ((q : Items ℕ) → k q ≡ is_stored_by q (statement_of x)) → OnOk r (Goes u k a b) →
+    OnOk r (Goes (λ q. place_by q (statement_of s)) (λ q. is_stored_by q (statement_of s)) a b)
+at_arm a b r is uses stores goes =
+    goes_on a b r (λ q. uses q ∙ ap (λ (y : Stmt). place_by q (statement_of y)) (sym is))
+    (λ q. stores q ∙ ap (λ (y : Stmt). is_stored_by q (statement_of y)) (sym is)) goes
+
+pub at_none : {s x : Stmt} (a : Names) → s ≡ x → ((q : Places) → false ≡ place_by q (statement_of x)) →
+    ((q : Items ℕ) → false ≡ is_stored_by q (statement_of x)) →
+    Goes (λ q. place_by q (statement_of s)) (λ q. is_stored_by q (statement_of s)) a a
+at_none a is uses stores =
+    goes_as (λ q. uses q ∙ ap (λ (y : Stmt). place_by q (statement_of y)) (sym is))
+    (λ q. stores q ∙ ap (λ (y : Stmt). is_stored_by q (statement_of y)) (sym is)) (goes_nowhere a)
 
 pub set_block_tree : (n : Box (Spanned SetBlockNode) Global) → statement_of (SetBlock n)
     ≡ set_block (expression_of n.value.node.target) (optional_in n.value.node.filter) (statements_in n.value.node.body.items)
@@ -65,6 +81,18 @@ pub call_tree : (n : Box (Spanned CallBlock) Global) → statement_of (calls n)
     (statements_in (out-CallBlock n.value.node).macro_decl.value.node.body.items)
 unfolding with_value
 call_tree n = call_by n n.value.node
+
+-- and the body of its macro is less deep than it
+call_below : (n : Box (Spanned CallBlock) Global) (v : CallBlock) →
+    body_deep (out-CallBlock v).macro_decl.value.node.body.items < size-Stmt (calls (with_value n v))
+unfolding with_value out-CallBlock
+call_below n (called call q name args defaults shape body inner) =
+    all_below size-Stmt _ _ (search (rules, the_lemmas)) (λ i d h. search (rules, the_lemmas))
+
+pub call_deep : (s : Stmt) (n : Box (Spanned CallBlock) Global) (body : Items Stmt) → s ≡ calls n →
+    body ≡ (out-CallBlock n.value.node).macro_decl.value.node.body.items → body_deep body < size-Stmt s
+unfolding with_value
+call_deep s n body node read = rw (node, read) (call_below n n.value.node)
 
 -- a macro, by the lists that are read from its node
 pub macro_reads : (q : Places) {body body' : Items Stmt} {arguments arguments' defaults defaults' : Items Expr} →

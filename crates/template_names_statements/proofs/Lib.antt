@@ -1,4 +1,5 @@
 mod Bodies
+mod Deep
 mod Walking
 mod Nodes
 pub mod Storing

@@ -35,6 +35,19 @@ pub used_chain : (q : Places) (e : Expr) (n : Box (Spanned Compare) Global) → 
 used_chain q e n node =
     sym (ap (λ (x : Expr). place_in_target q (expression_of x)) node ∙ ap (λ (t : Expression). place_in_target q t) (chain_tree n.value.node))
 
+-- an expression that is no target: it stores nothing, and as a target it uses nothing
+pub stores_none : {e x : Expr} (a : Names) → e ≡ x → ((q : Items ℕ) → false ≡ is_stored_in q (expression_of x)) →
+    Goes no_place (λ q. is_stored_in q (expression_of e)) a a
+stores_none a is none =
+    goes_as (λ q. refl) (λ q. none q ∙ ap (λ (y : Expr). is_stored_in q (expression_of y)) (sym is)) (goes_nowhere a)
+
+pub assigns_none : {e x : Expr} (a : Names) → e ≡ x → ((q : Places) → false ≡ place_in_target q (expression_of x)) →
+    ((q : Items ℕ) → false ≡ is_stored_in q (expression_of x)) →
+    Goes (λ q. place_in_target q (expression_of e)) (λ q. is_stored_in q (expression_of e)) a a
+assigns_none a is unused none =
+    goes_as (λ q. unused q ∙ ap (λ (y : Expr). place_in_target q (expression_of y)) (sym is))
+    (λ q. none q ∙ ap (λ (y : Expr). is_stored_in q (expression_of y)) (sym is)) (goes_nowhere a)
+
 pub none_used : (s : Bool) → (false || (not s && false)) ≡ false
 none_used true = refl
 none_used false = refl

@@ -24,3 +24,6 @@ invariant-take_names_of-loop-at l = record {
   taken : texts_in l.names.items ++ blocks_in (statement_of l.at) ≡ texts_in l.initial.names.items ++ blocks_in (statement_of l.fn.statement);
   deep : size-Stmt l.at ≤ size-Stmt l.fn.statement;
 }
+
+abbrev pub decreases-take_names_of-loop-at : goal.decreases-take_names_of-loop-at
+decreases-take_names_of-loop-at l = size-Stmt l.at

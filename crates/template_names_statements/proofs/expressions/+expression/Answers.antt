@@ -2,21 +2,25 @@ use Rattle.std.proofs.Common.{◌≡◌, ℕ, ◌≤◌, ◌+◌, ◌||◌, List
 use Rattle.template_tree.specs.View.{expression_of, expressions_in, links_in, arguments_in, argument_of, optional_in}
 use Rattle.template_tree.specs.declared.calls.Call.{Call as CallNode}
 use Rattle.template_tree.specs.declared.calls.CallArg.{CallArg}
+use Rattle.template_tree.specs.declared.expressions.BinOp.{BinOp as BinOpNode}
 use Rattle.template_tree.specs.declared.expressions.Compare.{Compare, out-Compare}
 use Rattle.template_tree.specs.declared.expressions.CompareOp.{CompareOp}
 use Rattle.template_tree.specs.declared.expressions.Filter.{Filter as FilterNode}
+use Rattle.template_tree.specs.declared.expressions.GetItem.{GetItem as GetItemNode}
 use Rattle.template_tree.specs.declared.expressions.IfExpr.{IfExpr as IfExprNode}
 use Rattle.template_tree.specs.declared.expressions.List.{List as ListNode}
 use Rattle.template_tree.specs.declared.expressions.Map.{Map as MapNode}
 use Rattle.template_tree.specs.declared.expressions.Slice.{Slice as SliceNode}
 use Rattle.template_tree.specs.declared.expressions.Test.{Test as TestNode}
 use Rattle.template_tree.specs.declared.expressions.Tuple.{Tuple as TupleNode}
+use Rattle.template_tree.specs.declared.expressions.UnaryOp.{UnaryOp as UnaryOpNode}
 use Rattle.template_tree.specs.declared.span.Spanned.{Spanned}
 use Rattle.template_tree.specs.declared.expressions.Expr.{Expr, size-Expr}
 use Rattle.template_names.specs.Names.{place_if_given, place_in, place_in_one, place_in_links, place_in_arguments, place_in_argument}
 use Rattle.template_names.specs.Dotted.{fields_of}
 use Rattle.template_names_statements.specs.Parts.{left_deep, left_place, place_beside}
 use Rattle.template_names.proofs.Laws.{goes_nowhere, uses_as, uses_end, uses_item, uses_on, uses_then, uses_then_on}
+use Rattle.template_names_statements.proofs.Deep.{items_deep, links_deep, deep_at, expression_falls, list_falls, operand_falls, list_deep, tuple_deep, keys_deep, values_deep, chain_deep, operand_deep, right_deep, test_deep, branch_deep, subscript_deep}
 use Rattle.template_names_statements.proofs.Nodes.{in_filter, in_test, in_call, in_list, in_tuple, in_map, in_chain, in_condition, in_slice, left_within, left_ends}
 use Rattle.template_names_statements.proofs.expressions.+expression.Goals as goal
 
@@ -151,3 +155,122 @@ use_others-returns-in_ok-use_expression-in-IfExpr-2 t c =
     (λ q.
     ap (λ (x : Spanned IfExprNode). (place_in q (expression_of v.test_expr) || place_in q (expression_of v.true_expr)) || place_if_given q (optional_in x.node.false_expr))
     c.deref-in-IfExpr-3.ensures ∙ in_condition q (fields_of c.args.behind.now) c.args.expr.now c.in-IfExpr.n c.in-IfExpr.is)
+
+pub use_others-returns-in-Var : goal.use_others-returns-in-Var
+use_others-returns-in-Var t c =
+    uses_on c.args.names.now c.find.new.self c.find.result (λ q. ap (λ (x : Expr). place_beside q (fields_of c.args.behind.now) (expression_of x)) (sym c.in-Var.is)) c.find.ensures
+
+pub use_others-returns-in-UnaryOp : goal.use_others-returns-in-UnaryOp
+use_others-returns-in-UnaryOp t c =
+    uses_on c.args.names.now c.use_expression.new.names c.use_expression.result
+    (λ q. ap (λ (x : Spanned UnaryOpNode). place_in q (expression_of x.node.expr)) c.deref-in-UnaryOp.ensures ∙
+    ap (λ (x : Expr). place_beside q (fields_of c.args.behind.now) (expression_of x)) (sym c.in-UnaryOp.is)) c.use_expression.ensures
+
+pub use_others-returns-in-BinOp : goal.use_others-returns-in-BinOp
+use_others-returns-in-BinOp t c =
+    uses_on c.args.names.now c.use_expression-in-BinOp.new.names c.use_expression-in-BinOp.result
+    (λ q. ap (λ (x : Spanned BinOpNode). place_in q (expression_of x.node.right)) c.deref-in-BinOp.ensures ∙
+    ap (λ (x : Expr). place_beside q (fields_of c.args.behind.now) (expression_of x)) (sym c.in-BinOp.is)) c.use_expression-in-BinOp.ensures
+
+pub use_others-returns-in-GetItem : goal.use_others-returns-in-GetItem
+use_others-returns-in-GetItem t c =
+    uses_on c.args.names.now c.use_expression-in-GetItem.new.names c.use_expression-in-GetItem.result
+    (λ q. ap (λ (x : Spanned GetItemNode). place_in q (expression_of x.node.subscript_expr)) c.deref-in-GetItem.ensures ∙
+    ap (λ (x : Expr). place_beside q (fields_of c.args.behind.now) (expression_of x)) (sym c.in-GetItem.is)) c.use_expression-in-GetItem.ensures
+
+pub use_others-returns-in-Const : goal.use_others-returns-in-Const
+use_others-returns-in-Const t c =
+    uses_as (λ q. ap (λ (x : Expr). place_beside q (fields_of c.args.behind.now) (expression_of x)) (sym c.in-Const.is)) (goes_nowhere c.args.names.now)
+
+pub use_others-returns-in-GetAttr : goal.use_others-returns-in-GetAttr
+use_others-returns-in-GetAttr t c =
+    uses_as (λ q. ap (λ (x : Expr). place_beside q (fields_of c.args.behind.now) (expression_of x)) (sym c.in-GetAttr.is)) (goes_nowhere c.args.names.now)
+
+pub use_others-use_items-requires : goal.use_others-use_items-requires
+use_others-use_items-requires t c =
+    let read = c.deref-in-List-2.ensures.value ∙ ap (λ (x : Spanned ListNode). x.node.items.items) c.deref-in-List.ensures in
+    (list_falls _ _ t (list_deep c.args.expr.now c.in-List.n c.deref-in-List-2.result.now c.in-List.is read) c.decreases, tt)
+
+pub use_others-use_items-requires-in-Tuple : goal.use_others-use_items-requires-in-Tuple
+use_others-use_items-requires-in-Tuple t c =
+    let read = c.deref-in-Tuple-2.ensures.value ∙ ap (λ (x : Spanned TupleNode). x.node.items.items) c.deref-in-Tuple.ensures in
+    (list_falls _ _ t (tuple_deep c.args.expr.now c.in-Tuple.n c.deref-in-Tuple-2.result.now c.in-Tuple.is read) c.decreases, tt)
+
+pub use_others-use_items-requires-in-Map : goal.use_others-use_items-requires-in-Map
+use_others-use_items-requires-in-Map t c =
+    let read = c.deref-in-Map-2.ensures.value ∙ ap (λ (x : Spanned MapNode). x.node.keys.items) c.deref-in-Map.ensures in
+    (list_falls _ _ t (keys_deep c.args.expr.now c.in-Map.n c.deref-in-Map-2.result.now c.in-Map.is read) c.decreases, tt)
+
+pub use_others-use_items-requires-in-Map-2 : goal.use_others-use_items-requires-in-Map-2
+use_others-use_items-requires-in-Map-2 t c =
+    let read = c.deref-in-Map-4.ensures.value ∙ ap (λ (x : Spanned MapNode). x.node.values.items) c.deref-in-Map-3.ensures in
+    (list_falls _ _ t (values_deep c.args.expr.now c.in-Map.n c.deref-in-Map-4.result.now c.in-Map.is read) c.decreases, tt)
+
+pub use_others-use_links-requires : goal.use_others-use_links-requires
+use_others-use_links-requires t c =
+    let read = c.deref-in-Compare-2.ensures.value ∙ ap (λ (x : Spanned Compare). (out-Compare x.node).ops.items) c.deref-in-Compare.ensures in
+    (list_falls _ _ t (chain_deep c.args.expr.now c.in-Compare.n c.deref-in-Compare-2.result.now c.in-Compare.is read) c.decreases, tt)
+
+pub use_others-use_expression-requires : goal.use_others-use_expression-requires
+use_others-use_expression-requires t c =
+    (operand_falls _ _ t (operand_deep c.args.expr.now c.in-UnaryOp.n c.deref-in-UnaryOp.result.now c.in-UnaryOp.is c.deref-in-UnaryOp.ensures) c.decreases, tt)
+
+pub use_others-use_expression-requires-in-BinOp : goal.use_others-use_expression-requires-in-BinOp
+use_others-use_expression-requires-in-BinOp t c =
+    (operand_falls _ _ t (right_deep c.args.expr.now c.in-BinOp.n c.deref-in-BinOp.result.now c.in-BinOp.is c.deref-in-BinOp.ensures) c.decreases, tt)
+
+pub use_others-use_expression-requires-in-IfExpr : goal.use_others-use_expression-requires-in-IfExpr
+use_others-use_expression-requires-in-IfExpr t c =
+    (operand_falls _ _ t (test_deep c.args.expr.now c.in-IfExpr.n c.deref-in-IfExpr.result.now c.in-IfExpr.is c.deref-in-IfExpr.ensures) c.decreases, tt)
+
+pub use_others-use_expression-requires-in-IfExpr-2 : goal.use_others-use_expression-requires-in-IfExpr-2
+use_others-use_expression-requires-in-IfExpr-2 t c =
+    (operand_falls _ _ t (branch_deep c.args.expr.now c.in-IfExpr.n c.deref-in-IfExpr-2.result.now c.in-IfExpr.is c.deref-in-IfExpr-2.ensures) c.decreases, tt)
+
+pub use_others-use_expression-requires-in-GetItem : goal.use_others-use_expression-requires-in-GetItem
+use_others-use_expression-requires-in-GetItem t c =
+    (operand_falls _ _ t (subscript_deep c.args.expr.now c.in-GetItem.n c.deref-in-GetItem.result.now c.in-GetItem.is c.deref-in-GetItem.ensures) c.decreases, tt)
+
+pub use_items-use_expression-requires : goal.use_items-use_expression-requires
+use_items-use_expression-requires t c = (
+  expression_falls _ (items_deep c.args.items.now) t
+      (deep_at size-Expr c.args.items.now c.loop-item.item-index c.item-item.result (omega arith) c.item-item.is) c.decreases,
+  tt,
+)
+
+pub use_links-use_expression-requires : goal.use_links-use_expression-requires
+use_links-use_expression-requires t c = (
+  expression_falls _ (links_deep c.args.links.now) t
+      (deep_at (λ (link : CompareOp). size-Expr link.expr) c.args.links.now c.loop-link.link-index c.link-item.result (omega arith) c.link-item.is)
+      c.decreases,
+  tt,
+)
+
+pub use_argument-returns-in-Pos : goal.use_argument-returns-in-Pos
+use_argument-returns-in-Pos t c =
+    uses_on c.args.names.now c.use_expression.new.names c.use_expression.result
+    (λ q. ap (λ (a : CallArg). place_in_argument q (argument_of a)) (sym c.in-Pos.is)) c.use_expression.ensures
+
+pub use_argument-returns-in-Kwarg : goal.use_argument-returns-in-Kwarg
+use_argument-returns-in-Kwarg t c =
+    uses_on c.args.names.now c.use_expression-in-Kwarg.new.names c.use_expression-in-Kwarg.result
+    (λ q. ap (λ (a : CallArg). place_in_argument q (argument_of a)) (sym c.in-Kwarg.is)) c.use_expression-in-Kwarg.ensures
+
+pub use_argument-returns-in-PosSplat : goal.use_argument-returns-in-PosSplat
+use_argument-returns-in-PosSplat t c =
+    uses_on c.args.names.now c.use_expression-in-PosSplat.new.names c.use_expression-in-PosSplat.result
+    (λ q. ap (λ (a : CallArg). place_in_argument q (argument_of a)) (sym c.in-PosSplat.is)) c.use_expression-in-PosSplat.ensures
+
+pub use_argument-returns-in-KwargSplat : goal.use_argument-returns-in-KwargSplat
+use_argument-returns-in-KwargSplat t c =
+    uses_on c.args.names.now c.use_expression-in-KwargSplat.new.names c.use_expression-in-KwargSplat.result
+    (λ q. ap (λ (a : CallArg). place_in_argument q (argument_of a)) (sym c.in-KwargSplat.is)) c.use_expression-in-KwargSplat.ensures
+
+pub use_optional-returns-in-Some : goal.use_optional-returns-in-Some
+use_optional-returns-in-Some t c =
+    uses_on c.args.names.now c.use_expression.new.names c.use_expression.result
+    (λ q. ap (λ (o : Option Expr). place_if_given q (optional_in o)) (sym c.in-Some.is)) c.use_expression.ensures
+
+pub use_optional-returns-in-None : goal.use_optional-returns-in-None
+use_optional-returns-in-None t c =
+    uses_as (λ q. ap (λ (o : Option Expr). place_if_given q (optional_in o)) (sym c.in-None.is)) (goes_nowhere c.args.names.now)

@@ -8,6 +8,7 @@ use Rattle.template_names.specs.Among.{nothing}
 use Rattle.template_names.specs.Dotted.{fields_of}
 use Rattle.template_names.specs.Goes.{Goes}
 use Rattle.template_names_statements.specs.Parts.{left_place, left_deep}
+use Rattle.template_names_statements.proofs.Deep.{items_deep, links_deep}
 use Rattle.template_names_statements.proofs.expressions.+expression.Given as goal
 
 abbrev pub decreases-use_expression : goal.decreases-use_expression
@@ -20,10 +21,10 @@ abbrev pub decreases-use_optional : goal.decreases-use_optional
 decreases-use_optional l = 3 * goal.size-use_optional l + 2
 
 abbrev pub decreases-use_items : goal.decreases-use_items
-decreases-use_items l = 3 * goal.size-use_items l + 2
+decreases-use_items l = 3 * items_deep l.items.now + 2
 
 abbrev pub decreases-use_links : goal.decreases-use_links
-decreases-use_links l = 3 * goal.size-use_links l + 2
+decreases-use_links l = 3 * links_deep l.links.now + 2
 
 abbrev pub decreases-use_argument : goal.decreases-use_argument
 decreases-use_argument l = 3 * goal.size-use_argument l + 2

@@ -1,9 +1,9 @@
-use Rattle.std.proofs.Common.{◌≡◌, ◌≤◌, length, get_or, vec_len, ◌||◌, not, ◌&&◌, codes, List as Items, arith, refl, sym, ap, ◌∙◌}
+use Rattle.std.proofs.Common.{◌≡◌, ◌≤◌, length, get_or, vec_len, ◌||◌, not, ◌&&◌, codes, List as Items, Option, arith, refl, sym, ap, ◌∙◌}
 use Rattle.std.specs.Prelude.{false}
 use Rattle.template_tree.specs.View.{arguments_in, expression_of, expressions_in, optional_in}
-use Rattle.template_tree_statements.specs.View.{assignments_in, statement_of}
+use Rattle.template_tree_statements.specs.View.{assignments_in, imports_in, statement_of}
 use Rattle.template_tree_statements.specs.declared.statements.IfCond.{IfCond as IfCondNode}
-use Rattle.template_tree_statements.specs.declared.statements.Stmt.{Stmt, size-Stmt, IfCond}
+use Rattle.template_tree_statements.specs.declared.statements.Stmt.{Stmt, size-Stmt, ForLoop, IfCond, WithBlock}
 use Rattle.template_tree.specs.declared.expressions.Expr.{Expr}
 use Rattle.template_tree.specs.Tree.{Statement, template, set_block, auto_escape, filter_block, block, macro, call_block}
 use Rattle.template_tree_parts.specs.Listed.{statements_in}
@@ -12,17 +12,23 @@ use Rattle.template_tree.specs.declared.calls.Call.{Call as CallNode}
 use Rattle.template_tree_statements.specs.declared.statements.AutoEscape.{AutoEscape as AutoEscapeNode}
 use Rattle.template_tree_statements.specs.declared.statements.Block.{Block as BlockNode}
 use Rattle.template_tree_statements.specs.declared.statements.CallBlock.{CallBlock as CallBlockNode, out-CallBlock}
+use Rattle.template_tree_statements.specs.declared.statements.Extends.{Extends as ExtendsNode}
 use Rattle.template_tree_statements.specs.declared.statements.FilterBlock.{FilterBlock as FilterBlockNode}
+use Rattle.template_tree_statements.specs.declared.statements.FromImport.{FromImport as FromImportNode}
+use Rattle.template_tree_statements.specs.declared.statements.Import.{Import as ImportNode}
+use Rattle.template_tree_statements.specs.declared.statements.Include.{Include as IncludeNode}
+use Rattle.template_tree_statements.specs.declared.statements.Set.{Set as SetNode}
 use Rattle.template_tree_statements.specs.declared.statements.ForLoop.{ForLoop as ForLoopNode}
 use Rattle.template_tree_statements.specs.declared.statements.Macro.{Macro as MacroNode}
 use Rattle.template_tree_statements.specs.declared.statements.SetBlock.{SetBlock as SetBlockNode}
 use Rattle.template_tree.specs.declared.span.Spanned.{Spanned}
 use Rattle.template_tree_statements.specs.declared.statements.WithBlock.{WithBlock as WithBlockNode}
-use Rattle.template_names_statements.proofs.Bodies.{at_node, at_tree, macro_reads, set_block_tree, filter_block_tree, block_tree, macro_tree, call_tree}
-use Rattle.template_names.specs.Names.{is_stored_by, is_stored_in, place_by, place_of_macro, place_in_target, place_from, place_within, place_if_given, place_in, place_in_arguments}
+use Rattle.template_names_statements.proofs.Bodies.{at_arm, at_node, at_none, at_tree, call_deep, macro_reads, set_block_tree, filter_block_tree, block_tree, macro_tree, call_tree}
+use Rattle.template_names.specs.Names.{is_imported, is_stored_by, is_stored_in, place_by, place_of_macro, place_in_target, place_from, place_within, place_if_given, place_in, place_in_arguments}
 use Rattle.template_names_statements.specs.Stores.{is_assigned, is_stored_among}
 use Rattle.template_names.specs.Among.{just}
 use Rattle.template_names.proofs.Laws.{goes_as, goes_end, goes_inside, goes_item, goes_then, goes_then_on, or_assoc, or_false, uses_as, uses_then, uses_then_on}
+use Rattle.template_names_statements.proofs.Deep.{body_deep, deep_at, body_falls, part_falls, part_falls_within, region_falls, node_falls, item_falls, inside_falls, template_deep, loop_deep, loop_other_deep, choice_deep, choice_other_deep, with_deep, set_block_deep, escape_deep, filter_block_deep, block_deep, macro_deep}
 use Rattle.template_names_statements.proofs.Storing.{used_from}
 use Rattle.template_names_statements.proofs.Walking.{loop_uses, chain_end, chain_goes, else_below, macro_uses}
 use Rattle.template_names_statements.proofs.statements.+statement.Goals as goal
@@ -92,6 +98,24 @@ use_chain-loop-names-preserved t c =
       ends = chain_goes n c.in-IfCond.n c.index.result.now c.loop-names.names c.use_region.new.names one at c.in-IfCond.is c.loop-names.invariant.ends tested;
       deep = omega (arith, less, deep);
     }
+
+pub use_chain-loop-names-init : goal.use_chain-loop-names-init
+use_chain-loop-names-init t c = record {
+  ends = λ d goes. goes;
+  deep = omega arith;
+}
+
+pub use_chain-loop-names-smaller : goal.use_chain-loop-names-smaller
+use_chain-loop-names-smaller t c =
+    let n = c.loop-names.at.now in
+    let items = n.value.node.false_body.items in
+    let shared = ap (λ (x : Spanned IfCondNode). vec_len x.node.false_body) c.deref.ensures in
+    let counted = c.len.ensures in
+    let alone = c.if-len-ne1.false in
+    let one : length items ≡ 1 = omega (arith, shared, counted, alone, n.value.node.false_body.ok.0) in
+    let at : c.index.result.now ≡ get_or items 0 c.index.result.now =
+    c.index.ensures ∙ ap (λ (x : Spanned IfCondNode). get_or x.node.false_body.items 0 c.index.result.now) c.deref.ensures in
+    else_below n c.in-IfCond.n c.index.result.now one at c.in-IfCond.is
 
 pub use_statement-returns-in-Template : goal.use_statement-returns-in-Template
 use_statement-returns-in-Template t c =
@@ -244,3 +268,147 @@ use_statement-returns-in_ok-use_call-in-CallBlock t c =
     (uses_then_on _ c.args.names.now c.use_call.new.names c.use_macro-in-CallBlock.new.names c.use_macro-in-CallBlock.result first
     c.use_macro-in-CallBlock.ensures
     (λ q. ap (λ b. (place_in q (expression_of called.expr) || place_in_arguments q (arguments_in called.args.items)) || b) (macro_reads q body args defaults)))
+
+pub use_chain-use_region-requires : goal.use_chain-use_region-requires
+use_chain-use_region-requires t c =
+    let read = c.deref-in-loop-names.ensures.value ∙ ap (λ (x : Spanned IfCondNode). x.node.true_body.items) c.deref.ensures in
+    (part_falls_within _ _ (size-Stmt (IfCond c.args.first.now)) t (choice_deep (IfCond c.loop-names.at.now) c.loop-names.at.now c.deref-in-loop-names.result.now refl read) c.loop-names.invariant.deep c.decreases, tt)
+
+pub use_chain-use_region-requires-then-len-ne1 : goal.use_chain-use_region-requires-then-len-ne1
+use_chain-use_region-requires-then-len-ne1 t c =
+    let read = c.deref-then-len-ne1.ensures.value ∙ ap (λ (x : Spanned IfCondNode). x.node.false_body.items) c.deref.ensures in
+    (part_falls_within _ _ (size-Stmt (IfCond c.args.first.now)) t (choice_other_deep (IfCond c.loop-names.at.now) c.loop-names.at.now c.deref-then-len-ne1.result.now refl read) c.loop-names.invariant.deep c.decreases, tt)
+
+pub use_chain-use_region-requires-in_default : goal.use_chain-use_region-requires-in_default
+use_chain-use_region-requires-in_default t c =
+    let read = c.deref-in_default.ensures.value ∙ ap (λ (x : Spanned IfCondNode). x.node.false_body.items) c.deref.ensures in
+    (part_falls_within _ _ (size-Stmt (IfCond c.args.first.now)) t (choice_other_deep (IfCond c.loop-names.at.now) c.loop-names.at.now c.deref-in_default.result.now refl read) c.loop-names.invariant.deep c.decreases, tt)
+
+pub use_loop-use_statements-requires : goal.use_loop-use_statements-requires
+use_loop-use_statements-requires t c =
+    let read = c.deref-4.ensures.value ∙ ap (λ (x : Spanned ForLoopNode). x.node.body.items) c.deref-3.ensures in
+    (region_falls _ _ t (loop_deep (ForLoop c.args.node.now) c.args.node.now c.deref-4.result.now refl read) c.decreases, tt)
+
+pub use_loop-use_region-requires : goal.use_loop-use_region-requires
+use_loop-use_region-requires t c =
+    let read = c.deref-6.ensures.value ∙ ap (λ (x : Spanned ForLoopNode). x.node.else_body.items) c.deref-5.ensures in
+    (part_falls _ _ t (loop_other_deep (ForLoop c.args.node.now) c.args.node.now c.deref-6.result.now refl read) c.decreases, tt)
+
+pub use_macro-use_statements-requires : goal.use_macro-use_statements-requires
+use_macro-use_statements-requires t c = (inside_falls (body_deep c.args.body.now) t c.decreases, tt)
+
+pub use_region-use_statements-requires : goal.use_region-use_statements-requires
+use_region-use_statements-requires t c = (inside_falls (body_deep c.args.body.now) t c.decreases, tt)
+
+pub use_statement-use_region-requires : goal.use_statement-use_region-requires
+use_statement-use_region-requires t c = (body_falls _ _ t (template_deep c.args.statement.now c.in-Template.n c.deref.result.now c.in-Template.is c.deref.ensures.value) c.decreases, tt)
+
+pub use_statement-use_loop-requires : goal.use_statement-use_loop-requires
+use_statement-use_loop-requires t c =
+    (node_falls _ (size-Stmt c.args.statement.now) t (ap (λ (x : Stmt). size-Stmt x) c.in-ForLoop.is) c.decreases, tt)
+
+pub use_statement-use_chain-requires : goal.use_statement-use_chain-requires
+use_statement-use_chain-requires t c =
+    (node_falls _ (size-Stmt c.args.statement.now) t (ap (λ (x : Stmt). size-Stmt x) c.in-IfCond.is) c.decreases, tt)
+
+pub use_statement-use_with-requires : goal.use_statement-use_with-requires
+use_statement-use_with-requires t c =
+    (node_falls _ (size-Stmt c.args.statement.now) t (ap (λ (x : Stmt). size-Stmt x) c.in-WithBlock.is) c.decreases, tt)
+
+pub use_statement-use_region-requires-in-SetBlock : goal.use_statement-use_region-requires-in-SetBlock
+use_statement-use_region-requires-in-SetBlock t c =
+    let read = c.deref-in-SetBlock-2.ensures.value ∙ ap (λ (x : Spanned SetBlockNode). x.node.body.items) c.deref-in-SetBlock.ensures in
+    (body_falls _ _ t (set_block_deep c.args.statement.now c.in-SetBlock.n c.deref-in-SetBlock-2.result.now c.in-SetBlock.is read) c.decreases, tt)
+
+pub use_statement-use_region-requires-in-AutoEscape : goal.use_statement-use_region-requires-in-AutoEscape
+use_statement-use_region-requires-in-AutoEscape t c =
+    let read = c.deref-in-AutoEscape-3.ensures.value ∙ ap (λ (x : Spanned AutoEscapeNode). x.node.body.items) c.deref-in-AutoEscape-2.ensures in
+    (body_falls _ _ t (escape_deep c.args.statement.now c.in-AutoEscape.n c.deref-in-AutoEscape-3.result.now c.in-AutoEscape.is read) c.decreases, tt)
+
+pub use_statement-use_region-requires-in-FilterBlock : goal.use_statement-use_region-requires-in-FilterBlock
+use_statement-use_region-requires-in-FilterBlock t c =
+    let read = c.deref-in-FilterBlock-2.ensures.value ∙ ap (λ (x : Spanned FilterBlockNode). x.node.body.items) c.deref-in-FilterBlock.ensures in
+    (body_falls _ _ t (filter_block_deep c.args.statement.now c.in-FilterBlock.n c.deref-in-FilterBlock-2.result.now c.in-FilterBlock.is read) c.decreases, tt)
+
+pub use_statement-use_region-requires-in-Block : goal.use_statement-use_region-requires-in-Block
+use_statement-use_region-requires-in-Block t c =
+    let read = c.deref-in-Block-2.ensures.value ∙ ap (λ (x : Spanned BlockNode). x.node.body.items) c.deref-in-Block.ensures in
+    (body_falls _ _ t (block_deep c.args.statement.now c.in-Block.n c.deref-in-Block-2.result.now c.in-Block.is read) c.decreases, tt)
+
+pub use_statement-use_macro-requires : goal.use_statement-use_macro-requires
+use_statement-use_macro-requires t c =
+    let read = c.deref-in-Macro-2.ensures.value ∙ ap (λ (x : Spanned MacroNode). x.node.body.items) c.deref-in-Macro.ensures in
+    (body_falls _ _ t (macro_deep c.args.statement.now c.in-Macro.n c.deref-in-Macro-2.result.now c.in-Macro.is read) c.decreases, tt)
+
+pub use_statement-returns-in-EmitExpr : goal.use_statement-returns-in-EmitExpr
+use_statement-returns-in-EmitExpr t c =
+    at_arm c.args.names.now c.use_expression.new.names c.use_expression.result c.in-EmitExpr.is (λ q. refl) (λ q. refl) c.use_expression.ensures
+
+pub use_statement-returns-in-EmitRaw : goal.use_statement-returns-in-EmitRaw
+use_statement-returns-in-EmitRaw t c = at_none c.args.names.now c.in-EmitRaw.is (λ q. refl) (λ q. refl)
+
+pub use_statement-returns-in-Set : goal.use_statement-returns-in-Set
+use_statement-returns-in-Set t c =
+    let first = c.deref-in-Set.ensures in
+    let second = c.deref-in-Set-2.ensures in
+    at_arm c.args.names.now c.assign.new.names c.assign.result c.in-Set.is
+    (λ q. ap (λ (x : Spanned SetNode). place_in q (expression_of x.node.expr) || place_in_target q (expression_of c.deref-in-Set.result.now.node.target)) second ∙
+    ap (λ (x : Spanned SetNode). place_in q (expression_of c.in-Set.n.value.node.expr) || place_in_target q (expression_of x.node.target)) first)
+    (λ q. ap (λ (x : Spanned SetNode). is_stored_in q (expression_of x.node.target)) first) c.assign.ensures
+
+pub use_statement-returns-in-Import : goal.use_statement-returns-in-Import
+use_statement-returns-in-Import t c =
+    let first = c.deref-in-Import.ensures in
+    let second = c.deref-in-Import-2.ensures in
+    at_arm c.args.names.now c.assign-in-Import.new.names c.assign-in-Import.result c.in-Import.is
+    (λ q. ap (λ (x : Spanned ImportNode). place_in q (expression_of x.node.expr) || place_in_target q (expression_of c.deref-in-Import.result.now.node.name)) second ∙
+    ap (λ (x : Spanned ImportNode). place_in q (expression_of c.in-Import.n.value.node.expr) || place_in_target q (expression_of x.node.name)) first)
+    (λ q. ap (λ (x : Spanned ImportNode). is_stored_in q (expression_of x.node.name)) first) c.assign-in-Import.ensures
+
+pub use_statement-returns-in_ok-use_expression-in-FromImport : goal.use_statement-returns-in_ok-use_expression-in-FromImport
+use_statement-returns-in_ok-use_expression-in-FromImport t c =
+    let v = c.in-FromImport.n.value.node in
+    let read = c.deref-in-FromImport-3.ensures.value ∙ ap (λ (x : Spanned FromImportNode). x.node.names.items) c.deref-in-FromImport-2.ensures in
+    let first = uses_as (λ q. ap (λ (x : Spanned FromImportNode). place_in q (expression_of x.node.expr)) c.deref-in-FromImport.ensures)
+    c.in_ok-use_expression-in-FromImport.ensures in
+    at_arm c.args.names.now c.bind_imports.new.names c.bind_imports.result c.in-FromImport.is (λ q. refl) (λ q. refl)
+    (goes_then_on _ _ c.args.names.now c.use_expression-in-FromImport.new.names c.bind_imports.new.names c.bind_imports.result first c.bind_imports.ensures
+    (λ q. or_false (place_in q (expression_of v.expr)))
+    (λ q. ap (λ (xs : Items (Expr × Option Expr)). is_imported q (imports_in xs)) read))
+
+pub use_statement-returns-in-Extends : goal.use_statement-returns-in-Extends
+use_statement-returns-in-Extends t c =
+    at_arm c.args.names.now c.use_expression-in-Extends.new.names c.use_expression-in-Extends.result c.in-Extends.is (λ q. ap (λ (x : Spanned ExtendsNode). place_in q (expression_of x.node.name)) c.deref-in-Extends.ensures) (λ q. refl) c.use_expression-in-Extends.ensures
+
+pub use_statement-returns-in-Include : goal.use_statement-returns-in-Include
+use_statement-returns-in-Include t c =
+    at_arm c.args.names.now c.use_expression-in-Include.new.names c.use_expression-in-Include.result c.in-Include.is (λ q. ap (λ (x : Spanned IncludeNode). place_in q (expression_of x.node.name)) c.deref-in-Include.ensures) (λ q. refl) c.use_expression-in-Include.ensures
+
+pub use_statement-returns-in-Continue : goal.use_statement-returns-in-Continue
+use_statement-returns-in-Continue t c = at_none c.args.names.now c.in-Continue.is (λ q. refl) (λ q. refl)
+
+pub use_statement-returns-in-Break : goal.use_statement-returns-in-Break
+use_statement-returns-in-Break t c = at_none c.args.names.now c.in-Break.is (λ q. refl) (λ q. refl)
+
+pub use_statement-returns-in-Do : goal.use_statement-returns-in-Do
+use_statement-returns-in-Do t c =
+    at_arm c.args.names.now c.use_call-in-Do.new.names c.use_call-in-Do.result c.in-Do.is
+    (λ q. ap (λ (x : Spanned CallNode). place_in q (expression_of x.node.expr) || place_in_arguments q (arguments_in x.node.args.items)) c.deref-in-Do.ensures) (λ q. refl) c.use_call-in-Do.ensures
+
+pub use_statements-use_statement-requires : goal.use_statements-use_statement-requires
+use_statements-use_statement-requires t c = (
+  item_falls _ (body_deep c.args.body.now) t
+      (deep_at size-Stmt c.args.body.now c.loop-statement.statement-index c.statement-item.result (omega arith) c.statement-item.is) c.decreases,
+  tt,
+)
+
+pub use_with-use_statements-requires : goal.use_with-use_statements-requires
+use_with-use_statements-requires t c =
+    let read = c.deref-4.ensures.value ∙ ap (λ (x : Spanned WithBlockNode). x.node.body.items) c.deref-3.ensures in
+    (region_falls _ _ t (with_deep (WithBlock c.args.node.now) c.args.node.now c.deref-4.result.now refl read) c.decreases, tt)
+
+pub use_statement-use_macro-requires-in-CallBlock : goal.use_statement-use_macro-requires-in-CallBlock
+use_statement-use_macro-requires-in-CallBlock t c =
+    let declared = ap (λ (x : Spanned CallBlockNode). (out-CallBlock x.node).macro_decl.value) c.deref-in-CallBlock-3.ensures in
+    let read = c.deref-in-CallBlock-5.ensures.value ∙ ap (λ (x : Spanned MacroNode). x.node.body.items) (c.deref-in-CallBlock-4.ensures ∙ declared) in
+    (body_falls _ _ t (call_deep c.args.statement.now c.in-CallBlock.n c.deref-in-CallBlock-5.result.now c.in-CallBlock.is read) c.decreases, tt)

@@ -8,6 +8,7 @@ use Rattle.template_names_statements.specs.Choices.{choice_of}
 use Rattle.template_names.specs.Among.{nothing}
 use Rattle.template_names.specs.Goes.{Goes}
 use Rattle.template_names_statements.specs.Stores.{is_stored_among}
+use Rattle.template_names_statements.proofs.Deep.{body_deep}
 use Rattle.template_names_statements.proofs.statements.+statement.Given as goal
 
 abbrev pub decreases-use_statement : goal.decreases-use_statement
@@ -23,13 +24,13 @@ abbrev pub decreases-use_with : goal.decreases-use_with
 decreases-use_with l = 6 * size-Stmt (WithBlock l.node.now) + 4
 
 abbrev pub decreases-use_statements : goal.decreases-use_statements
-decreases-use_statements l = 6 * goal.size-use_statements l + 6
+decreases-use_statements l = 6 * body_deep l.body.now + 6
 
 abbrev pub decreases-use_region : goal.decreases-use_region
-decreases-use_region l = 6 * goal.size-use_region l + 7
+decreases-use_region l = 6 * body_deep l.body.now + 7
 
 abbrev pub decreases-use_macro : goal.decreases-use_macro
-decreases-use_macro l = 6 * goal.size-use_macro l + 7
+decreases-use_macro l = 6 * body_deep l.body.now + 7
 
 abbrev pub invariant-use_statements-loop-statement : goal.invariant-use_statements-loop-statement
 invariant-use_statements-loop-statement l = (c : Names) →

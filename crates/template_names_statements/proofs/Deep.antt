@@ -1,0 +1,210 @@
+-- How deep lists are: what a node holds is less deep than the node.
+use Rattle.std.proofs.Common.{◌≡◌, ℕ, zero, suc, ◌+◌, ◌*◌, ◌<◌, ◌≤◌, max, List as Items, [], ◌∷◌, length, get_or, Box, Global, rules, arith, ap}
+use Rattle.template_tree.specs.declared.expressions.BinOp.{BinOp as BinOpNode}
+use Rattle.template_tree.specs.declared.expressions.Compare.{Compare, out-Compare}
+use Rattle.template_tree.specs.declared.expressions.CompareOp.{CompareOp}
+use Rattle.template_tree.specs.declared.expressions.GetItem.{GetItem as GetItemNode}
+use Rattle.template_tree.specs.declared.expressions.IfExpr.{IfExpr as IfExprNode}
+use Rattle.template_tree.specs.declared.expressions.List.{List as ListNode}
+use Rattle.template_tree.specs.declared.expressions.Map.{Map as MapNode}
+use Rattle.template_tree.specs.declared.expressions.Tuple.{Tuple as TupleNode}
+use Rattle.template_tree.specs.declared.expressions.UnaryOp.{UnaryOp as UnaryOpNode}
+use Rattle.template_tree.specs.declared.expressions.Expr.{Expr, size-Expr, BinOp, Compare as CompareNode, GetItem, IfExpr, List, Map, Tuple, UnaryOp, the_lemmas as expressions}
+use Rattle.template_tree.specs.declared.span.Spanned.{Spanned}
+use Rattle.template_tree_statements.specs.declared.statements.AutoEscape.{AutoEscape as AutoEscapeNode}
+use Rattle.template_tree_statements.specs.declared.statements.Block.{Block as BlockNode}
+use Rattle.template_tree_statements.specs.declared.statements.FilterBlock.{FilterBlock as FilterBlockNode}
+use Rattle.template_tree_statements.specs.declared.statements.ForLoop.{ForLoop as ForLoopNode}
+use Rattle.template_tree_statements.specs.declared.statements.IfCond.{IfCond as IfCondNode}
+use Rattle.template_tree_statements.specs.declared.statements.Macro.{Macro as MacroNode}
+use Rattle.template_tree_statements.specs.declared.statements.SetBlock.{SetBlock as SetBlockNode}
+use Rattle.template_tree_statements.specs.declared.statements.Template.{Template as TemplateNode}
+use Rattle.template_tree_statements.specs.declared.statements.WithBlock.{WithBlock as WithBlockNode}
+use Rattle.template_tree_statements.specs.declared.statements.Stmt.{Stmt, size-Stmt, AutoEscape, Block, FilterBlock, ForLoop, IfCond, Macro, SetBlock, Template, WithBlock, the_lemmas}
+
+abbrev pub deepest : {A : Type 0} → (A → ℕ) → Items A → ℕ
+deepest deep [] = 0
+deepest deep (x ∷ xs) = max (deep x) (deepest deep xs)
+
+pub deep_at : {A : Type 0} (deep : A → ℕ) (xs : Items A) (i : ℕ) (x : A) → i < length xs → x ≡ get_or xs i x → deep x ≤ deepest deep xs
+deep_at deep [] i x h read = absurd (omega (arith, h))
+deep_at deep (y ∷ xs) zero x h read = let same : deep x ≡ deep y = ap deep read in omega (arith, same)
+deep_at deep (y ∷ xs) (suc i) x h read = let inner : deep x ≤ deepest deep xs = deep_at deep xs i x (omega (arith, h)) read in omega (arith, inner)
+
+-- where all are less deep than a number, so is the deepest one
+pub all_below : {A : Type 0} (deep : A → ℕ) (xs : Items A) (m : ℕ) → 0 < m → ((i : ℕ) (d : A) → i < length xs → deep (get_or xs i d) < m) → deepest deep xs < m
+all_below deep [] m h all = h
+all_below deep (x ∷ xs) m h all =
+    let first : deep x < m = all 0 x (omega arith) in
+    let rest : deepest deep xs < m = all_below deep xs m h (λ i d within. all (suc i) d (omega (arith, within))) in
+    omega (arith, first, rest)
+
+-- measures of the walk of statements: a body, a node, and the statements of a body
+pub body_falls : (d s t : ℕ) → d < s → 6 * s + 5 ≡ t → 6 * d + 7 < t
+body_falls d s t less is = omega (arith, less, is)
+
+pub part_falls : (d s t : ℕ) → d < s → 6 * s + 4 ≡ t → 6 * d + 7 < t
+part_falls d s t less is = omega (arith, less, is)
+
+pub part_falls_within : (d s r t : ℕ) → d < s → s ≤ r → 6 * r + 4 ≡ t → 6 * d + 7 < t
+part_falls_within d s r t less within is = omega (arith, less, within, is)
+
+pub region_falls : (d s t : ℕ) → d < s → 6 * s + 4 ≡ t → 6 * d + 6 < t
+region_falls d s t less is = omega (arith, less, is)
+
+pub node_falls : (m s t : ℕ) → s ≡ m → 6 * s + 5 ≡ t → 6 * m + 4 < t
+node_falls m s t same is = omega (arith, same, is)
+
+pub item_falls : (m d t : ℕ) → m ≤ d → 6 * d + 6 ≡ t → 6 * m + 5 < t
+item_falls m d t within is = omega (arith, within, is)
+
+pub inside_falls : (d t : ℕ) → 6 * d + 7 ≡ t → 6 * d + 6 < t
+inside_falls d t is = omega (arith, is)
+
+abbrev pub body_deep : Items Stmt → ℕ
+body_deep body = deepest size-Stmt body
+
+template_below : (n : Spanned TemplateNode) → body_deep n.node.children.items < size-Stmt (Template n)
+template_below n = all_below size-Stmt n.node.children.items (size-Stmt (Template n)) (search (rules, the_lemmas)) (λ i d h. search (rules, the_lemmas))
+
+pub template_deep : (s : Stmt) (n : Spanned TemplateNode) (body : Items Stmt) → s ≡ Template n → body ≡ n.node.children.items → body_deep body < size-Stmt s
+template_deep s n body node read = rw (node, read) (template_below n)
+
+loop_below : (n : Box (Spanned ForLoopNode) Global) → body_deep n.value.node.body.items < size-Stmt (ForLoop n)
+loop_below n = all_below size-Stmt n.value.node.body.items (size-Stmt (ForLoop n)) (search (rules, the_lemmas)) (λ i d h. search (rules, the_lemmas))
+
+pub loop_deep : (s : Stmt) (n : Box (Spanned ForLoopNode) Global) (body : Items Stmt) → s ≡ ForLoop n → body ≡ n.value.node.body.items → body_deep body < size-Stmt s
+loop_deep s n body node read = rw (node, read) (loop_below n)
+
+loop_other_below : (n : Box (Spanned ForLoopNode) Global) → body_deep n.value.node.else_body.items < size-Stmt (ForLoop n)
+loop_other_below n = all_below size-Stmt n.value.node.else_body.items (size-Stmt (ForLoop n)) (search (rules, the_lemmas)) (λ i d h. search (rules, the_lemmas))
+
+pub loop_other_deep : (s : Stmt) (n : Box (Spanned ForLoopNode) Global) (body : Items Stmt) → s ≡ ForLoop n → body ≡ n.value.node.else_body.items → body_deep body < size-Stmt s
+loop_other_deep s n body node read = rw (node, read) (loop_other_below n)
+
+choice_below : (n : Box (Spanned IfCondNode) Global) → body_deep n.value.node.true_body.items < size-Stmt (IfCond n)
+choice_below n = all_below size-Stmt n.value.node.true_body.items (size-Stmt (IfCond n)) (search (rules, the_lemmas)) (λ i d h. search (rules, the_lemmas))
+
+pub choice_deep : (s : Stmt) (n : Box (Spanned IfCondNode) Global) (body : Items Stmt) → s ≡ IfCond n → body ≡ n.value.node.true_body.items → body_deep body < size-Stmt s
+choice_deep s n body node read = rw (node, read) (choice_below n)
+
+choice_other_below : (n : Box (Spanned IfCondNode) Global) → body_deep n.value.node.false_body.items < size-Stmt (IfCond n)
+choice_other_below n = all_below size-Stmt n.value.node.false_body.items (size-Stmt (IfCond n)) (search (rules, the_lemmas)) (λ i d h. search (rules, the_lemmas))
+
+pub choice_other_deep : (s : Stmt) (n : Box (Spanned IfCondNode) Global) (body : Items Stmt) → s ≡ IfCond n → body ≡ n.value.node.false_body.items → body_deep body < size-Stmt s
+choice_other_deep s n body node read = rw (node, read) (choice_other_below n)
+
+with_below : (n : Box (Spanned WithBlockNode) Global) → body_deep n.value.node.body.items < size-Stmt (WithBlock n)
+with_below n = all_below size-Stmt n.value.node.body.items (size-Stmt (WithBlock n)) (search (rules, the_lemmas)) (λ i d h. search (rules, the_lemmas))
+
+pub with_deep : (s : Stmt) (n : Box (Spanned WithBlockNode) Global) (body : Items Stmt) → s ≡ WithBlock n → body ≡ n.value.node.body.items → body_deep body < size-Stmt s
+with_deep s n body node read = rw (node, read) (with_below n)
+
+set_block_below : (n : Box (Spanned SetBlockNode) Global) → body_deep n.value.node.body.items < size-Stmt (SetBlock n)
+set_block_below n = all_below size-Stmt n.value.node.body.items (size-Stmt (SetBlock n)) (search (rules, the_lemmas)) (λ i d h. search (rules, the_lemmas))
+
+pub set_block_deep : (s : Stmt) (n : Box (Spanned SetBlockNode) Global) (body : Items Stmt) → s ≡ SetBlock n → body ≡ n.value.node.body.items → body_deep body < size-Stmt s
+set_block_deep s n body node read = rw (node, read) (set_block_below n)
+
+escape_below : (n : Box (Spanned AutoEscapeNode) Global) → body_deep n.value.node.body.items < size-Stmt (AutoEscape n)
+escape_below n = all_below size-Stmt n.value.node.body.items (size-Stmt (AutoEscape n)) (search (rules, the_lemmas)) (λ i d h. search (rules, the_lemmas))
+
+pub escape_deep : (s : Stmt) (n : Box (Spanned AutoEscapeNode) Global) (body : Items Stmt) → s ≡ AutoEscape n → body ≡ n.value.node.body.items → body_deep body < size-Stmt s
+escape_deep s n body node read = rw (node, read) (escape_below n)
+
+filter_block_below : (n : Box (Spanned FilterBlockNode) Global) → body_deep n.value.node.body.items < size-Stmt (FilterBlock n)
+filter_block_below n = all_below size-Stmt n.value.node.body.items (size-Stmt (FilterBlock n)) (search (rules, the_lemmas)) (λ i d h. search (rules, the_lemmas))
+
+pub filter_block_deep : (s : Stmt) (n : Box (Spanned FilterBlockNode) Global) (body : Items Stmt) → s ≡ FilterBlock n → body ≡ n.value.node.body.items → body_deep body < size-Stmt s
+filter_block_deep s n body node read = rw (node, read) (filter_block_below n)
+
+block_below : (n : Box (Spanned BlockNode) Global) → body_deep n.value.node.body.items < size-Stmt (Block n)
+block_below n = all_below size-Stmt n.value.node.body.items (size-Stmt (Block n)) (search (rules, the_lemmas)) (λ i d h. search (rules, the_lemmas))
+
+pub block_deep : (s : Stmt) (n : Box (Spanned BlockNode) Global) (body : Items Stmt) → s ≡ Block n → body ≡ n.value.node.body.items → body_deep body < size-Stmt s
+block_deep s n body node read = rw (node, read) (block_below n)
+
+macro_below : (n : Box (Spanned MacroNode) Global) → body_deep n.value.node.body.items < size-Stmt (Macro n)
+macro_below n = all_below size-Stmt n.value.node.body.items (size-Stmt (Macro n)) (search (rules, the_lemmas)) (λ i d h. search (rules, the_lemmas))
+
+pub macro_deep : (s : Stmt) (n : Box (Spanned MacroNode) Global) (body : Items Stmt) → s ≡ Macro n → body ≡ n.value.node.body.items → body_deep body < size-Stmt s
+macro_deep s n body node read = rw (node, read) (macro_below n)
+
+abbrev pub items_deep : Items Expr → ℕ
+items_deep items = deepest size-Expr items
+
+abbrev pub links_deep : Items CompareOp → ℕ
+links_deep links = deepest (λ (link : CompareOp). size-Expr link.expr) links
+
+-- measures of the walk of expressions: an item, a list of them, and a part of a node
+pub expression_falls : (m d t : ℕ) → m ≤ d → 3 * d + 2 ≡ t → 3 * m + 1 < t
+expression_falls m d t within is = omega (arith, within, is)
+
+pub list_falls : (d s t : ℕ) → d < s → 3 * s ≡ t → 3 * d + 2 < t
+list_falls d s t less is = omega (arith, less, is)
+
+pub operand_falls : (m s t : ℕ) → m < s → 3 * s ≡ t → 3 * m + 1 < t
+operand_falls m s t less is = omega (arith, less, is)
+
+list_below : (n : Box (Spanned ListNode) Global) → items_deep n.value.node.items.items < size-Expr (List n)
+list_below n = all_below size-Expr n.value.node.items.items (size-Expr (List n)) (search (rules, expressions)) (λ i d h. search (rules, expressions))
+
+pub list_deep : (e : Expr) (n : Box (Spanned ListNode) Global) (items : Items Expr) → e ≡ List n → items ≡ n.value.node.items.items → items_deep items < size-Expr e
+list_deep e n items node read = rw (node, read) (list_below n)
+
+tuple_below : (n : Box (Spanned TupleNode) Global) → items_deep n.value.node.items.items < size-Expr (Tuple n)
+tuple_below n = all_below size-Expr n.value.node.items.items (size-Expr (Tuple n)) (search (rules, expressions)) (λ i d h. search (rules, expressions))
+
+pub tuple_deep : (e : Expr) (n : Box (Spanned TupleNode) Global) (items : Items Expr) → e ≡ Tuple n → items ≡ n.value.node.items.items → items_deep items < size-Expr e
+tuple_deep e n items node read = rw (node, read) (tuple_below n)
+
+keys_below : (n : Box (Spanned MapNode) Global) → items_deep n.value.node.keys.items < size-Expr (Map n)
+keys_below n = all_below size-Expr n.value.node.keys.items (size-Expr (Map n)) (search (rules, expressions)) (λ i d h. search (rules, expressions))
+
+pub keys_deep : (e : Expr) (n : Box (Spanned MapNode) Global) (items : Items Expr) → e ≡ Map n → items ≡ n.value.node.keys.items → items_deep items < size-Expr e
+keys_deep e n items node read = rw (node, read) (keys_below n)
+
+values_below : (n : Box (Spanned MapNode) Global) → items_deep n.value.node.values.items < size-Expr (Map n)
+values_below n = all_below size-Expr n.value.node.values.items (size-Expr (Map n)) (search (rules, expressions)) (λ i d h. search (rules, expressions))
+
+pub values_deep : (e : Expr) (n : Box (Spanned MapNode) Global) (items : Items Expr) → e ≡ Map n → items ≡ n.value.node.values.items → items_deep items < size-Expr e
+values_deep e n items node read = rw (node, read) (values_below n)
+
+links_below : (n : Box (Spanned Compare) Global) → links_deep (out-Compare n.value.node).ops.items < size-Expr (CompareNode n)
+links_below n =
+    all_below (λ (link : CompareOp). size-Expr link.expr) (out-Compare n.value.node).ops.items (size-Expr (CompareNode n)) (search (rules, expressions))
+    (λ i d h. search (rules, expressions))
+
+pub chain_deep : (e : Expr) (n : Box (Spanned Compare) Global) (links : Items CompareOp) → e ≡ CompareNode n → links ≡ (out-Compare n.value.node).ops.items →
+    links_deep links < size-Expr e
+chain_deep e n links node read = rw (node, read) (links_below n)
+
+operand_below : (n : Box (Spanned UnaryOpNode) Global) → size-Expr n.value.node.expr < size-Expr (UnaryOp n)
+operand_below n = search (rules, expressions)
+
+pub operand_deep : (e : Expr) (n : Box (Spanned UnaryOpNode) Global) (x : Spanned UnaryOpNode) → e ≡ UnaryOp n → x ≡ n.value → size-Expr x.node.expr < size-Expr e
+operand_deep e n x node read = rw (node, read) (operand_below n)
+
+right_below : (n : Box (Spanned BinOpNode) Global) → size-Expr n.value.node.right < size-Expr (BinOp n)
+right_below n = search (rules, expressions)
+
+pub right_deep : (e : Expr) (n : Box (Spanned BinOpNode) Global) (x : Spanned BinOpNode) → e ≡ BinOp n → x ≡ n.value → size-Expr x.node.right < size-Expr e
+right_deep e n x node read = rw (node, read) (right_below n)
+
+test_below : (n : Box (Spanned IfExprNode) Global) → size-Expr n.value.node.test_expr < size-Expr (IfExpr n)
+test_below n = search (rules, expressions)
+
+pub test_deep : (e : Expr) (n : Box (Spanned IfExprNode) Global) (x : Spanned IfExprNode) → e ≡ IfExpr n → x ≡ n.value → size-Expr x.node.test_expr < size-Expr e
+test_deep e n x node read = rw (node, read) (test_below n)
+
+branch_below : (n : Box (Spanned IfExprNode) Global) → size-Expr n.value.node.true_expr < size-Expr (IfExpr n)
+branch_below n = search (rules, expressions)
+
+pub branch_deep : (e : Expr) (n : Box (Spanned IfExprNode) Global) (x : Spanned IfExprNode) → e ≡ IfExpr n → x ≡ n.value → size-Expr x.node.true_expr < size-Expr e
+branch_deep e n x node read = rw (node, read) (branch_below n)
+
+subscript_below : (n : Box (Spanned GetItemNode) Global) → size-Expr n.value.node.subscript_expr < size-Expr (GetItem n)
+subscript_below n = search (rules, expressions)
+
+pub subscript_deep : (e : Expr) (n : Box (Spanned GetItemNode) Global) (x : Spanned GetItemNode) → e ≡ GetItem n → x ≡ n.value → size-Expr x.node.subscript_expr < size-Expr e
+subscript_deep e n x node read = rw (node, read) (subscript_below n)
