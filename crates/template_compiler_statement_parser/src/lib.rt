@@ -146,6 +146,7 @@
 //! places of nodes nothing is said here.
 #![tactic(auto)]
 
+mod kinds;
 mod statements;
 
 pub use statements::read_statements;
