@@ -32,12 +32,12 @@ pub record HereErases (r : Here) (q : plain.Here) : Type 0 where
 
 module _ (spans : List Span) where
   -- targets
-  path_step_bare : (start : Span) (e : Node) (ts : List Token) → bare_step (path_step spans start e ts) ≡ plain.path_step e.tree ts
+  pub path_step_bare : (start : Span) (e : Node) (ts : List Token) → bare_step (path_step spans start e ts) ≡ plain.path_step e.tree ts
   unfolding bare_step path_step plain.path_step
   path_step_bare start e (symbol dot ∷ identifier n ∷ ts) = refl
   path_step_bare start e _ = refl
 
-  stored_bare : Erases (stored_by spans) plain.stored_by
+  pub stored_bare : Erases (stored_by spans) plain.stored_by
   unfolding bare stored_by plain.stored_by
   stored_bare (identifier n ∷ ts) = if_bare _ _ (is_reserved n) refl refl
   stored_bare _ = refl
@@ -48,26 +48,26 @@ module _ (spans : List Span) where
   path_bare true start e ts = all_bare (path_step spans start) plain.path_step (path_step_bare start) e ts
 
   module _ (dots : Bool) (inner : List Token → Read Node) (on : List Token → Read Expression) (h : Erases inner on) where
-    target_bare : Erases (target_by spans dots inner) (plain.target_by dots on)
+    pub target_bare : Erases (target_by spans dots inner) (plain.target_by dots on)
     unfolding target_by plain.target_by
     target_bare (symbol paren_open ∷ ts) = then_bare _ _ _ (h ts) (λ e us. paren_end_bare e us)
     target_bare ts = then_bare _ _ _ (stored_bare ts) (λ e us. path_bare dots (next_span spans ts) e us)
 
-    one_target_bare : (es : Nodes) (ts : List Token) → bare (one_target_by spans dots inner es ts) ≡ plain.one_target_by dots on es.tree ts
+    pub one_target_bare : (es : Nodes) (ts : List Token) → bare (one_target_by spans dots inner es ts) ≡ plain.one_target_by dots on es.tree ts
     unfolding bare one_target_by plain.one_target_by
     one_target_bare es ts = then_bare _ _ _ (target_bare ts) (λ e us. refl)
 
-    more_targets_bare : (start : Span) (a : Node) → Erases (more_targets_by spans dots inner start a) (plain.more_targets_by dots on a.tree)
+    pub more_targets_bare : (start : Span) (a : Node) → Erases (more_targets_by spans dots inner start a) (plain.more_targets_by dots on a.tree)
     unfolding bare more_targets_by plain.more_targets_by
     more_targets_bare start a ts =
         then_bare _ _ _ (all_bare (more_step (one_target_by spans dots inner)) (more_step (plain.one_target_by dots on))
         (more_bare (one_target_by spans dots inner) (plain.one_target_by dots on) one_target_bare) (first_node a) ts) (λ es us. refl)
 
-    targets_bare : Erases (targets_by spans dots inner) (plain.targets_by dots on)
+    pub targets_bare : Erases (targets_by spans dots inner) (plain.targets_by dots on)
     unfolding targets_by plain.targets_by
     targets_bare ts = then_bare _ _ _ (target_bare ts) (λ a us. more_targets_bare (next_span spans ts) a us)
 
-  inner_bare : (dots : Bool) (d : ℕ) → Erases (inner_targets spans dots d) (plain.inner_targets dots d)
+  pub inner_bare : (dots : Bool) (d : ℕ) → Erases (inner_targets spans dots d) (plain.inner_targets dots d)
   unfolding bare inner_targets plain.inner_targets
   inner_bare dots zero ts = refl
   inner_bare dots (suc d) ts = targets_bare dots _ _ (inner_bare dots d) ts
@@ -78,7 +78,7 @@ module _ (spans : List Span) where
   alias_bare is n [] = refl
   alias_bare is n (t ∷ ts) = if_bare _ _ (is_word (codes "as") t) (then_bare _ _ _ (stored_bare ts) (λ a us. refl)) refl
 
-  import_bare : (is : PlacedImports) (ts : List Token) → bare (import_by spans is ts) ≡ plain.import_by is.tree ts
+  pub import_bare : (is : PlacedImports) (ts : List Token) → bare (import_by spans is ts) ≡ plain.import_by is.tree ts
   unfolding import_by plain.import_by
   import_bare is ts = then_bare _ _ _ (stored_bare ts) (λ n us. alias_bare is n us)
 

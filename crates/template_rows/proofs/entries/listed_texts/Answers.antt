@@ -14,6 +14,3 @@ loop-text-preserved c =
     subst (λ text. drop index texts ≡ text ∷ drop (index + 1) texts) (sym c.text-item.is) (rw add-one (drop-cons texts index here c.loop-text-test.true)) in
     let is : as_str (view here) ≡ Some c.as_str.result.now = rw c.in-String.is (rw c.as_str.ensures.value (as_str-text c.in-String.text)) in
     rw c.in_ok-push-in-String.ensures.items (texts-one c.loop-text.listed.items c.as_str.result here (drop (index + 1) texts) _ is (rw opened at c.loop-text.invariant))
-
-pub returns-in_default : goal.returns-in_default
-returns-in_default c = ?
