@@ -83,11 +83,11 @@ module _ (spans : List Span) where
   import_bare is ts = then_bare _ _ _ (stored_bare ts) (λ n us. alias_bare is n us)
 
   module _ (read : List Token → Read Node) (on : List Token → Read Expression) (h : Erases read on) where
-    value_bare : (es : Nodes) (ts : List Token) → bare (value_by spans read es ts) ≡ plain.value_by on es.tree ts
+    pub value_bare : (es : Nodes) (ts : List Token) → bare (value_by spans read es ts) ≡ plain.value_by on es.tree ts
     unfolding bare value_by plain.value_by
     value_bare es ts = then_bare _ _ _ (h ts) (λ e us. refl)
 
-    values_bare : Erases (values_by spans read) (plain.values_by on)
+    pub values_bare : Erases (values_by spans read) (plain.values_by on)
     unfolding bare values_by plain.values_by
     values_bare ts =
         then_bare _ _ _ (value_bare no_nodes ts) (λ es us. then_bare _ _ _
@@ -95,7 +95,7 @@ module _ (spans : List Span) where
         (more_bare (value_by spans read) (plain.value_by on) value_bare) es us)
         (λ fs vs. refl))
 
-    loop_filter_bare : (ts : List Token) → bare (loop_filter_by spans read ts) ≡ plain.loop_filter_by on ts
+    pub loop_filter_bare : (ts : List Token) → bare (loop_filter_by spans read ts) ≡ plain.loop_filter_by on ts
     unfolding bare loop_filter_by plain.loop_filter_by
     loop_filter_bare [] = refl
     loop_filter_bare (t ∷ ts) = if_bare _ _ (is_word (codes "if") t) (then_bare _ _ _ (h ts) (λ e us. refl)) refl
@@ -113,11 +113,11 @@ module _ (spans : List Span) where
     default_bare p a (symbol assign ∷ ts) = then_bare _ _ _ (h ts) (λ e us. refl)
     default_bare p a ts = plain_bare p a (is_nothing p.tree.1) ts
 
-    parameter_bare : (p : PlacedParameters) (ts : List Token) → bare (parameter_by spans read p ts) ≡ plain.parameter_by on p.tree ts
+    pub parameter_bare : (p : PlacedParameters) (ts : List Token) → bare (parameter_by spans read p ts) ≡ plain.parameter_by on p.tree ts
     unfolding parameter_by plain.parameter_by
     parameter_bare p ts = then_bare _ _ _ (stored_bare ts) (λ a us. default_bare p a us)
 
-    parameters_bare : (ts : List Token) → bare (parameters_by spans read ts) ≡ plain.parameters_by on ts
+    pub parameters_bare : (ts : List Token) → bare (parameters_by spans read ts) ≡ plain.parameters_by on ts
     unfolding bare parameters_by plain.parameters_by
     parameters_bare (symbol paren_close ∷ ts) = refl
     parameters_bare ts =
@@ -126,13 +126,13 @@ module _ (spans : List Span) where
         (more_bare (parameter_by spans read) (plain.parameter_by on) parameter_bare) p us) (λ q vs. paren_end_bare q vs))
 
 module _ (spans : List Span) (r : Here) (q : plain.Here) (h : HereErases r q) where
-  assignment_bare : (gs : PlacedAssignments) (ts : List Token) → bare (assignment_by spans r gs ts) ≡ plain.assignment_by q gs.tree ts
+  pub assignment_bare : (gs : PlacedAssignments) (ts : List Token) → bare (assignment_by spans r gs ts) ≡ plain.assignment_by q gs.tree ts
   unfolding bare assignment_by plain.assignment_by
   assignment_bare gs ts =
       then_bare _ _ _ (target_bare spans false _ _ (h.inner false) ts) (λ t us.
       then_bare _ _ _ (assign_bare t us) (λ t vs. then_bare _ _ _ (h.expression vs) (λ e ws. refl)))
 
-  assignments_bare : (ts : List Token) → bare (assignments_by spans r ts) ≡ plain.assignments_by q ts
+  pub assignments_bare : (ts : List Token) → bare (assignments_by spans r ts) ≡ plain.assignments_by q ts
   unfolding bare assignments_by plain.assignments_by
   assignments_bare (block_end ∷ ts) = refl
   assignments_bare ts =
@@ -140,7 +140,7 @@ module _ (spans : List Span) (r : Here) (q : plain.Here) (h : HereErases r q) wh
       (λ gs us. all_bare (more_step (assignment_by spans r)) (more_step (plain.assignment_by q))
       (more_bare (assignment_by spans r) (plain.assignment_by q) assignment_bare) gs us)
 
-  optional_parameters_bare : (ts : List Token) → bare (optional_parameters_by spans r ts) ≡ plain.optional_parameters_by q ts
+  pub optional_parameters_bare : (ts : List Token) → bare (optional_parameters_by spans r ts) ≡ plain.optional_parameters_by q ts
   unfolding bare optional_parameters_by plain.optional_parameters_by
   optional_parameters_bare (symbol paren_open ∷ ts) = h.parameters ts
   optional_parameters_bare _ = refl
@@ -354,7 +354,7 @@ module _ (spans : List Span) (r : Here) (q : plain.Here) (h : HereErases r q) wh
   statements_bare p ts = all_bare (statement_step spans r p) (plain.statement_step q p) (statement_step_bare p) no_placed_statements ts
 
 module _ (spans : List Span) where
-  deeper_parameters_bare : (d : ℕ) (ts : List Token) → bare (deeper_parameters spans d ts) ≡ plain.deeper_parameters d ts
+  pub deeper_parameters_bare : (d : ℕ) (ts : List Token) → bare (deeper_parameters spans d ts) ≡ plain.deeper_parameters d ts
   unfolding bare deeper_parameters plain.deeper_parameters
   deeper_parameters_bare zero ts = refl
   deeper_parameters_bare (suc d) ts = parameters_bare spans _ _ (expression_erased spans d) ts

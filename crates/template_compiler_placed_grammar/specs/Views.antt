@@ -5,9 +5,9 @@ use Rattle.template_tree.specs.declared.calls.CallArg.{CallArg}
 use Rattle.template_tree.specs.declared.expressions.CompareOp.{CompareOp}
 use Rattle.template_tree.specs.declared.expressions.Expr.{Expr}
 use Rattle.template_tree.specs.ExpressionPlaces.{places_of, places_optional, places_in, places_in_links, places_of_argument, places_in_arguments}
-use Rattle.template_tree_statements.specs.View.{imports_in}
-use Rattle.template_compiler_placed_grammar.specs.TemplateNodes.{PlacedImports}
-use Rattle.template_compiler_placed_grammar.specs.TreeStatements.{places_of_imports}
+use Rattle.template_tree_statements.specs.View.{assignments_in, imports_in}
+use Rattle.template_compiler_placed_grammar.specs.TemplateNodes.{PlacedAssignments, PlacedImports}
+use Rattle.template_compiler_placed_grammar.specs.TreeStatements.{places_of_assignments, places_of_imports}
 use Rattle.template_compiler_placed_grammar.specs.Nodes.{placed, Node, OptionalNode, Nodes, PlacedLinks, PlacedArgument, PlacedArguments}
 
 abbrev pub node_of : Expr → Node
@@ -30,3 +30,6 @@ placed_arguments_in args = placed (arguments_in args) (places_in_arguments args)
 
 abbrev pub placed_imports_in : List (Expr × Option Expr) → PlacedImports
 placed_imports_in is = placed (imports_in is) (places_of_imports is)
+
+abbrev pub placed_assignments_in : List (Expr × Expr) → PlacedAssignments
+placed_assignments_in gs = placed (assignments_in gs) (places_of_assignments gs)
