@@ -6,6 +6,7 @@ ghost use Rattle.template_compiler_statement_declarations.specs.Heads.{set_over,
 ghost use Rattle.template_compiler_statement_makers.specs.Begun.{set_block_of};
 ghost use Rattle.template_compiler_statement_makers.specs.Branches.{branch_in, branches_in};
 ghost use Rattle.template_compiler_statement_parser.specs.Bodies.{ParsedBody, ParsedStatement};
+ghost use Rattle.template_compiler_statement_parser.specs.Kinds.{parent_opening};
 ghost use Rattle.template_compiler_statement_makers.specs.Surroundings.{around_of, opening_of};
 ghost use Rattle.template_compiler_stream.specs.Left.{passed};
 ghost use Rattle.template_compiler_grammar.specs.TemplateReader.{autoescape_by, block_by, branch_by, branch_step, call_by, deeper_body, else_by, expect_tag, filter_block_by, for_by, here, if_by, macro_by, opened_by, opened_step, opening, set_by, statement_step, statements_at, with_by};
@@ -14,6 +15,7 @@ ghost use Rattle.template_tree_statements.specs.View.{statement_of};
 ghost use Rattle.template_tree_statements.specs.declared.statements.Stmt.TheVariants as statements;
 ghost use Rattle.template_compiler_statement_makers.specs.Listed.{statements_in};
 
+use crate::kinds::{Kind, Parent, kind_of, read_leaf};
 use std::alloc::Global;
 use template_compiler_statement_declarations as declarations;
 use template_compiler_statement_declarations::SetHead;
@@ -138,7 +140,6 @@ fn next_tag<'source, R: ReadsExpressions>(
 
 // A statement, behind the word that begins it.
 #[cycle(statements)]
-#[tactic(auto, unfolding(template_compiler_grammar::specs::TemplateReader::opened_by, template_compiler_grammar::specs::TemplateReader::in_loop))]
 fn opened<'source, R: ReadsExpressions>(
     alloc: Global,
     tokens: &mut TokenStream<'source>,
@@ -149,41 +150,41 @@ fn opened<'source, R: ReadsExpressions>(
 ) -> Result<Stmt<'source>, Refusal>
     ensures { ParsedStatement (opened_by (here left) (around_of around) (opening_of opening) tokens.old.left) tokens.new.left result }
 {
-    match opening {
-        Opening::For => return for_loop::<R>(alloc, tokens, left, around, span).map(Stmt::ForLoop),
-        Opening::If => return if_condition::<R>(alloc, tokens, left, around, span).map(
-            Stmt::IfCond,
-        ),
-        Opening::With => return with_block::<R>(alloc, tokens, left, around, span).map(
+    match kind_of(opening) {
+        Kind::Leaf(leaf) => read_leaf::<R>(alloc, tokens, left, around, leaf, span),
+        Kind::Parent(parent) => read_parent::<R>(alloc, tokens, left, around, parent, span),
+    }
+}
+
+// A statement that has a body or may have one.
+#[cycle(statements)]
+#[tactic(auto, unfolding(template_compiler_grammar::specs::TemplateReader::opened_by))]
+fn read_parent<'source, R: ReadsExpressions>(
+    alloc: Global,
+    tokens: &mut TokenStream<'source>,
+    left: u32,
+    around: Around,
+    parent: Parent,
+    span: Span,
+) -> Result<Stmt<'source>, Refusal>
+    ensures { ParsedStatement (opened_by (here left) (around_of around) (parent_opening parent) tokens.old.left) tokens.new.left result }
+{
+    match parent {
+        Parent::For => return for_loop::<R>(alloc, tokens, left, around, span).map(Stmt::ForLoop),
+        Parent::If => return if_condition::<R>(alloc, tokens, left, around, span).map(Stmt::IfCond),
+        Parent::With => return with_block::<R>(alloc, tokens, left, around, span).map(
             Stmt::WithBlock,
         ),
-        Opening::Set => return set::<R>(alloc, tokens, left, around, span),
-        Opening::AutoEscape => {
+        Parent::Set => return set::<R>(alloc, tokens, left, around, span),
+        Parent::AutoEscape => {
             return auto_escape::<R>(alloc, tokens, left, around, span).map(Stmt::AutoEscape);
         }
-        Opening::Filter => return filter_block::<R>(alloc, tokens, left, around, span).map(
+        Parent::Filter => return filter_block::<R>(alloc, tokens, left, around, span).map(
             Stmt::FilterBlock,
         ),
-        Opening::Block => return block::<R>(alloc, tokens, left, around, span).map(Stmt::Block),
-        Opening::Import => return leaves::read_import::<R>(alloc, tokens, left, span).map(
-            Stmt::Import,
-        ),
-        Opening::From => return leaves::read_from::<R>(alloc, tokens, left, span).map(
-            Stmt::FromImport,
-        ),
-        Opening::Extends => return leaves::read_extends::<R>(alloc, tokens, left, span).map(
-            Stmt::Extends,
-        ),
-        Opening::Include => return leaves::read_include::<R>(alloc, tokens, left, span).map(
-            Stmt::Include,
-        ),
-        Opening::Macro => return macro_block::<R>(alloc, tokens, left, span).map(Stmt::Macro),
-        Opening::Call => return call_block::<R>(alloc, tokens, left, span).map(Stmt::CallBlock),
-        Opening::Do => return leaves::read_do::<R>(alloc, tokens, left, span).map(Stmt::Do),
-        Opening::Break => return Ok(Stmt::Break(leaves::read_break(tokens, around.in_loop, span)?)),
-        Opening::Continue => {
-            return Ok(Stmt::Continue(leaves::read_continue(tokens, around.in_loop, span)?));
-        }
+        Parent::Block => return block::<R>(alloc, tokens, left, around, span).map(Stmt::Block),
+        Parent::Macro => return macro_block::<R>(alloc, tokens, left, span).map(Stmt::Macro),
+        Parent::Call => return call_block::<R>(alloc, tokens, left, span).map(Stmt::CallBlock),
     }
 }
 

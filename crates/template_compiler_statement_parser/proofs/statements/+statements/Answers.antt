@@ -1,12 +1,12 @@
 use Rattle.std.proofs.Common.{rules, ◌-◌, Ok, codes, refl, sym, ap, ◌∙◌, subst, arith}
 use Rattle.template_tree.specs.Tree.{with_block, auto_escape, macro, call_block}
 use Rattle.template_compiler_grammar.specs.TemplateGrammar.{macro_around}
-use Rattle.template_compiler_grammar.specs.TemplateReader.{autoescape_by, block_by, branch_by, branch_step, call_by, filter_block_by, filtered_body, for_by, here, here_by, macro_by, set_by, statement_step, statements_at, statements_by, with_by}
+use Rattle.template_compiler_grammar.specs.TemplateReader.{autoescape_by, block_by, branch_by, branch_step, call_by, filter_block_by, filtered_body, for_by, here, here_by, macro_by, opened_by, set_by, statement_step, statements_at, statements_by, with_by}
 use Rattle.template_compiler_stream.specs.Refusals.{Refused}
 use Rattle.template_compiler_grammar_laws.proofs.TemplatesSound.{next_statement_takes, next_branch_takes}
 use Rattle.template_compiler_statement_parts.proofs.Rounds.{rounds_end, rounds_go, rounds_refused}
 use Rattle.template_compiler_statement_makers.specs.Surroundings.{around_of}
-use Rattle.template_compiler_statement_parser.specs.Bodies.{ParsedBody}
+use Rattle.template_compiler_statement_parser.specs.Bodies.{ParsedBody, ParsedStatement}
 use Rattle.template_compiler_statement_makers.specs.Listed.{statements_in}
 use Rattle.template_compiler_statement_parts.specs.Parsed.{ParsedAs, SteppedTo}
 use Rattle.template_compiler_statement_parser.proofs.Wholes.{autoescape_whole, behind, behind_fails, block_whole, body_fails, body_made, branch_whole, call_whole, filter_whole, for_body_fails, for_else_fails, for_made, for_whole, head_fails, macro_whole, set_body_fails, set_body_made, set_whole_by, with_whole}
@@ -266,3 +266,13 @@ read_branch-returns-in_err-body g t c =
     let refused : Refused (branch_by (here c.args.left) (around_of c.args.around) c.args.tokens.now.left) c.in_err-body.field-0.0 =
     behind_fails _ (branch_whole (here c.args.left) (around_of c.args.around) c.args.tokens.now.left) _ _ c.in_ok-head.ensures.read _ (head_fails _ _ refl _ c.in_err-body.ensures) in
     search rules
+
+pub opened-returns-in-Leaf : goal.opened-returns-in-Leaf
+opened-returns-in-Leaf g t c =
+    subst (λ o. ParsedStatement (opened_by (here c.args.left) (around_of c.args.around) o c.args.tokens.now.left) c.read_leaf.new.tokens.left c.read_leaf.result)
+    c.in-Leaf.ensures c.read_leaf.ensures
+
+pub opened-returns-in-Parent : goal.opened-returns-in-Parent
+opened-returns-in-Parent g t c =
+    subst (λ o. ParsedStatement (opened_by (here c.args.left) (around_of c.args.around) o c.args.tokens.now.left) c.read_parent.new.tokens.left c.read_parent.result)
+    c.in-Parent.ensures c.read_parent.ensures

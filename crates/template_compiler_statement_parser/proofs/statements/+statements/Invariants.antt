@@ -59,6 +59,9 @@ decreases-call_block g l = 16 * l.left + 5
 abbrev pub decreases-opened : goal.decreases-opened
 decreases-opened g l = 16 * l.left + 10
 
+abbrev pub decreases-read_parent : goal.decreases-read_parent
+decreases-read_parent g l = 16 * l.left + 9
+
 abbrev pub decreases-next_tag : goal.decreases-next_tag
 decreases-next_tag g l = 16 * l.left + 11
 

@@ -1,0 +1,105 @@
+//! Statements with a body and statements without one.
+ghost use Rattle.std.specs.Prelude.{◌≡◌};
+ghost use Rattle.template_compiler_statement_makers.specs.Surroundings.{around_of, opening_of};
+ghost use Rattle.template_compiler_statement_parser.specs.Bodies.{ParsedStatement};
+ghost use Rattle.template_compiler_statement_parser.specs.Kinds.{kind_opening, leaf_opening};
+ghost use Rattle.template_compiler_grammar.specs.TemplateReader.{here, opened_by};
+
+use std::alloc::Global;
+use template_compiler_statement_leaves as leaves;
+use template_compiler_statement_makers::{Around, Opening};
+use template_compiler_statement_values::ReadsExpressions;
+use template_compiler_stream::{Refusal, TokenStream};
+use template_tree::Span;
+use template_tree_statements::Stmt;
+
+/// A statement without a body, by the word that begins it.
+#[derive(Clone, Copy)]
+pub(crate) enum Leaf {
+    Import,
+    From,
+    Extends,
+    Include,
+    Do,
+    Break,
+    Continue,
+}
+
+/// A statement that has a body or may have one, by the word that begins it.
+#[derive(Clone, Copy)]
+pub(crate) enum Parent {
+    For,
+    If,
+    With,
+    Set,
+    AutoEscape,
+    Filter,
+    Block,
+    Macro,
+    Call,
+}
+
+/// What a word begins.
+#[derive(Clone, Copy)]
+pub(crate) enum Kind {
+    Leaf(Leaf),
+    Parent(Parent),
+}
+
+/// The kind of what a word begins.
+#[inline]
+pub(crate) fn kind_of(opening: Opening) -> Kind
+    ensures { kind_opening result ≡ opening_of opening }
+{
+    match opening {
+        Opening::For => Kind::Parent(Parent::For),
+        Opening::If => Kind::Parent(Parent::If),
+        Opening::With => Kind::Parent(Parent::With),
+        Opening::Set => Kind::Parent(Parent::Set),
+        Opening::AutoEscape => Kind::Parent(Parent::AutoEscape),
+        Opening::Filter => Kind::Parent(Parent::Filter),
+        Opening::Block => Kind::Parent(Parent::Block),
+        Opening::Import => Kind::Leaf(Leaf::Import),
+        Opening::From => Kind::Leaf(Leaf::From),
+        Opening::Extends => Kind::Leaf(Leaf::Extends),
+        Opening::Include => Kind::Leaf(Leaf::Include),
+        Opening::Macro => Kind::Parent(Parent::Macro),
+        Opening::Call => Kind::Parent(Parent::Call),
+        Opening::Do => Kind::Leaf(Leaf::Do),
+        Opening::Break => Kind::Leaf(Leaf::Break),
+        Opening::Continue => Kind::Leaf(Leaf::Continue),
+    }
+}
+
+/// A statement without a body, behind the word that begins it.
+#[tactic(auto, unfolding(template_compiler_grammar::specs::TemplateReader::opened_by, template_compiler_grammar::specs::TemplateReader::in_loop))]
+pub(crate) fn read_leaf<'source, R: ReadsExpressions>(
+    alloc: Global,
+    tokens: &mut TokenStream<'source>,
+    left: u32,
+    around: Around,
+    leaf: Leaf,
+    span: Span,
+) -> Result<Stmt<'source>, Refusal>
+    ensures { ParsedStatement (opened_by (here left) (around_of around) (leaf_opening leaf) tokens.old.left) tokens.new.left result }
+{
+    match leaf {
+        Leaf::Import => return leaves::read_import::<R>(alloc, tokens, left, span).map(
+            Stmt::Import,
+        ),
+        Leaf::From => return leaves::read_from::<R>(alloc, tokens, left, span).map(
+            Stmt::FromImport,
+        ),
+        Leaf::Extends => return leaves::read_extends::<R>(alloc, tokens, left, span).map(
+            Stmt::Extends,
+        ),
+        Leaf::Include => return leaves::read_include::<R>(alloc, tokens, left, span).map(
+            Stmt::Include,
+        ),
+        Leaf::Do => return leaves::read_do::<R>(alloc, tokens, left, span).map(Stmt::Do),
+        Leaf::Break => return Ok(Stmt::Break(leaves::read_break(tokens, around.in_loop, span)?)),
+        Leaf::Continue => {
+            return Ok(Stmt::Continue(leaves::read_continue(tokens, around.in_loop, span)?));
+        }
+    }
+}
