@@ -1,16 +1,16 @@
 //! Expressions.
-ghost use Rattle.std.specs.Prelude.{◌≡◌, true, false, Some, Ok, suc};
+ghost use Rattle.std.specs.Prelude.{◌≡◌, true, false, Some, Ok, suc, IfOk, [], ◌∷◌};
 ghost use Rattle.std.specs.Cow.{cow_str_bytes};
 ghost use Rattle.template_compiler_expression_parts.specs.Parsed.{Parsed, ParsedAs, ParsedOptional, Stepped, SteppedTo, WentOn, paired_in, unnamed_by, written_in};
 ghost use Rattle.template_compiler_stream.specs.Signs.{level_of};
-ghost use Rattle.template_compiler_grammar.specs.Reader.{link_behind, argument_by, arguments_by, arguments_step, binary_by, bound_by, colon_end, comparison_by, deeper, else_behind, expression_by, filter_by, filter_step, filtered_by, is_by, items_step, link_step, list_by, map_by, negation_by, not_in_link, operand_by, operand_step, optional_arguments_by, paren_by, paren_end, part_step, parts_by, pairs_step, power_by, primary_by, slice_by, step_by, subscript_by, terms_by, test_arguments_by, test_by, unary_by};
+ghost use Rattle.template_compiler_grammar.specs.Reader.{link_behind, argument_by, arguments_step, binary_by, bound_by, colon_end, comparison_by, deeper, else_behind, expression_by, filter_by, filter_step, filtered_by, is_by, items_step, link_step, list_by, map_by, negation_by, not_in_link, operand_by, operand_step, optional_arguments_by, paren_by, paren_end, part_step, parts_by, pairs_step, power_by, primary_by, slice_by, step_by, subscript_by, terms_by, test_arguments_by, test_by, unary_by};
 ghost use Rattle.template_compiler_grammar.specs.Trees.{nothing_paired, nothing_written};
 ghost use Rattle.template_compiler_grammar.specs.Words.{disjunction};
 ghost use Rattle.template_compiler_tokens.specs.Steps.{and_then, all, goes, under};
 ghost use Rattle.template_tree.specs.Tree.{call, expressions_more, given, no_expressions, no_links, tuple_literal};
 ghost use Rattle.template_tree.specs.View.{argument_of, arguments_in, expression_of, expressions_in, links_in, optional_in};
 
-use std::alloc::Global;
+use std::alloc::{AllocError, Global};
 use std::borrow::CowStr;
 use template_compiler_expression_parts::{
     Behind, Pairs, Written, attribute, before_colon, compared, deeper, in_braces, in_brackets,
@@ -275,13 +275,14 @@ fn power<'source>(
     let value = filtered(alloc, tokens, left)?;
     if tokens.skip(Sign::Pow) {
         let right = power(alloc, tokens, deeper(left)?)?;
-        Ok(Expr::binary(
+        Expr::binary(
             alloc,
             BinOpKind::Pow,
             value,
             right,
             tokens.expand_span(span),
-        )?)
+        )
+        .map_err(Refusal::from)
     } else {
         Ok(value)
     }
@@ -379,7 +380,7 @@ pub(crate) fn filter<'source>(
 
 // Arguments in parentheses, where a `(` stands next.
 #[cycle(parser)]
-#[tactic(auto, using(template_compiler_expression_parts::proofs::Nothing::no_arguments_list), unfolding(template_compiler_grammar::specs::Reader::optional_arguments_by, template_compiler_grammar::specs::Reader::deeper))]
+#[tactic(auto, using(template_compiler_expression_parts::proofs::Nothing::no_arguments_list), unfolding(template_compiler_grammar::specs::Reader::optional_arguments_by))]
 fn optional_arguments<'source>(
     alloc: Global,
     tokens: &mut TokenStream<'source>,
@@ -388,7 +389,7 @@ fn optional_arguments<'source>(
     ensures { ParsedAs (λ v. arguments_in v.items) (optional_arguments_by (deeper left) tokens.old.left) tokens.new.left result }
 {
     if tokens.skip(Sign::ParenOpen) {
-        arguments(alloc, tokens, deeper(left)?)
+        arguments(alloc, tokens, left)
     } else {
         Ok(Vec::new(alloc))
     }
@@ -447,16 +448,16 @@ fn bare_test<'source>(
         tokens.new.left result }
 {
     let argument = unary(alloc, tokens, left)?;
-    let mut arguments = Vec::new(alloc);
-    arguments.push(CallArg::Pos(argument))?;
-    Ok(tested(
+    let arguments = alone(alloc, CallArg::Pos(argument))?;
+    tested(
         alloc,
         negated,
         name,
         value,
         arguments,
         tokens.expand_span(span),
-    )?)
+    )
+    .map_err(Refusal::from)
 }
 
 // A test with arguments in parentheses, or with none.
@@ -545,7 +546,7 @@ fn next_part<'source>(
     } else if tokens.skip(Sign::BracketOpen) {
         subscript(alloc, tokens, deeper(left)?, value, span).map(Behind::Goes)
     } else if tokens.skip(Sign::ParenOpen) {
-        call(alloc, tokens, deeper(left)?, value, span).map(Behind::Goes)
+        call(alloc, tokens, left, value, span).map(Behind::Goes)
     } else {
         Ok(Behind::Stops(value))
     }
@@ -561,8 +562,8 @@ fn call<'source>(
     value: Expr<'source>,
     span: Span,
 ) -> Result<Expr<'source>, Refusal>
-    ensures { WentOn (under (arguments_by (expression_by (deeper left)) tokens.old.left)
-        (λ args us. goes (call (expression_of value.entry) args) us)) tokens.new.left result }
+    ensures { WentOn (under ((deeper left).arguments tokens.old.left) (λ args us. goes (call (expression_of value.entry) args) us))
+        tokens.new.left result }
 {
     let arguments = arguments(alloc, tokens, left)?;
     Expr::call(alloc, value, arguments, tokens.expand_span(span)).map_err(Refusal::from)
@@ -702,9 +703,7 @@ fn tuple<'source>(
         (expressions_more (expression_of first.entry) no_expressions) tokens.old.left) (λ es us. paren_end (tuple_literal es) us))
         tokens.new.left result }
 {
-    let mut held = Vec::new(alloc);
-    held.push(first)?;
-    let held = items(alloc, tokens, left, held)?;
+    let held = items(alloc, tokens, left, alone(alloc, first)?)?;
     let span = tokens.span_through_next(span);
     in_parens(tokens, Expr::tuple(alloc, held, span)?)
 }
@@ -848,17 +847,17 @@ fn key<'source>(
     before_colon(tokens, key)
 }
 
-// Behind the `(` of arguments.
+// Behind the `(` of arguments, one nesting level deeper.
 #[cycle(parser)]
-#[tactic(auto, unfolding(template_compiler_tokens::specs::Steps::and_then, template_compiler_grammar::specs::Reader::arguments_by))]
+#[tactic(auto, unfolding(template_compiler_tokens::specs::Steps::and_then, template_compiler_grammar::specs::Reader::arguments_by, template_compiler_grammar::specs::Reader::deeper))]
 fn arguments<'source>(
     alloc: Global,
     tokens: &mut TokenStream<'source>,
     left: u32,
 ) -> Result<Vec<CallArg<'source>>, Refusal>
-    ensures { ParsedAs (λ v. arguments_in v.items) (arguments_by (expression_by (deeper left)) tokens.old.left) tokens.new.left result }
+    ensures { ParsedAs (λ v. arguments_in v.items) ((deeper left).arguments tokens.old.left) tokens.new.left result }
 {
-    let held = written(alloc, tokens, left)?;
+    let held = written(alloc, tokens, deeper(left)?)?;
     in_order(tokens, held)
 }
 
@@ -939,4 +938,13 @@ fn unnamed<'source>(
     } else {
         expression(alloc, tokens, left).map(CallArg::Pos)
     }
+}
+
+// The item alone in a list. Where memory is refused it is dropped here, so that no caller holds it.
+fn alone<T: Drop>(alloc: Global, item: T) -> Result<Vec<T>, AllocError>
+    ensures { IfOk result (λ list. list.items ≡ item ∷ []) }
+{
+    let mut items = Vec::new(alloc);
+    items.push(item)?;
+    Ok(items)
 }

@@ -99,10 +99,10 @@ abbrev pub decreases-optional_arguments : goal.decreases-optional_arguments
 decreases-optional_arguments l = 100 * l.left + 5
 
 abbrev pub decreases-call : goal.decreases-call
-decreases-call l = 100 * l.left + 82
+decreases-call l = 100 * l.left + 11
 
 abbrev pub decreases-arguments : goal.decreases-arguments
-decreases-arguments l = 100 * l.left + 80
+decreases-arguments l = 100 * l.left + 4
 
 abbrev pub decreases-written : goal.decreases-written
 decreases-written l = 100 * l.left + 79
