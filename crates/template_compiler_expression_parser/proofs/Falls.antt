@@ -7,7 +7,7 @@ use Rattle.template_compiler_grammar_laws.proofs.Sound.{operand_shrinks, part_sh
 use Rattle.template_compiler_tokens.proofs.Loops.{Shrinks}
 use Rattle.template_compiler_placed_grammar.specs.Reader.{deeper, expression_by, operand_by, operand_step, part_step, filter_step, link_step, terms_by, items_step, pairs_step, arguments_step, chain_step}
 use Rattle.template_compiler_placed_grammar.proofs.Erased.{part_step_erased, filter_step_erased, chain_step_erased, operand_step_erased, link_step_erased, items_step_erased, pairs_step_erased, arguments_step_erased}
-use Rattle.template_compiler_expression_parts.proofs.Rounds.{placed_shrinks}
+use Rattle.template_compiler_placed_grammar.proofs.Bare.{placed_shrinks}
 use Rattle.template_compiler_expression_parser.proofs.Takes.{item_takes, pair_takes, next_argument_takes, chain_takes}
 
 module _ (spans : List Span) (d : ℕ) where

@@ -109,13 +109,6 @@ pub next_operand_refused : (spans : List Span) (k : Level) (read : List Token �
 next_operand_refused spans k read start a ts mid op e f g h =
     operand_refused spans k read start a ts op e (sym f) (subst (λ us. Refused (read us) e) g h)
 
--- what takes a token at least without its places does so with them
-module _ {A P : Type 0} (step : Placed A P → List Token → Step (Placed A P)) (on : A → List Token → Step A)
-    (same : (a : Placed A P) (ts : List Token) → bare_step (step a ts) ≡ on a.tree ts) where
-  pub placed_shrinks : Shrinks on → Shrinks step
-  unfolding bare_step
-  placed_shrinks falls a b ts us e = falls a.tree b.tree ts us (sym (same a ts) ∙ ap bare_step e)
-
 -- what stands behind a dot
 dotted_same : (spans : List Span) (start : Span) (a : Node) (t : Token) (ts : List Token) →
     dot_part spans start a (t ∷ ts) ≡ dotted_by (next_span spans (t ∷ ts)) (up_to spans start ts) a t ts

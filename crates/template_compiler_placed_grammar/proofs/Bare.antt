@@ -2,6 +2,7 @@
 use Rattle.std.proofs.Common.{◌≡◌, ℕ, zero, suc, Bool, true, false, if◌then◌else◌, List, ◌∷◌, length, Ok, Err, refl, sym, ◌∙◌, ap}
 use Rattle.template_compiler_tokens.specs.Token.{Token, TokenFault, symbol, colon, comma, bracket_close, paren_close, brace_close}
 use Rattle.template_compiler_tokens.specs.Steps.{Read, fault, and_then, Step, goes, stops, fails, under, goes_on, many, all}
+use Rattle.template_compiler_tokens.proofs.Loops.{Shrinks}
 use Rattle.template_compiler_grammar.specs.Reader.{paren_end, bracket_end, brace_end, colon_end, begins_closing, separated, unless_closing}
 use Rattle.template_compiler_placed_grammar.specs.Nodes.{Placed, bare, bare_step}
 
@@ -103,3 +104,10 @@ pub unless_bare : {A P : Type 0} (s : Step (Placed A P)) {t : Step A} (ts : List
     bare_step (unless_closing s ts) ≡ unless_closing t ts
 unfolding bare_step unless_closing
 unless_bare s ts e = if_bare_step _ _ (begins_closing ts) refl e
+
+-- what takes a token without its places does so with them
+module _ {A P : Type 0} (step : Placed A P → List Token → Step (Placed A P)) (on : A → List Token → Step A)
+    (same : (a : Placed A P) (ts : List Token) → bare_step (step a ts) ≡ on a.tree ts) where
+  pub placed_shrinks : Shrinks on → Shrinks step
+  unfolding bare_step
+  placed_shrinks falls a b ts us e = falls a.tree b.tree ts us (sym (same a ts) ∙ ap bare_step e)

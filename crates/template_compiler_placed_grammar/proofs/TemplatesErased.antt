@@ -32,12 +32,12 @@ pub record HereErases (r : Here) (q : plain.Here) : Type 0 where
 
 module _ (spans : List Span) where
   -- targets
-  path_step_bare : (start : Span) (e : Node) (ts : List Token) → bare_step (path_step spans start e ts) ≡ plain.path_step e.tree ts
+  pub path_step_bare : (start : Span) (e : Node) (ts : List Token) → bare_step (path_step spans start e ts) ≡ plain.path_step e.tree ts
   unfolding bare_step path_step plain.path_step
   path_step_bare start e (symbol dot ∷ identifier n ∷ ts) = refl
   path_step_bare start e _ = refl
 
-  stored_bare : Erases (stored_by spans) plain.stored_by
+  pub stored_bare : Erases (stored_by spans) plain.stored_by
   unfolding bare stored_by plain.stored_by
   stored_bare (identifier n ∷ ts) = if_bare _ _ (is_reserved n) refl refl
   stored_bare _ = refl
@@ -48,26 +48,26 @@ module _ (spans : List Span) where
   path_bare true start e ts = all_bare (path_step spans start) plain.path_step (path_step_bare start) e ts
 
   module _ (dots : Bool) (inner : List Token → Read Node) (on : List Token → Read Expression) (h : Erases inner on) where
-    target_bare : Erases (target_by spans dots inner) (plain.target_by dots on)
+    pub target_bare : Erases (target_by spans dots inner) (plain.target_by dots on)
     unfolding target_by plain.target_by
     target_bare (symbol paren_open ∷ ts) = then_bare _ _ _ (h ts) (λ e us. paren_end_bare e us)
     target_bare ts = then_bare _ _ _ (stored_bare ts) (λ e us. path_bare dots (next_span spans ts) e us)
 
-    one_target_bare : (es : Nodes) (ts : List Token) → bare (one_target_by spans dots inner es ts) ≡ plain.one_target_by dots on es.tree ts
+    pub one_target_bare : (es : Nodes) (ts : List Token) → bare (one_target_by spans dots inner es ts) ≡ plain.one_target_by dots on es.tree ts
     unfolding bare one_target_by plain.one_target_by
     one_target_bare es ts = then_bare _ _ _ (target_bare ts) (λ e us. refl)
 
-    more_targets_bare : (start : Span) (a : Node) → Erases (more_targets_by spans dots inner start a) (plain.more_targets_by dots on a.tree)
+    pub more_targets_bare : (start : Span) (a : Node) → Erases (more_targets_by spans dots inner start a) (plain.more_targets_by dots on a.tree)
     unfolding bare more_targets_by plain.more_targets_by
     more_targets_bare start a ts =
         then_bare _ _ _ (all_bare (more_step (one_target_by spans dots inner)) (more_step (plain.one_target_by dots on))
         (more_bare (one_target_by spans dots inner) (plain.one_target_by dots on) one_target_bare) (first_node a) ts) (λ es us. refl)
 
-    targets_bare : Erases (targets_by spans dots inner) (plain.targets_by dots on)
+    pub targets_bare : Erases (targets_by spans dots inner) (plain.targets_by dots on)
     unfolding targets_by plain.targets_by
     targets_bare ts = then_bare _ _ _ (target_bare ts) (λ a us. more_targets_bare (next_span spans ts) a us)
 
-  inner_bare : (dots : Bool) (d : ℕ) → Erases (inner_targets spans dots d) (plain.inner_targets dots d)
+  pub inner_bare : (dots : Bool) (d : ℕ) → Erases (inner_targets spans dots d) (plain.inner_targets dots d)
   unfolding bare inner_targets plain.inner_targets
   inner_bare dots zero ts = refl
   inner_bare dots (suc d) ts = targets_bare dots _ _ (inner_bare dots d) ts
@@ -78,16 +78,16 @@ module _ (spans : List Span) where
   alias_bare is n [] = refl
   alias_bare is n (t ∷ ts) = if_bare _ _ (is_word (codes "as") t) (then_bare _ _ _ (stored_bare ts) (λ a us. refl)) refl
 
-  import_bare : (is : PlacedImports) (ts : List Token) → bare (import_by spans is ts) ≡ plain.import_by is.tree ts
+  pub import_bare : (is : PlacedImports) (ts : List Token) → bare (import_by spans is ts) ≡ plain.import_by is.tree ts
   unfolding import_by plain.import_by
   import_bare is ts = then_bare _ _ _ (stored_bare ts) (λ n us. alias_bare is n us)
 
   module _ (read : List Token → Read Node) (on : List Token → Read Expression) (h : Erases read on) where
-    value_bare : (es : Nodes) (ts : List Token) → bare (value_by spans read es ts) ≡ plain.value_by on es.tree ts
+    pub value_bare : (es : Nodes) (ts : List Token) → bare (value_by spans read es ts) ≡ plain.value_by on es.tree ts
     unfolding bare value_by plain.value_by
     value_bare es ts = then_bare _ _ _ (h ts) (λ e us. refl)
 
-    values_bare : Erases (values_by spans read) (plain.values_by on)
+    pub values_bare : Erases (values_by spans read) (plain.values_by on)
     unfolding bare values_by plain.values_by
     values_bare ts =
         then_bare _ _ _ (value_bare no_nodes ts) (λ es us. then_bare _ _ _
@@ -95,7 +95,7 @@ module _ (spans : List Span) where
         (more_bare (value_by spans read) (plain.value_by on) value_bare) es us)
         (λ fs vs. refl))
 
-    loop_filter_bare : (ts : List Token) → bare (loop_filter_by spans read ts) ≡ plain.loop_filter_by on ts
+    pub loop_filter_bare : (ts : List Token) → bare (loop_filter_by spans read ts) ≡ plain.loop_filter_by on ts
     unfolding bare loop_filter_by plain.loop_filter_by
     loop_filter_bare [] = refl
     loop_filter_bare (t ∷ ts) = if_bare _ _ (is_word (codes "if") t) (then_bare _ _ _ (h ts) (λ e us. refl)) refl
@@ -113,11 +113,11 @@ module _ (spans : List Span) where
     default_bare p a (symbol assign ∷ ts) = then_bare _ _ _ (h ts) (λ e us. refl)
     default_bare p a ts = plain_bare p a (is_nothing p.tree.1) ts
 
-    parameter_bare : (p : PlacedParameters) (ts : List Token) → bare (parameter_by spans read p ts) ≡ plain.parameter_by on p.tree ts
+    pub parameter_bare : (p : PlacedParameters) (ts : List Token) → bare (parameter_by spans read p ts) ≡ plain.parameter_by on p.tree ts
     unfolding parameter_by plain.parameter_by
     parameter_bare p ts = then_bare _ _ _ (stored_bare ts) (λ a us. default_bare p a us)
 
-    parameters_bare : (ts : List Token) → bare (parameters_by spans read ts) ≡ plain.parameters_by on ts
+    pub parameters_bare : (ts : List Token) → bare (parameters_by spans read ts) ≡ plain.parameters_by on ts
     unfolding bare parameters_by plain.parameters_by
     parameters_bare (symbol paren_close ∷ ts) = refl
     parameters_bare ts =
@@ -126,13 +126,13 @@ module _ (spans : List Span) where
         (more_bare (parameter_by spans read) (plain.parameter_by on) parameter_bare) p us) (λ q vs. paren_end_bare q vs))
 
 module _ (spans : List Span) (r : Here) (q : plain.Here) (h : HereErases r q) where
-  assignment_bare : (gs : PlacedAssignments) (ts : List Token) → bare (assignment_by spans r gs ts) ≡ plain.assignment_by q gs.tree ts
+  pub assignment_bare : (gs : PlacedAssignments) (ts : List Token) → bare (assignment_by spans r gs ts) ≡ plain.assignment_by q gs.tree ts
   unfolding bare assignment_by plain.assignment_by
   assignment_bare gs ts =
       then_bare _ _ _ (target_bare spans false _ _ (h.inner false) ts) (λ t us.
       then_bare _ _ _ (assign_bare t us) (λ t vs. then_bare _ _ _ (h.expression vs) (λ e ws. refl)))
 
-  assignments_bare : (ts : List Token) → bare (assignments_by spans r ts) ≡ plain.assignments_by q ts
+  pub assignments_bare : (ts : List Token) → bare (assignments_by spans r ts) ≡ plain.assignments_by q ts
   unfolding bare assignments_by plain.assignments_by
   assignments_bare (block_end ∷ ts) = refl
   assignments_bare ts =
@@ -140,7 +140,7 @@ module _ (spans : List Span) (r : Here) (q : plain.Here) (h : HereErases r q) wh
       (λ gs us. all_bare (more_step (assignment_by spans r)) (more_step (plain.assignment_by q))
       (more_bare (assignment_by spans r) (plain.assignment_by q) assignment_bare) gs us)
 
-  optional_parameters_bare : (ts : List Token) → bare (optional_parameters_by spans r ts) ≡ plain.optional_parameters_by q ts
+  pub optional_parameters_bare : (ts : List Token) → bare (optional_parameters_by spans r ts) ≡ plain.optional_parameters_by q ts
   unfolding bare optional_parameters_by plain.optional_parameters_by
   optional_parameters_bare (symbol paren_open ∷ ts) = h.parameters ts
   optional_parameters_bare _ = refl
@@ -354,7 +354,7 @@ module _ (spans : List Span) (r : Here) (q : plain.Here) (h : HereErases r q) wh
   statements_bare p ts = all_bare (statement_step spans r p) (plain.statement_step q p) (statement_step_bare p) no_placed_statements ts
 
 module _ (spans : List Span) where
-  deeper_parameters_bare : (d : ℕ) (ts : List Token) → bare (deeper_parameters spans d ts) ≡ plain.deeper_parameters d ts
+  pub deeper_parameters_bare : (d : ℕ) (ts : List Token) → bare (deeper_parameters spans d ts) ≡ plain.deeper_parameters d ts
   unfolding bare deeper_parameters plain.deeper_parameters
   deeper_parameters_bare zero ts = refl
   deeper_parameters_bare (suc d) ts = parameters_bare spans _ _ (expression_erased spans d) ts

@@ -1,9 +1,9 @@
 pub mod Nodes
 pub mod Reader
-pub mod Views
 pub mod TemplateNodes
 pub mod TemplateReader
 pub mod TreeStatements
+pub mod Views
 pub mod DerivedNodes
 pub mod DerivedExpressions
 pub mod DerivedParts

@@ -54,3 +54,8 @@ abbrev mutual
   pub statements_places : {n : _} → Row_of-Stmt n → Parts
   statements_places end_of-Stmt = no_parts
   statements_places (more_of-Stmt statement rest) = parts_more (statement_places statement) (statements_places rest)
+
+-- those in a list, behind one another
+abbrev pub places_of_statements : List Stmt → Parts
+places_of_statements [] = no_parts
+places_of_statements (statement ∷ rest) = parts_more (statement_places statement) (places_of_statements rest)

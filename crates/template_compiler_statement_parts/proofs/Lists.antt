@@ -1,5 +1,12 @@
 -- Lists with one more at the end.
-use Rattle.std.proofs.Common.{◌≡◌, List, [], ◌∷◌, ◌++◌, Option, refl, ap, length, ◌<◌, arith}
+use Rattle.std.proofs.Common.{◌≡◌, List, [], ◌∷◌, ◌++◌, Option, Ok, Err, refl, sym, ap, ◌∙◌, length, ◌<◌, arith}
+use Rattle.std.specs.Prelude.{Result, IfOk}
+use Rattle.template_tree.specs.ExpressionPlaces.{places_of, places_in}
+use Rattle.template_tree.specs.NodePlaces.{at}
+use Rattle.template_tree.specs.declared.span.Span.{Span}
+use Rattle.template_compiler_placed_grammar.specs.Nodes.{placed}
+use Rattle.template_compiler_placed_grammar.specs.TemplateNodes.{unpacked_node}
+use Rattle.template_compiler_placed_grammar.specs.Views.{node_of, nodes_in}
 use Rattle.template_tree.specs.Tree.{expressions_more, assignments_more, imports_more, list_literal, tuple_literal}
 use Rattle.template_tree.specs.View.{expression_of, optional_in, expressions_in}
 use Rattle.template_tree_statements.specs.View.{assignments_in, imports_in}
@@ -22,10 +29,18 @@ imports_push [] x = refl
 imports_push (y ∷ ys) x = ap (λ es. imports_more (expression_of y.0) (optional_in y.1) es) (imports_push ys x)
 
 -- several are put together, one is itself
-pub several_unpacked : (xs : List Expr) → (length xs ≡ 1 → ⊥) → unpacked (expressions_in xs) ≡ list_literal (expressions_in xs)
-several_unpacked [] h = refl
-several_unpacked (x ∷ []) h = absurd (h refl)
-several_unpacked (x ∷ y ∷ xs) h = refl
+pub several_unpacked : (xs : List Expr) (span : Span) → (length xs ≡ 1 → ⊥) →
+    unpacked_node (nodes_in xs) span ≡ placed (list_literal (expressions_in xs)) (at span (places_in xs))
+several_unpacked [] span h = refl
+several_unpacked (x ∷ []) span h = absurd (h refl)
+several_unpacked (x ∷ y ∷ xs) span h = refl
+
+pub unpacked_held : {E : Type 0} (xs : List Expr) (span : Span) (r : Result Expr E) → (length xs ≡ 1 → ⊥) →
+    IfOk r (λ e. expression_of e ≡ list_literal (expressions_in xs)) → IfOk r (λ e. places_of e ≡ at span (places_in xs)) →
+    IfOk r (λ e. node_of e ≡ unpacked_node (nodes_in xs) span)
+unpacked_held xs span (Ok e) h p q =
+    ap (λ t. placed t (places_of e)) p ∙ ap (λ q. placed (list_literal (expressions_in xs)) q) q ∙ sym (several_unpacked xs span h)
+unpacked_held xs span (Err e) h p q = tt
 
 pub several_together : (xs : List Expr) → (length xs ≡ 1 → ⊥) → together (expressions_in xs) ≡ tuple_literal (expressions_in xs)
 several_together [] h = refl

@@ -68,20 +68,6 @@ tag_none w a [] h = refl
 tag_none w a (block_start ∷ ts) h = cc
 tag_none w a (t ∷ ts) h = refl
 
-pub stored_word : (n : List ℕ) (ts : List Token) → Some n ≡ next_word ts →
-    stored_by ts ≡ (if is_reserved n then Err bad_syntax else Ok (variable n, passed ts))
-unfolding stored_by
-stored_word n [] h = cc
-stored_word n (identifier m ∷ ts) h =
-    let same : m ≡ n = cc in ap (λ m. if is_reserved m then Err bad_syntax else Ok (variable m, ts)) same
-stored_word n (t ∷ ts) h = cc
-
-pub stored_none : (ts : List Token) → None ≡ next_word ts → stored_by ts ≡ Err (fault ts)
-unfolding stored_by
-stored_none [] h = refl
-stored_none (identifier m ∷ ts) h = cc
-stored_none (t ∷ ts) h = refl
-
 -- tags
 pub next_tag_here : (ts : List Token) → begins_block_start ts ≡ true → next_tag ts ≡ second_word ts
 next_tag_here [] h = cc
@@ -143,25 +129,12 @@ unfolding loop_filter_by
 no_filter read [] h = refl
 no_filter read (t ∷ ts) h = ap (λ b. if b then and_then (read ts) (λ e us. Ok (given e, us)) else Ok (absent, t ∷ ts)) h
 
-pub no_alias : (is : Imports) (n : Expression) (ts : List Token) → begins_word (codes "as") ts ≡ false → alias_by is n ts ≡ Ok (and_import is n absent, ts)
-unfolding alias_by
-no_alias is n [] h = refl
-no_alias is n (t ∷ ts) h =
-    ap (λ b. if b then and_then (stored_by ts) (λ a us. Ok (and_import is n (given a), us)) else Ok (and_import is n absent, t ∷ ts)) h
-
 -- signs that do not stand next
 pub no_more : {A : Type 0} (item : A → List Token → Read A) (a : A) (ts : List Token) → begins_symbol comma ts ≡ false → more_step item a ts ≡ stops
 unfolding more_step
 no_more item a [] h = refl
 no_more item a (symbol comma ∷ ts) h = cc
 no_more item a (t ∷ ts) h = refl
-
-pub no_paren_target : (dots : Bool) (inner : List Token → Read Expression) (ts : List Token) → begins_symbol paren_open ts ≡ false →
-    target_by dots inner ts ≡ and_then (stored_by ts) (path_by dots)
-unfolding target_by
-no_paren_target dots inner [] h = refl
-no_paren_target dots inner (symbol paren_open ∷ ts) h = cc
-no_paren_target dots inner (t ∷ ts) h = refl
 
 pub no_parens : (r : Here) (ts : List Token) → begins_symbol paren_open ts ≡ false → optional_parameters_by r ts ≡ Ok (no_parameters, ts)
 unfolding optional_parameters_by
@@ -218,16 +191,6 @@ end_name_none n a (identifier k ∷ ts) h = cc
 end_name_none n a (t ∷ ts) h = refl
 
 -- parts of a path
-pub no_part_word : (e : Expression) (ts : List Token) → None ≡ second_word ts → path_step e ts ≡ stops
-unfolding path_step
-no_part_word e (symbol dot ∷ identifier n ∷ ts) h = cc
-no_part_word e _ h = refl
-
-pub no_part_dot : (e : Expression) (ts : List Token) → begins_symbol dot ts ≡ false → path_step e ts ≡ stops
-unfolding path_step
-no_part_dot e (symbol dot ∷ identifier n ∷ ts) h = cc
-no_part_dot e _ h = refl
-
 pub part_word : (n : List ℕ) (t : Token) (ts us : List Token) → Some n ≡ second_word ts → ts ≡ t ∷ us → us ≡ identifier n ∷ passed us
 part_word n t [] us h e = cc
 part_word n t (u ∷ []) us h e = cc
@@ -235,26 +198,6 @@ part_word n t (u ∷ identifier m ∷ ts) us h e = let same : m ≡ n = cc in le
 part_word n t (u ∷ v ∷ ts) us h e = cc
 
 -- names
-pub stored_reserved : (n : List ℕ) (ts : List Token) → Some n ≡ next_word ts → is_reserved n ≡ true → stored_by ts ≡ Err bad_syntax
-stored_reserved n ts h e = stored_word n ts h ∙ ap (λ b. if b then Err bad_syntax else Ok (variable n, passed ts)) e
-
-pub stored_free : (n : List ℕ) (ts us : List Token) (e : Expression) → Some n ≡ next_word ts → is_reserved n ≡ false → us ≡ passed ts →
-    e ≡ variable n → stored_by ts ≡ Ok (e, us)
-stored_free n ts us e h f k l =
-    stored_word n ts h ∙ ap (λ b. if b then Err bad_syntax else Ok (variable n, passed ts)) f ∙ ap (λ e. Ok (e, passed ts)) (sym l) ∙
-    ap (λ us. Ok (e, us)) (sym k)
-
--- paths
-pub path_on : (e f : Expression) (n : List ℕ) (ts us : List Token) → ts ≡ symbol dot ∷ identifier n ∷ us → f ≡ attribute e n →
-    all path_step e ts ≡ all path_step f us
-unfolding path_step
-path_on e f n ts us h k = all_goes path_step path_takes e f ts us (ap (λ ts. path_step e ts) h ∙ ap (λ f. goes f us) (sym k))
-
--- one level less
-pub inner_less : (dots : Bool) (d n : ℕ) (ts : List Token) → d ≡ suc n → inner_targets dots d ts ≡ targets_by dots (inner_targets dots n) ts
-unfolding inner_targets
-inner_less dots d n ts e = ap (λ d. inner_targets dots d ts) e
-
 -- a tag, the end of a block and the name behind it
 pub ruleset tag_next = (tag_here, tag_none)
 

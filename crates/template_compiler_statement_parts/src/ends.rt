@@ -1,4 +1,5 @@
 //! What must stand behind something.
+ghost use Rattle.std.specs.Prelude.{◌≡◌};
 ghost use Rattle.template_compiler_grammar.specs.Reader.{paren_end};
 ghost use Rattle.template_compiler_statement_parts.specs.Parsed.{ParsedAs, passing};
 ghost use Rattle.template_compiler_grammar.specs.TemplateReader.{block_end_by, end_name_by, expect_assign, expect_tag, expect_word, print_end, tag_end};
@@ -12,7 +13,8 @@ use template_compiler_stream::{Fault, Refusal, Sign, TokenStream};
 /// The fault of the token that stands there.
 #[tactic(auto, using(crate::proofs::Standing::print_end_here, crate::proofs::Standing::print_end_none))]
 pub fn expect_print_end<'source>(tokens: &mut TokenStream<'source>) -> Result<(), Refusal>
-    ensures { ParsedAs passing (print_end tt tokens.old.left) tokens.new.left result }
+    ensures parsed { ParsedAs passing (print_end tt tokens.old.left) tokens.new.left result }
+    ensures spans { tokens.new.spans ≡ tokens.old.spans }
 {
     if tokens.ends_print() {
         tokens.advance();
@@ -29,7 +31,8 @@ pub fn expect_print_end<'source>(tokens: &mut TokenStream<'source>) -> Result<()
 /// The fault of the token that stands there.
 #[tactic(auto, using(crate::proofs::Standing::tag_end_here, crate::proofs::Standing::tag_end_none))]
 pub fn expect_tag_end<'source>(tokens: &mut TokenStream<'source>) -> Result<(), Refusal>
-    ensures { ParsedAs passing (tag_end tt tokens.old.left) tokens.new.left result }
+    ensures parsed { ParsedAs passing (tag_end tt tokens.old.left) tokens.new.left result }
+    ensures spans { tokens.new.spans ≡ tokens.old.spans }
 {
     if tokens.ends_tag() {
         tokens.advance();
@@ -46,7 +49,8 @@ pub fn expect_tag_end<'source>(tokens: &mut TokenStream<'source>) -> Result<(), 
 /// The fault of the token that stands there.
 #[tactic(auto, using(crate::proofs::Standing::word_none), unfolding(template_compiler_grammar::specs::TemplateReader::expect_word))]
 pub fn expect_word<'source>(tokens: &mut TokenStream<'source>, word: &str) -> Result<(), Refusal>
-    ensures { ParsedAs passing (expect_word word.now tt tokens.old.left) tokens.new.left result }
+    ensures parsed { ParsedAs passing (expect_word word.now tt tokens.old.left) tokens.new.left result }
+    ensures spans { tokens.new.spans ≡ tokens.old.spans }
 {
     if tokens.skip_word(word) {
         Ok(())
@@ -62,7 +66,8 @@ pub fn expect_word<'source>(tokens: &mut TokenStream<'source>, word: &str) -> Re
 /// The fault of the token that stands there.
 #[tactic(auto, using(crate::proofs::Standing::assign_none), unfolding(template_compiler_grammar::specs::TemplateReader::expect_assign))]
 pub fn expect_assign<'source>(tokens: &mut TokenStream<'source>) -> Result<(), Refusal>
-    ensures { ParsedAs passing (expect_assign tt tokens.old.left) tokens.new.left result }
+    ensures parsed { ParsedAs passing (expect_assign tt tokens.old.left) tokens.new.left result }
+    ensures spans { tokens.new.spans ≡ tokens.old.spans }
 {
     if tokens.skip(Sign::Assign) {
         Ok(())
@@ -78,7 +83,8 @@ pub fn expect_assign<'source>(tokens: &mut TokenStream<'source>) -> Result<(), R
 /// The fault of the token that stands there.
 #[tactic(auto, using(crate::proofs::Standing::paren_none), unfolding(template_compiler_grammar::specs::Reader::paren_end))]
 pub fn expect_paren_end<'source>(tokens: &mut TokenStream<'source>) -> Result<(), Refusal>
-    ensures { ParsedAs passing (paren_end tt tokens.old.left) tokens.new.left result }
+    ensures parsed { ParsedAs passing (paren_end tt tokens.old.left) tokens.new.left result }
+    ensures spans { tokens.new.spans ≡ tokens.old.spans }
 {
     if tokens.skip(Sign::ParenClose) {
         Ok(())
@@ -94,7 +100,8 @@ pub fn expect_paren_end<'source>(tokens: &mut TokenStream<'source>) -> Result<()
 /// The fault of the first token that does not fit.
 #[tactic(auto, using(crate::proofs::Standing::tag_next), unfolding(crate::proofs::Opened::tag_read))]
 pub fn expect_tag<'source>(tokens: &mut TokenStream<'source>, word: &str) -> Result<(), Refusal>
-    ensures { ParsedAs passing (expect_tag word.now tt tokens.old.left) tokens.new.left result }
+    ensures parsed { ParsedAs passing (expect_tag word.now tt tokens.old.left) tokens.new.left result }
+    ensures spans { tokens.new.spans ≡ tokens.old.spans }
 {
     if tokens.starts_tag() {
         tokens.advance();
@@ -115,7 +122,8 @@ pub fn expect_block_end<'source>(
     tokens: &mut TokenStream<'source>,
     name: &str,
 ) -> Result<(), Refusal>
-    ensures { ParsedAs passing (block_end_by name.now tt tokens.old.left) tokens.new.left result }
+    ensures parsed { ParsedAs passing (block_end_by name.now tt tokens.old.left) tokens.new.left result }
+    ensures spans { tokens.new.spans ≡ tokens.old.spans }
 {
     if tokens.starts_tag() {
         tokens.advance();
@@ -128,7 +136,8 @@ pub fn expect_block_end<'source>(
 
 #[tactic(auto, using(crate::proofs::Standing::end_name_next), unfolding(template_compiler_grammar::specs::TemplateReader::end_name_by))]
 fn expect_end_name<'source>(tokens: &mut TokenStream<'source>, name: &str) -> Result<(), Refusal>
-    ensures { ParsedAs passing (end_name_by name.now tt tokens.old.left) tokens.new.left result }
+    ensures parsed { ParsedAs passing (end_name_by name.now tt tokens.old.left) tokens.new.left result }
+    ensures spans { tokens.new.spans ≡ tokens.old.spans }
 {
     match tokens.word() {
         Some(end) => {

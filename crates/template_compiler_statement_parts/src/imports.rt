@@ -1,9 +1,11 @@
 //! Imported names.
+ghost use Rattle.std.specs.Prelude.{◌≡◌};
 ghost use Rattle.template_compiler_tokens.specs.Steps.{and_then, all};
-ghost use Rattle.template_tree.specs.Tree.{no_imports};
 ghost use Rattle.template_compiler_statement_parts.specs.Parsed.{ParsedAs, SteppedTo, ParsedInto};
-ghost use Rattle.template_compiler_grammar.specs.TemplateReader.{import_by, more_step};
-ghost use Rattle.template_tree_statements.specs.View.{imports_in};
+ghost use Rattle.template_compiler_grammar.specs.TemplateReader.{more_step};
+ghost use Rattle.template_compiler_placed_grammar.specs.TemplateNodes.{no_placed_imports};
+ghost use Rattle.template_compiler_placed_grammar.specs.TemplateReader.{import_by};
+ghost use Rattle.template_compiler_placed_grammar.specs.Views.{placed_imports_in};
 
 use crate::growth::put;
 use crate::names::read_stored;
@@ -21,8 +23,10 @@ pub fn read_imports<'source>(
     alloc: Global,
     tokens: &mut TokenStream<'source>,
 ) -> Result<Vec<(Expr<'source>, Option<Expr<'source>>)>, Refusal>
-    ensures { ParsedAs (λ v. imports_in v.items) (and_then (import_by no_imports tokens.old.left) (all (more_step import_by)))
+    ensures parsed { let table = tokens.old.spans in
+        ParsedAs (λ v. placed_imports_in v.items) (and_then (import_by table no_placed_imports tokens.old.left) (all (more_step (import_by table))))
         tokens.new.left result }
+    ensures spans { tokens.new.spans ≡ tokens.old.spans }
 {
     let mut names = Vec::new(alloc);
     read_imported(tokens, &mut names)?;
@@ -35,7 +39,9 @@ fn read_imported<'source>(
     tokens: &mut TokenStream<'source>,
     names: &mut Vec<(Expr<'source>, Option<Expr<'source>>)>,
 ) -> Result<(), Refusal>
-    ensures { ParsedInto (import_by (imports_in names.old.items) tokens.old.left) (imports_in names.new.items) tokens.new.left result }
+    ensures parsed { ParsedInto (import_by tokens.old.spans (placed_imports_in names.old.items) tokens.old.left)
+        (placed_imports_in names.new.items) tokens.new.left result }
+    ensures spans { tokens.new.spans ≡ tokens.old.spans }
 {
     let name = read_stored(tokens)?;
     if tokens.skip_word("as") {
@@ -50,8 +56,9 @@ fn all_imported<'source>(
     tokens: &mut TokenStream<'source>,
     names: &mut Vec<(Expr<'source>, Option<Expr<'source>>)>,
 ) -> Result<(), Refusal>
-    ensures { ParsedInto (all (more_step import_by) (imports_in names.old.items) tokens.old.left)
-        (imports_in names.new.items) tokens.new.left result }
+    ensures parsed { ParsedInto (all (more_step (import_by tokens.old.spans)) (placed_imports_in names.old.items) tokens.old.left)
+        (placed_imports_in names.new.items) tokens.new.left result }
+    ensures spans { tokens.new.spans ≡ tokens.old.spans }
 {
     loop {
         match next_imported(tokens, names) {
@@ -67,8 +74,9 @@ fn next_imported<'source>(
     tokens: &mut TokenStream<'source>,
     names: &mut Vec<(Expr<'source>, Option<Expr<'source>>)>,
 ) -> Result<bool, Refusal>
-    ensures { SteppedTo (more_step import_by (imports_in names.old.items) tokens.old.left)
-        (imports_in names.old.items) tokens.old.left (imports_in names.new.items) tokens.new.left result }
+    ensures parsed { SteppedTo (more_step (import_by tokens.old.spans) (placed_imports_in names.old.items) tokens.old.left)
+        (placed_imports_in names.old.items) tokens.old.left (placed_imports_in names.new.items) tokens.new.left result }
+    ensures spans { tokens.new.spans ≡ tokens.old.spans }
 {
     if tokens.skip(Sign::Comma) {
         read_imported(tokens, names)?;

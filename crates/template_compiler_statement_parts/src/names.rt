@@ -1,7 +1,7 @@
 //! Names that may be stored.
 ghost use Rattle.std.specs.Prelude.{◌≡◌};
-ghost use Rattle.template_compiler_statement_parts.specs.Parsed.{Parsed};
-ghost use Rattle.template_compiler_grammar.specs.TemplateReader.{stored_by};
+ghost use Rattle.template_compiler_statement_parts.specs.Parsed.{ParsedNode};
+ghost use Rattle.template_compiler_placed_grammar.specs.TemplateReader.{stored_by};
 ghost use Rattle.template_compiler_grammar.specs.TemplateWords.{is_reserved};
 
 use template_compiler_stream::{Fault, Refusal, TokenStream};
@@ -22,9 +22,10 @@ pub fn is_reserved(name: &str) -> bool
 /// # Errors
 ///
 /// The fault of the token that stands there.
-#[tactic(auto, using(crate::proofs::Standing::stored_word, crate::proofs::Standing::stored_none))]
+#[tactic(auto, using(crate::proofs::Placed::stored_word, crate::proofs::Placed::stored_none))]
 pub fn read_stored<'source>(tokens: &mut TokenStream<'source>) -> Result<Expr<'source>, Refusal>
-    ensures { Parsed (stored_by tokens.old.left) tokens.new.left result }
+    ensures parsed { ParsedNode (stored_by tokens.old.spans tokens.old.left) tokens.new.left result }
+    ensures spans { tokens.new.spans ≡ tokens.old.spans }
 {
     let span = tokens.span();
     match tokens.word() {

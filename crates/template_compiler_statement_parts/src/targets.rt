@@ -1,10 +1,12 @@
 //! Targets: names, and names that are unpacked.
 ghost use Rattle.std.specs.Prelude.{◌≡◌, IfOk};
-ghost use Rattle.template_compiler_statement_parts.specs.Parsed.{Parsed, ParsedInto, PassesPart, SteppedTo};
-ghost use Rattle.template_compiler_grammar.specs.TemplateReader.{inner_targets, more_step, more_targets_by, one_target_by, path_by, path_step, stored_by, target_by, targets_by};
-ghost use Rattle.template_compiler_grammar.specs.TemplateTrees.{unpacked};
+ghost use Rattle.template_compiler_statement_parts.specs.Parsed.{ParsedInto, ParsedNode, PassesPart, SteppedTo};
+ghost use Rattle.template_compiler_grammar.specs.TemplateReader.{more_step};
+ghost use Rattle.template_compiler_placed_grammar.specs.TemplateNodes.{unpacked_node};
+ghost use Rattle.template_compiler_placed_grammar.specs.TemplateReader.{inner_targets, more_targets_by, one_target_by, path_by, path_step, stored_by, target_by, targets_by};
+ghost use Rattle.template_compiler_placed_grammar.specs.Views.{node_of, nodes_in};
+ghost use Rattle.template_compiler_tokens.specs.Places.{next_span};
 ghost use Rattle.template_compiler_tokens.specs.Steps.{all, and_then};
-ghost use Rattle.template_tree.specs.View.{expression_of, expressions_in};
 
 use crate::ends::expect_paren_end;
 use crate::growth::put;
@@ -26,7 +28,9 @@ pub fn read_target<'source>(
     left: u32,
     dots: bool,
 ) -> Result<Expr<'source>, Refusal>
-    ensures { Parsed (target_by dots (inner_targets dots left) tokens.old.left) tokens.new.left result }
+    ensures parsed { let table = tokens.old.spans in
+        ParsedNode (target_by table dots (inner_targets table dots left) tokens.old.left) tokens.new.left result }
+    ensures spans { tokens.new.spans ≡ tokens.old.spans }
 {
     if tokens.skip(Sign::ParenOpen) {
         let targets = read_inner_targets(alloc, tokens, left, dots)?;
@@ -39,14 +43,15 @@ pub fn read_target<'source>(
 
 // Targets in parentheses are one nesting level deeper.
 #[cycle(targets)]
-#[tactic(auto, unfolding(template_compiler_grammar::specs::TemplateReader::inner_targets))]
+#[tactic(auto, unfolding(template_compiler_placed_grammar::specs::TemplateReader::inner_targets))]
 fn read_inner_targets<'source>(
     alloc: Global,
     tokens: &mut TokenStream<'source>,
     left: u32,
     dots: bool,
 ) -> Result<Expr<'source>, Refusal>
-    ensures { Parsed (inner_targets dots left tokens.old.left) tokens.new.left result }
+    ensures parsed { ParsedNode (inner_targets tokens.old.spans dots left tokens.old.left) tokens.new.left result }
+    ensures spans { tokens.new.spans ≡ tokens.old.spans }
 {
     if left == 0 {
         Err(Refusal::Token(Fault::Syntax))
@@ -61,14 +66,16 @@ fn read_inner_targets<'source>(
 ///
 /// The fault of the token that does not fit, or want of memory.
 #[cycle(targets)]
-#[tactic(auto, unfolding(template_compiler_tokens::specs::Steps::and_then, template_compiler_grammar::specs::TemplateReader::targets_by))]
+#[tactic(auto, unfolding(template_compiler_tokens::specs::Steps::and_then, template_compiler_placed_grammar::specs::TemplateReader::targets_by))]
 pub fn read_targets<'source>(
     alloc: Global,
     tokens: &mut TokenStream<'source>,
     left: u32,
     dots: bool,
 ) -> Result<Expr<'source>, Refusal>
-    ensures { Parsed (targets_by dots (inner_targets dots left) tokens.old.left) tokens.new.left result }
+    ensures parsed { let table = tokens.old.spans in
+        ParsedNode (targets_by table dots (inner_targets table dots left) tokens.old.left) tokens.new.left result }
+    ensures spans { tokens.new.spans ≡ tokens.old.spans }
 {
     let start = tokens.span();
     let first = read_target(alloc, tokens, left, dots)?;
@@ -81,7 +88,7 @@ pub fn read_targets<'source>(
 ///
 /// The fault of the token that does not fit, or want of memory.
 #[cycle(targets)]
-#[tactic(auto, unfolding(template_compiler_tokens::specs::Steps::and_then, template_compiler_grammar::specs::TemplateReader::more_targets_by))]
+#[tactic(auto, unfolding(template_compiler_tokens::specs::Steps::and_then, template_compiler_placed_grammar::specs::TemplateReader::more_targets_by))]
 pub fn read_more_targets<'source>(
     alloc: Global,
     tokens: &mut TokenStream<'source>,
@@ -90,7 +97,10 @@ pub fn read_more_targets<'source>(
     first: Expr<'source>,
     start: Span,
 ) -> Result<Expr<'source>, Refusal>
-    ensures { Parsed (more_targets_by dots (inner_targets dots left) (expression_of first.entry) tokens.old.left) tokens.new.left result }
+    ensures parsed { let table = tokens.old.spans in
+        ParsedNode (more_targets_by table dots (inner_targets table dots left) start (node_of first.entry) tokens.old.left)
+        tokens.new.left result }
+    ensures spans { tokens.new.spans ≡ tokens.old.spans }
 {
     let mut targets = Vec::new(alloc);
     put(&mut targets, first)?;
@@ -106,8 +116,10 @@ fn all_targets<'source>(
     dots: bool,
     targets: &mut Vec<Expr<'source>>,
 ) -> Result<(), Refusal>
-    ensures { ParsedInto (all (more_step (one_target_by dots (inner_targets dots left))) (expressions_in targets.old.items) tokens.old.left)
-        (expressions_in targets.new.items) tokens.new.left result }
+    ensures parsed { let table = tokens.old.spans in
+        ParsedInto (all (more_step (one_target_by table dots (inner_targets table dots left))) (nodes_in targets.old.items) tokens.old.left)
+        (nodes_in targets.new.items) tokens.new.left result }
+    ensures spans { tokens.new.spans ≡ tokens.old.spans }
 {
     loop {
         match next_target(alloc, tokens, left, dots, targets) {
@@ -127,8 +139,10 @@ fn next_target<'source>(
     dots: bool,
     targets: &mut Vec<Expr<'source>>,
 ) -> Result<bool, Refusal>
-    ensures { SteppedTo (more_step (one_target_by dots (inner_targets dots left)) (expressions_in targets.old.items) tokens.old.left)
-        (expressions_in targets.old.items) tokens.old.left (expressions_in targets.new.items) tokens.new.left result }
+    ensures parsed { let table = tokens.old.spans in
+        SteppedTo (more_step (one_target_by table dots (inner_targets table dots left)) (nodes_in targets.old.items) tokens.old.left)
+        (nodes_in targets.old.items) tokens.old.left (nodes_in targets.new.items) tokens.new.left result }
+    ensures spans { tokens.new.spans ≡ tokens.old.spans }
 {
     if tokens.skip(Sign::Comma) {
         put(targets, read_target(alloc, tokens, left, dots)?)?;
@@ -139,35 +153,40 @@ fn next_target<'source>(
 }
 
 // A name, with the attributes behind it where it may have some.
-#[tactic(auto, unfolding(template_compiler_tokens::specs::Steps::and_then, template_compiler_grammar::specs::TemplateReader::path_by))]
+#[tactic(auto, unfolding(template_compiler_tokens::specs::Steps::and_then, template_compiler_placed_grammar::specs::TemplateReader::path_by))]
 fn read_path_target<'source>(
     alloc: Global,
     tokens: &mut TokenStream<'source>,
     dots: bool,
 ) -> Result<Expr<'source>, Refusal>
-    ensures { Parsed (and_then (stored_by tokens.old.left) (path_by dots)) tokens.new.left result }
+    ensures parsed { let table = tokens.old.spans in
+        ParsedNode (and_then (stored_by table tokens.old.left) (path_by table dots (next_span table tokens.old.left))) tokens.new.left result }
+    ensures spans { tokens.new.spans ≡ tokens.old.spans }
 {
+    let start = tokens.span();
     let name = read_stored(tokens)?;
     if dots {
-        read_path(alloc, tokens, name)
+        read_path(alloc, tokens, name, start)
     } else {
         Ok(name)
     }
 }
 
+// The attributes behind a name, which begins at `start`.
 fn read_path<'source>(
     alloc: Global,
     tokens: &mut TokenStream<'source>,
     name: Expr<'source>,
+    start: Span,
 ) -> Result<Expr<'source>, Refusal>
-    ensures { Parsed (all path_step (expression_of name.entry) tokens.old.left) tokens.new.left result }
+    ensures parsed { ParsedNode (all (path_step tokens.old.spans start) (node_of name.entry) tokens.old.left) tokens.new.left result }
+    ensures spans { tokens.new.spans ≡ tokens.old.spans }
 {
-    let span = name.span();
     let mut target = name;
     loop {
         match next_part(tokens) {
             Some(part) => {
-                target = Expr::attribute(alloc, target, part, tokens.expand_span(span))?;
+                target = Expr::attribute(alloc, target, part, tokens.expand_span(start))?;
             }
             None => return Ok(target),
         }
@@ -175,9 +194,10 @@ fn read_path<'source>(
 }
 
 // A dot and a name, where both stand next: the name.
-#[tactic(auto, using(crate::proofs::Standing::no_part_word, crate::proofs::Standing::no_part_dot, crate::proofs::Standing::part_word))]
+#[tactic(auto, using(crate::proofs::Placed::no_part_word, crate::proofs::Placed::no_part_dot, crate::proofs::Standing::part_word))]
 fn next_part<'source>(tokens: &mut TokenStream<'source>) -> Option<&'source str>
-    ensures { PassesPart tokens.old.left tokens.new.left result }
+    ensures parsed { PassesPart tokens.old.left tokens.new.left result }
+    ensures spans { tokens.new.spans ≡ tokens.old.spans }
 {
     match tokens.second_word() {
         Some(part) => {
@@ -193,13 +213,12 @@ fn next_part<'source>(tokens: &mut TokenStream<'source>) -> Option<&'source str>
 }
 
 // One target is itself, several are unpacked.
-#[tactic(auto, using(crate::proofs::Lists::several_unpacked))]
 fn unpacked<'source>(
     alloc: Global,
     targets: Vec<Expr<'source>>,
     span: Span,
 ) -> Result<Expr<'source>, AllocError>
-    ensures { IfOk result (λ e. expression_of e ≡ unpacked (expressions_in targets.entry.items)) }
+    ensures { IfOk result (λ e. node_of e ≡ unpacked_node (nodes_in targets.entry.items) span) }
 {
     let mut targets = targets;
     if targets.len() == 1 {

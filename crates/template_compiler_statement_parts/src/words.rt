@@ -48,7 +48,8 @@ pub fn begins_values<'source>(tokens: &TokenStream<'source>) -> bool
 /// Passes the word where it stands next.
 #[tactic(auto, using(crate::proofs::Standing::flag_none), unfolding(template_compiler_grammar::specs::TemplateReader::word_by))]
 pub fn read_flag<'source>(tokens: &mut TokenStream<'source>, word: &str) -> bool
-    ensures { word_by word.now tokens.old.left ≡ Ok (result, tokens.new.left) }
+    ensures parsed { word_by word.now tokens.old.left ≡ Ok (result, tokens.new.left) }
+    ensures spans { tokens.new.spans ≡ tokens.old.spans }
 {
     tokens.skip_word(word)
 }
@@ -60,7 +61,8 @@ pub fn read_flag<'source>(tokens: &mut TokenStream<'source>, word: &str) -> bool
 /// The fault of the token that stands in the place of `context`.
 #[tactic(auto, using(crate::proofs::Standing::context_none), unfolding(template_compiler_grammar::specs::TemplateReader::context_by))]
 pub fn pass_context<'source>(tokens: &mut TokenStream<'source>) -> Result<(), Refusal>
-    ensures { ParsedAs passing (context_by tt tokens.old.left) tokens.new.left result }
+    ensures parsed { ParsedAs passing (context_by tt tokens.old.left) tokens.new.left result }
+    ensures spans { tokens.new.spans ≡ tokens.old.spans }
 {
     if tokens.skip_word("with") {
         expect_word(tokens, "context")
@@ -76,7 +78,8 @@ pub fn pass_context<'source>(tokens: &mut TokenStream<'source>) -> Result<(), Re
 /// The fault of the token that does not fit.
 #[tactic(auto, using(crate::proofs::Parts::missing_next), unfolding(crate::proofs::Opened::missing_read))]
 pub fn read_missing<'source>(tokens: &mut TokenStream<'source>) -> Result<bool, Refusal>
-    ensures { ParsedAs (λ b. b) (missing_by tokens.old.left) tokens.new.left result }
+    ensures parsed { ParsedAs (λ b. b) (missing_by tokens.old.left) tokens.new.left result }
+    ensures spans { tokens.new.spans ≡ tokens.old.spans }
 {
     pass_context(tokens)?;
     if tokens.skip_word("ignore") {

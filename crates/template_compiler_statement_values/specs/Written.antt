@@ -3,8 +3,15 @@ use Rattle.std.specs.Prelude.{Bool, true, false, List, [], ◌∷◌, Option, No
 use Rattle.template_tree.specs.Tree.{Expression, Arguments}
 use Rattle.template_tree.specs.View.{expression_of, expressions_in, arguments_in}
 use Rattle.template_compiler_tokens.specs.Token.{Token, symbol, dot, identifier}
+use Rattle.template_tree.specs.ExpressionPlaces.{places_in}
 use Rattle.template_compiler_grammar.specs.TemplateTrees.{Parameters as Declared}
+use Rattle.template_compiler_placed_grammar.specs.Nodes.{placed}
+use Rattle.template_compiler_placed_grammar.specs.TemplateNodes.{PlacedParameters}
 use Rattle.template_compiler_statement_values.specs.declared.parameters.Parameters.{Parameters}
 
 abbrev pub parameters_of : Parameters → Declared
 parameters_of p = (expressions_in p.args.items, expressions_in p.defaults.items)
+
+-- with where they stand
+abbrev pub placed_parameters_of : Parameters → PlacedParameters
+placed_parameters_of p = placed (parameters_of p) (places_in p.args.items, places_in p.defaults.items)

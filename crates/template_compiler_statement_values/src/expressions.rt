@@ -1,7 +1,8 @@
 //! What statements read of expressions.
-ghost use Rattle.template_compiler_grammar.specs.Reader.{condition_at, expression_at, filter_at, filter_chain_at};
+ghost use Rattle.std.specs.Prelude.{◌≡◌};
+ghost use Rattle.template_compiler_placed_grammar.specs.Reader.{condition_at, expression_at, filter_at, filter_chain_at};
+ghost use Rattle.template_compiler_placed_grammar.specs.Views.{node_of, optional_node_in};
 ghost use Rattle.template_compiler_statement_parts.specs.Parsed.{ParsedAs};
-ghost use Rattle.template_tree.specs.View.{expression_of, optional_in};
 
 use std::alloc::Global;
 use template_compiler_stream::{Refusal, TokenStream};
@@ -17,7 +18,8 @@ pub trait ReadsExpressions {
         tokens: &mut TokenStream<'source>,
         left: u32,
     ) -> Result<Expr<'source>, Refusal>
-        ensures { ParsedAs expression_of (expression_at left tokens.old.left) tokens.new.left result };
+        ensures parsed { ParsedAs node_of (expression_at tokens.old.spans left tokens.old.left) tokens.new.left result }
+        ensures spans { tokens.new.spans ≡ tokens.old.spans };
 
     /// Reads an expression that is no if-expression, as behind the `in` of a loop: an `if` behind it stays.
     fn read_condition<'source>(
@@ -25,7 +27,8 @@ pub trait ReadsExpressions {
         tokens: &mut TokenStream<'source>,
         left: u32,
     ) -> Result<Expr<'source>, Refusal>
-        ensures { ParsedAs expression_of (condition_at left tokens.old.left) tokens.new.left result };
+        ensures parsed { ParsedAs node_of (condition_at tokens.old.spans left tokens.old.left) tokens.new.left result }
+        ensures spans { tokens.new.spans ≡ tokens.old.spans };
 
     /// Reads a filter's name and its arguments: the filter of the value, or of none, as the first one of a filter block.
     fn read_filter<'source>(
@@ -34,7 +37,9 @@ pub trait ReadsExpressions {
         left: u32,
         value: Option<Expr<'source>>,
     ) -> Result<Expr<'source>, Refusal>
-        ensures { ParsedAs expression_of (filter_at left (optional_in value.entry) tokens.old.left) tokens.new.left result };
+        ensures parsed { let table = tokens.old.spans in
+            ParsedAs node_of (filter_at table left (optional_node_in value.entry) tokens.old.left) tokens.new.left result }
+        ensures spans { tokens.new.spans ≡ tokens.old.spans };
 
     /// Reads the filters behind the value, or behind none, each after a `|`: the value itself where no `|` stands next.
     fn read_filter_chain<'source>(
@@ -43,5 +48,7 @@ pub trait ReadsExpressions {
         left: u32,
         value: Option<Expr<'source>>,
     ) -> Result<Option<Expr<'source>>, Refusal>
-        ensures { ParsedAs optional_in (filter_chain_at left (optional_in value.entry) tokens.old.left) tokens.new.left result };
+        ensures parsed { let table = tokens.old.spans in
+            ParsedAs optional_node_in (filter_chain_at table left (optional_node_in value.entry) tokens.old.left) tokens.new.left result }
+        ensures spans { tokens.new.spans ≡ tokens.old.spans };
 }

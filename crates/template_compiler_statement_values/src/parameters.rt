@@ -1,10 +1,11 @@
 //! The arguments that a macro or the body of a call is declared with.
 ghost use Rattle.std.specs.Prelude.{◌≡◌, [], ◌∷◌};
-ghost use Rattle.template_compiler_grammar.specs.Reader.{expression_at};
 ghost use Rattle.template_compiler_statement_parts.specs.Parsed.{ParsedAs, SteppedTo, ParsedInto};
-ghost use Rattle.template_compiler_statement_values.specs.Written.{parameters_of};
-ghost use Rattle.template_compiler_grammar.specs.TemplateReader.{deeper_parameters, here, is_nothing, more_step, optional_parameters_by, parameter_by, parameters_by};
-ghost use Rattle.template_compiler_grammar.specs.TemplateTrees.{no_parameters};
+ghost use Rattle.template_compiler_statement_values.specs.Written.{parameters_of, placed_parameters_of};
+ghost use Rattle.template_compiler_grammar.specs.TemplateReader.{is_nothing, more_step};
+ghost use Rattle.template_compiler_placed_grammar.specs.Reader.{expression_at};
+ghost use Rattle.template_compiler_placed_grammar.specs.TemplateNodes.{no_placed_parameters};
+ghost use Rattle.template_compiler_placed_grammar.specs.TemplateReader.{deeper_parameters, here, optional_parameters_by, parameter_by, parameters_by};
 ghost use Rattle.template_compiler_tokens.specs.Steps.{all};
 
 use crate::expressions::ReadsExpressions;
@@ -21,7 +22,7 @@ pub struct Parameters<'source> {
 }
 
 fn no_parameters<'source>(alloc: Global) -> Parameters<'source>
-    ensures { parameters_of result ≡ no_parameters }
+    ensures { placed_parameters_of result ≡ no_placed_parameters }
 {
     Parameters {
         args: Vec::new(alloc),
@@ -38,13 +39,15 @@ fn no_parameters<'source>(alloc: Global) -> Parameters<'source>
 /// # Errors
 ///
 /// The fault of the token that does not fit, or want of memory.
-#[tactic(auto, using(template_compiler_statement_parts::proofs::Standing::no_parens), unfolding(crate::proofs::Opened::optional_read))]
+#[tactic(auto, using(crate::proofs::Placed::no_parens), unfolding(crate::proofs::Opened::optional_read))]
 pub fn read_optional_parameters<'source, R: ReadsExpressions>(
     alloc: Global,
     tokens: &mut TokenStream<'source>,
     left: u32,
 ) -> Result<Parameters<'source>, Refusal>
-    ensures { ParsedAs parameters_of (optional_parameters_by (here left) tokens.old.left) tokens.new.left result }
+    ensures parsed { let table = tokens.old.spans in
+        ParsedAs placed_parameters_of (optional_parameters_by table (here table left) tokens.old.left) tokens.new.left result }
+    ensures spans { tokens.new.spans ≡ tokens.old.spans }
 {
     if tokens.skip(Sign::ParenOpen) {
         read_deeper_parameters::<R>(alloc, tokens, left)
@@ -62,13 +65,14 @@ pub fn read_optional_parameters<'source, R: ReadsExpressions>(
 /// # Errors
 ///
 /// The fault of the token that does not fit, or want of memory.
-#[tactic(auto, unfolding(template_compiler_grammar::specs::TemplateReader::deeper_parameters))]
+#[tactic(auto, unfolding(template_compiler_placed_grammar::specs::TemplateReader::deeper_parameters))]
 pub fn read_deeper_parameters<'source, R: ReadsExpressions>(
     alloc: Global,
     tokens: &mut TokenStream<'source>,
     left: u32,
 ) -> Result<Parameters<'source>, Refusal>
-    ensures { ParsedAs parameters_of (deeper_parameters left tokens.old.left) tokens.new.left result }
+    ensures parsed { ParsedAs placed_parameters_of (deeper_parameters tokens.old.spans left tokens.old.left) tokens.new.left result }
+    ensures spans { tokens.new.spans ≡ tokens.old.spans }
 {
     if left == 0 {
         Err(Refusal::Token(Fault::Syntax))
@@ -83,7 +87,9 @@ fn read_parameters<'source, R: ReadsExpressions>(
     tokens: &mut TokenStream<'source>,
     left: u32,
 ) -> Result<Parameters<'source>, Refusal>
-    ensures { ParsedAs parameters_of (parameters_by (expression_at left) tokens.old.left) tokens.new.left result }
+    ensures parsed { let table = tokens.old.spans in
+        ParsedAs placed_parameters_of (parameters_by table (expression_at table left) tokens.old.left) tokens.new.left result }
+    ensures spans { tokens.new.spans ≡ tokens.old.spans }
 {
     let mut parameters = no_parameters(alloc);
     if tokens.skip(Sign::ParenClose) {
@@ -102,8 +108,10 @@ fn read_parameter<'source, R: ReadsExpressions>(
     left: u32,
     parameters: &mut Parameters<'source>,
 ) -> Result<(), Refusal>
-    ensures { ParsedInto (parameter_by (expression_at left) (parameters_of parameters.old) tokens.old.left)
-        (parameters_of parameters.new) tokens.new.left result }
+    ensures parsed { let table = tokens.old.spans in
+        ParsedInto (parameter_by table (expression_at table left) (placed_parameters_of parameters.old) tokens.old.left)
+        (placed_parameters_of parameters.new) tokens.new.left result }
+    ensures spans { tokens.new.spans ≡ tokens.old.spans }
 {
     let name = read_stored(tokens)?;
     if tokens.skip(Sign::Assign) {
@@ -130,8 +138,10 @@ fn all_parameters<'source, R: ReadsExpressions>(
     left: u32,
     parameters: &mut Parameters<'source>,
 ) -> Result<(), Refusal>
-    ensures { ParsedInto (all (more_step (parameter_by (expression_at left))) (parameters_of parameters.old) tokens.old.left)
-        (parameters_of parameters.new) tokens.new.left result }
+    ensures parsed { let table = tokens.old.spans in
+        ParsedInto (all (more_step (parameter_by table (expression_at table left))) (placed_parameters_of parameters.old) tokens.old.left)
+        (placed_parameters_of parameters.new) tokens.new.left result }
+    ensures spans { tokens.new.spans ≡ tokens.old.spans }
 {
     loop {
         match next_parameter::<R>(alloc, tokens, left, parameters) {
@@ -149,8 +159,10 @@ fn next_parameter<'source, R: ReadsExpressions>(
     left: u32,
     parameters: &mut Parameters<'source>,
 ) -> Result<bool, Refusal>
-    ensures { SteppedTo (more_step (parameter_by (expression_at left)) (parameters_of parameters.old) tokens.old.left)
-        (parameters_of parameters.old) tokens.old.left (parameters_of parameters.new) tokens.new.left result }
+    ensures parsed { let table = tokens.old.spans in
+        SteppedTo (more_step (parameter_by table (expression_at table left)) (placed_parameters_of parameters.old) tokens.old.left)
+        (placed_parameters_of parameters.old) tokens.old.left (placed_parameters_of parameters.new) tokens.new.left result }
+    ensures spans { tokens.new.spans ≡ tokens.old.spans }
 {
     if tokens.skip(Sign::Comma) {
         read_parameter::<R>(alloc, tokens, left, parameters)?;

@@ -1,12 +1,12 @@
 //! Values, and targets with values.
 ghost use Rattle.std.specs.Prelude.{◌≡◌, IfOk};
-ghost use Rattle.template_compiler_statement_parts.specs.Parsed.{Parsed, ParsedAs, SteppedTo, ParsedInto};
-ghost use Rattle.template_compiler_grammar.specs.Reader.{expression_at};
-ghost use Rattle.template_compiler_grammar.specs.TemplateReader.{assignment_by, assignments_by, here, loop_filter_by, more_step, value_by, values_by};
-ghost use Rattle.template_compiler_grammar.specs.TemplateTrees.{together};
+ghost use Rattle.template_compiler_statement_parts.specs.Parsed.{ParsedAs, ParsedInto, ParsedNode, SteppedTo};
+ghost use Rattle.template_compiler_grammar.specs.TemplateReader.{more_step};
+ghost use Rattle.template_compiler_placed_grammar.specs.Reader.{expression_at};
+ghost use Rattle.template_compiler_placed_grammar.specs.TemplateNodes.{together_node};
+ghost use Rattle.template_compiler_placed_grammar.specs.TemplateReader.{assignment_by, assignments_by, here, loop_filter_by, value_by, values_by};
+ghost use Rattle.template_compiler_placed_grammar.specs.Views.{node_of, nodes_in, optional_node_in, placed_assignments_in};
 ghost use Rattle.template_compiler_tokens.specs.Steps.{all};
-ghost use Rattle.template_tree.specs.View.{expression_of, expressions_in, optional_in};
-ghost use Rattle.template_tree_statements.specs.View.{assignments_in};
 
 use crate::expressions::ReadsExpressions;
 use std::alloc::{AllocError, Global};
@@ -24,13 +24,14 @@ use template_tree::{Expr, Span};
 /// # Errors
 ///
 /// The fault of the token that does not fit, or want of memory.
-#[tactic(auto, unfolding(template_compiler_tokens::specs::Steps::and_then, template_compiler_grammar::specs::TemplateReader::values_by))]
+#[tactic(auto, unfolding(template_compiler_tokens::specs::Steps::and_then, template_compiler_placed_grammar::specs::TemplateReader::values_by))]
 pub fn read_values<'source, R: ReadsExpressions>(
     alloc: Global,
     tokens: &mut TokenStream<'source>,
     left: u32,
 ) -> Result<Expr<'source>, Refusal>
-    ensures { Parsed (values_by (expression_at left) tokens.old.left) tokens.new.left result }
+    ensures parsed { let table = tokens.old.spans in ParsedNode (values_by table (expression_at table left) tokens.old.left) tokens.new.left result }
+    ensures spans { tokens.new.spans ≡ tokens.old.spans }
 {
     let span = tokens.span();
     let mut values = Vec::new(alloc);
@@ -39,15 +40,17 @@ pub fn read_values<'source, R: ReadsExpressions>(
     together(alloc, values, tokens.expand_span(span)).map_err(Refusal::from)
 }
 
-#[tactic(auto, using(template_compiler_statement_parts::proofs::Lists::expressions_push), unfolding(crate::proofs::Opened::value_read))]
+#[tactic(auto, using(template_compiler_placed_grammar::proofs::Pushes::nodes_push), unfolding(crate::proofs::Opened::value_read))]
 fn read_value<'source, R: ReadsExpressions>(
     alloc: Global,
     tokens: &mut TokenStream<'source>,
     left: u32,
     values: &mut Vec<Expr<'source>>,
 ) -> Result<(), Refusal>
-    ensures { ParsedInto (value_by (expression_at left) (expressions_in values.old.items) tokens.old.left)
-        (expressions_in values.new.items) tokens.new.left result }
+    ensures parsed { let table = tokens.old.spans in
+        ParsedInto (value_by table (expression_at table left) (nodes_in values.old.items) tokens.old.left)
+        (nodes_in values.new.items) tokens.new.left result }
+    ensures spans { tokens.new.spans ≡ tokens.old.spans }
 {
     put(values, R::read_expression(alloc, tokens, left)?)
 }
@@ -58,8 +61,10 @@ fn all_values<'source, R: ReadsExpressions>(
     left: u32,
     values: &mut Vec<Expr<'source>>,
 ) -> Result<(), Refusal>
-    ensures { ParsedInto (all (more_step (value_by (expression_at left))) (expressions_in values.old.items) tokens.old.left)
-        (expressions_in values.new.items) tokens.new.left result }
+    ensures parsed { let table = tokens.old.spans in
+        ParsedInto (all (more_step (value_by table (expression_at table left))) (nodes_in values.old.items) tokens.old.left)
+        (nodes_in values.new.items) tokens.new.left result }
+    ensures spans { tokens.new.spans ≡ tokens.old.spans }
 {
     loop {
         match next_value::<R>(alloc, tokens, left, values) {
@@ -77,8 +82,10 @@ fn next_value<'source, R: ReadsExpressions>(
     left: u32,
     values: &mut Vec<Expr<'source>>,
 ) -> Result<bool, Refusal>
-    ensures { SteppedTo (more_step (value_by (expression_at left)) (expressions_in values.old.items) tokens.old.left)
-        (expressions_in values.old.items) tokens.old.left (expressions_in values.new.items) tokens.new.left result }
+    ensures parsed { let table = tokens.old.spans in
+        SteppedTo (more_step (value_by table (expression_at table left)) (nodes_in values.old.items) tokens.old.left)
+        (nodes_in values.old.items) tokens.old.left (nodes_in values.new.items) tokens.new.left result }
+    ensures spans { tokens.new.spans ≡ tokens.old.spans }
 {
     if tokens.skip(Sign::Comma) {
         read_value::<R>(alloc, tokens, left, values)?;
@@ -89,13 +96,12 @@ fn next_value<'source, R: ReadsExpressions>(
 }
 
 // One value is itself, several are a tuple.
-#[tactic(auto, using(template_compiler_statement_parts::proofs::Lists::several_together))]
 fn together<'source>(
     alloc: Global,
     values: Vec<Expr<'source>>,
     span: Span,
 ) -> Result<Expr<'source>, AllocError>
-    ensures { IfOk result (λ e. expression_of e ≡ together (expressions_in values.entry.items)) }
+    ensures { IfOk result (λ e. node_of e ≡ together_node (nodes_in values.entry.items) span) }
 {
     let mut values = values;
     if values.len() == 1 {
@@ -121,7 +127,9 @@ pub fn read_assignments<'source, R: ReadsExpressions>(
     tokens: &mut TokenStream<'source>,
     left: u32,
 ) -> Result<Vec<(Expr<'source>, Expr<'source>)>, Refusal>
-    ensures { ParsedAs (λ v. assignments_in v.items) (assignments_by (here left) tokens.old.left) tokens.new.left result }
+    ensures parsed { let table = tokens.old.spans in
+        ParsedAs (λ v. placed_assignments_in v.items) (assignments_by table (here table left) tokens.old.left) tokens.new.left result }
+    ensures spans { tokens.new.spans ≡ tokens.old.spans }
 {
     let mut pairs = Vec::new(alloc);
     if tokens.ends_tag() {
@@ -139,8 +147,10 @@ fn read_assignment<'source, R: ReadsExpressions>(
     left: u32,
     pairs: &mut Vec<(Expr<'source>, Expr<'source>)>,
 ) -> Result<(), Refusal>
-    ensures { ParsedInto (assignment_by (here left) (assignments_in pairs.old.items) tokens.old.left)
-        (assignments_in pairs.new.items) tokens.new.left result }
+    ensures parsed { let table = tokens.old.spans in
+        ParsedInto (assignment_by table (here table left) (placed_assignments_in pairs.old.items) tokens.old.left)
+        (placed_assignments_in pairs.new.items) tokens.new.left result }
+    ensures spans { tokens.new.spans ≡ tokens.old.spans }
 {
     let target = read_target(alloc, tokens, left, false)?;
     expect_assign(tokens)?;
@@ -154,8 +164,10 @@ fn all_assignments<'source, R: ReadsExpressions>(
     left: u32,
     pairs: &mut Vec<(Expr<'source>, Expr<'source>)>,
 ) -> Result<(), Refusal>
-    ensures { ParsedInto (all (more_step (assignment_by (here left))) (assignments_in pairs.old.items) tokens.old.left)
-        (assignments_in pairs.new.items) tokens.new.left result }
+    ensures parsed { let table = tokens.old.spans in
+        ParsedInto (all (more_step (assignment_by table (here table left))) (placed_assignments_in pairs.old.items) tokens.old.left)
+        (placed_assignments_in pairs.new.items) tokens.new.left result }
+    ensures spans { tokens.new.spans ≡ tokens.old.spans }
 {
     loop {
         match next_assignment::<R>(alloc, tokens, left, pairs) {
@@ -173,8 +185,10 @@ fn next_assignment<'source, R: ReadsExpressions>(
     left: u32,
     pairs: &mut Vec<(Expr<'source>, Expr<'source>)>,
 ) -> Result<bool, Refusal>
-    ensures { SteppedTo (more_step (assignment_by (here left)) (assignments_in pairs.old.items) tokens.old.left)
-        (assignments_in pairs.old.items) tokens.old.left (assignments_in pairs.new.items) tokens.new.left result }
+    ensures parsed { let table = tokens.old.spans in
+        SteppedTo (more_step (assignment_by table (here table left)) (placed_assignments_in pairs.old.items) tokens.old.left)
+        (placed_assignments_in pairs.old.items) tokens.old.left (placed_assignments_in pairs.new.items) tokens.new.left result }
+    ensures spans { tokens.new.spans ≡ tokens.old.spans }
 {
     if tokens.skip(Sign::Comma) {
         read_assignment::<R>(alloc, tokens, left, pairs)?;
@@ -193,13 +207,15 @@ fn next_assignment<'source, R: ReadsExpressions>(
 /// # Errors
 ///
 /// The fault of the token that does not fit, or want of memory.
-#[tactic(auto, using(template_compiler_statement_parts::proofs::Standing::no_filter), unfolding(crate::proofs::Opened::filter_read))]
+#[tactic(auto, using(crate::proofs::Placed::no_filter), unfolding(crate::proofs::Opened::filter_read))]
 pub fn read_loop_filter<'source, R: ReadsExpressions>(
     alloc: Global,
     tokens: &mut TokenStream<'source>,
     left: u32,
 ) -> Result<Option<Expr<'source>>, Refusal>
-    ensures { ParsedAs optional_in (loop_filter_by (expression_at left) tokens.old.left) tokens.new.left result }
+    ensures parsed { let table = tokens.old.spans in
+        ParsedAs optional_node_in (loop_filter_by table (expression_at table left) tokens.old.left) tokens.new.left result }
+    ensures spans { tokens.new.spans ≡ tokens.old.spans }
 {
     if tokens.skip_word("if") {
         let filter = R::read_expression(alloc, tokens, left)?;

@@ -1,7 +1,8 @@
 use Rattle.std.proofs.Common.{◌≡◌, ◌+◌, ◌*◌, length}
-use Rattle.template_tree.specs.View.{expressions_in}
 use Rattle.template_compiler_tokens.specs.Steps.{all}
-use Rattle.template_compiler_grammar.specs.TemplateReader.{more_step, one_target_by, inner_targets}
+use Rattle.template_compiler_grammar.specs.TemplateReader.{more_step}
+use Rattle.template_compiler_placed_grammar.specs.TemplateReader.{one_target_by, inner_targets}
+use Rattle.template_compiler_placed_grammar.specs.Views.{nodes_in}
 use Rattle.template_compiler_statement_parts.proofs.targets.+targets.Given as goal
 
 abbrev pub decreases-read_target : goal.decreases-read_target
@@ -24,8 +25,11 @@ decreases-next_target l = 8 * l.left + 3
 
 abbrev pub invariant-all_targets-loop-refusal : goal.invariant-all_targets-loop-refusal
 invariant-all_targets-loop-refusal l =
-    all (more_step (one_target_by l.dots (inner_targets l.dots l.left))) (expressions_in l.targets.items) l.tokens.left ≡
-    all (more_step (one_target_by l.dots (inner_targets l.dots l.left))) (expressions_in l.initial.targets.items) l.initial.tokens.left
+    (l.tokens.spans ≡ l.initial.tokens.spans) ×
+    (all (more_step (one_target_by l.initial.tokens.spans l.dots (inner_targets l.initial.tokens.spans l.dots l.left)))
+    (nodes_in l.targets.items) l.tokens.left ≡
+    all (more_step (one_target_by l.initial.tokens.spans l.dots (inner_targets l.initial.tokens.spans l.dots l.left)))
+    (nodes_in l.initial.targets.items) l.initial.tokens.left)
 
 abbrev pub decreases-all_targets-loop-refusal : goal.decreases-all_targets-loop-refusal
 decreases-all_targets-loop-refusal l = length l.tokens.left
