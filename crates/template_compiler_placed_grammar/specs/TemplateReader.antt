@@ -3,7 +3,7 @@
 -- reader, and that its places are those of the grammar, is proved.
 use Rattle.std.specs.Prelude.{ℕ, zero, suc, Bool, true, false, if◌then◌else◌, codes, List, [], ◌∷◌, Option, None, Some, Result, Ok, Err}
 use Rattle.template_tree.specs.declared.span.Span.{Span}
-use Rattle.template_tree.specs.Tree.{Expression, variable, attribute, Arguments, Statement, raw, print, for_loop, with_block, set, set_block, auto_escape, block, import, from_import, extends, include, macro, call_block, continue_loop, break_loop, do_call}
+use Rattle.template_tree.specs.Tree.{Expression, variable, attribute, Arguments, Statement, raw, print, set, import, from_import, extends, include, continue_loop, break_loop, do_call}
 use Rattle.template_tree.specs.Kinds.{call_parts}
 use Rattle.template_tree.specs.NodePlaces.{Places, at, no_parts, parts_more, one, and_parts}
 use Rattle.template_compiler_tokens.specs.Places.{next_span, stretch}
@@ -16,8 +16,8 @@ use Rattle.template_compiler_placed_grammar.specs.Reader.{up_to, expression_at, 
 use Rattle.template_compiler_grammar.specs.TemplateWords.{is_reserved}
 use Rattle.template_compiler_grammar.specs.TemplateTrees.{is_block_body, blocks_among, are_distinct}
 use Rattle.template_compiler_grammar.specs.TemplateGrammar.{Around, nothing_around, loop_around, block_around, macro_around}
-use Rattle.template_compiler_grammar.specs.TemplateReader.{expect_word, expect_assign, print_end, tag_end, expect_tag, more_step, word_by, context_by, missing_by, is_nothing, begins_tag, begins_values, block_end_by, only_call, filtered_body, Opening, for_tag, if_tag, with_tag, set_tag, autoescape_tag, filter_tag, block_tag, import_tag, from_tag, extends_tag, include_tag, macro_tag, call_tag, do_tag, break_tag, continue_tag, opening}
-use Rattle.template_compiler_placed_grammar.specs.TemplateNodes.{unpacked_node, together_node, PlacedAssignments, no_placed_assignments, and_placed_assignment, PlacedImports, no_placed_imports, and_placed_import, PlacedParameters, no_placed_parameters, and_placed_plain, and_placed_default, in_row, PlacedStatement, statement_node, PlacedStatements, no_placed_statements, and_placed_statement, PlacedTemplate, PlacedBranch, PlacedBranches, no_placed_branches, and_placed_branch, if_node}
+use Rattle.template_compiler_grammar.specs.TemplateReader.{expect_word, expect_assign, print_end, tag_end, expect_tag, more_step, word_by, context_by, missing_by, is_nothing, begins_tag, begins_values, block_end_by, only_call, Opening, for_tag, if_tag, with_tag, set_tag, autoescape_tag, filter_tag, block_tag, import_tag, from_tag, extends_tag, include_tag, macro_tag, call_tag, do_tag, break_tag, continue_tag, opening}
+use Rattle.template_compiler_placed_grammar.specs.TemplateNodes.{unpacked_node, together_node, PlacedAssignments, no_placed_assignments, and_placed_assignment, PlacedImports, no_placed_imports, and_placed_import, PlacedParameters, no_placed_parameters, and_placed_plain, and_placed_default, PlacedStatement, statement_node, PlacedStatements, no_placed_statements, and_placed_statement, PlacedTemplate, PlacedBranch, PlacedBranches, no_placed_branches, and_placed_branch, for_node, if_node, with_node, set_block_node, auto_escape_node, filter_block_node, block_node, macro_node, call_block_node}
 
 -- what can be read with so many levels left; bodies and parameters are one level deeper
 pub record Here : Type 0 where
@@ -132,11 +132,7 @@ module _ (spans : List Span) where
   for_body r p start t i f b ts =
       and_then (tag_end b ts) (λ b us. and_then (r.body (loop_around p) us) (λ body vs.
       and_then (else_by r p (codes "endfor") vs) (λ other ws.
-      Ok (
-        statement_node (for_loop t.tree i.tree f.tree b body.tree other.tree) (up_to spans start ws)
-            (parts_more t.places (parts_more i.places (and_parts f.places (and_parts body.places other.places)))),
-        ws,
-      ))))
+      Ok (for_node t i f b body other (up_to spans start ws), ws))))
 
   unfoldable pub for_in : Here → Around → Span → Node → List Token → Read PlacedStatement
   for_in r p start t ts =
@@ -169,8 +165,7 @@ module _ (spans : List Span) where
   unfoldable pub with_by : Here → Around → Span → List Token → Read PlacedStatement
   with_by r p start ts =
       and_then (assignments_by r ts) (λ gs us. and_then (tag_end gs us) (λ gs vs.
-      body_by r p (codes "endwith") start
-      (λ body whole. statement_node (with_block gs.tree body.tree) whole (and_parts gs.places body.places)) vs))
+      body_by r p (codes "endwith") start (with_node gs) vs))
 
   unfoldable pub set_values : Here → Span → Node → List Token → Read PlacedStatement
   set_values r start t ts =
@@ -180,8 +175,7 @@ module _ (spans : List Span) where
   unfoldable pub set_body : Here → Around → Span → Node → List Token → Read PlacedStatement
   set_body r p start t ts =
       and_then (r.filters no_node ts) (λ f us. and_then (tag_end f us) (λ f vs.
-      body_by r p (codes "endset") start
-      (λ body whole. statement_node (set_block t.tree f.tree body.tree) whole (parts_more t.places (and_parts f.places body.places))) vs))
+      body_by r p (codes "endset") start (set_block_node t f) vs))
 
   -- behind the first target, which starts where the targets do
   unfoldable pub set_behind : Here → Around → Span → Span → Node → List Token → Read PlacedStatement
@@ -196,21 +190,19 @@ module _ (spans : List Span) where
   unfoldable pub autoescape_by : Here → Around → Span → List Token → Read PlacedStatement
   autoescape_by r p start ts =
       and_then (r.expression ts) (λ e us. and_then (tag_end e us) (λ e vs.
-      body_by r p (codes "endautoescape") start
-      (λ body whole. statement_node (auto_escape e.tree body.tree) whole (parts_more e.places body.places)) vs))
+      body_by r p (codes "endautoescape") start (auto_escape_node e) vs))
 
   unfoldable pub filter_block_by : Here → Around → Span → List Token → Read PlacedStatement
   filter_block_by r p start ts =
       and_then (r.filter no_node ts) (λ e us. and_then (r.filters (given_node e) us) (λ f vs.
-      and_then (tag_end f vs) (λ f ws. body_by r p (codes "endfilter") start
-      (λ body whole. statement_node (filtered_body f.tree body.tree) whole (and_parts f.places body.places)) ws)))
+      and_then (tag_end f vs) (λ f ws. body_by r p (codes "endfilter") start (filter_block_node f) ws)))
 
   -- blocks
   unfoldable pub block_body : Here → Around → Span → List ℕ → Bool → List Token → Read PlacedStatement
   block_body r p start n b ts =
       and_then (tag_end b ts) (λ b us. and_then (r.body (block_around p) us) (λ body vs.
       if is_block_body b body.tree
-      then and_then (block_end_by n body vs) (λ body ws. Ok (statement_node (block n b body.tree) (up_to spans start ws) body.places, ws))
+      then and_then (block_end_by n body vs) (λ body ws. Ok (block_node n b body (up_to spans start ws), ws))
       else Err bad_syntax))
 
   unfoldable pub block_by : Here → Around → Span → List Token → Read PlacedStatement
@@ -248,17 +240,13 @@ module _ (spans : List Span) where
       if is_reserved n
       then Err bad_syntax
       else and_then (r.parameters ts) (λ q us. and_then (tag_end q us) (λ q vs.
-      body_by r macro_around (codes "endmacro") start
-      (λ body whole. statement_node (macro n q.tree.0 q.tree.1 body.tree) whole (and_parts (in_row q.places) body.places)) vs))
+      body_by r macro_around (codes "endmacro") start (macro_node n q) vs))
   macro_by r start (identifier n ∷ ts) = Err (fault ts)
   macro_by r start ts = Err (fault ts)
 
-  -- the macro that the body is stands where the whole does
   unfoldable pub call_body : Here → Span → PlacedParameters → Places → Expression → Arguments → List Token → Read PlacedStatement
   call_body r start q call c args ts =
-      and_then (tag_end q ts) (λ q us. body_by r macro_around (codes "endcall") start
-      (λ body whole. statement_node (call_block c args q.tree.0 q.tree.1 body.tree) whole
-      (parts_more call (one (at whole (and_parts (in_row q.places) body.places))))) us)
+      and_then (tag_end q ts) (λ q us. body_by r macro_around (codes "endcall") start (call_block_node c args call q) us)
 
   unfoldable pub call_by : Here → Span → List Token → Read PlacedStatement
   call_by r start ts =

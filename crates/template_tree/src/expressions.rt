@@ -217,13 +217,16 @@ impl<'source> Expr<'source> {
 }
 
 impl<'source> Expr<'source> {
+    ghost use Rattle.std.specs.Prelude.{IfSome};
     ghost use Rattle.template_tree.specs.View.{expression_of};
     ghost use Rattle.template_tree.specs.Kinds.{call_parts, is_self_name};
-    ghost use Rattle.template_tree.specs.CallView.{call_in};
+    ghost use Rattle.template_tree.specs.CallView.{call_in, call_places};
+    ghost use Rattle.template_tree.specs.ExpressionPlaces.{places_of};
 
     /// The call that this expression is, or none where it is another one.
     pub fn into_call(self) -> Option<Box<Spanned<Call<'source>>>>
-        ensures { call_in result ≡ call_parts (expression_of self.entry) }
+        ensures call { call_in result ≡ call_parts (expression_of self.entry) }
+        ensures places { IfSome result (λ n. call_places n ≡ places_of self.entry) }
     {
         match self {
             Expr::Call(n) => Some(n),
