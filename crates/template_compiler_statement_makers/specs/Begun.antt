@@ -1,17 +1,17 @@
 -- Nodes that have no body yet, as contracts see them.
 use Rattle.std.specs.Prelude.{Bool}
 use Rattle.std.specs.Global.{Box}
-use Rattle.template_tree.specs.Tree.{Expression, Optional}
-use Rattle.template_tree.specs.View.{expression_of, optional_in}
 use Rattle.template_tree.specs.declared.span.Spanned.{Spanned}
 use Rattle.template_tree_statements.specs.declared.statements.ForLoop.{ForLoop}
 use Rattle.template_tree_statements.specs.declared.statements.SetBlock.{SetBlock}
+use Rattle.template_compiler_placed_grammar.specs.Nodes.{Node, OptionalNode}
+use Rattle.template_compiler_placed_grammar.specs.Views.{node_of, optional_node_in}
 
 -- a loop: its target, what it goes over, the condition on its items, and whether it is recursive
-abbrev pub loop_head : Box (Spanned ForLoop) → Expression × Expression × Optional × Bool
+abbrev pub loop_head : Box (Spanned ForLoop) → Node × Node × OptionalNode × Bool
 loop_head n =
-    (expression_of n.value.node.target, expression_of n.value.node.iter, optional_in n.value.node.filter_expr, n.value.node.recursive)
+    (node_of n.value.node.target, node_of n.value.node.iter, optional_node_in n.value.node.filter_expr, n.value.node.recursive)
 
 -- a set block: its target and its filters
-abbrev pub set_block_of : Box (Spanned SetBlock) → Expression × Optional
-set_block_of n = (expression_of n.value.node.target, optional_in n.value.node.filter)
+abbrev pub set_block_of : Box (Spanned SetBlock) → Node × OptionalNode
+set_block_of n = (node_of n.value.node.target, optional_node_in n.value.node.filter)
