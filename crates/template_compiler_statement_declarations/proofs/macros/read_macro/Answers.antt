@@ -18,4 +18,4 @@ returns-else-is_reserved-clause-parsed g c =
     subst (λ m. ParsedAs macro_of m c.read_declared.new.tokens.left c.read_declared.result)
     (sym (macro_free (here c.args.tokens.now.spans c.args.left) c.in-Some.name.now c.args.tokens.now.left c.skip.new.self.left c.advance.new.self.left c.in-Some.ensures c.advance.ensures.passed stood
     (sym c.is_reserved.ensures ∙ c.if-is_reserved.false)))
-    c.read_declared.ensures
+    (rw (c.skip.ensures.spans ∙ c.advance.ensures.spans) at c.read_declared.ensures.parsed)
