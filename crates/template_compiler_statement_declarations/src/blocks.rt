@@ -1,10 +1,10 @@
 //! Blocks: their heads, and what ends them.
 ghost use Rattle.std.specs.Prelude.{◌≡◌};
 ghost use Rattle.template_compiler_statement_declarations.specs.Heads.{block_head, block_of, ended_block};
-ghost use Rattle.template_compiler_statement_makers.specs.Listed.{statements_in};
+ghost use Rattle.template_compiler_statement_makers.specs.Listed.{statement_nodes_in, statements_in};
 ghost use Rattle.template_compiler_statement_parts.specs.Parsed.{ParsedAs};
 ghost use Rattle.template_compiler_grammar.specs.TemplateTrees.{is_block_body};
-ghost use Rattle.template_tree_statements.specs.View.{statement_of};
+ghost use Rattle.template_compiler_placed_grammar.specs.Views.{statement_node_of};
 ghost use Rattle.template_tree_statements.specs.declared.statements.Stmt.TheVariants as statements;
 
 use std::alloc::Global;
@@ -36,7 +36,8 @@ pub fn read_block<'source>(
     tokens: &mut TokenStream<'source>,
     in_macro: bool,
 ) -> Result<BlockHead<'source>, Refusal>
-    ensures { ParsedAs block_of (block_head in_macro tokens.old.left) tokens.new.left result }
+    ensures parsed { ParsedAs block_of (block_head in_macro tokens.old.left) tokens.new.left result }
+    ensures spans { tokens.new.spans ≡ tokens.old.spans }
 {
     match tokens.word() {
         Some(name) => {
@@ -62,7 +63,7 @@ pub fn read_block<'source>(
 /// # Errors
 ///
 /// The fault of the token that does not fit, or want of memory.
-#[tactic(auto, using(crate::proofs::Ended::block_end_again))]
+#[tactic(auto, using(crate::proofs::Ended::block_end_again), unfolding(template_compiler_tokens::specs::Steps::and_then))]
 pub fn read_block_end<'source>(
     alloc: Global,
     tokens: &mut TokenStream<'source>,
@@ -70,8 +71,10 @@ pub fn read_block_end<'source>(
     body: Vec<Stmt<'source>>,
     span: Span,
 ) -> Result<Box<Spanned<Block<'source>>>, Refusal>
-    ensures { ParsedAs (λ n. statement_of (statements.Block n))
-        (ended_block (block_of head.entry) (statements_in body.entry.items) tokens.old.left) tokens.new.left result }
+    ensures parsed { let table = tokens.old.spans in
+        ParsedAs (λ n. statement_node_of (statements.Block n))
+        (ended_block table span (block_of head.entry) (statement_nodes_in body.entry.items) tokens.old.left) tokens.new.left result }
+    ensures spans { tokens.new.spans ≡ tokens.old.spans }
 {
     if !is_block_body(head.required, &body) {
         return Err(Refusal::Token(Fault::Syntax));

@@ -1,11 +1,11 @@
 //! Macros and call blocks: their heads, and what is made of a head and a body.
 ghost use Rattle.std.specs.Prelude.{◌≡◌, IfOk};
 ghost use Rattle.template_compiler_statement_declarations.specs.Heads.{call_head, call_of, declared_head, macro_head, macro_of};
-ghost use Rattle.template_compiler_statement_makers.specs.Listed.{statements_in};
+ghost use Rattle.template_compiler_statement_makers.specs.Listed.{statement_nodes_in};
 ghost use Rattle.template_compiler_statement_parts.specs.Parsed.{ParsedAs};
-ghost use Rattle.template_compiler_grammar.specs.TemplateReader.{here};
-ghost use Rattle.template_tree.specs.Tree as tree;
-ghost use Rattle.template_tree_statements.specs.View.{statement_of};
+ghost use Rattle.template_compiler_placed_grammar.specs.TemplateNodes.{call_block_node, macro_node};
+ghost use Rattle.template_compiler_placed_grammar.specs.TemplateReader.{here};
+ghost use Rattle.template_compiler_placed_grammar.specs.Views.{statement_node_of};
 ghost use Rattle.template_tree_statements.specs.declared.statements.Stmt.TheVariants as statements;
 
 use std::alloc::{AllocError, Global};
@@ -47,7 +47,8 @@ pub fn read_macro<'source, R: ReadsExpressions>(
     tokens: &mut TokenStream<'source>,
     left: u32,
 ) -> Result<MacroHead<'source>, Refusal>
-    ensures { ParsedAs macro_of (macro_head (here left) tokens.old.left) tokens.new.left result }
+    ensures parsed { let table = tokens.old.spans in ParsedAs macro_of (macro_head (here table left) tokens.old.left) tokens.new.left result }
+    ensures spans { tokens.new.spans ≡ tokens.old.spans }
 {
     match tokens.word() {
         Some(name) => {
@@ -65,14 +66,16 @@ pub fn read_macro<'source, R: ReadsExpressions>(
 }
 
 // The head of a macro, behind the `(` of its arguments.
-#[tactic(auto, using(template_compiler_statement_parts::proofs::Again::tag_end_again), unfolding(template_compiler_tokens::specs::Steps::and_then, template_compiler_grammar::specs::TemplateReader::here, template_compiler_grammar::specs::TemplateReader::here_by))]
+#[tactic(auto, using(template_compiler_statement_parts::proofs::Again::tag_end_again), unfolding(template_compiler_tokens::specs::Steps::and_then, template_compiler_placed_grammar::specs::TemplateReader::here, template_compiler_placed_grammar::specs::TemplateReader::here_by))]
 fn read_declared<'source, R: ReadsExpressions>(
     alloc: Global,
     tokens: &mut TokenStream<'source>,
     left: u32,
     name: &'source str,
 ) -> Result<MacroHead<'source>, Refusal>
-    ensures { ParsedAs macro_of (declared_head (here left) name.now tokens.old.left) tokens.new.left result }
+    ensures parsed { let table = tokens.old.spans in
+        ParsedAs macro_of (declared_head (here table left) name.now tokens.old.left) tokens.new.left result }
+    ensures spans { tokens.new.spans ≡ tokens.old.spans }
 {
     let parameters = read_deeper_parameters::<R>(alloc, tokens, left)?;
     expect_tag_end(tokens)?;
@@ -89,13 +92,15 @@ fn read_declared<'source, R: ReadsExpressions>(
 /// # Errors
 ///
 /// The fault of the token that does not fit, or want of memory.
-#[tactic(auto, using(template_compiler_statement_values::proofs::Calls::call_here, template_compiler_statement_values::proofs::Calls::no_call, template_compiler_statement_parts::proofs::Again::tag_end_again), unfolding(template_compiler_tokens::specs::Steps::and_then, template_compiler_grammar::specs::TemplateReader::here, template_compiler_grammar::specs::TemplateReader::here_by))]
+#[tactic(auto, using(template_compiler_statement_values::proofs::Calls::call_here, template_compiler_statement_values::proofs::Calls::no_call, template_compiler_statement_parts::proofs::Again::tag_end_again), unfolding(template_compiler_tokens::specs::Steps::and_then, template_compiler_placed_grammar::specs::TemplateReader::here, template_compiler_placed_grammar::specs::TemplateReader::here_by))]
 pub fn read_call<'source, R: ReadsExpressions>(
     alloc: Global,
     tokens: &mut TokenStream<'source>,
     left: u32,
 ) -> Result<CallHead<'source>, Refusal>
-    ensures { ParsedAs call_of (call_head (here left) tokens.old.left) tokens.new.left result }
+    ensures parsed { let table = tokens.old.spans in
+        ParsedAs call_of (call_head table (here table left) tokens.old.left) tokens.new.left result }
+    ensures spans { tokens.new.spans ≡ tokens.old.spans }
 {
     let parameters = read_optional_parameters::<R>(alloc, tokens, left)?;
     let expr = R::read_expression(alloc, tokens, left)?;
@@ -116,8 +121,8 @@ pub fn macro_block<'source>(
     body: Vec<Stmt<'source>>,
     span: Span,
 ) -> Result<Box<Spanned<Macro<'source>>>, AllocError>
-    ensures { let h = macro_of head.entry in IfOk result (λ n. statement_of (statements.Macro n) ≡
-        tree.macro h.1 h.0.0 h.0.1 (statements_in body.entry.items)) }
+    ensures { let h = macro_of head.entry in IfOk result (λ n. statement_node_of (statements.Macro n) ≡
+        macro_node h.1 h.0 (statement_nodes_in body.entry.items) span) }
 {
     let node = Macro {
         name: head.name,
@@ -136,8 +141,8 @@ pub fn call_block<'source>(
     body: Vec<Stmt<'source>>,
     span: Span,
 ) -> Result<Box<Spanned<CallBlock<'source>>>, AllocError>
-    ensures { let h = call_of head.entry in IfOk result (λ n. statement_of (statements.CallBlock n) ≡
-        tree.call_block h.1 h.2 h.0.0 h.0.1 (statements_in body.entry.items)) }
+    ensures { let h = call_of head.entry in IfOk result (λ n. statement_node_of (statements.CallBlock n) ≡
+        call_block_node h.2 h.3 h.1 h.0 (statement_nodes_in body.entry.items) span) }
 {
     let node = Macro {
         name: "caller",

@@ -1,11 +1,11 @@
 //! The heads of `set`, which has values or a body.
+ghost use Rattle.std.specs.Prelude.{◌≡◌};
 ghost use Rattle.template_compiler_statement_declarations.specs.Heads.{set_block_head, set_head, set_head_of, set_targets};
 ghost use Rattle.template_compiler_statement_makers.specs.Begun.{set_block_of};
 ghost use Rattle.template_compiler_statement_parts.specs.Parsed.{ParsedAs};
-ghost use Rattle.template_compiler_grammar.specs.TemplateReader.{here, set_values};
-ghost use Rattle.template_tree_statements.specs.View.{statement_of};
+ghost use Rattle.template_compiler_placed_grammar.specs.TemplateReader.{here, set_values};
+ghost use Rattle.template_compiler_placed_grammar.specs.Views.{node_of, statement_node_of};
 ghost use Rattle.template_tree_statements.specs.declared.statements.Stmt.TheVariants as statements;
-ghost use Rattle.template_tree.specs.View.{expression_of};
 
 use std::alloc::Global;
 use template_compiler_statement_parts::{
@@ -36,14 +36,16 @@ pub enum SetHead<'source> {
 /// # Errors
 ///
 /// The fault of the token that does not fit, or want of memory.
-#[tactic(auto, unfolding(template_compiler_tokens::specs::Steps::and_then, template_compiler_grammar::specs::TemplateReader::here, template_compiler_grammar::specs::TemplateReader::here_by))]
+#[tactic(auto, unfolding(template_compiler_tokens::specs::Steps::and_then, template_compiler_placed_grammar::specs::TemplateReader::here, template_compiler_placed_grammar::specs::TemplateReader::here_by))]
 pub fn read_set<'source, R: ReadsExpressions>(
     alloc: Global,
     tokens: &mut TokenStream<'source>,
     left: u32,
     span: Span,
 ) -> Result<SetHead<'source>, Refusal>
-    ensures { ParsedAs set_head_of (set_head (here left) tokens.old.left) tokens.new.left result }
+    ensures parsed { let table = tokens.old.spans in
+        ParsedAs set_head_of (set_head table (here table left) span tokens.old.left) tokens.new.left result }
+    ensures spans { tokens.new.spans ≡ tokens.old.spans }
 {
     let start = tokens.span();
     let target = read_target(alloc, tokens, left, true)?;
@@ -54,7 +56,7 @@ pub fn read_set<'source, R: ReadsExpressions>(
 }
 
 // A `set` behind its first target, which begins at `start`: further targets, and the value behind `=`.
-#[tactic(auto, using(template_compiler_statement_parts::proofs::Again::assign_again), unfolding(template_compiler_tokens::specs::Steps::and_then, template_compiler_grammar::specs::TemplateReader::here, template_compiler_grammar::specs::TemplateReader::here_by))]
+#[tactic(auto, using(template_compiler_statement_parts::proofs::Again::assign_again), unfolding(template_compiler_tokens::specs::Steps::and_then, template_compiler_placed_grammar::specs::TemplateReader::here, template_compiler_placed_grammar::specs::TemplateReader::here_by))]
 fn read_set_targets<'source, R: ReadsExpressions>(
     alloc: Global,
     tokens: &mut TokenStream<'source>,
@@ -63,15 +65,17 @@ fn read_set_targets<'source, R: ReadsExpressions>(
     start: Span,
     span: Span,
 ) -> Result<Box<Spanned<Set<'source>>>, Refusal>
-    ensures { ParsedAs (λ n. statement_of (statements.Set n))
-        (set_targets (here left) (expression_of first.entry) tokens.old.left) tokens.new.left result }
+    ensures parsed { let table = tokens.old.spans in
+        ParsedAs (λ n. statement_node_of (statements.Set n))
+        (set_targets table (here table left) span start (node_of first.entry) tokens.old.left) tokens.new.left result }
+    ensures spans { tokens.new.spans ≡ tokens.old.spans }
 {
     let target = read_more_targets(alloc, tokens, left, true, first, start)?;
     expect_assign(tokens)?;
     read_set_value::<R>(alloc, tokens, left, target, span)
 }
 
-#[tactic(auto, using(template_compiler_statement_parts::proofs::Again::tag_end_again), unfolding(template_compiler_tokens::specs::Steps::and_then, template_compiler_grammar::specs::TemplateReader::here, template_compiler_grammar::specs::TemplateReader::here_by, template_compiler_grammar::specs::TemplateReader::set_values))]
+#[tactic(auto, using(template_compiler_statement_parts::proofs::Again::tag_end_again), unfolding(template_compiler_tokens::specs::Steps::and_then, template_compiler_placed_grammar::specs::TemplateReader::here, template_compiler_placed_grammar::specs::TemplateReader::here_by, template_compiler_placed_grammar::specs::TemplateReader::set_values))]
 fn read_set_value<'source, R: ReadsExpressions>(
     alloc: Global,
     tokens: &mut TokenStream<'source>,
@@ -79,8 +83,10 @@ fn read_set_value<'source, R: ReadsExpressions>(
     target: Expr<'source>,
     span: Span,
 ) -> Result<Box<Spanned<Set<'source>>>, Refusal>
-    ensures { ParsedAs (λ n. statement_of (statements.Set n))
-        (set_values (here left) (expression_of target.entry) tokens.old.left) tokens.new.left result }
+    ensures parsed { let table = tokens.old.spans in
+        ParsedAs (λ n. statement_node_of (statements.Set n))
+        (set_values table (here table left) span (node_of target.entry) tokens.old.left) tokens.new.left result }
+    ensures spans { tokens.new.spans ≡ tokens.old.spans }
 {
     let value = read_values::<R>(alloc, tokens, left)?;
     expect_tag_end(tokens)?;
@@ -92,7 +98,7 @@ fn read_set_value<'source, R: ReadsExpressions>(
 }
 
 // The head of a set block, behind its target.
-#[tactic(auto, using(template_compiler_statement_parts::proofs::Again::tag_end_again), unfolding(template_compiler_tokens::specs::Steps::and_then, template_compiler_grammar::specs::TemplateReader::here, template_compiler_grammar::specs::TemplateReader::here_by))]
+#[tactic(auto, using(template_compiler_statement_parts::proofs::Again::tag_end_again), unfolding(template_compiler_tokens::specs::Steps::and_then, template_compiler_placed_grammar::specs::TemplateReader::here, template_compiler_placed_grammar::specs::TemplateReader::here_by))]
 fn read_set_block<'source, R: ReadsExpressions>(
     alloc: Global,
     tokens: &mut TokenStream<'source>,
@@ -100,7 +106,9 @@ fn read_set_block<'source, R: ReadsExpressions>(
     target: Expr<'source>,
     span: Span,
 ) -> Result<Box<Spanned<SetBlock<'source>>>, Refusal>
-    ensures { ParsedAs set_block_of (set_block_head (here left) (expression_of target.entry) tokens.old.left) tokens.new.left result }
+    ensures parsed { let table = tokens.old.spans in
+        ParsedAs set_block_of (set_block_head (here table left) (node_of target.entry) tokens.old.left) tokens.new.left result }
+    ensures spans { tokens.new.spans ≡ tokens.old.spans }
 {
     let filter = R::read_filter_chain(alloc, tokens, left, None)?;
     expect_tag_end(tokens)?;

@@ -1,11 +1,11 @@
 //! The heads of conditions, of `with`, of `autoescape` and of filter blocks.
 ghost use Rattle.std.specs.Prelude.{◌≡◌, [], IfOk};
 ghost use Rattle.template_compiler_statement_loops.specs.Heads.{expression_head, filter_head, with_head};
-ghost use Rattle.template_compiler_statement_parts.specs.Parsed.{ParsedAs};
-ghost use Rattle.template_compiler_grammar.specs.TemplateReader.{here, tag_end};
-ghost use Rattle.template_tree.specs.Tree.{given};
-ghost use Rattle.template_tree.specs.View.{expression_of};
-ghost use Rattle.template_tree_statements.specs.View.{assignments_in};
+ghost use Rattle.template_compiler_statement_parts.specs.Parsed.{ParsedAs, ParsedNode};
+ghost use Rattle.template_compiler_grammar.specs.TemplateReader.{tag_end};
+ghost use Rattle.template_compiler_placed_grammar.specs.Nodes.{given_node};
+ghost use Rattle.template_compiler_placed_grammar.specs.TemplateReader.{here};
+ghost use Rattle.template_compiler_placed_grammar.specs.Views.{node_of, placed_assignments_in};
 
 use std::alloc::Global;
 use template_compiler_statement_parts::expect_tag_end;
@@ -16,13 +16,14 @@ use template_tree_statements::{AutoEscape, FilterBlock, IfCond};
 
 // An expression, and the end of its tag.
 #[inline(always)]
-#[tactic(auto, using(template_compiler_statement_parts::proofs::Again::tag_end_again), unfolding(template_compiler_tokens::specs::Steps::and_then, template_compiler_grammar::specs::TemplateReader::here, template_compiler_grammar::specs::TemplateReader::here_by))]
+#[tactic(auto, using(template_compiler_statement_parts::proofs::Again::tag_end_again), unfolding(template_compiler_tokens::specs::Steps::and_then, template_compiler_placed_grammar::specs::TemplateReader::here, template_compiler_placed_grammar::specs::TemplateReader::here_by))]
 fn read_only_expression<'source, R: ReadsExpressions>(
     alloc: Global,
     tokens: &mut TokenStream<'source>,
     left: u32,
 ) -> Result<Expr<'source>, Refusal>
-    ensures { ParsedAs expression_of (expression_head (here left) tokens.old.left) tokens.new.left result }
+    ensures parsed { let table = tokens.old.spans in ParsedNode (expression_head (here table left) tokens.old.left) tokens.new.left result }
+    ensures spans { tokens.new.spans ≡ tokens.old.spans }
 {
     let expr = R::read_expression(alloc, tokens, left)?;
     expect_tag_end(tokens)?;
@@ -45,7 +46,9 @@ pub fn read_auto_escape<'source, R: ReadsExpressions>(
     left: u32,
     span: Span,
 ) -> Result<Box<Spanned<AutoEscape<'source>>>, Refusal>
-    ensures read { ParsedAs (λ n. expression_of n.value.node.enabled) (expression_head (here left) tokens.old.left) tokens.new.left result }
+    ensures parsed { let table = tokens.old.spans in
+        ParsedAs (λ n. node_of n.value.node.enabled) (expression_head (here table left) tokens.old.left) tokens.new.left result }
+    ensures spans { tokens.new.spans ≡ tokens.old.spans }
     ensures empty { IfOk result (λ n. n.value.node.body.items ≡ []) }
 {
     let enabled = read_only_expression::<R>(alloc, tokens, left)?;
@@ -71,7 +74,10 @@ pub fn read_branch<'source, R: ReadsExpressions>(
     left: u32,
     span: Span,
 ) -> Result<Box<Spanned<IfCond<'source>>>, Refusal>
-    ensures read { ParsedAs (λ n. expression_of n.value.node.expr) (expression_head (here left) tokens.old.left) tokens.new.left result }
+    ensures parsed { let table = tokens.old.spans in
+        ParsedAs (λ n. node_of n.value.node.expr) (expression_head (here table left) tokens.old.left) tokens.new.left result }
+    ensures spans { tokens.new.spans ≡ tokens.old.spans }
+    ensures span { IfOk result (λ n. n.value.span ≡ span) }
     ensures empty { IfOk result (λ n. n.value.node.true_body.items ≡ []) }
     ensures no_other { IfOk result (λ n. n.value.node.false_body.items ≡ []) }
 {
@@ -94,15 +100,16 @@ pub fn read_branch<'source, R: ReadsExpressions>(
 /// # Errors
 ///
 /// The fault of the token that does not fit, or want of memory.
-#[tactic(auto, using(crate::proofs::Filters::filters_given), unfolding(template_compiler_tokens::specs::Steps::and_then, template_compiler_grammar::specs::TemplateReader::here, template_compiler_grammar::specs::TemplateReader::here_by))]
+#[tactic(auto, using(crate::proofs::Filters::filters_given), unfolding(template_compiler_tokens::specs::Steps::and_then, template_compiler_placed_grammar::specs::TemplateReader::here, template_compiler_placed_grammar::specs::TemplateReader::here_by))]
 pub fn read_filter_block<'source, R: ReadsExpressions>(
     alloc: Global,
     tokens: &mut TokenStream<'source>,
     left: u32,
     span: Span,
 ) -> Result<Box<Spanned<FilterBlock<'source>>>, Refusal>
-    ensures read { ParsedAs (λ n. given (expression_of n.value.node.filter)) (filter_head (here left) tokens.old.left)
-        tokens.new.left result }
+    ensures parsed { let table = tokens.old.spans in
+        ParsedAs (λ n. given_node (node_of n.value.node.filter)) (filter_head (here table left) tokens.old.left) tokens.new.left result }
+    ensures spans { tokens.new.spans ≡ tokens.old.spans }
     ensures empty { IfOk result (λ n. n.value.node.body.items ≡ []) }
 {
     let first = R::read_filter(alloc, tokens, left, None)?;
@@ -121,8 +128,9 @@ fn read_filter_end<'source>(
     filter: Expr<'source>,
     span: Span,
 ) -> Result<Box<Spanned<FilterBlock<'source>>>, Refusal>
-    ensures read { ParsedAs (λ n. given (expression_of n.value.node.filter)) (tag_end (given (expression_of filter.entry)) tokens.old.left)
-        tokens.new.left result }
+    ensures parsed { ParsedAs (λ n. given_node (node_of n.value.node.filter))
+        (tag_end (given_node (node_of filter.entry)) tokens.old.left) tokens.new.left result }
+    ensures spans { tokens.new.spans ≡ tokens.old.spans }
     ensures empty { IfOk result (λ n. n.value.node.body.items ≡ []) }
 {
     expect_tag_end(tokens)?;
@@ -149,7 +157,9 @@ pub fn read_with<'source, R: ReadsExpressions>(
     tokens: &mut TokenStream<'source>,
     left: u32,
 ) -> Result<Vec<(Expr<'source>, Expr<'source>)>, Refusal>
-    ensures { ParsedAs (λ v. assignments_in v.items) (with_head (here left) tokens.old.left) tokens.new.left result }
+    ensures parsed { let table = tokens.old.spans in
+        ParsedAs (λ v. placed_assignments_in v.items) (with_head table (here table left) tokens.old.left) tokens.new.left result }
+    ensures spans { tokens.new.spans ≡ tokens.old.spans }
 {
     let assignments = read_assignments::<R>(alloc, tokens, left)?;
     expect_tag_end(tokens)?;

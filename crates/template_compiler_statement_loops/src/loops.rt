@@ -3,8 +3,8 @@ ghost use Rattle.std.specs.Prelude.{◌≡◌, [], IfOk};
 ghost use Rattle.template_compiler_statement_loops.specs.Heads.{for_head, in_end, in_head};
 ghost use Rattle.template_compiler_statement_makers.specs.Begun.{loop_head};
 ghost use Rattle.template_compiler_statement_parts.specs.Parsed.{ParsedAs};
-ghost use Rattle.template_compiler_grammar.specs.TemplateReader.{here};
-ghost use Rattle.template_tree.specs.View.{expression_of, optional_in};
+ghost use Rattle.template_compiler_placed_grammar.specs.TemplateReader.{here};
+ghost use Rattle.template_compiler_placed_grammar.specs.Views.{node_of, optional_node_in};
 
 use std::alloc::Global;
 use template_compiler_statement_parts::{expect_tag_end, expect_word, read_flag, read_targets};
@@ -23,14 +23,15 @@ use template_tree_statements::ForLoop;
 /// # Errors
 ///
 /// The fault of the token that does not fit, or want of memory.
-#[tactic(auto, using(template_compiler_statement_parts::proofs::Again::word_again), unfolding(template_compiler_tokens::specs::Steps::and_then, template_compiler_grammar::specs::TemplateReader::here, template_compiler_grammar::specs::TemplateReader::here_by))]
+#[tactic(auto, using(template_compiler_statement_parts::proofs::Again::word_again), unfolding(template_compiler_tokens::specs::Steps::and_then, template_compiler_placed_grammar::specs::TemplateReader::here, template_compiler_placed_grammar::specs::TemplateReader::here_by))]
 pub fn read_for<'source, R: ReadsExpressions>(
     alloc: Global,
     tokens: &mut TokenStream<'source>,
     left: u32,
     span: Span,
 ) -> Result<Box<Spanned<ForLoop<'source>>>, Refusal>
-    ensures read { ParsedAs loop_head (for_head (here left) tokens.old.left) tokens.new.left result }
+    ensures parsed { let table = tokens.old.spans in ParsedAs loop_head (for_head table (here table left) tokens.old.left) tokens.new.left result }
+    ensures spans { tokens.new.spans ≡ tokens.old.spans }
     ensures empty { IfOk result (λ n. n.value.node.body.items ≡ []) }
     ensures no_other { IfOk result (λ n. n.value.node.else_body.items ≡ []) }
 {
@@ -40,7 +41,7 @@ pub fn read_for<'source, R: ReadsExpressions>(
 }
 
 // The head of a loop, behind its `in`.
-#[tactic(auto, unfolding(template_compiler_tokens::specs::Steps::and_then, template_compiler_grammar::specs::TemplateReader::here, template_compiler_grammar::specs::TemplateReader::here_by))]
+#[tactic(auto, unfolding(template_compiler_tokens::specs::Steps::and_then, template_compiler_placed_grammar::specs::TemplateReader::here, template_compiler_placed_grammar::specs::TemplateReader::here_by))]
 fn read_in<'source, R: ReadsExpressions>(
     alloc: Global,
     tokens: &mut TokenStream<'source>,
@@ -48,7 +49,9 @@ fn read_in<'source, R: ReadsExpressions>(
     target: Expr<'source>,
     span: Span,
 ) -> Result<Box<Spanned<ForLoop<'source>>>, Refusal>
-    ensures read { ParsedAs loop_head (in_head (here left) (expression_of target.entry) tokens.old.left) tokens.new.left result }
+    ensures parsed { let table = tokens.old.spans in
+        ParsedAs loop_head (in_head table (here table left) (node_of target.entry) tokens.old.left) tokens.new.left result }
+    ensures spans { tokens.new.spans ≡ tokens.old.spans }
     ensures empty { IfOk result (λ n. n.value.node.body.items ≡ []) }
     ensures no_other { IfOk result (λ n. n.value.node.else_body.items ≡ []) }
 {
@@ -68,8 +71,9 @@ fn read_in_end<'source>(
     filter_expr: Option<Expr<'source>>,
     span: Span,
 ) -> Result<Box<Spanned<ForLoop<'source>>>, Refusal>
-    ensures read { ParsedAs loop_head (in_end (expression_of target.entry) (expression_of iter.entry) (optional_in filter_expr.entry)
+    ensures parsed { ParsedAs loop_head (in_end (node_of target.entry) (node_of iter.entry) (optional_node_in filter_expr.entry)
         tokens.old.left) tokens.new.left result }
+    ensures spans { tokens.new.spans ≡ tokens.old.spans }
     ensures empty { IfOk result (λ n. n.value.node.body.items ≡ []) }
     ensures no_other { IfOk result (λ n. n.value.node.else_body.items ≡ []) }
 {
