@@ -266,7 +266,6 @@ fn for_loop<'source, R: ReadsExpressions>(
 // A condition, behind its word: its head and its body, the branches behind it, and what stands for the case that none holds.
 // Each branch becomes the other body of the one before it.
 #[cycle(statements)]
-#[tactic(auto, unfolding(template_compiler_tokens::specs::Steps::and_then, template_compiler_placed_grammar::specs::TemplateReader::if_by))]
 fn if_condition<'source, R: ReadsExpressions>(
     alloc: Global,
     tokens: &mut TokenStream<'source>,
