@@ -3,7 +3,7 @@ use Rattle.std.specs.Prelude.{ℕ, codes, List, [], ◌∷◌, ◌++◌}
 use Rattle.template_tree.specs.declared.span.Span.{Span}
 use Rattle.template_tree.specs.Tree.{Statement, Statements}
 use Rattle.template_tree.specs.NodePlaces.{Places, at, Parts, no_parts, parts_more, one, and_parts}
-use Rattle.template_compiler_tokens.specs.Places.{next_span, stretch}
+use Rattle.template_compiler_tokens.specs.Places.{stretch}
 use Rattle.template_compiler_tokens.specs.Token.{Token, template_data, variable_start, identifier, symbol, paren_open}
 use Rattle.template_compiler_placed_grammar.specs.DerivedNodes.{and_place}
 use Rattle.template_compiler_placed_grammar.specs.DerivedExpressions.{expression_places, binary_places, filter_places}
@@ -28,7 +28,7 @@ abbrev mutual
   statements_places spans ps (statements_next next more) = statements_places spans (and_place ps (statement_places spans next)) more
 
   pub statement_places : {d : ℕ} {p : Around} {ts us : List Token} {s : Statement} → List Span → IsStatement d p ts s us → Places
-  statement_places spans (text_statement {s = s} {ts = ts}) = at (next_span spans (template_data s ∷ ts)) no_parts
+  statement_places spans (text_statement {s = s} {ts = ts}) = at (stretch spans (template_data s ∷ ts) ts) no_parts
   statement_places spans (print_statement {ts = ts} {us = us} e) =
       at (stretch spans (variable_start ∷ ts) us) (one (expression_places spans e))
   statement_places spans (for_statement {ts = ts} {zs = zs} target iter filter recursive body other) =

@@ -293,7 +293,7 @@ module _ (spans : List Span) where
   -- a word that begins no statement is left to what stands around
   unfoldable pub statement_step : Here → Around → PlacedStatements → List Token → Step PlacedStatements
   statement_step r p ss (template_data s ∷ ts) =
-      goes (and_placed_statement ss (statement_node (raw s) (next_span spans (template_data s ∷ ts)) no_parts)) ts
+      goes (and_placed_statement ss (statement_node (raw s) (stretch spans (template_data s ∷ ts) ts) no_parts)) ts
   statement_step r p ss (variable_start ∷ ts) =
       under (print_by r (next_span spans (variable_start ∷ ts)) ts) (λ s us. goes (and_placed_statement ss s) us)
   statement_step r p ss (block_start ∷ identifier n ∷ ts) =
