@@ -185,7 +185,7 @@ module _ (spans : List Span) (r : Here) (q : plain.Here) (h : HereErases r q) wh
       then_bare _ _ _ (h.expression ts) (λ c us. then_bare _ _ _ (tag_end_bare c us) (λ c vs.
       then_bare _ _ _ (h.body p vs) (λ body ws. refl)))
 
-  branch_step_bare : (p : Around) (bs : PlacedBranches) (ts : List Token) →
+  pub branch_step_bare : (p : Around) (bs : PlacedBranches) (ts : List Token) →
       bare_step (branch_step spans r p bs ts) ≡ plain.branch_step q p bs.tree ts
   unfolding bare_step branch_step plain.branch_step
   branch_step_bare p bs (block_start ∷ t ∷ ts) =
@@ -341,7 +341,7 @@ module _ (spans : List Span) (r : Here) (q : plain.Here) (h : HereErases r q) wh
   unfolding print_by
   print_bare start ts = then_bare _ _ _ (h.expression ts) (λ e us. print_end_made e _ _ (λ vs. refl) us)
 
-  statement_step_bare : (p : Around) (ss : PlacedStatements) (ts : List Token) →
+  pub statement_step_bare : (p : Around) (ss : PlacedStatements) (ts : List Token) →
       bare_step (statement_step spans r p ss ts) ≡ plain.statement_step q p ss.tree ts
   unfolding bare_step statement_step plain.statement_step
   statement_step_bare p ss (template_data s ∷ ts) = refl

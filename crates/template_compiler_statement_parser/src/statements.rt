@@ -1,6 +1,7 @@
 //! Statements and their bodies: what calls itself. A body is one nesting level deeper than its statement.
-ghost use Rattle.std.specs.Prelude.{◌≡◌};
+ghost use Rattle.std.specs.Prelude.{◌≡◌, IfOk};
 ghost use Rattle.template_compiler_statement_parts.specs.Parsed.{ParsedAs, SteppedTo};
+ghost use Rattle.template_compiler_tokens.specs.Places.{next_span};
 ghost use Rattle.template_compiler_tokens.specs.Steps.{all, and_then};
 ghost use Rattle.template_compiler_statement_declarations.specs.Heads.{set_over, set_rest};
 ghost use Rattle.template_compiler_statement_makers.specs.Begun.{set_block_of};
@@ -9,11 +10,12 @@ ghost use Rattle.template_compiler_statement_parser.specs.Bodies.{ParsedBody, Pa
 ghost use Rattle.template_compiler_statement_parser.specs.Kinds.{parent_opening};
 ghost use Rattle.template_compiler_statement_makers.specs.Surroundings.{around_of, opening_of};
 ghost use Rattle.template_compiler_stream.specs.Left.{passed};
-ghost use Rattle.template_compiler_grammar.specs.TemplateReader.{autoescape_by, block_by, branch_by, branch_step, call_by, deeper_body, else_by, expect_tag, filter_block_by, for_by, here, if_by, macro_by, opened_by, opened_step, opening, set_by, statement_step, statements_at, with_by};
-ghost use Rattle.template_compiler_grammar.specs.TemplateTrees.{no_branches};
-ghost use Rattle.template_tree_statements.specs.View.{statement_of};
+ghost use Rattle.template_compiler_grammar.specs.TemplateReader.{expect_tag, opening};
+ghost use Rattle.template_compiler_placed_grammar.specs.TemplateNodes.{no_placed_branches};
+ghost use Rattle.template_compiler_placed_grammar.specs.TemplateReader.{autoescape_by, block_by, branch_by, branch_step, call_by, deeper_body, else_by, filter_block_by, for_by, here, if_by, macro_by, opened_by, opened_step, set_by, statement_step, statements_at, with_by};
+ghost use Rattle.template_compiler_placed_grammar.specs.Views.{statement_node_of};
 ghost use Rattle.template_tree_statements.specs.declared.statements.Stmt.TheVariants as statements;
-ghost use Rattle.template_compiler_statement_makers.specs.Listed.{statements_in};
+ghost use Rattle.template_compiler_statement_makers.specs.Listed.{statement_nodes_in};
 
 use crate::kinds::{Kind, Parent, kind_of, read_leaf};
 use std::alloc::Global;
@@ -33,14 +35,15 @@ use template_tree_statements::{
 
 // A body, one nesting level deeper.
 #[cycle(statements)]
-#[tactic(auto, unfolding(template_compiler_grammar::specs::TemplateReader::deeper_body, template_compiler_grammar::specs::TemplateReader::statements_at, template_compiler_grammar::specs::TemplateReader::here))]
+#[tactic(auto, unfolding(template_compiler_placed_grammar::specs::TemplateReader::deeper_body, template_compiler_placed_grammar::specs::TemplateReader::statements_at, template_compiler_placed_grammar::specs::TemplateReader::here))]
 fn body<'source, R: ReadsExpressions>(
     alloc: Global,
     tokens: &mut TokenStream<'source>,
     left: u32,
     around: Around,
 ) -> Result<Vec<Stmt<'source>>, Refusal>
-    ensures { ParsedBody (deeper_body left (around_of around) tokens.old.left) tokens.new.left result }
+    ensures parsed { ParsedBody (deeper_body tokens.old.spans left (around_of around) tokens.old.left) tokens.new.left result }
+    ensures spans { tokens.new.spans ≡ tokens.old.spans }
 {
     if left == 0 {
         Err(Refusal::Token(Fault::Syntax))
@@ -55,14 +58,15 @@ fn body<'source, R: ReadsExpressions>(
 ///
 /// The fault of the token that does not fit, or want of memory.
 #[cycle(statements)]
-#[tactic(auto, unfolding(template_compiler_grammar::specs::TemplateReader::statements_at, template_compiler_grammar::specs::TemplateReader::statements_by))]
+#[tactic(auto, unfolding(template_compiler_placed_grammar::specs::TemplateReader::statements_at, template_compiler_placed_grammar::specs::TemplateReader::statements_by))]
 pub fn read_statements<'source, R: ReadsExpressions>(
     alloc: Global,
     tokens: &mut TokenStream<'source>,
     left: u32,
     around: Around,
 ) -> Result<Vec<Stmt<'source>>, Refusal>
-    ensures { ParsedBody (statements_at left (around_of around) tokens.old.left) tokens.new.left result }
+    ensures parsed { ParsedBody (statements_at tokens.old.spans left (around_of around) tokens.old.left) tokens.new.left result }
+    ensures spans { tokens.new.spans ≡ tokens.old.spans }
 {
     let mut statements = Vec::new(alloc);
     loop {
@@ -76,7 +80,7 @@ pub fn read_statements<'source, R: ReadsExpressions>(
 
 // A text, a print or a tag that begins a statement.
 #[cycle(statements)]
-#[tactic(auto, using(crate::proofs::Next::text_here, crate::proofs::Next::print_here, crate::proofs::Next::tag_here, crate::proofs::Next::nothing_here, template_compiler_statement_makers::proofs::Lists::statements_push), unfolding(template_compiler_tokens::specs::Steps::under, template_compiler_grammar::specs::TemplateReader::here, template_compiler_grammar::specs::TemplateReader::here_by))]
+#[tactic(auto, using(crate::proofs::Next::text_here, crate::proofs::Next::print_here, crate::proofs::Next::tag_here, crate::proofs::Next::nothing_here, template_compiler_statement_makers::proofs::Lists::statement_nodes_push), unfolding(template_compiler_tokens::specs::Steps::under, template_compiler_placed_grammar::specs::TemplateReader::here, template_compiler_placed_grammar::specs::TemplateReader::here_by))]
 fn next_statement<'source, R: ReadsExpressions>(
     alloc: Global,
     tokens: &mut TokenStream<'source>,
@@ -84,8 +88,10 @@ fn next_statement<'source, R: ReadsExpressions>(
     around: Around,
     statements: &mut Vec<Stmt<'source>>,
 ) -> Result<bool, Refusal>
-    ensures { SteppedTo (statement_step (here left) (around_of around) (statements_in statements.old.items) tokens.old.left)
-        (statements_in statements.old.items) tokens.old.left (statements_in statements.new.items) tokens.new.left result }
+    ensures parsed { let table = tokens.old.spans in
+        SteppedTo (statement_step table (here table left) (around_of around) (statement_nodes_in statements.old.items) tokens.old.left)
+        (statement_nodes_in statements.old.items) tokens.old.left (statement_nodes_in statements.new.items) tokens.new.left result }
+    ensures spans { tokens.new.spans ≡ tokens.old.spans }
 {
     let span = tokens.span();
     if let Some(text) = tokens.text() {
@@ -110,7 +116,7 @@ fn next_statement<'source, R: ReadsExpressions>(
 
 // The statement that the word of the next tag begins.
 #[cycle(statements)]
-#[tactic(auto, using(template_compiler_statement_makers::proofs::Lists::statements_push), unfolding(template_compiler_tokens::specs::Steps::under, template_compiler_grammar::specs::TemplateReader::opened_step))]
+#[tactic(auto, using(template_compiler_statement_makers::proofs::Lists::statement_nodes_push), unfolding(template_compiler_tokens::specs::Steps::under, template_compiler_placed_grammar::specs::TemplateReader::opened_step))]
 fn next_tag<'source, R: ReadsExpressions>(
     alloc: Global,
     tokens: &mut TokenStream<'source>,
@@ -119,9 +125,11 @@ fn next_tag<'source, R: ReadsExpressions>(
     statements: &mut Vec<Stmt<'source>>,
     word: &str,
 ) -> Result<bool, Refusal>
-    ensures { SteppedTo (opened_step (here left) (around_of around) (statements_in statements.old.items) (opening word.now)
-        (passed (passed tokens.old.left)))
-        (statements_in statements.old.items) tokens.old.left (statements_in statements.new.items) tokens.new.left result }
+    ensures parsed { let table = tokens.old.spans in
+        SteppedTo (opened_step table (here table left) (around_of around) (next_span table tokens.old.left)
+        (statement_nodes_in statements.old.items) (opening word.now) (passed (passed tokens.old.left)))
+        (statement_nodes_in statements.old.items) tokens.old.left (statement_nodes_in statements.new.items) tokens.new.left result }
+    ensures spans { tokens.new.spans ≡ tokens.old.spans }
 {
     match opening_named(word) {
         Some(opening) => {
@@ -148,7 +156,9 @@ fn opened<'source, R: ReadsExpressions>(
     opening: Opening,
     span: Span,
 ) -> Result<Stmt<'source>, Refusal>
-    ensures { ParsedStatement (opened_by (here left) (around_of around) (opening_of opening) tokens.old.left) tokens.new.left result }
+    ensures parsed { let table = tokens.old.spans in
+        ParsedStatement (opened_by table (here table left) (around_of around) (opening_of opening) span tokens.old.left) tokens.new.left result }
+    ensures spans { tokens.new.spans ≡ tokens.old.spans }
 {
     match kind_of(opening) {
         Kind::Leaf(leaf) => read_leaf::<R>(alloc, tokens, left, around, leaf, span),
@@ -158,7 +168,7 @@ fn opened<'source, R: ReadsExpressions>(
 
 // A statement that has a body or may have one.
 #[cycle(statements)]
-#[tactic(auto, unfolding(template_compiler_grammar::specs::TemplateReader::opened_by))]
+#[tactic(auto, unfolding(template_compiler_placed_grammar::specs::TemplateReader::opened_by))]
 fn read_parent<'source, R: ReadsExpressions>(
     alloc: Global,
     tokens: &mut TokenStream<'source>,
@@ -167,7 +177,9 @@ fn read_parent<'source, R: ReadsExpressions>(
     parent: Parent,
     span: Span,
 ) -> Result<Stmt<'source>, Refusal>
-    ensures { ParsedStatement (opened_by (here left) (around_of around) (parent_opening parent) tokens.old.left) tokens.new.left result }
+    ensures parsed { let table = tokens.old.spans in
+        ParsedStatement (opened_by table (here table left) (around_of around) (parent_opening parent) span tokens.old.left) tokens.new.left result }
+    ensures spans { tokens.new.spans ≡ tokens.old.spans }
 {
     match parent {
         Parent::For => return for_loop::<R>(alloc, tokens, left, around, span).map(Stmt::ForLoop),
@@ -198,7 +210,9 @@ fn ended_body<'source, R: ReadsExpressions>(
     around: Around,
     end: &str,
 ) -> Result<Vec<Stmt<'source>>, Refusal>
-    ensures { ParsedBody (and_then (deeper_body left (around_of around) tokens.old.left) (expect_tag end.now)) tokens.new.left result }
+    ensures parsed { let table = tokens.old.spans in
+        ParsedBody (and_then (deeper_body table left (around_of around) tokens.old.left) (expect_tag end.now)) tokens.new.left result }
+    ensures spans { tokens.new.spans ≡ tokens.old.spans }
 {
     let body = body::<R>(alloc, tokens, left, around)?;
     parts::expect_tag(tokens, end)?;
@@ -207,7 +221,7 @@ fn ended_body<'source, R: ReadsExpressions>(
 
 // The other body, where there is one, and the tag that ends the statement.
 #[cycle(statements)]
-#[tactic(auto, using(template_compiler_statement_parts::proofs::Again::tag_again), unfolding(template_compiler_tokens::specs::Steps::and_then, template_compiler_grammar::specs::TemplateReader::here, template_compiler_grammar::specs::TemplateReader::here_by, template_compiler_grammar::specs::TemplateReader::else_by))]
+#[tactic(auto, using(template_compiler_statement_parts::proofs::Again::tag_again), unfolding(template_compiler_tokens::specs::Steps::and_then, template_compiler_placed_grammar::specs::TemplateReader::here, template_compiler_placed_grammar::specs::TemplateReader::here_by, template_compiler_placed_grammar::specs::TemplateReader::else_by))]
 fn otherwise<'source, R: ReadsExpressions>(
     alloc: Global,
     tokens: &mut TokenStream<'source>,
@@ -215,7 +229,9 @@ fn otherwise<'source, R: ReadsExpressions>(
     around: Around,
     end: &str,
 ) -> Result<Vec<Stmt<'source>>, Refusal>
-    ensures { ParsedBody (else_by (here left) (around_of around) end.now tokens.old.left) tokens.new.left result }
+    ensures parsed { let table = tokens.old.spans in
+        ParsedBody (else_by table (here table left) (around_of around) end.now tokens.old.left) tokens.new.left result }
+    ensures spans { tokens.new.spans ≡ tokens.old.spans }
 {
     if parts::begins_tag(tokens, "else") {
         parts::expect_tag(tokens, "else")?;
@@ -236,8 +252,10 @@ fn for_loop<'source, R: ReadsExpressions>(
     around: Around,
     span: Span,
 ) -> Result<Box<Spanned<ForLoop<'source>>>, Refusal>
-    ensures { ParsedAs (λ n. statement_of (statements.ForLoop n))
-        (for_by (here left) (around_of around) tokens.old.left) tokens.new.left result }
+    ensures parsed { let table = tokens.old.spans in
+        ParsedAs (λ n. statement_node_of (statements.ForLoop n)) (for_by table (here table left) (around_of around) span tokens.old.left)
+        tokens.new.left result }
+    ensures spans { tokens.new.spans ≡ tokens.old.spans }
 {
     let head = loops::read_for::<R>(alloc, tokens, left, span)?;
     let body = body::<R>(alloc, tokens, left, around.within_loop())?;
@@ -248,7 +266,6 @@ fn for_loop<'source, R: ReadsExpressions>(
 // A condition, behind its word: its head and its body, the branches behind it, and what stands for the case that none holds.
 // Each branch becomes the other body of the one before it.
 #[cycle(statements)]
-#[tactic(auto, unfolding(template_compiler_tokens::specs::Steps::and_then, template_compiler_grammar::specs::TemplateReader::if_by))]
 fn if_condition<'source, R: ReadsExpressions>(
     alloc: Global,
     tokens: &mut TokenStream<'source>,
@@ -256,8 +273,10 @@ fn if_condition<'source, R: ReadsExpressions>(
     around: Around,
     span: Span,
 ) -> Result<Box<Spanned<IfCond<'source>>>, Refusal>
-    ensures { ParsedAs (λ n. statement_of (statements.IfCond n))
-        (if_by (here left) (around_of around) tokens.old.left) tokens.new.left result }
+    ensures parsed { let table = tokens.old.spans in
+        ParsedAs (λ n. statement_node_of (statements.IfCond n)) (if_by table (here table left) (around_of around) span tokens.old.left)
+        tokens.new.left result }
+    ensures spans { tokens.new.spans ≡ tokens.old.spans }
 {
     let first = read_branch::<R>(alloc, tokens, left, around, span)?;
     let others = branches::<R>(alloc, tokens, left, around)?;
@@ -276,7 +295,10 @@ fn read_branch<'source, R: ReadsExpressions>(
     around: Around,
     span: Span,
 ) -> Result<Box<Spanned<IfCond<'source>>>, Refusal>
-    ensures { ParsedAs branch_in (branch_by (here left) (around_of around) tokens.old.left) tokens.new.left result }
+    ensures parsed { let table = tokens.old.spans in
+        ParsedAs branch_in (branch_by table (here table left) (around_of around) tokens.old.left) tokens.new.left result }
+    ensures span { IfOk result (λ branch. branch.value.span ≡ span) }
+    ensures spans { tokens.new.spans ≡ tokens.old.spans }
 {
     let head = loops::read_branch::<R>(alloc, tokens, left, span)?;
     let body = body::<R>(alloc, tokens, left, around)?;
@@ -291,8 +313,10 @@ fn branches<'source, R: ReadsExpressions>(
     left: u32,
     around: Around,
 ) -> Result<Vec<Box<Spanned<IfCond<'source>>>>, Refusal>
-    ensures { ParsedAs (λ v. branches_in v.items) (all (branch_step (here left) (around_of around)) no_branches tokens.old.left)
+    ensures parsed { let table = tokens.old.spans in
+        ParsedAs (λ v. branches_in v.items) (all (branch_step table (here table left) (around_of around)) no_placed_branches tokens.old.left)
         tokens.new.left result }
+    ensures spans { tokens.new.spans ≡ tokens.old.spans }
 {
     let mut branches = Vec::new(alloc);
     loop {
@@ -314,8 +338,10 @@ fn next_branch<'source, R: ReadsExpressions>(
     around: Around,
     branches: &mut Vec<Box<Spanned<IfCond<'source>>>>,
 ) -> Result<bool, Refusal>
-    ensures { SteppedTo (branch_step (here left) (around_of around) (branches_in branches.old.items) tokens.old.left)
+    ensures parsed { let table = tokens.old.spans in
+        SteppedTo (branch_step table (here table left) (around_of around) (branches_in branches.old.items) tokens.old.left)
         (branches_in branches.old.items) tokens.old.left (branches_in branches.new.items) tokens.new.left result }
+    ensures spans { tokens.new.spans ≡ tokens.old.spans }
 {
     if parts::begins_tag(tokens, "elif") {
         let span = tokens.span();
@@ -340,8 +366,10 @@ fn with_block<'source, R: ReadsExpressions>(
     around: Around,
     span: Span,
 ) -> Result<Box<Spanned<WithBlock<'source>>>, Refusal>
-    ensures { ParsedAs (λ n. statement_of (statements.WithBlock n))
-        (with_by (here left) (around_of around) tokens.old.left) tokens.new.left result }
+    ensures parsed { let table = tokens.old.spans in
+        ParsedAs (λ n. statement_node_of (statements.WithBlock n)) (with_by table (here table left) (around_of around) span tokens.old.left)
+        tokens.new.left result }
+    ensures spans { tokens.new.spans ≡ tokens.old.spans }
 {
     let head = loops::read_with::<R>(alloc, tokens, left)?;
     let body = ended_body::<R>(alloc, tokens, left, around, "endwith")?;
@@ -357,7 +385,9 @@ fn set<'source, R: ReadsExpressions>(
     around: Around,
     span: Span,
 ) -> Result<Stmt<'source>, Refusal>
-    ensures { ParsedStatement (set_by (here left) (around_of around) tokens.old.left) tokens.new.left result }
+    ensures parsed { let table = tokens.old.spans in
+        ParsedStatement (set_by table (here table left) (around_of around) span tokens.old.left) tokens.new.left result }
+    ensures spans { tokens.new.spans ≡ tokens.old.spans }
 {
     match declarations::read_set::<R>(alloc, tokens, left, span)? {
         SetHead::Values(node) => return Ok(Stmt::Set(node)),
@@ -377,8 +407,10 @@ fn set_block<'source, R: ReadsExpressions>(
     head: Box<Spanned<SetBlock<'source>>>,
     span: Span,
 ) -> Result<Box<Spanned<SetBlock<'source>>>, Refusal>
-    ensures { ParsedAs (λ n. statement_of (statements.SetBlock n))
-        (set_rest (here left) (around_of around) (set_over (set_block_of head.entry)) tokens.old.left) tokens.new.left result }
+    ensures parsed { let table = tokens.old.spans in
+        ParsedAs (λ n. statement_node_of (statements.SetBlock n))
+        (set_rest table (here table left) (around_of around) span (set_over (set_block_of head.entry)) tokens.old.left) tokens.new.left result }
+    ensures spans { tokens.new.spans ≡ tokens.old.spans }
 {
     let body = ended_body::<R>(alloc, tokens, left, around, "endset")?;
     Ok(ends::set_block(head, body, tokens.expand_span(span)))
@@ -393,8 +425,10 @@ fn auto_escape<'source, R: ReadsExpressions>(
     around: Around,
     span: Span,
 ) -> Result<Box<Spanned<AutoEscape<'source>>>, Refusal>
-    ensures { ParsedAs (λ n. statement_of (statements.AutoEscape n))
-        (autoescape_by (here left) (around_of around) tokens.old.left) tokens.new.left result }
+    ensures parsed { let table = tokens.old.spans in
+        ParsedAs (λ n. statement_node_of (statements.AutoEscape n)) (autoescape_by table (here table left) (around_of around) span tokens.old.left)
+        tokens.new.left result }
+    ensures spans { tokens.new.spans ≡ tokens.old.spans }
 {
     let head = loops::read_auto_escape::<R>(alloc, tokens, left, span)?;
     let body = ended_body::<R>(alloc, tokens, left, around, "endautoescape")?;
@@ -410,8 +444,10 @@ fn filter_block<'source, R: ReadsExpressions>(
     around: Around,
     span: Span,
 ) -> Result<Box<Spanned<FilterBlock<'source>>>, Refusal>
-    ensures { ParsedAs (λ n. statement_of (statements.FilterBlock n))
-        (filter_block_by (here left) (around_of around) tokens.old.left) tokens.new.left result }
+    ensures parsed { let table = tokens.old.spans in
+        ParsedAs (λ n. statement_node_of (statements.FilterBlock n)) (filter_block_by table (here table left) (around_of around) span tokens.old.left)
+        tokens.new.left result }
+    ensures spans { tokens.new.spans ≡ tokens.old.spans }
 {
     let head = loops::read_filter_block::<R>(alloc, tokens, left, span)?;
     let body = ended_body::<R>(alloc, tokens, left, around, "endfilter")?;
@@ -428,8 +464,10 @@ fn block<'source, R: ReadsExpressions>(
     around: Around,
     span: Span,
 ) -> Result<Box<Spanned<Block<'source>>>, Refusal>
-    ensures { ParsedAs (λ n. statement_of (statements.Block n))
-        (block_by (here left) (around_of around) tokens.old.left) tokens.new.left result }
+    ensures parsed { let table = tokens.old.spans in
+        ParsedAs (λ n. statement_node_of (statements.Block n)) (block_by table (here table left) (around_of around) span tokens.old.left)
+        tokens.new.left result }
+    ensures spans { tokens.new.spans ≡ tokens.old.spans }
 {
     let head = declarations::read_block(tokens, around.in_macro)?;
     let body = body::<R>(alloc, tokens, left, around.within_block())?;
@@ -445,7 +483,9 @@ fn macro_block<'source, R: ReadsExpressions>(
     left: u32,
     span: Span,
 ) -> Result<Box<Spanned<Macro<'source>>>, Refusal>
-    ensures { ParsedAs (λ n. statement_of (statements.Macro n)) (macro_by (here left) tokens.old.left) tokens.new.left result }
+    ensures parsed { let table = tokens.old.spans in
+        ParsedAs (λ n. statement_node_of (statements.Macro n)) (macro_by table (here table left) span tokens.old.left) tokens.new.left result }
+    ensures spans { tokens.new.spans ≡ tokens.old.spans }
 {
     let head = declarations::read_macro::<R>(alloc, tokens, left)?;
     let body = ended_body::<R>(alloc, tokens, left, Around::within_macro(), "endmacro")?;
@@ -460,7 +500,9 @@ fn call_block<'source, R: ReadsExpressions>(
     left: u32,
     span: Span,
 ) -> Result<Box<Spanned<CallBlock<'source>>>, Refusal>
-    ensures { ParsedAs (λ n. statement_of (statements.CallBlock n)) (call_by (here left) tokens.old.left) tokens.new.left result }
+    ensures parsed { let table = tokens.old.spans in
+        ParsedAs (λ n. statement_node_of (statements.CallBlock n)) (call_by table (here table left) span tokens.old.left) tokens.new.left result }
+    ensures spans { tokens.new.spans ≡ tokens.old.spans }
 {
     let head = declarations::read_call::<R>(alloc, tokens, left)?;
     let body = ended_body::<R>(alloc, tokens, left, Around::within_macro(), "endcall")?;

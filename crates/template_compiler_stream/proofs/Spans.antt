@@ -1,5 +1,5 @@
 -- How the spans of tokens are found again from the tokens that are left.
-use Rattle.std.proofs.Common.{◌≡◌, ℕ, suc, ◌-◌, ◌<◌, ◌≤◌, List, [], ◌∷◌, ◌++◌, map, length, drop, set, get_or, Option, None, Some, refl, sym, ◌∙◌, ap, arith}
+use Rattle.std.proofs.Common.{◌≡◌, ℕ, suc, ◌-◌, ◌<◌, ◌≤◌, List, [], ◌∷◌, ◌++◌, map, length, drop, set, get_or, Option, None, Some, refl, sym, ◌∙◌, ap, subst, arith}
 use Rattle.std.proofs.lemmas.List.{length-drop, length-map, get_or-map, get_or_past, map-set, set-get_or}
 use Rattle.template_tree.specs.declared.span.Span.{Span}
 use Rattle.template_compiler_tokens.specs.Token as spec
@@ -24,6 +24,14 @@ count_held (t ∷ ys) f = count_token t.0 (map (λ (t : Token × Span). token_of
 count_left : (xs : List (Token × Span)) (i : ℕ) (f : Option Fault) → token_count (left_in xs i f) ≡ length xs - i
 unfolding left_in
 count_left xs i f = omega (arith, count_held (drop i xs) f, length-drop i xs)
+
+-- each token that is left has its span
+pub count_within : (v : PlacedTokens) (xs : List (Token × Span)) (i : ℕ) (f : Option Fault) → tokens_from xs i f ≡ v →
+    token_count v.left ≤ length v.spans
+unfolding spans_of
+count_within v xs i f e =
+    subst (λ (v : PlacedTokens). token_count v.left ≤ length v.spans) e
+    (omega (arith, count_left xs i f, length-map xs (λ (t : Token × Span). t.1)))
 
 passed_held : (xs : List (Token × Span)) (i : ℕ) (f : Option Fault) → i ≤ length xs → passed_count (spans_of xs) (left_in xs i f) ≡ i
 unfolding passed_count spans_of

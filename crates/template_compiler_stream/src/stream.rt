@@ -1,5 +1,5 @@
 //! The tokens that are left.
-ghost use Rattle.std.specs.Prelude.{◌≡◌, [], ◌∷◌, ◌++◌, map, option_map, is_some, if◌then◌else◌, string_bytes};
+ghost use Rattle.std.specs.Prelude.{◌≡◌, ◌≤◌, [], ◌∷◌, ◌++◌, length, map, option_map, is_some, if◌then◌else◌, string_bytes};
 ghost use Rattle.template_compiler_tokens.specs.Steps.{fault};
 ghost use Rattle.template_compiler_tokens.specs.Token.{assign, bad_syntax};
 ghost use Rattle.template_compiler_grammar.specs.Words.{begins_bare};
@@ -7,7 +7,7 @@ ghost use Rattle.template_compiler_grammar.specs.Reader.{begins_closing, begins_
 ghost use Rattle.template_compiler_stream.specs.Refusals.{fault_of};
 ghost use Rattle.template_compiler_stream.specs.Left.{Peeks, Shows, ahead, behind, ended, passed};
 ghost use Rattle.template_compiler_stream.specs.Spans.{ShownAt, TakenAt};
-ghost use Rattle.template_compiler_tokens.specs.Places.{last_span, next_span, no_span, until};
+ghost use Rattle.template_compiler_tokens.specs.Places.{last_span, next_span, no_span, token_count, until};
 ghost use Rattle.template_compiler_stream.specs.Signs.{assigned_behind, begins_alone, begins_symbol, is_symbol, level_of, second_word, next_operator, next_comparison, next_symbol, next_word, symbol_of, word_in};
 ghost use Rattle.template_compiler_tokens.specs.View.{token_of};
 ghost use Rattle.template_compiler_stream.specs.Skips.{PutsText, SkipsDotted, SkipsKeyword, SkipsSign, SkipsText, SkipsWord};
@@ -88,6 +88,7 @@ impl<'source> TokenStream<'source> {
     pub(crate) fn peek(&self) -> Next<'_, 'source>
         ensures shown { Shows self.now.left result }
         ensures span { ShownAt (next_span self.now.spans self.now.left) result }
+        ensures counted { token_count self.now.left ≤ length self.now.spans }
     {
         match self.tokens.get(self.place) {
             Some((token, span)) => Next::Token(token, *span),

@@ -1,6 +1,7 @@
 //! What stands next beside signs and words.
-ghost use Rattle.std.specs.Prelude.{◌≡◌, option_map};
+ghost use Rattle.std.specs.Prelude.{◌≡◌, ◌≤◌, length, option_map};
 ghost use Rattle.template_compiler_stream.specs.Tags.{begins_block_end, begins_block_start, begins_variable_end, begins_variable_start, is_block_end, is_block_start, is_done, is_variable_end, is_variable_start, next_text, text_in};
+ghost use Rattle.template_compiler_tokens.specs.Places.{token_count};
 ghost use Rattle.template_compiler_tokens.specs.View.{token_of};
 
 use crate::stream::{Next, TokenStream};
@@ -51,9 +52,10 @@ impl<'source> TokenStream<'source> {
         }
     }
 
-    /// The text between segments that stands next.
+    /// The text between segments that stands next. Each token that is left has its span.
     pub fn text(&self) -> Option<&'source str>
-        ensures { option_map (λ w. w.now) result ≡ next_text self.now.left }
+        ensures text { option_map (λ w. w.now) result ≡ next_text self.now.left }
+        ensures counted { token_count self.now.left ≤ length self.now.spans }
     {
         match self.peek() {
             Next::Token(token, _) => text_of(token),

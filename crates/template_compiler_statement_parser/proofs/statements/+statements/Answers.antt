@@ -1,278 +1,481 @@
 use Rattle.std.proofs.Common.{rules, ◌-◌, Ok, codes, refl, sym, ap, ◌∙◌, subst, arith}
-use Rattle.template_tree.specs.Tree.{with_block, auto_escape, macro, call_block}
+use Rattle.template_compiler_tokens.proofs.Loops.{then_goes}
+use Rattle.template_tree_statements.specs.declared.statements.Stmt.TheVariants.{Block}
 use Rattle.template_compiler_grammar.specs.TemplateGrammar.{macro_around}
-use Rattle.template_compiler_grammar.specs.TemplateReader.{autoescape_by, block_by, branch_by, branch_step, call_by, filter_block_by, filtered_body, for_by, here, here_by, macro_by, opened_by, set_by, statement_step, statements_at, statements_by, with_by}
+use Rattle.template_compiler_placed_grammar.specs.TemplateNodes.{auto_escape_node, call_block_node, filter_block_node, macro_node, with_node}
+use Rattle.template_compiler_placed_grammar.specs.TemplateReader.{autoescape_by, block_by, branch_by, branch_step, call_by, filter_block_by, for_by, here, here_by, if_by, macro_by, opened_by, set_by, statement_step, statements_at, statements_by, with_by}
+use Rattle.template_compiler_placed_grammar.specs.Views.{statement_node_of}
 use Rattle.template_compiler_stream.specs.Refusals.{Refused}
-use Rattle.template_compiler_grammar_laws.proofs.TemplatesSound.{next_statement_takes, next_branch_takes}
-use Rattle.template_compiler_statement_parts.proofs.Rounds.{rounds_end, rounds_go, rounds_refused}
-use Rattle.template_compiler_statement_makers.specs.Surroundings.{around_of}
-use Rattle.template_compiler_statement_parser.specs.Bodies.{ParsedBody, ParsedStatement}
-use Rattle.template_compiler_statement_makers.specs.Listed.{statements_in}
 use Rattle.template_compiler_statement_parts.specs.Parsed.{ParsedAs, SteppedTo}
-use Rattle.template_compiler_statement_parser.proofs.Wholes.{autoescape_whole, behind, behind_fails, block_whole, body_fails, body_made, branch_whole, call_whole, filter_whole, for_body_fails, for_else_fails, for_made, for_whole, head_fails, macro_whole, set_body_fails, set_body_made, set_whole_by, with_whole}
+use Rattle.template_compiler_statement_parts.proofs.Rounds.{rounds_end, rounds_go, rounds_refused}
+use Rattle.template_compiler_statement_makers.specs.Begun.{set_block_of}
+use Rattle.template_compiler_statement_makers.specs.Listed.{statement_nodes_in}
+use Rattle.template_compiler_statement_makers.specs.Surroundings.{around_of}
 use Rattle.template_compiler_statement_declarations.specs.Heads.{block_rest, set_over, set_rest}
 use Rattle.template_compiler_statement_loops.specs.Heads.{for_rest}
-use Rattle.template_compiler_statement_makers.specs.Begun.{set_block_of}
-use Rattle.template_compiler_tokens.proofs.Loops.{then_goes}
-use Rattle.template_tree_statements.specs.View.{statement_of}
-use Rattle.template_tree_statements.specs.declared.statements.Stmt.TheVariants.{Block}
-use Rattle.template_compiler_statement_parser.proofs.Next.{tag_here}
+use Rattle.template_compiler_statement_parser.specs.Bodies.{ParsedBody, ParsedStatement}
+use Rattle.template_compiler_statement_parser.proofs.Falls.{branches_fall, statements_fall}
 use Rattle.template_compiler_statement_parser.proofs.Less.{body_less}
+use Rattle.template_compiler_statement_parser.proofs.Made.{behind, behind_fails, body_fails, body_made, branches_fail, else_fails, for_body_fails, for_else_fails, for_made, head_fails, if_fails, if_made, set_body_fails, set_body_made}
+use Rattle.template_compiler_statement_parser.proofs.Next.{tag_here}
+use Rattle.template_compiler_statement_parser.proofs.Wholes.{autoescape_whole, block_whole, branch_whole, call_whole, filter_whole, for_whole, macro_whole, set_whole_by, with_whole}
 use Rattle.template_compiler_statement_parser.proofs.statements.+statements.Goals as goal
 
-pub body-returns-else-left-eq0 : goal.body-returns-else-left-eq0
-body-returns-else-left-eq0 g t c =
+pub body-returns-else-left-eq0-clause-parsed : goal.body-returns-else-left-eq0-clause-parsed
+body-returns-else-left-eq0-clause-parsed g t c =
     subst (λ m. ParsedBody m c.read_statements.new.tokens.left c.read_statements.result)
-    (sym (body_less c.args.left (c.args.left - 1) (around_of c.args.around) c.args.tokens.now.left (omega arith))) c.read_statements.ensures
+    (sym (body_less c.args.tokens.now.spans c.args.left (c.args.left - 1) (around_of c.args.around) c.args.tokens.now.left (omega arith)))
+    c.read_statements.ensures.parsed
 
-pub branches-returns-in-Ok-false : goal.branches-returns-in-Ok-false
-branches-returns-in-Ok-false g t c =
-    let ended = rw c.in-Ok-false.field-0-test at c.in-Ok-false.ensures in
-    rounds_end (branch_step (here c.args.left) (around_of c.args.around)) _ _ _ _ _ _ c.loop-branches.invariant ended
 
-pub branches-returns-in-Err : goal.branches-returns-in-Err
-branches-returns-in-Err g t c = rounds_refused (branch_step (here c.args.left) (around_of c.args.around)) _ _ _ _ c.in-Err.refusal c.loop-branches.invariant c.in-Err.ensures
+pub branches-returns-in-Ok-false-clause-parsed : goal.branches-returns-in-Ok-false-clause-parsed
+branches-returns-in-Ok-false-clause-parsed g t c =
+    let ended = rw c.loop-branches.invariant.0 at (rw c.in-Ok-false.field-0-test at c.in-Ok-false.ensures.parsed) in
+    rounds_end _ _ _ _ _ _ _ c.loop-branches.invariant.1 ended
+
+
+pub branches-returns-in-Err-clause-parsed : goal.branches-returns-in-Err-clause-parsed
+branches-returns-in-Err-clause-parsed g t c =
+    let now = rw c.loop-branches.invariant.0 at c.in-Err.ensures.parsed in
+    rounds_refused _ _ _ _ _ c.in-Err.refusal c.loop-branches.invariant.1 now
+
 
 pub branches-loop-branches-preserved : goal.branches-loop-branches-preserved
 branches-loop-branches-preserved g t c =
-    let more = rw c.in-Ok-true.field-0-test at c.in-Ok-true.ensures in
-    rounds_go (branch_step (here c.args.left) (around_of c.args.around)) (next_branch_takes c.args.left (around_of c.args.around)) _ _ _ _ _ _ c.loop-branches.invariant more
+    let spans = c.args.tokens.now.spans in
+    let more = rw c.loop-branches.invariant.0 at (rw c.in-Ok-true.field-0-test at c.in-Ok-true.ensures.parsed) in (
+      c.in-Ok-true.ensures.spans ∙ c.loop-branches.invariant.0,
+      rounds_go (branch_step spans (here spans c.args.left) (around_of c.args.around)) (branches_fall spans c.args.left (around_of c.args.around))
+          _ _ _ _ _ _ c.loop-branches.invariant.1 more,
+    )
+
 
 pub branches-loop-branches-smaller : goal.branches-loop-branches-smaller
 branches-loop-branches-smaller g t c =
-    let more = rw c.in-Ok-true.field-0-test at c.in-Ok-true.ensures in
-    next_branch_takes c.args.left (around_of c.args.around) _ _ _ _ more
+    let more = rw c.in-Ok-true.field-0-test at c.in-Ok-true.ensures.parsed in
+    branches_fall _ c.args.left (around_of c.args.around) _ _ _ _ more
 
-pub read_statements-returns-in-Ok-false : goal.read_statements-returns-in-Ok-false
-unfolding statements_at statements_by
-read_statements-returns-in-Ok-false g t c =
-    let ended = rw c.in-Ok-false.field-0-test at c.in-Ok-false.ensures in
-    rounds_end (statement_step (here c.args.left) (around_of c.args.around)) _ _ _ _ _ _ c.loop-statements.invariant ended
 
-pub read_statements-returns-in-Err : goal.read_statements-returns-in-Err
+pub read_statements-returns-in-Ok-false-clause-parsed : goal.read_statements-returns-in-Ok-false-clause-parsed
 unfolding statements_at statements_by
-read_statements-returns-in-Err g t c = rounds_refused (statement_step (here c.args.left) (around_of c.args.around)) _ _ _ _ c.in-Err.refusal c.loop-statements.invariant c.in-Err.ensures
+read_statements-returns-in-Ok-false-clause-parsed g t c =
+    let ended = rw c.loop-statements.invariant.0 at (rw c.in-Ok-false.field-0-test at c.in-Ok-false.ensures.parsed) in
+    rounds_end _ _ _ _ _ _ _ c.loop-statements.invariant.1 ended
+
+
+pub read_statements-returns-in-Err-clause-parsed : goal.read_statements-returns-in-Err-clause-parsed
+unfolding statements_at statements_by
+read_statements-returns-in-Err-clause-parsed g t c =
+    let now = rw c.loop-statements.invariant.0 at c.in-Err.ensures.parsed in
+    rounds_refused _ _ _ _ _ c.in-Err.refusal c.loop-statements.invariant.1 now
+
 
 pub read_statements-loop-statements-preserved : goal.read_statements-loop-statements-preserved
 read_statements-loop-statements-preserved g t c =
-    let more = rw c.in-Ok-true.field-0-test at c.in-Ok-true.ensures in
-    rounds_go (statement_step (here c.args.left) (around_of c.args.around)) (next_statement_takes c.args.left (around_of c.args.around)) _ _ _ _ _ _ c.loop-statements.invariant more
+    let spans = c.args.tokens.now.spans in
+    let more = rw c.loop-statements.invariant.0 at (rw c.in-Ok-true.field-0-test at c.in-Ok-true.ensures.parsed) in (
+      c.in-Ok-true.ensures.spans ∙ c.loop-statements.invariant.0,
+      rounds_go (statement_step spans (here spans c.args.left) (around_of c.args.around)) (statements_fall spans c.args.left (around_of c.args.around))
+          _ _ _ _ _ _ c.loop-statements.invariant.1 more,
+    )
+
 
 pub read_statements-loop-statements-smaller : goal.read_statements-loop-statements-smaller
 read_statements-loop-statements-smaller g t c =
-    let more = rw c.in-Ok-true.field-0-test at c.in-Ok-true.ensures in
-    next_statement_takes c.args.left (around_of c.args.around) _ _ _ _ more
+    let more = rw c.in-Ok-true.field-0-test at c.in-Ok-true.ensures.parsed in
+    statements_fall _ c.args.left (around_of c.args.around) _ _ _ _ more
 
-pub next_statement-returns-in-Some-tag_word : goal.next_statement-returns-in-Some-tag_word
-next_statement-returns-in-Some-tag_word g t c =
-    let ss = statements_in c.args.statements.now.items in
-    subst (λ m. SteppedTo m ss c.args.tokens.now.left (statements_in c.next_tag.new.statements.items) c.next_tag.new.tokens.left c.next_tag.result)
-    (sym (tag_here (here c.args.left) (around_of c.args.around) ss c.in-Some-tag_word.word.now c.args.tokens.now.left c.in-Some-tag_word.ensures))
-    c.next_tag.ensures
 
-pub with_block-returns : goal.with_block-returns
+pub next_statement-returns-in-Some-tag_word-clause-parsed : goal.next_statement-returns-in-Some-tag_word-clause-parsed
+next_statement-returns-in-Some-tag_word-clause-parsed g t c =
+    let spans = c.args.tokens.now.spans in
+    let ss = statement_nodes_in c.args.statements.now.items in
+    subst (λ m. SteppedTo m ss c.args.tokens.now.left (statement_nodes_in c.next_tag.new.statements.items) c.next_tag.new.tokens.left c.next_tag.result)
+    (sym (tag_here spans (here spans c.args.left) (around_of c.args.around) ss c.in-Some-tag_word.word.now c.args.tokens.now.left c.in-Some-tag_word.ensures))
+    c.next_tag.ensures.parsed
+
+
+pub with_block-returns-clause-parsed : goal.with_block-returns-clause-parsed
 unfolding here here_by
-with_block-returns g t c =
-    body_made (here c.args.left) (around_of c.args.around) (codes "endwith") with_block (with_whole (here c.args.left) (around_of c.args.around) c.args.tokens.now.left) _ _ c.in_ok-head.ensures _ _ c.in_ok-body.ensures ∙
-    ap (λ s. Ok (s, c.ended_body.new.tokens.left)) (sym c.in_ok-with_block.ensures)
+with_block-returns-clause-parsed g t c =
+    let spans = c.args.tokens.now.spans in
+    let r = here spans c.args.left in
+    let p = around_of c.args.around in
+    let body = rw c.in_ok-head.ensures.spans at c.in_ok-body.ensures.parsed in
+    body_made spans r p (codes "endwith") c.args.span with_node (with_whole spans r p c.args.span c.args.tokens.now.left) _ _ c.in_ok-head.ensures.parsed _ _ _ _ _
+    body (c.in_ok-body.ensures.spans ∙ c.in_ok-head.ensures.spans) c.expand_span.ensures c.in_ok-with_block.ensures
 
-pub with_block-returns-in_err-head : goal.with_block-returns-in_err-head
-with_block-returns-in_err-head g t c =
-    let refused : Refused (with_by (here c.args.left) (around_of c.args.around) c.args.tokens.now.left) c.in_err-head.field-0.0 =
-    head_fails _ _ (with_whole (here c.args.left) (around_of c.args.around) c.args.tokens.now.left) _ c.in_err-head.ensures in
+
+pub with_block-returns-in_err-head-clause-parsed : goal.with_block-returns-in_err-head-clause-parsed
+with_block-returns-in_err-head-clause-parsed g t c =
+    let spans = c.args.tokens.now.spans in
+    let r = here spans c.args.left in
+    let p = around_of c.args.around in
+    let refused : Refused (with_by spans r p c.args.span c.args.tokens.now.left) c.in_err-head.field-0.0 = head_fails _ _ (with_whole spans r p c.args.span c.args.tokens.now.left) _ c.in_err-head.ensures.parsed in
     search rules
 
-pub with_block-returns-in_err-body : goal.with_block-returns-in_err-body
+
+pub with_block-returns-in_err-body-clause-parsed : goal.with_block-returns-in_err-body-clause-parsed
 unfolding here here_by
-with_block-returns-in_err-body g t c =
-    let refused : Refused (with_by (here c.args.left) (around_of c.args.around) c.args.tokens.now.left) c.in_err-body.field-0.0 =
-    body_fails (here c.args.left) (around_of c.args.around) (codes "endwith") with_block (with_whole (here c.args.left) (around_of c.args.around) c.args.tokens.now.left) _ _ c.in_ok-head.ensures _ c.in_err-body.ensures in
+with_block-returns-in_err-body-clause-parsed g t c =
+    let spans = c.args.tokens.now.spans in
+    let r = here spans c.args.left in
+    let p = around_of c.args.around in
+    let body = rw c.in_ok-head.ensures.spans at c.in_err-body.ensures.parsed in
+    let refused : Refused (with_by spans r p c.args.span c.args.tokens.now.left) c.in_err-body.field-0.0 =
+    body_fails spans r p (codes "endwith") c.args.span with_node (with_whole spans r p c.args.span c.args.tokens.now.left) _ _ c.in_ok-head.ensures.parsed _ body in
     search rules
 
-pub auto_escape-returns : goal.auto_escape-returns
-unfolding here here_by
-auto_escape-returns g t c =
-    body_made (here c.args.left) (around_of c.args.around) (codes "endautoescape") auto_escape (autoescape_whole (here c.args.left) (around_of c.args.around) c.args.tokens.now.left) _ _ c.in_ok-head.ensures.read _ _ c.in_ok-body.ensures ∙
-    ap (λ s. Ok (s, c.ended_body.new.tokens.left)) (sym c.auto_escape.ensures)
 
-pub auto_escape-returns-in_err-head : goal.auto_escape-returns-in_err-head
-auto_escape-returns-in_err-head g t c =
-    let refused : Refused (autoescape_by (here c.args.left) (around_of c.args.around) c.args.tokens.now.left) c.in_err-head.field-0.0 =
-    head_fails _ _ (autoescape_whole (here c.args.left) (around_of c.args.around) c.args.tokens.now.left) _ c.in_err-head.ensures.read in
+pub auto_escape-returns-clause-parsed : goal.auto_escape-returns-clause-parsed
+unfolding here here_by
+auto_escape-returns-clause-parsed g t c =
+    let spans = c.args.tokens.now.spans in
+    let r = here spans c.args.left in
+    let p = around_of c.args.around in
+    let body = rw c.in_ok-head.ensures.spans at c.in_ok-body.ensures.parsed in
+    body_made spans r p (codes "endautoescape") c.args.span auto_escape_node (autoescape_whole spans r p c.args.span c.args.tokens.now.left) _ _ c.in_ok-head.ensures.parsed _ _ _ _ _
+    body (c.in_ok-body.ensures.spans ∙ c.in_ok-head.ensures.spans) c.expand_span.ensures c.auto_escape.ensures
+
+
+pub auto_escape-returns-in_err-head-clause-parsed : goal.auto_escape-returns-in_err-head-clause-parsed
+auto_escape-returns-in_err-head-clause-parsed g t c =
+    let spans = c.args.tokens.now.spans in
+    let r = here spans c.args.left in
+    let p = around_of c.args.around in
+    let refused : Refused (autoescape_by spans r p c.args.span c.args.tokens.now.left) c.in_err-head.field-0.0 = head_fails _ _ (autoescape_whole spans r p c.args.span c.args.tokens.now.left) _ c.in_err-head.ensures.parsed in
     search rules
 
-pub auto_escape-returns-in_err-body : goal.auto_escape-returns-in_err-body
+
+pub auto_escape-returns-in_err-body-clause-parsed : goal.auto_escape-returns-in_err-body-clause-parsed
 unfolding here here_by
-auto_escape-returns-in_err-body g t c =
-    let refused : Refused (autoescape_by (here c.args.left) (around_of c.args.around) c.args.tokens.now.left) c.in_err-body.field-0.0 =
-    body_fails (here c.args.left) (around_of c.args.around) (codes "endautoescape") auto_escape (autoescape_whole (here c.args.left) (around_of c.args.around) c.args.tokens.now.left) _ _ c.in_ok-head.ensures.read _ c.in_err-body.ensures in
+auto_escape-returns-in_err-body-clause-parsed g t c =
+    let spans = c.args.tokens.now.spans in
+    let r = here spans c.args.left in
+    let p = around_of c.args.around in
+    let body = rw c.in_ok-head.ensures.spans at c.in_err-body.ensures.parsed in
+    let refused : Refused (autoescape_by spans r p c.args.span c.args.tokens.now.left) c.in_err-body.field-0.0 =
+    body_fails spans r p (codes "endautoescape") c.args.span auto_escape_node (autoescape_whole spans r p c.args.span c.args.tokens.now.left) _ _ c.in_ok-head.ensures.parsed _ body in
     search rules
 
-pub filter_block-returns : goal.filter_block-returns
-unfolding here here_by
-filter_block-returns g t c =
-    body_made (here c.args.left) (around_of c.args.around) (codes "endfilter") filtered_body (filter_whole (here c.args.left) (around_of c.args.around) c.args.tokens.now.left) _ _ c.in_ok-head.ensures.read _ _ c.in_ok-body.ensures ∙
-    ap (λ s. Ok (s, c.ended_body.new.tokens.left)) (sym c.filter_block.ensures)
 
-pub filter_block-returns-in_err-head : goal.filter_block-returns-in_err-head
-filter_block-returns-in_err-head g t c =
-    let refused : Refused (filter_block_by (here c.args.left) (around_of c.args.around) c.args.tokens.now.left) c.in_err-head.field-0.0 =
-    head_fails _ _ (filter_whole (here c.args.left) (around_of c.args.around) c.args.tokens.now.left) _ c.in_err-head.ensures.read in
+pub filter_block-returns-clause-parsed : goal.filter_block-returns-clause-parsed
+unfolding here here_by
+filter_block-returns-clause-parsed g t c =
+    let spans = c.args.tokens.now.spans in
+    let r = here spans c.args.left in
+    let p = around_of c.args.around in
+    let body = rw c.in_ok-head.ensures.spans at c.in_ok-body.ensures.parsed in
+    body_made spans r p (codes "endfilter") c.args.span filter_block_node (filter_whole spans r p c.args.span c.args.tokens.now.left) _ _ c.in_ok-head.ensures.parsed _ _ _ _ _
+    body (c.in_ok-body.ensures.spans ∙ c.in_ok-head.ensures.spans) c.expand_span.ensures c.filter_block.ensures
+
+
+pub filter_block-returns-in_err-head-clause-parsed : goal.filter_block-returns-in_err-head-clause-parsed
+filter_block-returns-in_err-head-clause-parsed g t c =
+    let spans = c.args.tokens.now.spans in
+    let r = here spans c.args.left in
+    let p = around_of c.args.around in
+    let refused : Refused (filter_block_by spans r p c.args.span c.args.tokens.now.left) c.in_err-head.field-0.0 = head_fails _ _ (filter_whole spans r p c.args.span c.args.tokens.now.left) _ c.in_err-head.ensures.parsed in
     search rules
 
-pub filter_block-returns-in_err-body : goal.filter_block-returns-in_err-body
+
+pub filter_block-returns-in_err-body-clause-parsed : goal.filter_block-returns-in_err-body-clause-parsed
 unfolding here here_by
-filter_block-returns-in_err-body g t c =
-    let refused : Refused (filter_block_by (here c.args.left) (around_of c.args.around) c.args.tokens.now.left) c.in_err-body.field-0.0 =
-    body_fails (here c.args.left) (around_of c.args.around) (codes "endfilter") filtered_body (filter_whole (here c.args.left) (around_of c.args.around) c.args.tokens.now.left) _ _ c.in_ok-head.ensures.read _ c.in_err-body.ensures in
+filter_block-returns-in_err-body-clause-parsed g t c =
+    let spans = c.args.tokens.now.spans in
+    let r = here spans c.args.left in
+    let p = around_of c.args.around in
+    let body = rw c.in_ok-head.ensures.spans at c.in_err-body.ensures.parsed in
+    let refused : Refused (filter_block_by spans r p c.args.span c.args.tokens.now.left) c.in_err-body.field-0.0 =
+    body_fails spans r p (codes "endfilter") c.args.span filter_block_node (filter_whole spans r p c.args.span c.args.tokens.now.left) _ _ c.in_ok-head.ensures.parsed _ body in
     search rules
 
-pub macro_block-returns : goal.macro_block-returns
-unfolding here here_by
-macro_block-returns g t c =
-    let body = rw c.within_macro.ensures at c.in_ok-body.ensures in
-    body_made (here c.args.left) macro_around (codes "endmacro") (λ h. macro h.1 h.0.0 h.0.1) (macro_whole (here c.args.left) c.args.tokens.now.left) _ _ c.in_ok-head.ensures _ _ body ∙
-    ap (λ s. Ok (s, c.ended_body.new.tokens.left)) (sym c.in_ok-macro_block.ensures)
 
-pub macro_block-returns-in_err-head : goal.macro_block-returns-in_err-head
-macro_block-returns-in_err-head g t c =
-    let refused : Refused (macro_by (here c.args.left) c.args.tokens.now.left) c.in_err-head.field-0.0 =
-    head_fails _ _ (macro_whole (here c.args.left) c.args.tokens.now.left) _ c.in_err-head.ensures in
+pub macro_block-returns-clause-parsed : goal.macro_block-returns-clause-parsed
+unfolding here here_by
+macro_block-returns-clause-parsed g t c =
+    let spans = c.args.tokens.now.spans in
+    let r = here spans c.args.left in
+    let body = rw c.within_macro.ensures at (rw c.in_ok-head.ensures.spans at c.in_ok-body.ensures.parsed) in
+    body_made spans r macro_around (codes "endmacro") c.args.span (λ h. macro_node h.1 h.0) (macro_whole spans r c.args.span c.args.tokens.now.left) _ _ c.in_ok-head.ensures.parsed _ _ _ _ _
+    body (c.in_ok-body.ensures.spans ∙ c.in_ok-head.ensures.spans) c.expand_span.ensures c.in_ok-macro_block.ensures
+
+
+pub macro_block-returns-in_err-head-clause-parsed : goal.macro_block-returns-in_err-head-clause-parsed
+macro_block-returns-in_err-head-clause-parsed g t c =
+    let spans = c.args.tokens.now.spans in
+    let r = here spans c.args.left in
+    let refused : Refused (macro_by spans r c.args.span c.args.tokens.now.left) c.in_err-head.field-0.0 = head_fails _ _ (macro_whole spans r c.args.span c.args.tokens.now.left) _ c.in_err-head.ensures.parsed in
     search rules
 
-pub macro_block-returns-in_err-body : goal.macro_block-returns-in_err-body
+
+pub macro_block-returns-in_err-body-clause-parsed : goal.macro_block-returns-in_err-body-clause-parsed
 unfolding here here_by
-macro_block-returns-in_err-body g t c =
-    let body = rw c.within_macro.ensures at c.in_err-body.ensures in
-    let refused : Refused (macro_by (here c.args.left) c.args.tokens.now.left) c.in_err-body.field-0.0 =
-    body_fails (here c.args.left) macro_around (codes "endmacro") (λ h. macro h.1 h.0.0 h.0.1) (macro_whole (here c.args.left) c.args.tokens.now.left) _ _ c.in_ok-head.ensures _ body in
+macro_block-returns-in_err-body-clause-parsed g t c =
+    let spans = c.args.tokens.now.spans in
+    let r = here spans c.args.left in
+    let body = rw c.within_macro.ensures at (rw c.in_ok-head.ensures.spans at c.in_err-body.ensures.parsed) in
+    let refused : Refused (macro_by spans r c.args.span c.args.tokens.now.left) c.in_err-body.field-0.0 =
+    body_fails spans r macro_around (codes "endmacro") c.args.span (λ h. macro_node h.1 h.0) (macro_whole spans r c.args.span c.args.tokens.now.left) _ _ c.in_ok-head.ensures.parsed _ body in
     search rules
 
-pub call_block-returns : goal.call_block-returns
-unfolding here here_by
-call_block-returns g t c =
-    let body = rw c.within_macro.ensures at c.in_ok-body.ensures in
-    body_made (here c.args.left) macro_around (codes "endcall") (λ h. call_block h.1 h.2 h.0.0 h.0.1) (call_whole (here c.args.left) c.args.tokens.now.left) _ _ c.in_ok-head.ensures _ _ body ∙
-    ap (λ s. Ok (s, c.ended_body.new.tokens.left)) (sym c.in_ok-call_block.ensures)
 
-pub call_block-returns-in_err-head : goal.call_block-returns-in_err-head
-call_block-returns-in_err-head g t c =
-    let refused : Refused (call_by (here c.args.left) c.args.tokens.now.left) c.in_err-head.field-0.0 =
-    head_fails _ _ (call_whole (here c.args.left) c.args.tokens.now.left) _ c.in_err-head.ensures in
+pub call_block-returns-clause-parsed : goal.call_block-returns-clause-parsed
+unfolding here here_by
+call_block-returns-clause-parsed g t c =
+    let spans = c.args.tokens.now.spans in
+    let r = here spans c.args.left in
+    let body = rw c.within_macro.ensures at (rw c.in_ok-head.ensures.spans at c.in_ok-body.ensures.parsed) in
+    body_made spans r macro_around (codes "endcall") c.args.span (λ h. call_block_node h.2 h.3 h.1 h.0) (call_whole spans r c.args.span c.args.tokens.now.left) _ _ c.in_ok-head.ensures.parsed _ _ _ _ _
+    body (c.in_ok-body.ensures.spans ∙ c.in_ok-head.ensures.spans) c.expand_span.ensures c.in_ok-call_block.ensures
+
+
+pub call_block-returns-in_err-head-clause-parsed : goal.call_block-returns-in_err-head-clause-parsed
+call_block-returns-in_err-head-clause-parsed g t c =
+    let spans = c.args.tokens.now.spans in
+    let r = here spans c.args.left in
+    let refused : Refused (call_by spans r c.args.span c.args.tokens.now.left) c.in_err-head.field-0.0 = head_fails _ _ (call_whole spans r c.args.span c.args.tokens.now.left) _ c.in_err-head.ensures.parsed in
     search rules
 
-pub call_block-returns-in_err-body : goal.call_block-returns-in_err-body
+
+pub call_block-returns-in_err-body-clause-parsed : goal.call_block-returns-in_err-body-clause-parsed
 unfolding here here_by
-call_block-returns-in_err-body g t c =
-    let body = rw c.within_macro.ensures at c.in_err-body.ensures in
-    let refused : Refused (call_by (here c.args.left) c.args.tokens.now.left) c.in_err-body.field-0.0 =
-    body_fails (here c.args.left) macro_around (codes "endcall") (λ h. call_block h.1 h.2 h.0.0 h.0.1) (call_whole (here c.args.left) c.args.tokens.now.left) _ _ c.in_ok-head.ensures _ body in
+call_block-returns-in_err-body-clause-parsed g t c =
+    let spans = c.args.tokens.now.spans in
+    let r = here spans c.args.left in
+    let body = rw c.within_macro.ensures at (rw c.in_ok-head.ensures.spans at c.in_err-body.ensures.parsed) in
+    let refused : Refused (call_by spans r c.args.span c.args.tokens.now.left) c.in_err-body.field-0.0 =
+    body_fails spans r macro_around (codes "endcall") c.args.span (λ h. call_block_node h.2 h.3 h.1 h.0) (call_whole spans r c.args.span c.args.tokens.now.left) _ _ c.in_ok-head.ensures.parsed _ body in
     search rules
 
-pub set-returns-in_err-node : goal.set-returns-in_err-node
-set-returns-in_err-node g t c =
-    let refused : Refused (set_by (here c.args.left) (around_of c.args.around) c.args.tokens.now.left) c.in_err-node.field-0.0 =
-    head_fails _ (set_rest (here c.args.left) (around_of c.args.around)) (set_whole_by (here c.args.left) (around_of c.args.around) c.args.tokens.now.left) _ c.in_err-node.ensures in
+
+pub set-returns-in_err-node-clause-parsed : goal.set-returns-in_err-node-clause-parsed
+set-returns-in_err-node-clause-parsed g t c =
+    let spans = c.args.tokens.now.spans in
+    let r = here spans c.args.left in
+    let p = around_of c.args.around in
+    let refused : Refused (set_by spans r p c.args.span c.args.tokens.now.left) c.in_err-node.field-0.0 =
+    head_fails _ (set_rest spans r p c.args.span) (set_whole_by spans r p c.args.span c.args.tokens.now.left) _ c.in_err-node.ensures.parsed in
     search rules
 
-pub set-returns-in-Values : goal.set-returns-in-Values
-set-returns-in-Values g t c =
-    behind (set_rest (here c.args.left) (around_of c.args.around)) (set_whole_by (here c.args.left) (around_of c.args.around) c.args.tokens.now.left) _ _ (rw c.in-Values.is at c.in_ok-node.ensures) refl
 
-pub set-returns-in-Block : goal.set-returns-in-Block
-set-returns-in-Block g t c =
-    let head = rw c.in-Block.is at c.in_ok-node.ensures in
-    subst (λ m. ParsedAs statement_of m c.set_block.new.tokens.left c.map.result)
-    (sym (behind (set_rest (here c.args.left) (around_of c.args.around)) (set_whole_by (here c.args.left) (around_of c.args.around) c.args.tokens.now.left) _ _ head refl)) (search rules)
+pub set-returns-in-Values-clause-parsed : goal.set-returns-in-Values-clause-parsed
+set-returns-in-Values-clause-parsed g t c =
+    let spans = c.args.tokens.now.spans in
+    let r = here spans c.args.left in
+    let p = around_of c.args.around in
+    behind (set_rest spans r p c.args.span) (set_whole_by spans r p c.args.span c.args.tokens.now.left) _ _
+    (rw c.in-Values.is at c.in_ok-node.ensures.parsed) refl
 
-pub set_block-returns : goal.set_block-returns
+
+pub set-returns-in-Block-clause-parsed : goal.set-returns-in-Block-clause-parsed
+set-returns-in-Block-clause-parsed g t c =
+    let spans = c.args.tokens.now.spans in
+    let r = here spans c.args.left in
+    let p = around_of c.args.around in
+    let head = rw c.in-Block.is at c.in_ok-node.ensures.parsed in
+    let rest = rw c.in_ok-node.ensures.spans at c.set_block.ensures.parsed in
+    subst (λ m. ParsedStatement m c.set_block.new.tokens.left c.map.result)
+    (sym (behind (set_rest spans r p c.args.span) (set_whole_by spans r p c.args.span c.args.tokens.now.left) _ _ head refl)) (search rules)
+
+
+pub set_block-returns-clause-parsed : goal.set_block-returns-clause-parsed
 unfolding here here_by
-set_block-returns g t c =
-    set_body_made (here c.args.left) (around_of c.args.around) (set_block_of c.args.head) _ _ _ c.in_ok-body.ensures ∙ ap (λ s. Ok (s, c.ended_body.new.tokens.left)) (sym c.set_block.ensures)
+set_block-returns-clause-parsed g t c =
+    let spans = c.args.tokens.now.spans in
+    let r = here spans c.args.left in
+    let p = around_of c.args.around in
+    set_body_made spans r p c.args.span (set_block_of c.args.head) _ _ _ _ _ _ c.in_ok-body.ensures.parsed c.in_ok-body.ensures.spans
+    c.expand_span.ensures c.set_block.ensures
 
-pub set_block-returns-in_err-body : goal.set_block-returns-in_err-body
+
+pub set_block-returns-in_err-body-clause-parsed : goal.set_block-returns-in_err-body-clause-parsed
 unfolding here here_by
-set_block-returns-in_err-body g t c =
-    let refused : Refused (set_rest (here c.args.left) (around_of c.args.around) (set_over (set_block_of c.args.head)) c.args.tokens.now.left) c.in_err-body.field-0.0 =
-    set_body_fails (here c.args.left) (around_of c.args.around) (set_block_of c.args.head) _ _ c.in_err-body.ensures in
+set_block-returns-in_err-body-clause-parsed g t c =
+    let spans = c.args.tokens.now.spans in
+    let r = here spans c.args.left in
+    let p = around_of c.args.around in
+    let refused : Refused (set_rest spans r p c.args.span (set_over (set_block_of c.args.head)) c.args.tokens.now.left) c.in_err-body.field-0.0 =
+    set_body_fails spans r p c.args.span (set_block_of c.args.head) _ _ c.in_err-body.ensures.parsed in
     search rules
 
-pub block-returns : goal.block-returns
-unfolding here here_by
-block-returns g t c =
-    let body = rw c.within_block.ensures at c.in_ok-body.ensures in
-    subst (λ m. ParsedAs (λ n. statement_of (Block n)) m c.read_block_end.new.tokens.left c.read_block_end.result)
-    (sym (behind (block_rest (here c.args.left) (around_of c.args.around)) (block_whole (here c.args.left) (around_of c.args.around) c.args.tokens.now.left) _ _ c.in_ok-head.ensures (then_goes _ body refl)))
-    c.read_block_end.ensures
 
-pub block-returns-in_err-head : goal.block-returns-in_err-head
-block-returns-in_err-head g t c =
-    let refused : Refused (block_by (here c.args.left) (around_of c.args.around) c.args.tokens.now.left) c.in_err-head.field-0.0 =
-    head_fails _ (block_rest (here c.args.left) (around_of c.args.around)) (block_whole (here c.args.left) (around_of c.args.around) c.args.tokens.now.left) _ c.in_err-head.ensures in
+pub block-returns-clause-parsed : goal.block-returns-clause-parsed
+unfolding here here_by
+block-returns-clause-parsed g t c =
+    let spans = c.args.tokens.now.spans in
+    let r = here spans c.args.left in
+    let p = around_of c.args.around in
+    let body = rw c.within_block.ensures at (rw c.in_ok-head.ensures.spans at c.in_ok-body.ensures.parsed) in
+    let end = rw (c.in_ok-body.ensures.spans ∙ c.in_ok-head.ensures.spans) at c.read_block_end.ensures.parsed in
+    subst (λ m. ParsedAs (λ n. statement_node_of (Block n)) m c.read_block_end.new.tokens.left c.read_block_end.result)
+    (sym (behind (block_rest spans r p c.args.span) (block_whole spans r p c.args.span c.args.tokens.now.left) _ _ c.in_ok-head.ensures.parsed
+    (then_goes _ body refl))) end
+
+
+pub block-returns-in_err-head-clause-parsed : goal.block-returns-in_err-head-clause-parsed
+block-returns-in_err-head-clause-parsed g t c =
+    let spans = c.args.tokens.now.spans in
+    let r = here spans c.args.left in
+    let p = around_of c.args.around in
+    let refused : Refused (block_by spans r p c.args.span c.args.tokens.now.left) c.in_err-head.field-0.0 =
+    head_fails _ (block_rest spans r p c.args.span) (block_whole spans r p c.args.span c.args.tokens.now.left) _ c.in_err-head.ensures.parsed in
     search rules
 
-pub block-returns-in_err-body : goal.block-returns-in_err-body
+
+pub block-returns-in_err-body-clause-parsed : goal.block-returns-in_err-body-clause-parsed
 unfolding here here_by
-block-returns-in_err-body g t c =
-    let body = rw c.within_block.ensures at c.in_err-body.ensures in
-    let refused : Refused (block_by (here c.args.left) (around_of c.args.around) c.args.tokens.now.left) c.in_err-body.field-0.0 =
-    behind_fails (block_rest (here c.args.left) (around_of c.args.around)) (block_whole (here c.args.left) (around_of c.args.around) c.args.tokens.now.left) _ _ c.in_ok-head.ensures _ (head_fails _ _ refl _ body) in
+block-returns-in_err-body-clause-parsed g t c =
+    let spans = c.args.tokens.now.spans in
+    let r = here spans c.args.left in
+    let p = around_of c.args.around in
+    let body = rw c.within_block.ensures at (rw c.in_ok-head.ensures.spans at c.in_err-body.ensures.parsed) in
+    let refused : Refused (block_by spans r p c.args.span c.args.tokens.now.left) c.in_err-body.field-0.0 =
+    behind_fails (block_rest spans r p c.args.span) (block_whole spans r p c.args.span c.args.tokens.now.left) _ _ c.in_ok-head.ensures.parsed _
+    (head_fails _ _ refl _ body) in
     search rules
 
-pub for_loop-returns : goal.for_loop-returns
-unfolding here here_by
-for_loop-returns g t c =
-    let body = rw c.within_loop.ensures at c.in_ok-body.ensures in
-    for_made (here c.args.left) (around_of c.args.around) _ _ _ _ _ _ _ c.in_ok-head.ensures.read body c.in_ok-else_body.ensures ∙
-    ap (λ s. Ok (s, c.otherwise.new.tokens.left)) (sym c.for_loop.ensures)
 
-pub for_loop-returns-in_err-head : goal.for_loop-returns-in_err-head
-for_loop-returns-in_err-head g t c =
-    let refused : Refused (for_by (here c.args.left) (around_of c.args.around) c.args.tokens.now.left) c.in_err-head.field-0.0 =
-    head_fails _ (for_rest (here c.args.left) (around_of c.args.around)) (for_whole (here c.args.left) (around_of c.args.around) c.args.tokens.now.left) _ c.in_err-head.ensures.read in
+pub for_loop-returns-clause-parsed : goal.for_loop-returns-clause-parsed
+unfolding here here_by
+for_loop-returns-clause-parsed g t c =
+    let spans = c.args.tokens.now.spans in
+    let r = here spans c.args.left in
+    let p = around_of c.args.around in
+    let body = rw c.within_loop.ensures at (rw c.in_ok-head.ensures.spans at c.in_ok-body.ensures.parsed) in
+    let same = c.in_ok-body.ensures.spans ∙ c.in_ok-head.ensures.spans in
+    let other = rw same at c.in_ok-else_body.ensures.parsed in
+    for_made spans r p c.args.span _ _ _ _ _ _ _ _ _ _ c.in_ok-head.ensures.parsed body other (c.in_ok-else_body.ensures.spans ∙ same)
+    c.expand_span.ensures c.for_loop.ensures
+
+
+pub for_loop-returns-in_err-head-clause-parsed : goal.for_loop-returns-in_err-head-clause-parsed
+for_loop-returns-in_err-head-clause-parsed g t c =
+    let spans = c.args.tokens.now.spans in
+    let r = here spans c.args.left in
+    let p = around_of c.args.around in
+    let refused : Refused (for_by spans r p c.args.span c.args.tokens.now.left) c.in_err-head.field-0.0 =
+    head_fails _ (for_rest spans r p c.args.span) (for_whole spans r p c.args.span c.args.tokens.now.left) _ c.in_err-head.ensures.parsed in
     search rules
 
-pub for_loop-returns-in_err-body : goal.for_loop-returns-in_err-body
+
+pub for_loop-returns-in_err-body-clause-parsed : goal.for_loop-returns-in_err-body-clause-parsed
 unfolding here here_by
-for_loop-returns-in_err-body g t c =
-    let body = rw c.within_loop.ensures at c.in_err-body.ensures in
-    let refused : Refused (for_by (here c.args.left) (around_of c.args.around) c.args.tokens.now.left) c.in_err-body.field-0.0 =
-    for_body_fails (here c.args.left) (around_of c.args.around) _ _ _ c.in_ok-head.ensures.read _ body in
+for_loop-returns-in_err-body-clause-parsed g t c =
+    let spans = c.args.tokens.now.spans in
+    let r = here spans c.args.left in
+    let p = around_of c.args.around in
+    let body = rw c.within_loop.ensures at (rw c.in_ok-head.ensures.spans at c.in_err-body.ensures.parsed) in
+    let refused : Refused (for_by spans r p c.args.span c.args.tokens.now.left) c.in_err-body.field-0.0 =
+    for_body_fails spans r p c.args.span _ _ _ c.in_ok-head.ensures.parsed _ body in
     search rules
 
-pub for_loop-returns-in_err-else_body : goal.for_loop-returns-in_err-else_body
+
+pub for_loop-returns-in_err-else_body-clause-parsed : goal.for_loop-returns-in_err-else_body-clause-parsed
 unfolding here here_by
-for_loop-returns-in_err-else_body g t c =
-    let body = rw c.within_loop.ensures at c.in_ok-body.ensures in
-    let refused : Refused (for_by (here c.args.left) (around_of c.args.around) c.args.tokens.now.left) c.in_err-else_body.field-0.0 =
-    for_else_fails (here c.args.left) (around_of c.args.around) _ _ _ _ _ c.in_ok-head.ensures.read body _ c.in_err-else_body.ensures in
+for_loop-returns-in_err-else_body-clause-parsed g t c =
+    let spans = c.args.tokens.now.spans in
+    let r = here spans c.args.left in
+    let p = around_of c.args.around in
+    let body = rw c.within_loop.ensures at (rw c.in_ok-head.ensures.spans at c.in_ok-body.ensures.parsed) in
+    let other = rw (c.in_ok-body.ensures.spans ∙ c.in_ok-head.ensures.spans) at c.in_err-else_body.ensures.parsed in
+    let refused : Refused (for_by spans r p c.args.span c.args.tokens.now.left) c.in_err-else_body.field-0.0 =
+    for_else_fails spans r p c.args.span _ _ _ _ _ c.in_ok-head.ensures.parsed body _ other in
     search rules
 
-pub read_branch-returns : goal.read_branch-returns
-unfolding here here_by
-read_branch-returns g t c =
-    behind _ (branch_whole (here c.args.left) (around_of c.args.around) c.args.tokens.now.left) _ _ c.in_ok-head.ensures.read (then_goes _ c.in_ok-body.ensures refl) ∙
-    ap (λ b. Ok (b, c.body.new.tokens.left)) (sym c.branch-head-2.ensures)
 
-pub read_branch-returns-in_err-head : goal.read_branch-returns-in_err-head
-read_branch-returns-in_err-head g t c =
-    let refused : Refused (branch_by (here c.args.left) (around_of c.args.around) c.args.tokens.now.left) c.in_err-head.field-0.0 =
-    head_fails _ _ (branch_whole (here c.args.left) (around_of c.args.around) c.args.tokens.now.left) _ c.in_err-head.ensures.read in
+pub if_condition-returns-clause-parsed : goal.if_condition-returns-clause-parsed
+if_condition-returns-clause-parsed g t c =
+    let spans = c.args.tokens.now.spans in
+    let r = here spans c.args.left in
+    let p = around_of c.args.around in
+    let others = rw c.in_ok-first.ensures.spans at c.in_ok-others.ensures.parsed in
+    let same = c.in_ok-others.ensures.spans ∙ c.in_ok-first.ensures.spans in
+    let last = rw same at c.in_ok-last.ensures.parsed in
+    if_made spans r p c.args.span _ _ _ _ _ _ _ _ _ _ _ c.in_ok-first.ensures.parsed others last (c.in_ok-last.ensures.spans ∙ same)
+    c.expand_span-whole.ensures c.in_ok-false_body.ensures c.otherwise-first.ensures
+
+
+pub if_condition-returns-in_err-first-clause-parsed : goal.if_condition-returns-in_err-first-clause-parsed
+if_condition-returns-in_err-first-clause-parsed g t c =
+    let spans = c.args.tokens.now.spans in
+    let r = here spans c.args.left in
+    let p = around_of c.args.around in
+    let refused : Refused (if_by spans r p c.args.span c.args.tokens.now.left) c.in_err-first.field-0.0 =
+    if_fails spans r p c.args.span _ _ c.in_err-first.ensures.parsed in
     search rules
 
-pub read_branch-returns-in_err-body : goal.read_branch-returns-in_err-body
-unfolding here here_by
-read_branch-returns-in_err-body g t c =
-    let refused : Refused (branch_by (here c.args.left) (around_of c.args.around) c.args.tokens.now.left) c.in_err-body.field-0.0 =
-    behind_fails _ (branch_whole (here c.args.left) (around_of c.args.around) c.args.tokens.now.left) _ _ c.in_ok-head.ensures.read _ (head_fails _ _ refl _ c.in_err-body.ensures) in
+
+pub if_condition-returns-in_err-others-clause-parsed : goal.if_condition-returns-in_err-others-clause-parsed
+if_condition-returns-in_err-others-clause-parsed g t c =
+    let spans = c.args.tokens.now.spans in
+    let r = here spans c.args.left in
+    let p = around_of c.args.around in
+    let others = rw c.in_ok-first.ensures.spans at c.in_err-others.ensures.parsed in
+    let refused : Refused (if_by spans r p c.args.span c.args.tokens.now.left) c.in_err-others.field-0.0 =
+    branches_fail spans r p c.args.span _ _ _ c.in_ok-first.ensures.parsed _ others in
     search rules
 
-pub opened-returns-in-Leaf : goal.opened-returns-in-Leaf
-opened-returns-in-Leaf g t c =
-    subst (λ o. ParsedStatement (opened_by (here c.args.left) (around_of c.args.around) o c.args.tokens.now.left) c.read_leaf.new.tokens.left c.read_leaf.result)
-    c.in-Leaf.ensures c.read_leaf.ensures
 
-pub opened-returns-in-Parent : goal.opened-returns-in-Parent
-opened-returns-in-Parent g t c =
-    subst (λ o. ParsedStatement (opened_by (here c.args.left) (around_of c.args.around) o c.args.tokens.now.left) c.read_parent.new.tokens.left c.read_parent.result)
-    c.in-Parent.ensures c.read_parent.ensures
+pub if_condition-returns-in_err-last-clause-parsed : goal.if_condition-returns-in_err-last-clause-parsed
+if_condition-returns-in_err-last-clause-parsed g t c =
+    let spans = c.args.tokens.now.spans in
+    let r = here spans c.args.left in
+    let p = around_of c.args.around in
+    let others = rw c.in_ok-first.ensures.spans at c.in_ok-others.ensures.parsed in
+    let last = rw (c.in_ok-others.ensures.spans ∙ c.in_ok-first.ensures.spans) at c.in_err-last.ensures.parsed in
+    let refused : Refused (if_by spans r p c.args.span c.args.tokens.now.left) c.in_err-last.field-0.0 =
+    else_fails spans r p c.args.span _ _ _ _ _ c.in_ok-first.ensures.parsed others _ last in
+    search rules
+
+
+pub read_branch-returns-clause-parsed : goal.read_branch-returns-clause-parsed
+unfolding here here_by
+read_branch-returns-clause-parsed g t c =
+    let spans = c.args.tokens.now.spans in
+    let r = here spans c.args.left in
+    let p = around_of c.args.around in
+    let body = rw c.in_ok-head.ensures.spans at c.in_ok-body.ensures.parsed in
+    behind _ (branch_whole spans r p c.args.tokens.now.left) _ _ c.in_ok-head.ensures.parsed (then_goes _ body refl) ∙
+    ap (λ b. Ok (b, c.body.new.tokens.left)) (sym c.branch-head-2.ensures.branch)
+
+
+pub read_branch-returns-in_err-head-clause-parsed : goal.read_branch-returns-in_err-head-clause-parsed
+read_branch-returns-in_err-head-clause-parsed g t c =
+    let spans = c.args.tokens.now.spans in
+    let r = here spans c.args.left in
+    let p = around_of c.args.around in
+    let refused : Refused (branch_by spans r p c.args.tokens.now.left) c.in_err-head.field-0.0 =
+    head_fails _ _ (branch_whole spans r p c.args.tokens.now.left) _ c.in_err-head.ensures.parsed in
+    search rules
+
+
+pub read_branch-returns-in_err-body-clause-parsed : goal.read_branch-returns-in_err-body-clause-parsed
+unfolding here here_by
+read_branch-returns-in_err-body-clause-parsed g t c =
+    let spans = c.args.tokens.now.spans in
+    let r = here spans c.args.left in
+    let p = around_of c.args.around in
+    let body = rw c.in_ok-head.ensures.spans at c.in_err-body.ensures.parsed in
+    let refused : Refused (branch_by spans r p c.args.tokens.now.left) c.in_err-body.field-0.0 =
+    behind_fails _ (branch_whole spans r p c.args.tokens.now.left) _ _ c.in_ok-head.ensures.parsed _ (head_fails _ _ refl _ body) in
+    search rules
+
+
+pub opened-returns-in-Leaf-clause-parsed : goal.opened-returns-in-Leaf-clause-parsed
+opened-returns-in-Leaf-clause-parsed g t c =
+    let spans = c.args.tokens.now.spans in
+    let r = here spans c.args.left in
+    let p = around_of c.args.around in
+    subst (λ o. ParsedStatement (opened_by spans r p o c.args.span c.args.tokens.now.left) c.read_leaf.new.tokens.left c.read_leaf.result)
+    c.in-Leaf.ensures c.read_leaf.ensures.parsed
+
+
+pub opened-returns-in-Parent-clause-parsed : goal.opened-returns-in-Parent-clause-parsed
+opened-returns-in-Parent-clause-parsed g t c =
+    let spans = c.args.tokens.now.spans in
+    let r = here spans c.args.left in
+    let p = around_of c.args.around in
+    subst (λ o. ParsedStatement (opened_by spans r p o c.args.span c.args.tokens.now.left) c.read_parent.new.tokens.left c.read_parent.result)
+    c.in-Parent.ensures c.read_parent.ensures.parsed
+

@@ -1,9 +1,8 @@
 use Rattle.std.proofs.Common.{◌≡◌, ◌+◌, ◌*◌, length}
-use Rattle.template_tree.specs.Tree.{no_statements}
-use Rattle.template_compiler_statement_makers.specs.Listed.{statements_in}
+use Rattle.template_compiler_statement_makers.specs.Listed.{statement_nodes_in}
 use Rattle.template_compiler_tokens.specs.Steps.{all}
-use Rattle.template_compiler_grammar.specs.TemplateReader.{here, statement_step, branch_step}
-use Rattle.template_compiler_grammar.specs.TemplateTrees.{no_branches}
+use Rattle.template_compiler_placed_grammar.specs.TemplateNodes.{no_placed_branches, no_placed_statements}
+use Rattle.template_compiler_placed_grammar.specs.TemplateReader.{here, statement_step, branch_step}
 use Rattle.template_compiler_statement_makers.specs.Surroundings.{around_of}
 use Rattle.template_compiler_statement_makers.specs.Branches.{branches_in}
 use Rattle.template_compiler_statement_parser.proofs.statements.+statements.Given as goal
@@ -73,16 +72,20 @@ decreases-read_statements g l = 16 * l.left + 13
 
 abbrev pub invariant-read_statements-loop-statements : goal.invariant-read_statements-loop-statements
 invariant-read_statements-loop-statements g l =
-    all (statement_step (here l.left) (around_of l.around)) (statements_in l.statements.items) l.tokens.left ≡
-    all (statement_step (here l.left) (around_of l.around)) no_statements l.initial.tokens.left
+    let spans = l.initial.tokens.spans in
+    (l.tokens.spans ≡ spans) ×
+    (all (statement_step spans (here spans l.left) (around_of l.around)) (statement_nodes_in l.statements.items) l.tokens.left ≡
+    all (statement_step spans (here spans l.left) (around_of l.around)) no_placed_statements l.initial.tokens.left)
 
 abbrev pub decreases-read_statements-loop-statements : goal.decreases-read_statements-loop-statements
 decreases-read_statements-loop-statements g l = length l.tokens.left
 
 abbrev pub invariant-branches-loop-branches : goal.invariant-branches-loop-branches
 invariant-branches-loop-branches g l =
-    all (branch_step (here l.left) (around_of l.around)) (branches_in l.branches.items) l.tokens.left ≡
-    all (branch_step (here l.left) (around_of l.around)) no_branches l.initial.tokens.left
+    let spans = l.initial.tokens.spans in
+    (l.tokens.spans ≡ spans) ×
+    (all (branch_step spans (here spans l.left) (around_of l.around)) (branches_in l.branches.items) l.tokens.left ≡
+    all (branch_step spans (here spans l.left) (around_of l.around)) no_placed_branches l.initial.tokens.left)
 
 abbrev pub decreases-branches-loop-branches : goal.decreases-branches-loop-branches
 decreases-branches-loop-branches g l = length l.tokens.left

@@ -1,6 +1,6 @@
 use Rattle.std.proofs.Common.{◌∙◌}
 use Rattle.template_compiler_stream.proofs.Left.{next_some, next_end, next_nothing}
-use Rattle.template_compiler_stream.proofs.Spans.{left_at, next_at}
+use Rattle.template_compiler_stream.proofs.Spans.{count_within, left_at, next_at}
 use Rattle.template_compiler_stream.proofs.stream.TokenStream.peek.Goals as goal
 
 pub returns-in-Some-clause-shown : goal.returns-in-Some-clause-shown
@@ -29,3 +29,12 @@ returns-in-None-fault-clause-shown c =
     let s = c.self.inside in
     left_at _ _ _ _ c.self.view_is ∙
     next_nothing s.tokens.items c.deref.result.now s.place s.fault c.deref.ensures.value c.in-None.ensures.lookup.3 c.in-None-fault.is
+
+pub returns-in-Some-clause-counted : goal.returns-in-Some-clause-counted
+returns-in-Some-clause-counted c = count_within _ _ _ _ c.self.view_is
+
+pub returns-in-Some-fault-clause-counted : goal.returns-in-Some-fault-clause-counted
+returns-in-Some-fault-clause-counted c = count_within _ _ _ _ c.self.view_is
+
+pub returns-in-None-fault-clause-counted : goal.returns-in-None-fault-clause-counted
+returns-in-None-fault-clause-counted c = count_within _ _ _ _ c.self.view_is

@@ -1,0 +1,135 @@
+-- What is made of a head and of what is read behind it, and when that is refused.
+use Rattle.std.proofs.Common.{◌≡◌, ℕ, Bool, codes, List, Ok, Err, refl, sym, ap, ◌∙◌}
+use Rattle.template_tree.specs.declared.span.Span.{Span}
+use Rattle.template_compiler_tokens.specs.Token.{Token}
+use Rattle.template_compiler_tokens.specs.Steps.{Read, and_then, all}
+use Rattle.template_compiler_tokens.proofs.Loops.{then_goes, then_fails}
+use Rattle.template_compiler_stream.specs.declared.refusal.Refusal.{Refusal}
+use Rattle.template_compiler_stream.specs.declared.refusal.Refusal.TheVariants as refusals
+use Rattle.template_compiler_stream.specs.Refusals.{Refused}
+use Rattle.template_compiler_grammar.specs.TemplateGrammar.{Around, loop_around}
+use Rattle.template_compiler_grammar.specs.TemplateReader.{expect_tag}
+use Rattle.template_compiler_placed_grammar.specs.Nodes.{Node, OptionalNode}
+use Rattle.template_compiler_placed_grammar.specs.Reader.{up_to}
+use Rattle.template_compiler_placed_grammar.specs.TemplateNodes.{PlacedBranch, PlacedBranches, PlacedStatement, PlacedStatements, branched_node, condition_node, for_node, no_placed_branches, set_block_node}
+use Rattle.template_compiler_placed_grammar.specs.TemplateReader.{Here, body_by, branch_by, branch_step, else_by, for_by, if_by}
+use Rattle.template_compiler_statement_declarations.specs.Heads.{set_over, set_rest}
+use Rattle.template_compiler_statement_loops.specs.Heads.{for_head, for_rest}
+use Rattle.template_compiler_statement_parser.proofs.Wholes.{for_whole}
+
+-- what is behind a head
+pub behind : {A H : Type 0} {w r : Read A} {m : Read H} (go : H → List Token → Read A) → w ≡ and_then m go →
+    (h : H) (us : List Token) → m ≡ Ok (h, us) → go h us ≡ r → w ≡ r
+behind go whole h us a b = whole ∙ then_goes go a b
+
+pub head_fails : {A H : Type 0} {w : Read A} (m : Read H) (go : H → List Token → Read A) → w ≡ and_then m go →
+    (e : Refusal) → Refused m e → Refused w e
+head_fails m go whole refusals.OutOfMemory h = tt
+head_fails m go whole (refusals.Token f) h = whole ∙ then_fails go h
+
+pub behind_fails : {A H : Type 0} {w : Read A} {m : Read H} (go : H → List Token → Read A) → w ≡ and_then m go →
+    (h : H) (us : List Token) → m ≡ Ok (h, us) → (e : Refusal) → Refused (go h us) e → Refused w e
+behind_fails go whole h us a refusals.OutOfMemory b = tt
+behind_fails go whole h us a (refusals.Token f) b = whole ∙ then_goes go a b
+
+-- a body with its end, and what is made of it
+then_then : {A B C : Type 0} (m : Read A) (f : A → List Token → Read B) (g : B → List Token → Read C) →
+    and_then m (λ a us. and_then (f a us) g) ≡ and_then (and_then m f) g
+unfolding and_then
+then_then (Ok x) f g = refl
+then_then (Err e) f g = refl
+
+-- what stands from a start to where the reading is
+stands_so : {A : Type 0} (make : Span → A) (spans now : List Span) (start stands : Span) (a : A) (new : List Token) → now ≡ spans →
+    stands ≡ up_to now start new → a ≡ make stands → ◌≡◌ {A = Read A} (Ok (make (up_to spans start new), new)) (Ok (a, new))
+stands_so make spans now start stands a new same e made =
+    ap (λ a. Ok (a, new)) (sym (made ∙ ap make (e ∙ ap (λ spans. up_to spans start new) same)))
+
+module _ (spans : List Span) (r : Here) (p : Around) (end : List ℕ) (start : Span) where
+  body_is : (make : PlacedStatements → Span → PlacedStatement) (ts : List Token) →
+      body_by spans r p end start make ts ≡
+      and_then (and_then (r.body p ts) (expect_tag end)) (λ body us. Ok (make body (up_to spans start us), us))
+  unfolding body_by
+  body_is make ts = then_then (r.body p ts) (expect_tag end) (λ body us. Ok (make body (up_to spans start us), us))
+
+  pub ended_made : (make : PlacedStatements → Span → PlacedStatement) (b : PlacedStatements) (ts new : List Token) (now : List Span)
+      (stands : Span) (s : PlacedStatement) → and_then (r.body p ts) (expect_tag end) ≡ Ok (b, new) → now ≡ spans →
+      stands ≡ up_to now start new → s ≡ make b stands → body_by spans r p end start make ts ≡ Ok (s, new)
+  ended_made make b ts new now stands s body same e made =
+      body_is make ts ∙ then_goes _ body (stands_so (make b) spans now start stands s new same e made)
+
+  pub ended_fails : (make : PlacedStatements → Span → PlacedStatement) (ts : List Token) (e : Refusal) →
+      Refused (and_then (r.body p ts) (expect_tag end)) e → Refused (body_by spans r p end start make ts) e
+  ended_fails make ts e h = head_fails _ _ (body_is make ts) e h
+
+  module _ {H : Type 0} {w : Read PlacedStatement} {m : Read H} (make : H → PlacedStatements → Span → PlacedStatement)
+      (whole : w ≡ and_then m (λ h us. body_by spans r p end start (make h) us)) (h : H) (mid : List Token) (head : m ≡ Ok (h, mid)) where
+    pub body_made : (b : PlacedStatements) (new : List Token) (now : List Span) (stands : Span) (s : PlacedStatement) →
+        and_then (r.body p mid) (expect_tag end) ≡ Ok (b, new) → now ≡ spans → stands ≡ up_to now start new → s ≡ make h b stands →
+        w ≡ Ok (s, new)
+    body_made b new now stands s body same e made =
+        behind _ whole h mid head (ended_made (make h) b mid new now stands s body same e made)
+
+    pub body_fails : (e : Refusal) → Refused (and_then (r.body p mid) (expect_tag end)) e → Refused w e
+    body_fails e g = behind_fails _ whole h mid head e (ended_fails (make h) mid e g)
+
+module _ (spans : List Span) (r : Here) (p : Around) (start : Span) where
+  -- a loop's bodies
+  pub for_made : (h : Node × Node × OptionalNode × Bool) (body other : PlacedStatements) (ts us vs new : List Token) (now : List Span)
+      (stands : Span) (s : PlacedStatement) → for_head spans r ts ≡ Ok (h, us) → r.body (loop_around p) us ≡ Ok (body, vs) →
+      else_by spans r p (codes "endfor") vs ≡ Ok (other, new) → now ≡ spans → stands ≡ up_to now start new →
+      s ≡ for_node h.0 h.1 h.2 h.3 body other stands → for_by spans r p start ts ≡ Ok (s, new)
+  for_made h body other ts us vs new now stands s a b c same e made =
+      behind (for_rest spans r p start) (for_whole spans r p start ts) h us a
+      (then_goes _ b (then_goes _ c (stands_so (for_node h.0 h.1 h.2 h.3 body other) spans now start stands s new same e made)))
+
+  pub for_body_fails : (h : Node × Node × OptionalNode × Bool) (ts us : List Token) → for_head spans r ts ≡ Ok (h, us) →
+      (e : Refusal) → Refused (r.body (loop_around p) us) e → Refused (for_by spans r p start ts) e
+  for_body_fails h ts us a e b =
+      behind_fails (for_rest spans r p start) (for_whole spans r p start ts) h us a e (head_fails _ _ refl e b)
+
+  pub for_else_fails : (h : Node × Node × OptionalNode × Bool) (body : PlacedStatements) (ts us vs : List Token) →
+      for_head spans r ts ≡ Ok (h, us) → r.body (loop_around p) us ≡ Ok (body, vs) →
+      (e : Refusal) → Refused (else_by spans r p (codes "endfor") vs) e → Refused (for_by spans r p start ts) e
+  for_else_fails h body ts us vs a b e c =
+      behind_fails (for_rest spans r p start) (for_whole spans r p start ts) h us a e
+      (behind_fails _ refl body vs b e (head_fails _ _ refl e c))
+
+  -- a condition, the branches behind it, and what stands for the case that none holds
+  pub if_made : (b : PlacedBranch) (bs : PlacedBranches) (other body : PlacedStatements) (ts us vs new : List Token) (now : List Span)
+      (stands : Span) (s : PlacedStatement) → branch_by spans r p ts ≡ Ok (b, us) →
+      all (branch_step spans r p) no_placed_branches us ≡ Ok (bs, vs) → else_by spans r p (codes "endif") vs ≡ Ok (other, new) →
+      now ≡ spans → stands ≡ up_to now start new → body ≡ branched_node bs other stands → s ≡ condition_node b body stands →
+      if_by spans r p start ts ≡ Ok (s, new)
+  unfolding if_by
+  if_made b bs other body ts us vs new now stands s first others last same e branched made =
+      then_goes _ first (then_goes _ others (then_goes _ last
+      (stands_so (λ stands. condition_node b (branched_node bs other stands) stands) spans now start stands s new same e
+      (made ∙ ap (λ body. condition_node b body stands) branched))))
+
+  pub if_fails : (ts : List Token) (e : Refusal) → Refused (branch_by spans r p ts) e → Refused (if_by spans r p start ts) e
+  unfolding if_by
+  if_fails ts e h = head_fails _ _ refl e h
+
+  pub branches_fail : (b : PlacedBranch) (ts us : List Token) → branch_by spans r p ts ≡ Ok (b, us) →
+      (e : Refusal) → Refused (all (branch_step spans r p) no_placed_branches us) e → Refused (if_by spans r p start ts) e
+  unfolding if_by
+  branches_fail b ts us first e h = behind_fails _ refl b us first e (head_fails _ _ refl e h)
+
+  pub else_fails : (b : PlacedBranch) (bs : PlacedBranches) (ts us vs : List Token) → branch_by spans r p ts ≡ Ok (b, us) →
+      all (branch_step spans r p) no_placed_branches us ≡ Ok (bs, vs) →
+      (e : Refusal) → Refused (else_by spans r p (codes "endif") vs) e → Refused (if_by spans r p start ts) e
+  unfolding if_by
+  else_fails b bs ts us vs first others e h =
+      behind_fails _ refl b us first e (behind_fails _ refl bs vs others e (head_fails _ _ refl e h))
+
+  -- a set block, behind its head
+  pub set_body_made : (h : Node × OptionalNode) (b : PlacedStatements) (ts new : List Token) (now : List Span) (stands : Span)
+      (s : PlacedStatement) → and_then (r.body p ts) (expect_tag (codes "endset")) ≡ Ok (b, new) → now ≡ spans →
+      stands ≡ up_to now start new → s ≡ set_block_node h.0 h.1 b stands → set_rest spans r p start (set_over h) ts ≡ Ok (s, new)
+  set_body_made h b ts new now stands s body same e made =
+      ended_made spans r p (codes "endset") start (set_block_node h.0 h.1) b ts new now stands s body same e made
+
+  pub set_body_fails : (h : Node × OptionalNode) (ts : List Token) (e : Refusal) →
+      Refused (and_then (r.body p ts) (expect_tag (codes "endset"))) e → Refused (set_rest spans r p start (set_over h) ts) e
+  set_body_fails h ts e g = ended_fails spans r p (codes "endset") start (set_block_node h.0 h.1) ts e g
