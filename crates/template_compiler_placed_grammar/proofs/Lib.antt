@@ -3,7 +3,7 @@ pub mod Erased
 mod Stops
 pub mod Complete
 mod Laws
-mod TemplateEnds
+pub mod TemplateEnds
 pub mod TemplatesErased
 pub mod TemplatesComplete
 mod TemplateLaws

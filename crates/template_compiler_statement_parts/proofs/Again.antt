@@ -1,13 +1,13 @@
 -- What must stand behind something is read alike whatever it stands behind.
-use Rattle.std.proofs.Common.{◌≡◌, ℕ, Bool, true, false, if◌then◌else◌, List, [], ◌∷◌, Ok, Err, codes, refl, sym, ap, ◌∙◌}
-use Rattle.template_compiler_tokens.specs.Token.{Token, bad_syntax, variable_end, block_start, block_end, identifier, symbol, assign, paren_close}
+use Rattle.std.proofs.Common.{◌≡◌, ℕ, Bool, true, false, if◌then◌else◌, List, [], ◌∷◌, Ok, Err, codes, refl, ap, ◌∙◌}
+use Rattle.template_compiler_tokens.specs.Token.{Token, variable_end, block_start, block_end, symbol, assign, paren_close}
 use Rattle.template_compiler_tokens.specs.Steps.{Read, and_then, fault}
 use Rattle.template_compiler_grammar.specs.Words.{is_word}
 use Rattle.template_compiler_grammar.specs.Reader.{paren_end}
 use Rattle.template_compiler_grammar.specs.TemplateReader.{print_end, tag_end, expect_word, expect_assign, expect_tag, context_by}
 use Rattle.template_compiler_stream.specs.declared.refusal.Refusal.{Refusal}
 use Rattle.template_compiler_stream.specs.declared.refusal.Refusal.TheVariants as refusals
-use Rattle.template_compiler_stream.specs.Refusals.{Refused, fault_of}
+use Rattle.template_compiler_stream.specs.Refusals.{Refused}
 
 abbrev pub unit : Unit {0}
 unit = tt

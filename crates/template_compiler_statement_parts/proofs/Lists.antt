@@ -1,5 +1,5 @@
 -- Lists with one more at the end.
-use Rattle.std.proofs.Common.{◌≡◌, List, [], ◌∷◌, ◌++◌, Option, Ok, Err, refl, sym, ap, ◌∙◌, length, ◌<◌, arith}
+use Rattle.std.proofs.Common.{◌≡◌, List, [], ◌∷◌, ◌++◌, Option, Ok, Err, refl, sym, ap, ◌∙◌, length}
 use Rattle.std.specs.Prelude.{Result, IfOk}
 use Rattle.template_tree.specs.ExpressionPlaces.{places_of, places_in}
 use Rattle.template_tree.specs.NodePlaces.{at}
@@ -12,7 +12,7 @@ use Rattle.template_tree.specs.View.{expression_of, optional_in, expressions_in}
 use Rattle.template_tree_statements.specs.View.{assignments_in, imports_in}
 use Rattle.template_tree.specs.declared.expressions.Expr.{Expr}
 use Rattle.template_compiler_grammar.specs.Trees.{and_expression}
-use Rattle.template_compiler_grammar.specs.TemplateTrees.{and_assignment, and_import, unpacked, together}
+use Rattle.template_compiler_grammar.specs.TemplateTrees.{and_assignment, and_import, together}
 
 pub expressions_push : (xs : List Expr) (x : Expr) → expressions_in (xs ++ x ∷ []) ≡ and_expression (expressions_in xs) (expression_of x)
 expressions_push [] x = refl

@@ -8,7 +8,7 @@ use Rattle.template_tree.specs.declared.expressions.Expr.{Expr}
 use Rattle.template_tree.specs.declared.span.Span.{Span}
 use Rattle.template_compiler_tokens.specs.Places.{next_span}
 use Rattle.template_compiler_tokens.specs.Token.{Token, bad_syntax, dot, paren_open, identifier, symbol}
-use Rattle.template_compiler_tokens.specs.Steps.{Read, fault, and_then, Step, goes, stops, all}
+use Rattle.template_compiler_tokens.specs.Steps.{Read, fault, and_then, goes, stops, all}
 use Rattle.template_compiler_tokens.proofs.Loops.{Shrinks, all_goes}
 use Rattle.template_compiler_grammar.specs.TemplateWords.{is_reserved}
 use Rattle.template_compiler_grammar.specs.Words.{begins_word}

@@ -1,7 +1,7 @@
 -- Rounds of a repetition, as a loop takes them off.
 use Rattle.std.proofs.Common.{◌≡◌, Ok, List, sym, ap, ◌∙◌}
 use Rattle.template_compiler_tokens.specs.Token.{Token}
-use Rattle.template_compiler_tokens.specs.Steps.{Read, Step, goes, stops, fails, all}
+use Rattle.template_compiler_tokens.specs.Steps.{Step, goes, stops, all}
 use Rattle.template_compiler_tokens.proofs.Loops.{Shrinks, all_goes, all_stops, all_fails}
 use Rattle.template_compiler_stream.specs.declared.refusal.Refusal.{Refusal}
 use Rattle.template_compiler_stream.specs.declared.refusal.Refusal.TheVariants as refusals

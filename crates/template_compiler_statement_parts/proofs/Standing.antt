@@ -1,18 +1,15 @@
 -- What is read where a token stands next, and where it does not.
-use Rattle.std.proofs.Common.{◌≡◌, ℕ, suc, Bool, true, false, if◌then◌else◌, List, [], ◌∷◌, Option, None, Some, Ok, Err, codes, bytes_eq, refl, sym, ap, ◌∙◌}
-use Rattle.template_tree.specs.Tree.{Expression, variable, attribute, absent, given, Imports, no_assignments}
-use Rattle.template_compiler_tokens.specs.Token.{Token, Symbol, bad_syntax, dot, comma, paren_open, variable_end, block_start, block_end, identifier, symbol, assign, paren_close}
-use Rattle.template_compiler_tokens.specs.Steps.{Read, fault, and_then, Step, goes, stops, all}
-use Rattle.template_compiler_grammar.specs.Words.{begins_word, is_word}
+use Rattle.std.proofs.Common.{◌≡◌, ℕ, true, false, if◌then◌else◌, List, [], ◌∷◌, None, Some, Ok, Err, codes, bytes_eq, refl, sym, ap, ◌∙◌}
+use Rattle.template_tree.specs.Tree.{Expression, absent, given, no_assignments}
+use Rattle.template_compiler_tokens.specs.Token.{Token, Symbol, bad_syntax, comma, paren_open, variable_end, block_start, block_end, identifier, symbol, assign, paren_close}
+use Rattle.template_compiler_tokens.specs.Steps.{Read, fault, and_then, stops, all}
+use Rattle.template_compiler_grammar.specs.Words.{begins_word}
 use Rattle.template_compiler_grammar.specs.Reader.{paren_end}
 use Rattle.template_compiler_stream.specs.Left.{passed}
 use Rattle.template_compiler_stream.specs.Signs.{begins_symbol, next_symbol, next_word, second_word}
 use Rattle.template_compiler_stream.specs.Tags.{begins_variable_end, begins_block_end, begins_block_start}
-use Rattle.template_compiler_grammar.specs.TemplateWords.{is_reserved}
-use Rattle.template_compiler_grammar.specs.TemplateReader.{Here, print_end, tag_end, expect_word, expect_assign, expect_tag, stored_by, path_step, path_by, target_by, targets_by, inner_targets, more_step, begins_tag, begins_values, word_by, context_by, loop_filter_by, alias_by, optional_parameters_by, parameter_by, parameters_by, default_by, is_nothing, assignment_by, assignments_by, block_end_by, end_name_by}
-use Rattle.template_compiler_grammar.specs.TemplateTrees.{Parameters, no_parameters, and_plain, and_import}
-use Rattle.template_compiler_tokens.proofs.Loops.{all_goes}
-use Rattle.template_compiler_grammar_laws.proofs.TemplatesSound.{path_takes}
+use Rattle.template_compiler_grammar.specs.TemplateReader.{Here, print_end, tag_end, expect_word, expect_assign, expect_tag, more_step, begins_tag, begins_values, word_by, context_by, loop_filter_by, optional_parameters_by, parameter_by, parameters_by, default_by, is_nothing, assignment_by, assignments_by, block_end_by, end_name_by}
+use Rattle.template_compiler_grammar.specs.TemplateTrees.{Parameters, no_parameters, and_plain}
 use Rattle.template_compiler_statement_parts.specs.Tags.{next_tag}
 
 pub print_end_here : {A : Type 0} (a : A) (ts : List Token) → begins_variable_end ts ≡ true → print_end a ts ≡ Ok (a, passed ts)

@@ -1,5 +1,5 @@
 -- The tag that stands next.
-use Rattle.std.specs.Prelude.{ℕ, List, [], ◌∷◌, Option, None, Some}
+use Rattle.std.specs.Prelude.{ℕ, List, ◌∷◌, Option, None}
 use Rattle.template_compiler_tokens.specs.Token.{Token, block_start}
 use Rattle.template_compiler_stream.specs.Signs.{next_word}
 

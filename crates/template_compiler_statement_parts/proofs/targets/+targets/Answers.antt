@@ -1,5 +1,4 @@
 use Rattle.std.proofs.Common.{◌-◌, sym, ◌∙◌, subst, arith}
-use Rattle.template_compiler_placed_grammar.specs.TemplateReader.{inner_targets, targets_by}
 use Rattle.template_compiler_statement_parts.specs.Parsed.{ParsedNode}
 use Rattle.template_compiler_statement_parts.proofs.Placed.{inner_less, targets_fall}
 use Rattle.template_compiler_statement_parts.proofs.Rounds.{rounds_end, rounds_go, rounds_refused}
