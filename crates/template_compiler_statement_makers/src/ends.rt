@@ -1,12 +1,15 @@
 //! Statements of their heads and their bodies. A head with its body is one node more at most.
 ghost use Rattle.std.specs.Prelude.{◌≡◌, ◌∷◌, [], IfOk};
+ghost use Rattle.template_compiler_placed_grammar.specs.Nodes.{given_node, placed};
+ghost use Rattle.template_compiler_placed_grammar.specs.TemplateNodes.{auto_escape_node, branched_node, filter_block_node, for_node, set_block_node};
+ghost use Rattle.template_compiler_placed_grammar.specs.TreeStatements.{places_of_statements};
+ghost use Rattle.template_compiler_placed_grammar.specs.Views.{node_of, statement_node_of};
 ghost use Rattle.template_compiler_statement_makers.specs.Begun.{loop_head, set_block_of};
 ghost use Rattle.template_compiler_statement_makers.specs.Branches.{branch_in, branches_in};
-ghost use Rattle.template_compiler_statement_makers.specs.Listed.{statements_in};
-ghost use Rattle.template_compiler_grammar.specs.TemplateTrees.{branched};
-ghost use Rattle.template_tree.specs.Tree as tree;
+ghost use Rattle.template_compiler_statement_makers.specs.Listed.{statement_nodes_in, statements_in};
+ghost use Rattle.template_tree.specs.ExpressionPlaces.{places_of};
+ghost use Rattle.template_tree.specs.NodePlaces.{parts_more};
 ghost use Rattle.template_tree.specs.View.{expression_of};
-ghost use Rattle.template_tree_statements.specs.View.{statement_of};
 ghost use Rattle.template_tree_statements.specs.declared.statements.Stmt.TheVariants as statements;
 
 use crate::makers;
@@ -16,15 +19,15 @@ use template_tree::{Span, Spanned};
 use template_tree_statements::{AutoEscape, FilterBlock, ForLoop, IfCond, SetBlock, Stmt};
 
 /// A loop with its bodies.
-#[tactic(auto, using(crate::proofs::Rows::statements_row))]
+#[tactic(auto, using(crate::proofs::Rows::nodes_row))]
 pub fn for_loop<'source>(
     head: Box<Spanned<ForLoop<'source>>>,
     body: Vec<Stmt<'source>>,
     else_body: Vec<Stmt<'source>>,
     span: Span,
 ) -> Box<Spanned<ForLoop<'source>>>
-    ensures { let h = loop_head head.entry in statement_of (statements.ForLoop result) ≡
-        tree.for_loop h.0 h.1 h.2 h.3 (statements_in body.entry.items) (statements_in else_body.entry.items) }
+    ensures { let h = loop_head head.entry in statement_node_of (statements.ForLoop result) ≡
+        for_node h.0 h.1 h.2 h.3 (statement_nodes_in body.entry.items) (statement_nodes_in else_body.entry.items) span }
 {
     let mut node = head;
     end_loop(&mut node, body, else_body, span);
@@ -43,6 +46,7 @@ fn end_loop<'source>(
     ensures recursive { node.new.node.recursive ≡ node.old.node.recursive }
     ensures body { node.new.node.body ≡ body.entry }
     ensures else_body { node.new.node.else_body ≡ else_body.entry }
+    ensures span { node.new.span ≡ span }
 {
     put(&mut node.node.body, body);
     put(&mut node.node.else_body, else_body);
@@ -50,14 +54,14 @@ fn end_loop<'source>(
 }
 
 /// An `autoescape` with its body.
-#[tactic(auto, using(crate::proofs::Rows::statements_row))]
+#[tactic(auto, using(crate::proofs::Rows::nodes_row))]
 pub fn auto_escape<'source>(
     head: Box<Spanned<AutoEscape<'source>>>,
     body: Vec<Stmt<'source>>,
     span: Span,
 ) -> Box<Spanned<AutoEscape<'source>>>
-    ensures { statement_of (statements.AutoEscape result) ≡
-        tree.auto_escape (expression_of head.entry.value.node.enabled) (statements_in body.entry.items) }
+    ensures { statement_node_of (statements.AutoEscape result) ≡
+        auto_escape_node (node_of head.entry.value.node.enabled) (statement_nodes_in body.entry.items) span }
 {
     let mut node = head;
     end_auto_escape(&mut node, body, span);
@@ -71,20 +75,21 @@ fn end_auto_escape<'source>(
 )
     ensures enabled { node.new.node.enabled ≡ node.old.node.enabled }
     ensures body { node.new.node.body ≡ body.entry }
+    ensures span { node.new.span ≡ span }
 {
     put(&mut node.node.body, body);
     node.span = span;
 }
 
 /// A filter block with its body.
-#[tactic(auto, using(crate::proofs::Rows::statements_row))]
+#[tactic(auto, using(crate::proofs::Rows::nodes_row))]
 pub fn filter_block<'source>(
     head: Box<Spanned<FilterBlock<'source>>>,
     body: Vec<Stmt<'source>>,
     span: Span,
 ) -> Box<Spanned<FilterBlock<'source>>>
-    ensures { statement_of (statements.FilterBlock result) ≡
-        tree.filter_block (expression_of head.entry.value.node.filter) (statements_in body.entry.items) }
+    ensures { statement_node_of (statements.FilterBlock result) ≡
+        filter_block_node (given_node (node_of head.entry.value.node.filter)) (statement_nodes_in body.entry.items) span }
 {
     let mut node = head;
     end_filter_block(&mut node, body, span);
@@ -98,20 +103,21 @@ fn end_filter_block<'source>(
 )
     ensures filter { node.new.node.filter ≡ node.old.node.filter }
     ensures body { node.new.node.body ≡ body.entry }
+    ensures span { node.new.span ≡ span }
 {
     put(&mut node.node.body, body);
     node.span = span;
 }
 
 /// A set block with its body.
-#[tactic(auto, using(crate::proofs::Rows::statements_row))]
+#[tactic(auto, using(crate::proofs::Rows::nodes_row))]
 pub fn set_block<'source>(
     head: Box<Spanned<SetBlock<'source>>>,
     body: Vec<Stmt<'source>>,
     span: Span,
 ) -> Box<Spanned<SetBlock<'source>>>
     ensures { let h = set_block_of head.entry in
-        statement_of (statements.SetBlock result) ≡ tree.set_block h.0 h.1 (statements_in body.entry.items) }
+        statement_node_of (statements.SetBlock result) ≡ set_block_node h.0 h.1 (statement_nodes_in body.entry.items) span }
 {
     let mut node = head;
     end_set_block(&mut node, body, span);
@@ -126,6 +132,7 @@ fn end_set_block<'source>(
     ensures target { node.new.node.target ≡ node.old.node.target }
     ensures filter { node.new.node.filter ≡ node.old.node.filter }
     ensures body { node.new.node.body ≡ body.entry }
+    ensures span { node.new.span ≡ span }
 {
     put(&mut node.node.body, body);
     node.span = span;
@@ -136,7 +143,9 @@ pub fn branch<'source>(
     head: Box<Spanned<IfCond<'source>>>,
     body: Vec<Stmt<'source>>,
 ) -> Box<Spanned<IfCond<'source>>>
-    ensures { branch_in result ≡ (expression_of head.entry.value.node.expr, statements_in body.entry.items) }
+    ensures branch { branch_in result ≡ placed (expression_of head.entry.value.node.expr, statements_in body.entry.items)
+        (parts_more (places_of head.entry.value.node.expr) (places_of_statements body.entry.items)) }
+    ensures span { result.value.span ≡ head.entry.value.span }
 {
     let mut node = head;
     end_branch(&mut node, body);
@@ -146,19 +155,20 @@ pub fn branch<'source>(
 fn end_branch<'source>(node: &mut Spanned<IfCond<'source>>, body: Vec<Stmt<'source>>)
     ensures condition { node.new.node.expr ≡ node.old.node.expr }
     ensures body { node.new.node.true_body ≡ body.entry }
+    ensures span { node.new.span ≡ node.old.span }
 {
     put(&mut node.node.true_body, body);
 }
 
 /// Each branch is the one statement of the body before it, up to the end of the whole.
-#[tactic(auto, using(crate::proofs::Branches::branched_last))]
 pub fn branched<'source>(
     alloc: Global,
     branches: Vec<Box<Spanned<IfCond<'source>>>>,
     last: Vec<Stmt<'source>>,
     whole: Span,
 ) -> Result<Vec<Stmt<'source>>, AllocError>
-    ensures { IfOk result (λ v. statements_in v.items ≡ branched (branches_in branches.entry.items) (statements_in last.entry.items)) }
+    ensures { IfOk result (λ v. statement_nodes_in v.items ≡
+        branched_node (branches_in branches.entry.items) (statement_nodes_in last.entry.items) whole) }
 {
     let mut branches = branches;
     let mut body = last;
