@@ -2,11 +2,11 @@ pub mod Bare
 pub mod Erased
 mod Stops
 pub mod Complete
-mod Laws
+pub mod Laws
 pub mod TemplateEnds
 pub mod TemplatesErased
 pub mod TemplatesComplete
-mod TemplateLaws
+pub mod TemplateLaws
 mod First
 mod Wholes
 mod Last

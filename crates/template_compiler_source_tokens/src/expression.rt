@@ -1,6 +1,6 @@
 //! The tokens of an expression's text.
-ghost use Rattle.std.specs.Prelude.{◌≡◌, IfOk, IfErr};
-ghost use Rattle.template_compiler_source_tokens.specs.Spelled.{IsSpelled};
+ghost use Rattle.std.specs.Prelude.{◌≡◌, ℕ, ◌≤◌, IfOk, IfErr, length, take, drop};
+ghost use Rattle.template_compiler_source_tokens.specs.Spelled.{HoldsSpelled};
 ghost use Rattle.template_compiler_stream.specs.declared.refusal.Refusal.TheVariants as refusals;
 
 use crate::refusals::fault_of;
@@ -18,7 +18,7 @@ pub fn read_expression_tokens<'source>(
     alloc: Global,
     text: &'source str,
 ) -> Result<TokenStream<'source>, Refusal>
-    ensures tokens { IfOk result (λ stream. IsSpelled text.now stream.left) }
+    ensures tokens { IfOk result (λ stream. HoldsSpelled text.now stream) }
     ensures refused { IfErr result (λ refusal. refusal ≡ refusals.OutOfMemory) }
 {
     let mut tokens = Vec::new(alloc);
@@ -47,7 +47,9 @@ pub fn read_expression_tokens<'source>(
 }
 
 // The beginning of a text that another text stands behind.
-fn blanks_before<'text>(text: &'text str, behind: &str) -> &'text str {
+fn blanks_before<'text>(text: &'text str, behind: &str) -> &'text str
+    ensures { (n : ℕ) → n ≤ length text.now → behind.now ≡ drop n text.now → result.now ≡ take n text.now }
+{
     text.get(..text.len().saturating_sub(behind.len()))
         .unwrap_or("")
 }

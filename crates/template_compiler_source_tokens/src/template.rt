@@ -1,5 +1,6 @@
 //! All tokens of a source.
 ghost use Rattle.std.specs.Prelude.{◌≡◌, IfOk, IfErr};
+ghost use Rattle.template_compiler_source_tokens.specs.Spans.{HoldsTokens};
 ghost use Rattle.template_compiler_stream.specs.declared.refusal.Refusal.TheVariants as refusals;
 
 use crate::refusals::fault_of;
@@ -17,6 +18,7 @@ pub fn read_tokens<'source>(
     tokenizer: Tokenizer<'source>,
 ) -> Result<TokenStream<'source>, Refusal>
     ensures tokens { IfOk result (λ stream. stream.left ≡ tokenizer.entry.left) }
+    ensures placed { IfOk result (λ stream. HoldsTokens tokenizer.entry.spans stream) }
     ensures refused { IfErr result (λ refusal. refusal ≡ refusals.OutOfMemory) }
 {
     let mut tokens = Vec::new(alloc);

@@ -2,6 +2,7 @@
 use Rattle.std.proofs.Common.{◌≡◌, true, false, if◌then◌else◌, List, [], ◌∷◌, ℕ, inl, inr, Ok, Err, refl, sym, ap, subst, ◌∙◌}
 use Rattle.template_values_errors.specs.declared.ErrorKind.{ErrorKind}
 use Rattle.template_tree.specs.Tree.{Expression, Statement, template, Statements}
+use Rattle.template_tree.specs.declared.span.Span.{Span}
 use Rattle.template_tree_statements.specs.View.{statement_of}
 use Rattle.template_tree.specs.declared.span.Spanned.{Spanned}
 use Rattle.template_tree_statements.specs.declared.statements.Template.{Template as TemplateNode}
@@ -12,24 +13,40 @@ use Rattle.template_compiler_stream.specs.declared.refusal.Refusal.TheVariants a
 use Rattle.template_compiler_source_tokens.specs.Kinds.{refused_kind}
 use Rattle.template_compiler_tokens.specs.Token.{Token, TokenFault, bad_syntax}
 use Rattle.template_compiler_tokens.specs.Blame.{Blamed}
+use Rattle.template_compiler_tokens.specs.Places.{next_span}
 use Rattle.template_compiler_tokens.specs.Steps.{Read, fault}
+use Rattle.template_tree.specs.NodePlaces.{at}
 use Rattle.template_compiler_tokens.proofs.Readings.{Kept, Reads, fault_blamed}
 use Rattle.template_compiler_grammar.specs.Grammar.{IsExpression}
 use Rattle.template_compiler_grammar.specs.Reader.{expression_at}
 use Rattle.template_compiler_grammar_laws.proofs.Complete.{expression_complete}
 use Rattle.template_compiler_grammar_laws.proofs.Sound.{expression_sound}
-use Rattle.template_compiler_source_tokens.specs.Spelled.{IsSpelled}
+use Rattle.template_compiler_source_tokens.specs.Spans.{HoldsTokens, token_spans}
+use Rattle.template_compiler_source_tokens.specs.Spelled.{HoldsSpelled, IsSpelled, spelled_spans}
 use Rattle.template_compiler_source_tokens.proofs.Spelling.{one_spelled}
 use Rattle.template_compiler_syntax.specs.Syntax.{Syntax, IsUsable}
 use Rattle.template_compiler_segments.specs.Flat.{IsTokens}
 use Rattle.template_compiler_segments.proofs.Theorems.{one_tokens}
 use Rattle.template_compiler_grammar.specs.TemplateGrammar.{Around, nothing_around}
-use Rattle.template_compiler_grammar.specs.TemplateReader.{statements_at, template_behind, whole, template_of}
+use Rattle.template_compiler_grammar.specs.TemplateReader as plain
+use Rattle.template_compiler_grammar.specs.TemplateReader.{template_of}
+use Rattle.template_compiler_placed_grammar.specs.Nodes.{placed, Node}
+use Rattle.template_compiler_placed_grammar.specs.Reader as reader
+use Rattle.template_compiler_placed_grammar.specs.DerivedExpressions.{expression_places}
+use Rattle.template_compiler_placed_grammar.specs.DerivedStatements.{template_places}
+use Rattle.template_compiler_placed_grammar.specs.TemplateNodes.{PlacedStatement, PlacedStatements, PlacedTemplate, bare_template}
+use Rattle.template_compiler_placed_grammar.specs.TemplateReader as placed_reader
+use Rattle.template_compiler_placed_grammar.specs.Views.{statement_node_of}
+use Rattle.template_compiler_placed_grammar.proofs.Laws.{expression_sound_placed}
+use Rattle.template_compiler_placed_grammar.proofs.TemplateLaws.{template_sound_placed}
+use Rattle.template_compiler_placed_grammar.proofs.TemplatesErased.{template_erased}
+use Rattle.template_compiler_stream.specs.Spans.{PlacedTokens}
+use Rattle.template_compiler_tokenizer.specs.Spans.{Spanned, HasSpans, words_in}
 use Rattle.template_compiler_grammar.specs.TemplateTrees.{are_distinct, blocks_among}
 use Rattle.template_compiler_stream.specs.Tags.{is_done}
 use Rattle.template_compiler_grammar_laws.proofs.TemplatesComplete.{template_complete}
 use Rattle.template_compiler_grammar_laws.proofs.TemplatesSound.{template_sound, template_blamed}
-use Rattle.template_compiler_sources.specs.Source.{IsSource, source_of, IsFaulty, IsExpressionSource, expression_source, IsFaultyExpression, RefusesSource, RefusesExpression}
+use Rattle.template_compiler_sources.specs.Source.{IsSource, source_of, IsPlacedSource, placed_source, IsFaulty, IsExpressionSource, expression_source, IsPlacedExpressionSource, placed_expression_source, IsFaultyExpression, RefusesSource, RefusesExpression}
 use Rattle.template_compiler_sources.specs.Wholes.{nothing_behind, expression_alone, ParsedTemplate, ParsedExpression}
 
 -- a template's source
@@ -92,18 +109,54 @@ faulty_expression source tokens f h e = record {
   treeless = no_expression source tokens f h e;
 }
 
--- what is answered of a source, by what is read of its tokens
-pub found_whole : (x : Syntax) (source : List ℕ) (tokens left : List Token) (node : Spanned TemplateNode) → IsTokens x source left → tokens ≡ left →
-    ParsedTemplate (template_of tokens) (Ok node) → IsSource x source (statement_of (Whole node))
-found_whole x source tokens left node h e (body, is, read) =
-    subst (λ t. IsSource x source t) (sym is) (found_source x source tokens body (subst (λ ts. IsTokens x source ts) (sym e) h) read)
+-- what is read with places, without them
+read_bare : (spans : List Span) (ts : List Token) (t : PlacedTemplate) → placed_reader.template_of spans ts ≡ Ok t → template_of ts ≡ Ok t.tree
+unfolding bare_template
+read_bare spans ts t read = sym (template_erased spans ts) ∙ ap bare_template read
 
-pub refused_whole : (x : Syntax) (source : List ℕ) (tokens left : List Token) (e : Refusal) (kinds : List ErrorKind) → IsUsable x →
-    IsTokens x source left → tokens ≡ left → ParsedTemplate (template_of tokens) (Err e) → kinds ≡ refused_kind e ∷ [] → RefusesSource x source kinds
-refused_whole x source tokens left (refusals.Token f) kinds u h e read is =
+fails_bare : (spans : List Span) (ts : List Token) (f : TokenFault) → placed_reader.template_of spans ts ≡ Err f → template_of ts ≡ Err f
+unfolding bare_template
+fails_bare spans ts f read = sym (template_erased spans ts) ∙ ap bare_template read
+
+-- what is answered of a source, by what is read of its tokens
+pub found_whole : (x : Syntax) (source : List ℕ) (spans : List Span) (tokens left : List Token) (node : Spanned TemplateNode) →
+    IsTokens x source left → tokens ≡ left → ParsedTemplate (placed_reader.template_of spans tokens) (Ok node) →
+    IsSource x source (statement_of (Whole node))
+found_whole x source spans tokens left node h e (body, is, read) =
+    subst (λ t. IsSource x source t) (sym (ap (λ (s : PlacedStatement). s.tree) is))
+    (found_source x source tokens body.tree (subst (λ ts. IsTokens x source ts) (sym e) h) (read_bare spans tokens body read))
+
+placed_whole : (x : Syntax) (source : List ℕ) (tokens : List Spanned) (t : PlacedTemplate) → HasSpans x source tokens →
+    placed_reader.template_of (token_spans tokens) (words_in tokens) ≡ Ok t → IsPlacedSource x source (placed (template t.tree) t.places)
+placed_whole x source tokens t h read =
+    let sound = template_sound_placed (token_spans tokens) (words_in tokens) t read in
+    subst (λ p. IsPlacedSource x source (placed (template t.tree) p)) (sym sound.1) (placed_source h sound.0)
+
+-- a stream of all tokens
+pub found_places : (x : Syntax) (source : List ℕ) (tokens : List Spanned) (stream : PlacedTokens) (node : Spanned TemplateNode) →
+    HasSpans x source tokens → HoldsTokens tokens stream → ParsedTemplate (placed_reader.template_of stream.spans stream.left) (Ok node) →
+    IsPlacedSource x source (statement_node_of (Whole node))
+found_places x source tokens stream node h held (body, is, read) =
+    let all = subst (λ ts. placed_reader.template_of (token_spans tokens) ts ≡ Ok body) held.words
+    (subst (λ spans. placed_reader.template_of spans stream.left ≡ Ok body) held.spans read) in
+    subst (λ s. IsPlacedSource x source s) (sym is) (placed_whole x source tokens body h all)
+
+pub refused_whole : (x : Syntax) (source : List ℕ) (spans : List Span) (tokens left : List Token) (e : Refusal) (kinds : List ErrorKind) →
+    IsUsable x → IsTokens x source left → tokens ≡ left → ParsedTemplate (placed_reader.template_of spans tokens) (Err e) →
+    kinds ≡ refused_kind e ∷ [] → RefusesSource x source kinds
+refused_whole x source spans tokens left (refusals.Token f) kinds u h e read is =
     subst (λ k. RefusesSource x source k) (sym is)
-    (inr (inr (fault_of f, refl, faulty_source x source tokens (fault_of f) u (subst (λ ts. IsTokens x source ts) (sym e) h) read)))
-refused_whole x source tokens left refusals.OutOfMemory kinds u h e read is = inl is
+    (inr (inr (fault_of f, refl,
+    faulty_source x source tokens (fault_of f) u (subst (λ ts. IsTokens x source ts) (sym e) h) (fails_bare spans tokens (fault_of f) read))))
+refused_whole x source spans tokens left refusals.OutOfMemory kinds u h e read is = inl is
+
+pub found_alone : (source : List ℕ) (stream : PlacedTokens) (e : Node) → HoldsSpelled source stream →
+    reader.expression_at stream.spans 150 stream.left ≡ Ok (e, []) → IsPlacedExpressionSource source e
+found_alone source stream e held read =
+    let spans = spelled_spans [] held.tokens in
+    let all = subst (λ spans. reader.expression_at spans 150 stream.left ≡ Ok (e, [])) held.spans read in
+    let sound = expression_sound_placed spans 150 stream.left [] e all tt in
+    subst (λ p. IsPlacedExpressionSource source (placed e.tree p)) (sym sound.1) (placed_expression_source held.tokens sound.0)
 
 pub refused_alone : (source : List ℕ) (tokens : List Token) (e : Refusal) (kinds : List ErrorKind) → IsSpelled source tokens →
     ParsedExpression (expression_alone tokens) (Err e) → kinds ≡ refused_kind e ∷ [] → RefusesExpression source kinds
@@ -112,9 +165,13 @@ refused_alone source tokens (refusals.Token f) kinds h read is =
 refused_alone source tokens refusals.OutOfMemory kinds h read is = inl is
 
 -- a template's statements with nothing behind them, where a block's name stands twice
-pub whole_twice : (ts us : List Token) (ss : Statements) (names : List (List ℕ)) (p : Around) → statements_at 150 p ts ≡ Ok (ss, us) →
-    p ≡ nothing_around → is_done us ≡ true → names ≡ blocks_among ss → are_distinct names ≡ false → template_of ts ≡ Err bad_syntax
-unfolding template_of template_behind
-whole_twice ts [] ss names p e around d n h =
-    ap (λ p. whole (statements_at 150 p ts)) (sym around) ∙ ap (λ r. whole r) e ∙ ap (λ b. if b then Ok ss else Err bad_syntax) (ap (λ ns. are_distinct ns) (sym n) ∙ h)
-whole_twice ts (t ∷ us) ss names p e around d n h = cc
+pub whole_twice : (spans : List Span) (ts us : List Token) (ss : PlacedStatements) (names : List (List ℕ)) (p : Around) →
+    placed_reader.statements_at spans 150 p ts ≡ Ok (ss, us) → p ≡ nothing_around → is_done us ≡ true → names ≡ blocks_among ss.tree →
+    are_distinct names ≡ false → placed_reader.template_of spans ts ≡ Err bad_syntax
+unfolding placed_reader.template_of placed_reader.template_behind
+whole_twice spans ts [] ss names p e around d n h =
+    ap (λ p. placed_reader.whole spans (next_span spans ts) (placed_reader.statements_at spans 150 p ts)) (sym around) ∙
+    ap (λ r. placed_reader.whole spans (next_span spans ts) r) e ∙
+    ap (λ b. if b then Ok (placed ss.tree (at (reader.up_to spans (next_span spans ts) []) ss.places)) else Err bad_syntax)
+    (ap (λ ns. are_distinct ns) (sym n) ∙ h)
+whole_twice spans ts (t ∷ us) ss names p e around d n h = cc

@@ -8,14 +8,25 @@ use Rattle.template_compiler_tokens.specs.Left.{kind_of}
 use Rattle.template_compiler_tokens.specs.Blame.{Blamed}
 use Rattle.template_compiler_syntax.specs.Syntax.{Syntax}
 use Rattle.template_compiler_segments.specs.Flat.{IsTokens}
-use Rattle.template_compiler_source_tokens.specs.Spelled.{IsSpelled}
+use Rattle.template_compiler_tokenizer.specs.Spans.{Spanned, HasSpans, words_in}
+use Rattle.template_compiler_source_tokens.specs.Spans.{token_spans}
+use Rattle.template_compiler_source_tokens.specs.Spelled.{IsSpelled, spelled_spans}
 use Rattle.template_compiler_grammar.specs.Grammar.{IsExpression}
 use Rattle.template_compiler_grammar.specs.TemplateGrammar.{IsTemplate}
+use Rattle.template_compiler_placed_grammar.specs.DerivedExpressions.{expression_places}
+use Rattle.template_compiler_placed_grammar.specs.DerivedStatements.{template_places}
+use Rattle.template_compiler_placed_grammar.specs.Nodes.{placed, Node}
+use Rattle.template_compiler_placed_grammar.specs.TemplateNodes.{PlacedStatement}
 
 -- the source's tokens are the template's statements
 pub data IsSource (x : Syntax) (source : List ℕ) : Statement → Type 0 where
   source_of : {tokens : List Token} {body : Statements} → IsTokens x source tokens → IsTemplate tokens body →
       IsSource x source (template body)
+
+-- and each node stands where its tokens do
+pub data IsPlacedSource (x : Syntax) (source : List ℕ) : PlacedStatement → Type 0 where
+  placed_source : {tokens : List Spanned} {body : Statements} → HasSpans x source tokens → (whole : IsTemplate (words_in tokens) body) →
+      IsPlacedSource x source (placed (template body) (template_places (token_spans tokens) whole))
 
 -- the source has no tree, and the fault stands among its tokens
 pub record IsFaulty (x : Syntax) (source : List ℕ) (fault : TokenFault) : Type 0 where
@@ -28,6 +39,12 @@ pub record IsFaulty (x : Syntax) (source : List ℕ) (fault : TokenFault) : Type
 pub data IsExpressionSource (source : List ℕ) : Expression → Type 0 where
   expression_source : {tokens : List Token} {tree : Expression} → IsSpelled source tokens → IsExpression 150 tokens tree [] →
       IsExpressionSource source tree
+
+-- and each node stands where its tokens do
+pub data IsPlacedExpressionSource (source : List ℕ) : Node → Type 0 where
+  placed_expression_source : {tokens : List Token} {tree : Expression} → (spelled : IsSpelled source tokens) →
+      (whole : IsExpression 150 tokens tree []) →
+      IsPlacedExpressionSource source (placed tree (expression_places (spelled_spans [] spelled) whole))
 
 -- the source is no expression, and the fault stands among its tokens
 pub record IsFaultyExpression (source : List ℕ) (fault : TokenFault) : Type 0 where

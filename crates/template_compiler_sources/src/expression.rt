@@ -1,7 +1,9 @@
 //! The tree of an expression's source.
-ghost use Rattle.std.specs.Prelude.{◌≡◌, ◌≤◌, ◌^◌, length, IfOk, IfErr, IsErrAnd};
-ghost use Rattle.template_compiler_sources.specs.Source.{IsAlone, IsExpressionSource, RefusesExpression};
+ghost use Rattle.std.specs.Prelude.{◌≡◌, ◌≤◌, ◌^◌, [], length, IfOk, IfErr, IsErrAnd, Ok};
+ghost use Rattle.template_compiler_sources.specs.Source.{IsAlone, IsExpressionSource, IsPlacedExpressionSource, RefusesExpression};
 ghost use Rattle.template_compiler_sources.specs.Wholes.{ParsedExpression, expression_alone};
+ghost use Rattle.template_compiler_placed_grammar.specs.Reader.{expression_at};
+ghost use Rattle.template_compiler_placed_grammar.specs.Views.{node_of};
 ghost use Rattle.template_tree.specs.View.{expression_of};
 ghost use Rattle.template_values_errors.specs.declared.ErrorKind.TheVariants.{TooLarge};
 
@@ -13,7 +15,8 @@ use template_compiler_stream::{Refusal, TokenStream};
 use template_tree::Expr;
 use template_values_errors::{Error, ErrorKind};
 
-/// The tree of an expression that is all of its source, in linear time. Texts and names are slices of the source.
+/// The tree of an expression that is all of its source, in linear time; each node has the span of its tokens. Texts and
+/// names are slices of the source.
 ///
 /// # Errors
 ///
@@ -22,6 +25,7 @@ use template_values_errors::{Error, ErrorKind};
 /// `OutOfMemory`.
 pub fn parse_expr<'source>(alloc: Global, source: &'source str) -> Result<Expr<'source>, Error>
     ensures found { IfOk result (λ tree. IsExpressionSource source.now (expression_of tree)) }
+    ensures places { IfOk result (λ tree. IsPlacedExpressionSource source.now (node_of tree)) }
     ensures refused { IfErr result (RefusesExpression source.now) }
     ensures too_large { 2 ^ 32 ≤ length source.now → IsErrAnd result (IsAlone TooLarge) }
 {
@@ -43,7 +47,8 @@ fn whole_expression<'source>(
     alloc: Global,
     tokens: &mut TokenStream<'source>,
 ) -> Result<Expr<'source>, Refusal>
-    ensures { ParsedExpression (expression_alone tokens.old.left) result }
+    ensures tree { ParsedExpression (expression_alone tokens.old.left) result }
+    ensures placed { IfOk result (λ tree. expression_at tokens.old.spans 150 tokens.old.left ≡ Ok (node_of tree, [])) }
 {
     let tree = read_expression(alloc, tokens, MAX_DEPTH)?;
     if tokens.is_done() {

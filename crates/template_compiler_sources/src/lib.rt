@@ -2,11 +2,13 @@
 #![tactic(auto)]
 
 mod expression;
+mod laws;
 mod parser;
 mod reads;
 mod source;
 mod template;
 
 pub use expression::parse_expr;
+pub use laws::{one_placed_expression, one_placed_tree};
 pub use parser::Parser;
 pub use source::parse;

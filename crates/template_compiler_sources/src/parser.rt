@@ -20,9 +20,10 @@ pub struct Parser<'source> {
 
 impl<'source> Parser<'source> {
     ghost use Rattle.std.specs.Prelude.{◌≡◌, ◌∷◌, [], None, IfOk, IfErr, IsOk, MatchOption, Err};
+    ghost use Rattle.template_compiler_placed_grammar.specs.Views.{node_of, statement_node_of};
     ghost use Rattle.template_tree.specs.View.{expression_of};
     ghost use Rattle.template_tree_statements.specs.View.{statement_of};
-    ghost use Rattle.template_compiler_sources.specs.Source.{IsExpressionSource, IsSource, RefusesExpression, RefusesSource};
+    ghost use Rattle.template_compiler_sources.specs.Source.{IsExpressionSource, IsPlacedExpressionSource, IsPlacedSource, IsSource, RefusesExpression, RefusesSource};
     ghost use Rattle.template_compiler_sources.specs.Parsers.{IsSameText, filename_of, refused_of, source_of, syntax_of};
 
     /// A parser of a source under a syntax. The file name is for messages alone.
@@ -60,6 +61,7 @@ impl<'source> Parser<'source> {
     /// Those of [`parse`](crate::parse), and from then on the same kind.
     pub fn parse(&mut self) -> Result<Stmt<'source>, Error>
         ensures found { IfOk result (λ tree. IsSource (syntax_of self.old) (source_of self.old) (statement_of tree)) }
+        ensures places { IfOk result (λ tree. IsPlacedSource (syntax_of self.old) (source_of self.old) (statement_node_of tree)) }
         ensures refused { refused_of self.old ≡ None → IfErr result (RefusesSource (syntax_of self.old) (source_of self.old)) }
         ensures again { MatchOption (refused_of self.old) (Unit {0}) (λ kind. result ≡ Err (kind ∷ [])) }
         ensures kept { MatchOption (refused_of self.new) (IsOk result) (λ kind. result ≡ Err (kind ∷ [])) }
@@ -82,6 +84,7 @@ impl<'source> Parser<'source> {
     /// Those of [`parse_expr`](crate::parse_expr), and from then on the same kind.
     pub fn parse_standalone_expr(&mut self) -> Result<Expr<'source>, Error>
         ensures found { IfOk result (λ tree. IsExpressionSource (source_of self.old) (expression_of tree)) }
+        ensures places { IfOk result (λ tree. IsPlacedExpressionSource (source_of self.old) (node_of tree)) }
         ensures refused { refused_of self.old ≡ None → IfErr result (RefusesExpression (source_of self.old)) }
         ensures again { MatchOption (refused_of self.old) (Unit {0}) (λ kind. result ≡ Err (kind ∷ [])) }
         ensures kept { MatchOption (refused_of self.new) (IsOk result) (λ kind. result ≡ Err (kind ∷ [])) }
@@ -100,6 +103,7 @@ impl<'source> Parser<'source> {
     // The tree of the source as a template, each time anew.
     fn template(&self) -> Result<Stmt<'source>, Error>
         ensures found { IfOk result (λ tree. IsSource (syntax_of self.now) (source_of self.now) (statement_of tree)) }
+        ensures places { IfOk result (λ tree. IsPlacedSource (syntax_of self.now) (source_of self.now) (statement_node_of tree)) }
         ensures refused { IfErr result (RefusesSource (syntax_of self.now) (source_of self.now)) }
     {
         parse(self.alloc, self.source, self.filename, self.syntax.clone()?)

@@ -1,9 +1,10 @@
 //! The tree of a template's source.
 ghost use Rattle.std.specs.Prelude.{◌≡◌, ◌≤◌, ◌^◌, length, IfOk, IfErr, IsErrAnd};
-ghost use Rattle.template_compiler_sources.specs.Source.{IsAlone, IsSource, RefusesSource};
+ghost use Rattle.template_compiler_sources.specs.Source.{IsAlone, IsPlacedSource, IsSource, RefusesSource};
 ghost use Rattle.template_values_errors.specs.declared.ErrorKind.TheVariants.{TooLarge};
 ghost use Rattle.template_compiler_sources.specs.Wholes.{ParsedTemplate};
-ghost use Rattle.template_compiler_grammar.specs.TemplateReader.{template_of};
+ghost use Rattle.template_compiler_placed_grammar.specs.TemplateReader.{template_of};
+ghost use Rattle.template_compiler_placed_grammar.specs.Views.{statement_node_of};
 ghost use Rattle.template_tree_statements.specs.View.{statement_of};
 
 use crate::template::read_template;
@@ -16,8 +17,8 @@ use template_tree::Spanned;
 use template_tree_statements::{Stmt, Template};
 use template_values_errors::{Error, ErrorKind};
 
-/// The tree of a template's source under a syntax, in linear time. Texts and names are slices of the source. The file
-/// name is for messages alone.
+/// The tree of a template's source under a syntax, in linear time; each node has the span of its tokens. Texts and names
+/// are slices of the source. The file name is for messages alone.
 ///
 /// # Errors
 ///
@@ -31,6 +32,7 @@ pub fn parse<'source>(
     syntax: SyntaxConfig,
 ) -> Result<Stmt<'source>, Error>
     ensures found { IfOk result (λ tree. IsSource syntax source.now (statement_of tree)) }
+    ensures places { IfOk result (λ tree. IsPlacedSource syntax source.now (statement_node_of tree)) }
     ensures refused { IfErr result (RefusesSource syntax source.now) }
     ensures too_large { 2 ^ 32 ≤ length source.now → IsErrAnd result (IsAlone TooLarge) }
 {
@@ -52,7 +54,7 @@ fn whole_template<'source>(
     alloc: Global,
     tokens: &mut TokenStream<'source>,
 ) -> Result<Spanned<Template<'source>>, Refusal>
-    ensures { ParsedTemplate (template_of tokens.old.left) result }
+    ensures { ParsedTemplate (template_of tokens.old.spans tokens.old.left) result }
 {
     let start = tokens.span();
     let children = read_template(alloc, tokens)?;

@@ -1,7 +1,8 @@
 //! The statements of a whole template.
-ghost use Rattle.std.specs.Prelude.{◌≡◌};
-ghost use Rattle.template_compiler_grammar.specs.TemplateReader.{template_of};
+ghost use Rattle.std.specs.Prelude.{◌≡◌, [], IfOk};
+ghost use Rattle.template_compiler_placed_grammar.specs.TemplateReader.{template_of};
 ghost use Rattle.template_compiler_sources.specs.Wholes.{ParsedWhole};
+ghost use Rattle.template_compiler_tokens.specs.Places.{stretch};
 
 use crate::reads::ExpressionParser;
 use std::alloc::Global;
@@ -15,12 +16,15 @@ use template_tree_statements::Stmt;
 pub(crate) const MAX_DEPTH: u32 = 150;
 
 // Reads all tokens as the statements of a template.
-#[tactic(auto, unfolding(template_compiler_grammar::specs::TemplateReader::template_of, template_compiler_grammar::specs::TemplateReader::template_behind))]
+#[tactic(auto, unfolding(template_compiler_placed_grammar::specs::TemplateReader::template_of, template_compiler_placed_grammar::specs::TemplateReader::template_behind))]
 pub(crate) fn read_template<'source>(
     alloc: Global,
     tokens: &mut TokenStream<'source>,
 ) -> Result<Vec<Stmt<'source>>, Refusal>
-    ensures { ParsedWhole (template_of tokens.old.left) result }
+    ensures parsed { let table = tokens.old.spans in
+        ParsedWhole (template_of table tokens.old.left) (stretch table tokens.old.left []) result }
+    ensures done { IfOk result (λ _. tokens.new.left ≡ []) }
+    ensures spans { tokens.new.spans ≡ tokens.old.spans }
 {
     let body = read_statements::<ExpressionParser>(alloc, tokens, MAX_DEPTH, Around::nothing())?;
     if !tokens.is_done() {

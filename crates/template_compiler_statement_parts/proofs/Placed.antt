@@ -7,23 +7,24 @@ use Rattle.template_tree.specs.NodePlaces.{at, no_parts, one}
 use Rattle.template_tree.specs.declared.expressions.Expr.{Expr}
 use Rattle.template_tree.specs.declared.span.Span.{Span}
 use Rattle.template_compiler_tokens.specs.Places.{next_span}
-use Rattle.template_compiler_tokens.specs.Token.{Token, bad_syntax, dot, paren_open, identifier, symbol}
+use Rattle.template_compiler_tokens.specs.Token.{Token, bad_syntax, comma, dot, paren_open, identifier, symbol}
 use Rattle.template_compiler_tokens.specs.Steps.{Read, fault, and_then, goes, stops, all}
-use Rattle.template_compiler_tokens.proofs.Loops.{Shrinks, all_goes}
+use Rattle.template_compiler_tokens.proofs.Loops.{Shrinks, all_goes, all_stops}
 use Rattle.template_compiler_grammar.specs.TemplateWords.{is_reserved}
 use Rattle.template_compiler_grammar.specs.Words.{begins_word}
 use Rattle.template_compiler_grammar.specs.TemplateReader as plain
 use Rattle.template_compiler_grammar.specs.TemplateReader.{more_step}
 use Rattle.template_compiler_grammar_laws.proofs.TemplatesSound.{next_import_takes, next_target_takes, path_takes}
-use Rattle.template_compiler_placed_grammar.specs.Nodes.{Node, given_node, no_node, node, placed}
+use Rattle.template_compiler_placed_grammar.specs.Nodes.{Node, first_node, given_node, no_node, node, placed}
 use Rattle.template_compiler_placed_grammar.specs.Reader.{up_to}
-use Rattle.template_compiler_placed_grammar.specs.TemplateNodes.{PlacedImports, and_placed_import}
-use Rattle.template_compiler_placed_grammar.specs.TemplateReader.{alias_by, import_by, inner_targets, one_target_by, path_by, path_step, stored_by, target_by, targets_by}
+use Rattle.template_compiler_placed_grammar.specs.TemplateNodes.{PlacedImports, and_placed_import, unpacked_node}
+use Rattle.template_compiler_placed_grammar.specs.TemplateReader.{alias_by, import_by, inner_targets, more_targets_by, one_target_by, path_by, path_step, stored_by, target_by, targets_by}
 use Rattle.template_compiler_placed_grammar.specs.Views.{node_of}
 use Rattle.template_compiler_placed_grammar.proofs.Bare.{placed_shrinks}
 use Rattle.template_compiler_placed_grammar.proofs.TemplateEnds.{more_bare}
 use Rattle.template_compiler_placed_grammar.proofs.TemplatesErased.{import_bare, inner_bare, one_target_bare, path_step_bare}
 use Rattle.template_compiler_stream.specs.Left.{passed}
+use Rattle.template_compiler_statement_parts.proofs.Standing.{no_more}
 use Rattle.template_compiler_stream.specs.Signs.{begins_symbol, next_word, second_word}
 
 module _ (spans : List Span) where
@@ -90,6 +91,14 @@ module _ (spans : List Span) where
       (more_bare (one_target_by spans dots (inner_targets spans dots d)) (plain.one_target_by dots (plain.inner_targets dots d))
       (one_target_bare spans dots _ _ (inner_bare spans dots d)))
       (next_target_takes dots d)
+
+  -- one target with no comma behind it
+  pub alone : (dots : Bool) (inner : List Token → Read Node) (start : Span) (a : Node) (ts : List Token) → begins_symbol comma ts ≡ false →
+      more_targets_by spans dots inner start a ts ≡ Ok (a, ts)
+  unfolding and_then more_targets_by
+  alone dots inner start a ts h =
+      ap (λ m. and_then m (λ es us. Ok (unpacked_node es (up_to spans start us), us)))
+      (all_stops (more_step (one_target_by spans dots inner)) (first_node a) ts (no_more (one_target_by spans dots inner) (first_node a) ts h))
 
   -- parts of a path
   paths_fall : (start : Span) → Shrinks (path_step spans start)

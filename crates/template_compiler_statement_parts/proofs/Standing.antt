@@ -110,6 +110,16 @@ values_none (symbol assign ∷ ts) h = cc
 values_none (symbol t ∷ ts) h = cc
 values_none (t ∷ ts) h = refl
 
+pub comma_here : (s : Symbol) (ts : List Token) → Some s ≡ next_symbol ts → begins_symbol comma ts ≡ begins_symbol comma (symbol s ∷ [])
+comma_here s [] h = cc
+comma_here s (symbol t ∷ ts) h = let same : t ≡ s = cc in ap (λ s. begins_symbol comma (symbol s ∷ [])) same
+comma_here s (t ∷ ts) h = cc
+
+pub comma_none : (ts : List Token) → None ≡ next_symbol ts → begins_symbol comma ts ≡ false
+comma_none [] h = refl
+comma_none (symbol t ∷ ts) h = cc
+comma_none (t ∷ ts) h = refl
+
 -- words that do not stand next
 pub flag_none : (w : List ℕ) (ts : List Token) → begins_word w ts ≡ false → word_by w ts ≡ Ok (false, ts)
 unfolding word_by

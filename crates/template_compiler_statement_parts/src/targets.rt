@@ -5,8 +5,10 @@ ghost use Rattle.template_compiler_grammar.specs.TemplateReader.{more_step};
 ghost use Rattle.template_compiler_placed_grammar.specs.TemplateNodes.{unpacked_node};
 ghost use Rattle.template_compiler_placed_grammar.specs.TemplateReader.{inner_targets, more_targets_by, one_target_by, path_by, path_step, stored_by, target_by, targets_by};
 ghost use Rattle.template_compiler_placed_grammar.specs.Views.{node_of, nodes_in};
+ghost use Rattle.template_compiler_stream.specs.Signs.{begins_symbol};
 ghost use Rattle.template_compiler_tokens.specs.Places.{next_span};
 ghost use Rattle.template_compiler_tokens.specs.Steps.{all, and_then};
+ghost use Rattle.template_compiler_tokens.specs.Token.{comma};
 
 use crate::ends::expect_paren_end;
 use crate::growth::put;
@@ -102,6 +104,9 @@ pub fn read_more_targets<'source>(
         tokens.new.left result }
     ensures spans { tokens.new.spans ≡ tokens.old.spans }
 {
+    if !begins_more(tokens) {
+        return Ok(first);
+    }
     let mut targets = Vec::new(alloc);
     put(&mut targets, first)?;
     all_targets(alloc, tokens, left, dots, &mut targets)?;
@@ -149,6 +154,20 @@ fn next_target<'source>(
         Ok(true)
     } else {
         Ok(false)
+    }
+}
+
+// Whether a comma stands next.
+#[tactic(auto, using(crate::proofs::Standing::comma_here, crate::proofs::Standing::comma_none))]
+fn begins_more<'source>(tokens: &TokenStream<'source>) -> bool
+    ensures { result ≡ begins_symbol comma tokens.now.left }
+{
+    match tokens.sign() {
+        Some(sign) => match sign {
+            Sign::Comma => true,
+            _ => false,
+        },
+        None => false,
     }
 }
 

@@ -1,6 +1,8 @@
 use Rattle.std.proofs.Common.{◌-◌, sym, ◌∙◌, subst, arith}
+use Rattle.template_compiler_placed_grammar.specs.TemplateReader.{inner_targets}
+use Rattle.template_compiler_placed_grammar.specs.Views.{node_of}
 use Rattle.template_compiler_statement_parts.specs.Parsed.{ParsedNode}
-use Rattle.template_compiler_statement_parts.proofs.Placed.{inner_less, targets_fall}
+use Rattle.template_compiler_statement_parts.proofs.Placed.{alone, inner_less, targets_fall}
 use Rattle.template_compiler_statement_parts.proofs.Rounds.{rounds_end, rounds_go, rounds_refused}
 use Rattle.template_compiler_statement_parts.proofs.targets.+targets.Goals as goal
 
@@ -31,3 +33,9 @@ read_inner_targets-returns-else-left-eq0-clause-parsed t c =
     subst (λ m. ParsedNode m c.read_targets.new.tokens.left c.read_targets.result)
     (sym (inner_less c.args.tokens.now.spans c.args.dots c.args.left (c.args.left - 1) c.args.tokens.now.left (omega arith)))
     c.read_targets.ensures.parsed
+
+pub read_more_targets-returns-then-not-begins_more-clause-parsed : goal.read_more_targets-returns-then-not-begins_more-clause-parsed
+read_more_targets-returns-then-not-begins_more-clause-parsed t c =
+    let spans = c.args.tokens.now.spans in
+    alone spans c.args.dots (inner_targets spans c.args.dots c.args.left) c.args.start (node_of c.args.first) c.args.tokens.now.left
+    (sym c.begins_more.ensures ∙ c.if-not-begins_more.true)
