@@ -1,12 +1,13 @@
 -- A chain of filters behind a filter is never empty.
-use Rattle.std.proofs.Common.{◌≡◌, ℕ, List, Ok, None, refl}
+use Rattle.std.proofs.Common.{◌≡◌, ℕ, List, Ok, None, Some, refl}
 use Rattle.template_tree.specs.Tree.{Expression, Optional, absent, given}
+use Rattle.template_tree.specs.View.{expression_of}
+use Rattle.template_tree.specs.declared.expressions.Expr.{Expr}
 use Rattle.template_tree.specs.declared.span.Span.{Span}
 use Rattle.template_compiler_tokens.specs.Token.{Token}
 use Rattle.template_compiler_grammar.specs.Grammar.{IsFilterChain, chain_end, chain_more}
 use Rattle.template_compiler_grammar.specs.Reader as plain
 use Rattle.template_compiler_grammar_laws.proofs.Sound.{filter_chain_sound}
-use Rattle.template_compiler_placed_grammar.specs.Nodes.{Node, given_node}
 use Rattle.template_compiler_placed_grammar.specs.Reader.{filter_chain_at}
 use Rattle.template_compiler_placed_grammar.specs.Views.{optional_node_in}
 use Rattle.template_compiler_placed_grammar.proofs.Bare.{bare_reads}
@@ -19,6 +20,7 @@ none_left (chain_more {e = x} y m) e h k = none_left m x refl k
 none_read : (d : ℕ) (e : Expression) (ts us : List Token) → plain.filter_chain_at d (given e) ts ≡ Ok (absent, us) → ⊥
 none_read d e ts us h = none_left ((filter_chain_sound d (given e) ts).tree absent us h).0 e refl refl
 
-pub filters_given : (spans : List Span) (d : ℕ) (e : Node) (ts us : List Token) →
-    filter_chain_at spans d (given_node e) ts ≡ Ok (optional_node_in None, us) → ⊥
-filters_given spans d e ts us h = none_read d e.tree ts us (bare_reads (filter_chain_erased spans d (given_node e) ts) h)
+pub filters_given : (spans : List Span) (d : ℕ) (first : Expr) (ts us : List Token) →
+    filter_chain_at spans d (optional_node_in (Some first)) ts ≡ Ok (optional_node_in None, us) → ⊥
+filters_given spans d first ts us h =
+    none_read d (expression_of first) ts us (bare_reads (filter_chain_erased spans d (optional_node_in (Some first)) ts) h)

@@ -2,7 +2,7 @@
 use Rattle.std.proofs.Common.{◌≡◌, ℕ, Bool, true, false, if◌then◌else◌, codes, List, ◌∷◌, Option, None, Some, Ok, Err, refl, sym, ap, ◌∙◌}
 use Rattle.template_tree.specs.Tree.{Expression, Arguments}
 use Rattle.template_tree.specs.Kinds.{call_parts}
-use Rattle.template_tree.specs.NodePlaces.{Places, parts_more, and_parts}
+use Rattle.template_tree.specs.NodePlaces.{Places, parts_more}
 use Rattle.template_tree.specs.declared.span.Span.{Span}
 use Rattle.template_compiler_tokens.specs.Places.{next_span}
 use Rattle.template_compiler_tokens.specs.Token.{Token, bad_syntax, block_end, identifier, symbol, paren_open}
@@ -160,7 +160,8 @@ module _ (spans : List Span) where
 
   -- what is made stands up to the end of what was read
   stood : (make : Span → PlacedStatement) (start span : Span) (now : List Span) (new : List Token) (s : PlacedStatement) →
-      now ≡ spans → span ≡ up_to now start new → s ≡ make span → Ok (make (up_to spans start new), new) ≡ Ok (s, new)
+      now ≡ spans → span ≡ up_to now start new → s ≡ make span →
+      ◌≡◌ {A = Read PlacedStatement} (Ok (make (up_to spans start new), new)) (Ok (s, new))
   stood make start span now new s table stands made =
       ap (λ s. Ok (s, new)) (sym (made ∙ ap make (stands ∙ ap (λ spans. up_to spans start new) table)))
 
