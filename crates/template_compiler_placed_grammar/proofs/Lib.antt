@@ -9,5 +9,5 @@ pub mod TemplatesComplete
 pub mod TemplateLaws
 mod First
 mod Wholes
-mod Last
+pub mod Last
 pub mod Pushes

@@ -1,15 +1,21 @@
 -- What is read by what stands next.
-use Rattle.std.proofs.Common.{◌≡◌, ℕ, true, false, if◌then◌else◌, List, [], ◌∷◌, None, Some, codes, refl, ap}
+use Rattle.std.proofs.Common.{◌≡◌, ℕ, ◌≤◌, true, false, if◌then◌else◌, List, [], ◌∷◌, ◌++◌, length, None, Some, codes, refl, sym, ap, ◌∙◌, arith}
 use Rattle.template_tree.specs.Tree.{raw}
 use Rattle.template_tree.specs.NodePlaces.{no_parts}
 use Rattle.template_tree.specs.declared.span.Span.{Span}
-use Rattle.template_compiler_tokens.specs.Places.{next_span}
+use Rattle.template_tree.specs.declared.span.Spanned.{Spanned}
+use Rattle.template_tree_statements.specs.declared.statements.EmitRaw.{EmitRaw as Text}
+use Rattle.template_tree_statements.specs.declared.statements.Stmt.{Stmt, EmitRaw}
+use Rattle.template_compiler_tokens.specs.Places.{next_span, token_count}
 use Rattle.template_compiler_tokens.specs.Token.{Token, template_data, variable_start, block_start, identifier}
 use Rattle.template_compiler_tokens.specs.Steps.{and_then, goes, stops, under}
+use Rattle.template_compiler_placed_grammar.proofs.Last.{stands_alone}
 use Rattle.template_compiler_stream.specs.Left.{passed}
 use Rattle.template_compiler_stream.specs.Signs.{next_word}
 use Rattle.template_compiler_stream.specs.Tags.{begins_variable_start, next_text}
 use Rattle.template_compiler_statement_parts.specs.Tags.{next_tag}
+use Rattle.template_compiler_statement_makers.specs.Listed.{statement_nodes_in}
+use Rattle.template_compiler_statement_makers.proofs.Lists.{statement_nodes_push}
 use Rattle.template_compiler_grammar.specs.TemplateGrammar.{Around}
 use Rattle.template_compiler_grammar.specs.TemplateReader.{begins_tag, opening}
 use Rattle.template_compiler_placed_grammar.specs.TemplateNodes.{PlacedBranches, and_placed_branch, PlacedStatements, and_placed_statement, statement_node}
@@ -17,14 +23,28 @@ use Rattle.template_compiler_placed_grammar.specs.TemplateReader.{Here, branch_b
 
 module _ (spans : List Span) (r : Here) (p : Around) where
   -- statements
-  pub text_here : (ss : PlacedStatements) (s : List ℕ) (ts : List Token) → Some s ≡ next_text ts →
+  pub text_here : (ss : PlacedStatements) (s : List ℕ) (ts : List Token) → Some s ≡ next_text ts → token_count ts ≤ length spans →
       statement_step spans r p ss ts ≡ goes (and_placed_statement ss (statement_node (raw s) (next_span spans ts) no_parts)) (passed ts)
   unfolding statement_step
-  text_here ss s [] h = cc
-  text_here ss s (template_data u ∷ ts) h =
+  text_here ss s [] h counted = cc
+  text_here ss s (template_data u ∷ ts) h counted =
       let same : u ≡ s = cc in
+      ap (λ span. goes (and_placed_statement ss (statement_node (raw u) span no_parts)) ts)
+      (stands_alone spans (template_data u) ts refl (omega arith)) ∙
       ap (λ v. goes (and_placed_statement ss (statement_node (raw v) (next_span spans (template_data u ∷ ts)) no_parts)) ts) same
-  text_here ss s (t ∷ ts) h = cc
+  text_here ss s (t ∷ ts) h counted = cc
+
+  pub text_put : (ss all : List Stmt) (n : Spanned Text) (s : List ℕ) (ts us : List Token) → Some s ≡ next_text ts →
+      token_count ts ≤ length spans → us ≡ passed ts → all ≡ ss ++ EmitRaw n ∷ [] → n.node.raw.now ≡ s → n.span ≡ next_span spans ts →
+      statement_step spans r p (statement_nodes_in ss) ts ≡ goes (statement_nodes_in all) us
+  text_put ss all n s ts us h counted behind put text stands =
+      let made : statement_nodes_in all ≡
+      and_placed_statement (statement_nodes_in ss) (statement_node (raw s) (next_span spans ts) no_parts) =
+      ap statement_nodes_in put ∙ statement_nodes_push ss (EmitRaw n) ∙
+      ap (λ w. and_placed_statement (statement_nodes_in ss) (statement_node (raw w) n.span no_parts)) text ∙
+      ap (λ span. and_placed_statement (statement_nodes_in ss) (statement_node (raw s) span no_parts)) stands in
+      text_here (statement_nodes_in ss) s ts h counted ∙ ap (λ ss. goes ss (passed ts)) (sym made) ∙
+      ap (λ us. goes (statement_nodes_in all) us) (sym behind)
 
   pub print_here : (ss : PlacedStatements) (ts : List Token) → begins_variable_start ts ≡ true →
       statement_step spans r p ss ts ≡

@@ -80,7 +80,7 @@ pub fn read_statements<'source, R: ReadsExpressions>(
 
 // A text, a print or a tag that begins a statement.
 #[cycle(statements)]
-#[tactic(auto, using(crate::proofs::Next::text_here, crate::proofs::Next::print_here, crate::proofs::Next::tag_here, crate::proofs::Next::nothing_here, template_compiler_statement_makers::proofs::Lists::statement_nodes_push), unfolding(template_compiler_tokens::specs::Steps::under, template_compiler_placed_grammar::specs::TemplateReader::here, template_compiler_placed_grammar::specs::TemplateReader::here_by))]
+#[tactic(auto, using(crate::proofs::Next::print_here, crate::proofs::Next::tag_here, crate::proofs::Next::nothing_here, template_compiler_statement_makers::proofs::Lists::statement_nodes_push), unfolding(template_compiler_tokens::specs::Steps::under, template_compiler_placed_grammar::specs::TemplateReader::here, template_compiler_placed_grammar::specs::TemplateReader::here_by))]
 fn next_statement<'source, R: ReadsExpressions>(
     alloc: Global,
     tokens: &mut TokenStream<'source>,

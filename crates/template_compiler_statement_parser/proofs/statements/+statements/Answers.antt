@@ -17,7 +17,7 @@ use Rattle.template_compiler_statement_parser.specs.Bodies.{ParsedBody, ParsedSt
 use Rattle.template_compiler_statement_parser.proofs.Falls.{branches_fall, statements_fall}
 use Rattle.template_compiler_statement_parser.proofs.Less.{body_less}
 use Rattle.template_compiler_statement_parser.proofs.Made.{behind, behind_fails, body_fails, body_made, branches_fail, else_fails, for_body_fails, for_else_fails, for_made, head_fails, if_fails, if_made, set_body_fails, set_body_made}
-use Rattle.template_compiler_statement_parser.proofs.Next.{tag_here}
+use Rattle.template_compiler_statement_parser.proofs.Next.{tag_here, text_put}
 use Rattle.template_compiler_statement_parser.proofs.Wholes.{autoescape_whole, block_whole, branch_whole, call_whole, filter_whole, for_whole, macro_whole, set_whole_by, with_whole}
 use Rattle.template_compiler_statement_parser.proofs.statements.+statements.Goals as goal
 
@@ -393,7 +393,7 @@ if_condition-returns-clause-parsed g t c =
     let same = c.in_ok-others.ensures.spans ∙ c.in_ok-first.ensures.spans in
     let last = rw same at c.in_ok-last.ensures.parsed in
     if_made spans r p c.args.span _ _ _ _ _ _ _ _ _ _ _ c.in_ok-first.ensures.parsed others last (c.in_ok-last.ensures.spans ∙ same)
-    c.expand_span-whole.ensures c.in_ok-false_body.ensures c.otherwise-first.ensures
+    c.expand_span-whole.ensures c.in_ok-false_body.ensures c.otherwise-2.ensures
 
 
 pub if_condition-returns-in_err-first-clause-parsed : goal.if_condition-returns-in_err-first-clause-parsed
@@ -479,3 +479,9 @@ opened-returns-in-Parent-clause-parsed g t c =
     subst (λ o. ParsedStatement (opened_by spans r p o c.args.span c.args.tokens.now.left) c.read_parent.new.tokens.left c.read_parent.result)
     c.in-Parent.ensures c.read_parent.ensures.parsed
 
+pub next_statement-returns-in-Some-clause-parsed : goal.next_statement-returns-in-Some-clause-parsed
+next_statement-returns-in-Some-clause-parsed g t c =
+    let spans = c.args.tokens.now.spans in
+    text_put spans (here spans c.args.left) (around_of c.args.around) c.args.statements.now.items c.put.new.items.items c.new.result
+    c.in-Some.text.now c.args.tokens.now.left c.advance.new.self.left c.in-Some.ensures.text c.in-Some.ensures.counted c.advance.ensures.passed
+    c.in_ok-put.ensures.put (ap (λ n. n.raw.now) c.new.ensures.node) (c.new.ensures.span ∙ c.span-span.ensures)
