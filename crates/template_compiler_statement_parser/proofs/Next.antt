@@ -8,7 +8,7 @@ use Rattle.template_tree_statements.specs.declared.statements.EmitRaw.{EmitRaw a
 use Rattle.template_tree_statements.specs.declared.statements.Stmt.{Stmt, EmitRaw}
 use Rattle.template_compiler_tokens.specs.Places.{next_span, token_count}
 use Rattle.template_compiler_tokens.specs.Token.{Token, template_data, variable_start, block_start, identifier}
-use Rattle.template_compiler_tokens.specs.Steps.{and_then, goes, stops, under}
+use Rattle.template_compiler_tokens.specs.Steps.{goes, stops, under}
 use Rattle.template_compiler_placed_grammar.proofs.Last.{stands_alone}
 use Rattle.template_compiler_stream.specs.Left.{passed}
 use Rattle.template_compiler_stream.specs.Signs.{next_word}

@@ -30,14 +30,16 @@ body-returns-else-left-eq0-clause-parsed g t c =
 
 pub branches-returns-in-Ok-false-clause-parsed : goal.branches-returns-in-Ok-false-clause-parsed
 branches-returns-in-Ok-false-clause-parsed g t c =
+    let spans = c.args.tokens.now.spans in
     let ended = rw c.loop-branches.invariant.0 at (rw c.in-Ok-false.field-0-test at c.in-Ok-false.ensures.parsed) in
-    rounds_end _ _ _ _ _ _ _ c.loop-branches.invariant.1 ended
+    rounds_end (branch_step spans (here spans c.args.left) (around_of c.args.around)) _ _ _ _ _ _ c.loop-branches.invariant.1 ended
 
 
 pub branches-returns-in-Err-clause-parsed : goal.branches-returns-in-Err-clause-parsed
 branches-returns-in-Err-clause-parsed g t c =
+    let spans = c.args.tokens.now.spans in
     let now = rw c.loop-branches.invariant.0 at c.in-Err.ensures.parsed in
-    rounds_refused _ _ _ _ _ c.in-Err.refusal c.loop-branches.invariant.1 now
+    rounds_refused (branch_step spans (here spans c.args.left) (around_of c.args.around)) _ _ _ _ c.in-Err.refusal c.loop-branches.invariant.1 now
 
 
 pub branches-loop-branches-preserved : goal.branches-loop-branches-preserved
@@ -59,15 +61,17 @@ branches-loop-branches-smaller g t c =
 pub read_statements-returns-in-Ok-false-clause-parsed : goal.read_statements-returns-in-Ok-false-clause-parsed
 unfolding statements_at statements_by
 read_statements-returns-in-Ok-false-clause-parsed g t c =
+    let spans = c.args.tokens.now.spans in
     let ended = rw c.loop-statements.invariant.0 at (rw c.in-Ok-false.field-0-test at c.in-Ok-false.ensures.parsed) in
-    rounds_end _ _ _ _ _ _ _ c.loop-statements.invariant.1 ended
+    rounds_end (statement_step spans (here spans c.args.left) (around_of c.args.around)) _ _ _ _ _ _ c.loop-statements.invariant.1 ended
 
 
 pub read_statements-returns-in-Err-clause-parsed : goal.read_statements-returns-in-Err-clause-parsed
 unfolding statements_at statements_by
 read_statements-returns-in-Err-clause-parsed g t c =
+    let spans = c.args.tokens.now.spans in
     let now = rw c.loop-statements.invariant.0 at c.in-Err.ensures.parsed in
-    rounds_refused _ _ _ _ _ c.in-Err.refusal c.loop-statements.invariant.1 now
+    rounds_refused (statement_step spans (here spans c.args.left) (around_of c.args.around)) _ _ _ _ c.in-Err.refusal c.loop-statements.invariant.1 now
 
 
 pub read_statements-loop-statements-preserved : goal.read_statements-loop-statements-preserved
