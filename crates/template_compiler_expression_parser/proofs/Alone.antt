@@ -13,7 +13,7 @@ use Rattle.template_compiler_grammar.specs.Reader.{word_tree}
 use Rattle.template_compiler_tokens.specs.Steps.{Read, and_then, stops, all}
 use Rattle.template_compiler_tokens.proofs.Loops.{then_goes, all_stops}
 use Rattle.template_compiler_placed_grammar.specs.Nodes.{Node, node, PlacedLinks, no_placed_links, compared_node}
-use Rattle.template_compiler_placed_grammar.specs.Reader.{Deeper, nothing_deeper, primary_by, part_step, parts_by, unary_by, filter_step, filtered_by, power_behind, power_by, operand_step, binary_of, terms_by, link_behind, link_step, comparison_by, negation_by, operand_by, binary_by}
+use Rattle.template_compiler_placed_grammar.specs.Reader.{Deeper, nothing_deeper, primary_by, part_step, parts_by, unary_by, filter_step, filtered_by, power_behind, power_by, operand_step, binary_of, terms_by, link_behind, link_step, comparison_by, negation_by, operand_by, binary_by, if_behind, expression_by}
 use Rattle.template_compiler_stream.specs.Signs.{is_plain, is_end, begins_alone}
 use Rattle.template_compiler_stream.specs.declared.refusal.Refusal.{Refusal}
 use Rattle.template_compiler_expression_parts.specs.Parsed.{Parsed}
@@ -161,3 +161,32 @@ alone_read spans r k (t ∷ e ∷ us) h =
 pub parsed_alone : (spans : List Span) (r : Deeper) (k : Level) (ts new : List Token) (x : Result Expr Refusal) → begins_alone ts ≡ true →
     Parsed (primary_by spans nothing_deeper ts) new x → Parsed (binary_by spans r k ts) new x
 parsed_alone spans r k ts new x h parsed = subst (λ (m : Read Node). Parsed m new x) (sym (alone_read spans r k ts h)) parsed
+
+-- no condition stands behind it
+no_if : (spans : List Span) (r : Deeper) (start : Span) (a : Node) (e : Token) (us : List Token) → is_end e ≡ true →
+    if_behind spans r start a (e ∷ us) ≡ Ok (a, e ∷ us)
+unfolding if_behind
+no_if spans r start a (identifier n) us h = cc
+no_if spans r start a e us h = refl
+
+expression_read : (spans : List Span) (r : Deeper) (ts : List Token) → begins_alone ts ≡ true →
+    expression_by spans r ts ≡ primary_by spans nothing_deeper ts
+unfolding expression_by
+expression_read spans r [] h = cc
+expression_read spans r (t ∷ []) h = cc
+expression_read spans r (t ∷ e ∷ us) h =
+    let parts = both_true (is_end e) (is_plain t) h in
+    let start = next_span spans (t ∷ e ∷ us) in
+    let read = alone_read spans r disjunction (t ∷ e ∷ us) h ∙ plain_primary spans nothing_deeper t (e ∷ us) parts.1 in
+    then_goes (if_behind spans r start) read (no_if spans r start (node_at spans t (e ∷ us)) e us parts.0) ∙
+    sym (plain_primary spans nothing_deeper t (e ∷ us) parts.1)
+
+pub parsed_expression_alone : (spans : List Span) (r : Deeper) (ts new : List Token) (x : Result Expr Refusal) → begins_alone ts ≡ true →
+    Parsed (primary_by spans nothing_deeper ts) new x → Parsed (expression_by spans r ts) new x
+parsed_expression_alone spans r ts new x h parsed = subst (λ (m : Read Node). Parsed m new x) (sym (expression_read spans r ts h)) parsed
+
+-- a sum
+pub parsed_sum_alone : (spans : List Span) (r : Deeper) (ts new : List Token) (x : Result Expr Refusal) → begins_alone ts ≡ true →
+    Parsed (primary_by spans nothing_deeper ts) new x → Parsed (terms_by spans r ts) new x
+unfolding terms_by binary_by operand_by
+parsed_sum_alone spans r ts new x h parsed = parsed_alone spans r terms ts new x h parsed

@@ -6,3 +6,4 @@ pub mod Links
 pub mod Takes
 pub mod Trees
 pub mod Subscripts
+pub mod Stays

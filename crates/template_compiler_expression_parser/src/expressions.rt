@@ -1,10 +1,11 @@
 //! Expressions.
-ghost use Rattle.std.specs.Prelude.{◌≡◌, true, false, Some, Ok, suc};
+ghost use Rattle.std.specs.Prelude.{◌≡◌, true, false, Some, Ok, bytes_eq, codes, suc};
 ghost use Rattle.std.specs.Cow.{cow_str_bytes};
 ghost use Rattle.template_compiler_expression_parts.specs.Parsed.{Parsed, ParsedAs, ParsedOptional, Stepped, SteppedTo, WentOn, paired_in, unnamed_by, written_in};
-ghost use Rattle.template_compiler_stream.specs.Signs.{level_of};
+ghost use Rattle.template_compiler_stream.specs.Signs.{level_of, symbol_of};
+ghost use Rattle.template_compiler_expression_parser.specs.Ahead.{HasNoFilter, HasNoLink, begins_sign, choices_from, comparison_from, is_filter_sign, is_link_sign, is_link_word, is_part_sign, is_sum_sign, sum_from};
 ghost use Rattle.template_compiler_grammar.specs.Reader.{colon_end, paren_end};
-ghost use Rattle.template_compiler_placed_grammar.specs.Reader.{link_behind, argument_by, arguments_by, arguments_step, binary_by, bound_by, comparison_by, deeper, else_behind, expression_by, filter_by, filter_step, filtered_by, is_by, items_step, link_step, list_by, map_by, negation_by, not_in_link, operand_by, operand_step, optional_arguments_by, paren_by, part_step, parts_by, pairs_step, power_by, primary_by, slice_by, step_by, subscript_by, terms_by, test_arguments_by, test_by, through_next, unary_by, up_to};
+ghost use Rattle.template_compiler_placed_grammar.specs.Reader.{link_behind, argument_by, arguments_by, arguments_step, binary_by, bound_by, comparison_by, deeper, else_behind, expression_by, filter_by, filter_step, if_behind, is_by, items_step, link_step, list_by, map_by, negation_by, not_in_link, operand_by, operand_step, optional_arguments_by, paren_by, part_step, parts_by, pairs_step, power_behind, power_by, primary_by, slice_by, step_by, subscript_by, terms_by, test_arguments_by, test_by, through_next, unary_by, up_to};
 ghost use Rattle.template_compiler_placed_grammar.specs.Nodes.{first_node, given_node, no_placed_links, no_placed_pairs, no_placed_written, node};
 ghost use Rattle.template_compiler_placed_grammar.specs.Views.{node_of, nodes_in, optional_node_in, placed_argument_of, placed_arguments_in, placed_links_in};
 ghost use Rattle.template_tree.specs.ExpressionPlaces.{places_of};
@@ -23,9 +24,8 @@ use template_compiler_expression_parts::{
 use template_compiler_stream::{Level, Refusal, Sign, TokenStream};
 use template_tree::{BinOpKind, CallArg, CompareOp, CompareOpKind, Expr, Span, UnaryOpKind};
 
-// An expression, with so many nesting levels left.
+// An expression, with so many nesting levels left. Most are operands that are alone, or ones behind which no word stands.
 #[cycle(parser)]
-#[tactic(auto, unfolding(template_compiler_tokens::specs::Steps::and_then, template_compiler_placed_grammar::specs::Reader::expression_by, template_compiler_placed_grammar::specs::Reader::if_behind, template_compiler_placed_grammar::specs::Reader::deeper))]
 pub(crate) fn expression<'source>(
     alloc: Global,
     tokens: &mut TokenStream<'source>,
@@ -35,13 +35,57 @@ pub(crate) fn expression<'source>(
         Parsed (expression_by table (deeper table left) tokens.old.left) tokens.new.left result }
     ensures spans { tokens.new.spans ≡ tokens.old.spans }
 {
+    if tokens.begins_alone() {
+        return literal(alloc, tokens);
+    }
     let span = tokens.span();
-    let value = binary(alloc, tokens, left, Level::Disjunction)?;
+    let first = negation(alloc, tokens, left);
+    if tokens.word().is_none() {
+        return first;
+    }
+    choice(alloc, tokens, left, first?, span)
+}
+
+// Behind the first operand of an expression: those of `and` and of `or`, and the branches.
+#[cycle(parser)]
+#[tactic(auto, unfolding(template_compiler_tokens::specs::Steps::and_then, template_compiler_placed_grammar::specs::Reader::if_behind, template_compiler_placed_grammar::specs::Reader::deeper))]
+#[inline(never)]
+fn choice<'source>(
+    alloc: Global,
+    tokens: &mut TokenStream<'source>,
+    left: u32,
+    first: Expr<'source>,
+    span: Span,
+) -> Result<Expr<'source>, Refusal>
+    ensures parsed { let table = tokens.old.spans in let r = deeper table left in
+        Parsed (and_then (choices_from table r span (node_of first.entry) tokens.old.left) (if_behind table r span)) tokens.new.left
+        result }
+    ensures spans { tokens.new.spans ≡ tokens.old.spans }
+{
+    let value = choices(alloc, tokens, left, first, span)?;
     if tokens.skip_word("if") {
         branches(alloc, tokens, deeper(left)?, value, span)
     } else {
         Ok(value)
     }
+}
+
+// Behind the first operand: those of `and` and of `or`.
+#[cycle(parser)]
+#[tactic(auto, unfolding(template_compiler_tokens::specs::Steps::and_then))]
+fn choices<'source>(
+    alloc: Global,
+    tokens: &mut TokenStream<'source>,
+    left: u32,
+    first: Expr<'source>,
+    span: Span,
+) -> Result<Expr<'source>, Refusal>
+    ensures parsed { let table = tokens.old.spans in
+        Parsed (choices_from table (deeper table left) span (node_of first.entry) tokens.old.left) tokens.new.left result }
+    ensures spans { tokens.new.spans ≡ tokens.old.spans }
+{
+    let value = operands(alloc, tokens, left, Level::Conjunction, first, span)?;
+    operands(alloc, tokens, left, Level::Disjunction, value, span)
 }
 
 // Behind `if`: the condition, and the other branch where there is one.
@@ -161,6 +205,73 @@ fn operand<'source>(
     }
 }
 
+// A sum. Most are one operand, and go through no level of its operators.
+#[cycle(parser)]
+fn sum<'source>(
+    alloc: Global,
+    tokens: &mut TokenStream<'source>,
+    left: u32,
+) -> Result<Expr<'source>, Refusal>
+    ensures parsed { let table = tokens.old.spans in
+        Parsed (terms_by table (deeper table left) tokens.old.left) tokens.new.left result }
+    ensures spans { tokens.new.spans ≡ tokens.old.spans }
+{
+    if tokens.begins_alone() {
+        return literal(alloc, tokens);
+    }
+    let span = tokens.span();
+    let first = power(alloc, tokens, left);
+    if !begins_sum(tokens) {
+        return first;
+    }
+    sum_behind(alloc, tokens, left, first?, span)
+}
+
+// Behind the first operand of a sum: those of its operators, from the tightest on.
+#[cycle(parser)]
+#[tactic(auto, unfolding(template_compiler_tokens::specs::Steps::and_then))]
+#[inline(never)]
+fn sum_behind<'source>(
+    alloc: Global,
+    tokens: &mut TokenStream<'source>,
+    left: u32,
+    first: Expr<'source>,
+    span: Span,
+) -> Result<Expr<'source>, Refusal>
+    ensures parsed { let table = tokens.old.spans in
+        Parsed (sum_from table (deeper table left) span (node_of first.entry) tokens.old.left) tokens.new.left result }
+    ensures spans { tokens.new.spans ≡ tokens.old.spans }
+{
+    let value = operands(alloc, tokens, left, Level::Factors, first, span)?;
+    let value = operands(alloc, tokens, left, Level::Texts, value, span)?;
+    operands(alloc, tokens, left, Level::Terms, value, span)
+}
+
+// Whether an operator of a sum stands next.
+fn begins_sum(tokens: &TokenStream) -> bool
+    ensures { result ≡ begins_sign is_sum_sign tokens.now.left }
+{
+    match tokens.sign() {
+        Some(sign) => is_sum_sign(sign),
+        None => false,
+    }
+}
+
+fn is_sum_sign(sign: Sign) -> bool
+    ensures { result ≡ is_sum_sign (symbol_of sign) }
+{
+    match sign {
+        Sign::Plus
+        | Sign::Minus
+        | Sign::Mul
+        | Sign::Div
+        | Sign::FloorDiv
+        | Sign::Mod
+        | Sign::Tilde => true,
+        _ => false,
+    }
+}
+
 #[cycle(parser)]
 #[tactic(auto, unfolding(template_compiler_tokens::specs::Steps::and_then, template_compiler_placed_grammar::specs::Reader::negation_by, template_compiler_placed_grammar::specs::Reader::deeper))]
 fn negation<'source>(
@@ -183,9 +294,8 @@ fn negation<'source>(
     }
 }
 
-// A sum, with comparisons behind it.
+// A sum, with comparisons behind it. Most have none.
 #[cycle(parser)]
-#[tactic(auto, unfolding(template_compiler_tokens::specs::Steps::and_then, template_compiler_placed_grammar::specs::Reader::comparison_by, template_compiler_placed_grammar::specs::Reader::terms_by, template_compiler_placed_grammar::specs::Reader::binary_by, template_compiler_placed_grammar::specs::Reader::operand_by))]
 fn comparison<'source>(
     alloc: Global,
     tokens: &mut TokenStream<'source>,
@@ -196,9 +306,59 @@ fn comparison<'source>(
     ensures spans { tokens.new.spans ≡ tokens.old.spans }
 {
     let span = tokens.span();
-    let value = binary(alloc, tokens, left, Level::Terms)?;
+    let first = sum(alloc, tokens, left);
+    if !begins_link(tokens) {
+        return first;
+    }
+    comparison_behind(alloc, tokens, left, first?, span)
+}
+
+// The comparisons behind a sum.
+#[cycle(parser)]
+#[tactic(auto, unfolding(template_compiler_tokens::specs::Steps::and_then))]
+#[inline(never)]
+fn comparison_behind<'source>(
+    alloc: Global,
+    tokens: &mut TokenStream<'source>,
+    left: u32,
+    first: Expr<'source>,
+    span: Span,
+) -> Result<Expr<'source>, Refusal>
+    ensures parsed { let table = tokens.old.spans in
+        Parsed (comparison_from table (deeper table left) span (node_of first.entry) tokens.old.left) tokens.new.left result }
+    ensures spans { tokens.new.spans ≡ tokens.old.spans }
+{
     let links = links(alloc, tokens, left)?;
-    compared(alloc, value, links, tokens.expand_span(span)).map_err(Refusal::from)
+    compared(alloc, first, links, tokens.expand_span(span)).map_err(Refusal::from)
+}
+
+// Whether a comparison stands next, or a `not`.
+#[tactic(auto, using(crate::proofs::Stays::sign_links, crate::proofs::Stays::word_links, crate::proofs::Stays::nothing_links))]
+fn begins_link(tokens: &TokenStream) -> bool
+    ensures { (result ≡ false) → HasNoLink tokens.now.left }
+{
+    match tokens.sign() {
+        Some(sign) => is_link_sign(sign),
+        None => match tokens.word() {
+            Some(word) => is_link_word(word),
+            None => false,
+        },
+    }
+}
+
+fn is_link_word(word: &str) -> bool
+    ensures { result ≡ is_link_word word.now }
+{
+    word == "in" || word == "not"
+}
+
+fn is_link_sign(sign: Sign) -> bool
+    ensures { result ≡ is_link_sign (symbol_of sign) }
+{
+    match sign {
+        Sign::Eq | Sign::Ne | Sign::Gt | Sign::Gte | Sign::Lt | Sign::Lte => true,
+        _ => false,
+    }
 }
 
 #[cycle(parser)]
@@ -262,7 +422,7 @@ fn put_link<'source>(
         (placed_links_in links.old.items) tokens.old.left (placed_links_in links.new.items) tokens.new.left result }
     ensures spans { tokens.new.spans ≡ tokens.old.spans }
 {
-    let right = match binary(alloc, tokens, left, Level::Terms) {
+    let right = match sum(alloc, tokens, left) {
         Ok(right) => right,
         Err(refusal) => return Err(refusal),
     };
@@ -291,8 +451,8 @@ fn next_not_in<'source>(
     }
 }
 
+// An unary, with filters and tests, and a power behind it. Most have none.
 #[cycle(parser)]
-#[tactic(auto, unfolding(template_compiler_tokens::specs::Steps::and_then, template_compiler_placed_grammar::specs::Reader::power_by, template_compiler_placed_grammar::specs::Reader::power_behind, template_compiler_placed_grammar::specs::Reader::deeper))]
 fn power<'source>(
     alloc: Global,
     tokens: &mut TokenStream<'source>,
@@ -303,7 +463,30 @@ fn power<'source>(
     ensures spans { tokens.new.spans ≡ tokens.old.spans }
 {
     let span = tokens.span();
-    let value = filtered(alloc, tokens, left)?;
+    let first = unary(alloc, tokens, left);
+    if !begins_filter(tokens) {
+        return first;
+    }
+    power_behind(alloc, tokens, left, first?, span)
+}
+
+// Filters and tests behind an unary, and a power behind these.
+#[cycle(parser)]
+#[tactic(auto, unfolding(template_compiler_tokens::specs::Steps::and_then, template_compiler_placed_grammar::specs::Reader::power_behind, template_compiler_placed_grammar::specs::Reader::deeper))]
+#[inline(never)]
+fn power_behind<'source>(
+    alloc: Global,
+    tokens: &mut TokenStream<'source>,
+    left: u32,
+    first: Expr<'source>,
+    span: Span,
+) -> Result<Expr<'source>, Refusal>
+    ensures parsed { let table = tokens.old.spans in let r = deeper table left in
+        Parsed (and_then (all (filter_step table r span) (node_of first.entry) tokens.old.left) (power_behind table r span))
+        tokens.new.left result }
+    ensures spans { tokens.new.spans ≡ tokens.old.spans }
+{
+    let value = filters(alloc, tokens, left, first, span)?;
     if tokens.skip(Sign::Pow) {
         let right = power(alloc, tokens, deeper(left)?)?;
         Ok(Expr::binary(
@@ -318,21 +501,33 @@ fn power<'source>(
     }
 }
 
-// An unary, with filters and tests behind it.
-#[cycle(parser)]
-#[tactic(auto, unfolding(template_compiler_tokens::specs::Steps::and_then, template_compiler_placed_grammar::specs::Reader::filtered_by))]
-fn filtered<'source>(
-    alloc: Global,
-    tokens: &mut TokenStream<'source>,
-    left: u32,
-) -> Result<Expr<'source>, Refusal>
-    ensures parsed { let table = tokens.old.spans in
-        Parsed (filtered_by table (deeper table left) tokens.old.left) tokens.new.left result }
-    ensures spans { tokens.new.spans ≡ tokens.old.spans }
+// Whether a filter, a test or a power stands next.
+#[tactic(auto, using(crate::proofs::Stays::sign_filters, crate::proofs::Stays::word_filters, crate::proofs::Stays::nothing_filters))]
+fn begins_filter(tokens: &TokenStream) -> bool
+    ensures { (result ≡ false) → HasNoFilter tokens.now.left }
 {
-    let span = tokens.span();
-    let value = unary(alloc, tokens, left)?;
-    filters(alloc, tokens, left, value, span)
+    match tokens.sign() {
+        Some(sign) => is_filter_sign(sign),
+        None => match tokens.word() {
+            Some(word) => is_test_word(word),
+            None => false,
+        },
+    }
+}
+
+fn is_test_word(word: &str) -> bool
+    ensures { result ≡ bytes_eq (codes "is") word.now }
+{
+    word == "is"
+}
+
+fn is_filter_sign(sign: Sign) -> bool
+    ensures { result ≡ is_filter_sign (symbol_of sign) }
+{
+    match sign {
+        Sign::Pipe | Sign::Pow => true,
+        _ => false,
+    }
 }
 
 #[cycle(parser)]
@@ -557,8 +752,45 @@ fn unary<'source>(
             Refusal::from,
         )
     } else {
-        let value = primary(alloc, tokens, left)?;
-        parts(alloc, tokens, left, value, span)
+        operand_with_parts(alloc, tokens, left, span)
+    }
+}
+
+// A primary with its parts. Many have none.
+#[cycle(parser)]
+fn operand_with_parts<'source>(
+    alloc: Global,
+    tokens: &mut TokenStream<'source>,
+    left: u32,
+    span: Span,
+) -> Result<Expr<'source>, Refusal>
+    ensures parsed { let table = tokens.old.spans in let r = deeper table left in
+        Parsed (and_then (primary_by table r tokens.old.left) (all (part_step table r span))) tokens.new.left result }
+    ensures spans { tokens.new.spans ≡ tokens.old.spans }
+{
+    let first = primary(alloc, tokens, left);
+    if !begins_part(tokens) {
+        return first;
+    }
+    parts(alloc, tokens, left, first?, span)
+}
+
+// Whether what begins a part stands next.
+fn begins_part(tokens: &TokenStream) -> bool
+    ensures { result ≡ begins_sign is_part_sign tokens.now.left }
+{
+    match tokens.sign() {
+        Some(sign) => is_part_sign(sign),
+        None => false,
+    }
+}
+
+fn is_part_sign(sign: Sign) -> bool
+    ensures { result ≡ is_part_sign (symbol_of sign) }
+{
+    match sign {
+        Sign::Dot | Sign::BracketOpen | Sign::ParenOpen => true,
+        _ => false,
     }
 }
 

@@ -1,11 +1,14 @@
 use Rattle.std.proofs.Common.{sym, ◌∙◌, ap, rules}
 use Rattle.template_compiler_stream.specs.Signs.{level_of}
-use Rattle.template_compiler_placed_grammar.specs.Reader.{deeper, expression_by, items_step, pairs_step}
+use Rattle.template_compiler_tokens.specs.Steps.{and_then, all}
+use Rattle.template_compiler_stream.specs.Refusals.{Refused}
+use Rattle.template_compiler_placed_grammar.specs.Reader.{deeper, comparison_by, expression_by, items_step, pairs_step, part_step, power_by, primary_by, terms_by}
 use Rattle.template_compiler_placed_grammar.specs.Views.{node_of, nodes_in, placed_argument_of}
 use Rattle.template_compiler_placed_grammar.proofs.Pushes.{nodes_push}
 use Rattle.template_compiler_expression_parts.specs.Parsed.{RefusedStep, paired_in}
 use Rattle.template_compiler_expression_parts.proofs.Rounds.{next_operand_goes, next_operand_refused, rounds_end, rounds_go, rounds_refused}
-use Rattle.template_compiler_expression_parser.proofs.Alone.{parsed_alone}
+use Rattle.template_compiler_expression_parser.proofs.Alone.{parsed_alone, parsed_expression_alone, parsed_sum_alone}
+use Rattle.template_compiler_expression_parser.proofs.Stays.{comparison_goes, comparison_refused, comparison_stays, expression_goes, expression_refused, expression_stays, no_word, parts_go, parts_refused, parts_stay, power_goes, power_refused, power_stays, sum_goes, sum_refused, sum_stays}
 use Rattle.template_compiler_expression_parser.proofs.Falls.{operands_fall, parts_fall, filters_fall, links_fall, items_fall, pairs_fall, arguments_fall}
 use Rattle.template_compiler_expression_parser.proofs.Items.{argument_goes, item_goes, item_refused, item_unseparated, key_refused, pair_goes, pair_unseparated, value_refused}
 use Rattle.template_compiler_expression_parser.proofs.Subscripts.{item_read}
@@ -233,3 +236,88 @@ subscript-returns-in-Some-clause-parsed t c =
     c.bound.new.tokens.left c.skip.new.self.left c.in_brackets.new.tokens.left c.in_brackets.result found bare.0 bare.1
     (c.skip.ensures.spans ∙ c.in_ok-start.ensures.spans) c.span_through_next-span.ensures c.in_ok-item-in-Some.ensures.tree
     c.in_ok-item-in-Some.ensures.places c.in_brackets.ensures.parsed
+
+pub expression-returns-then-begins_alone-clause-parsed : goal.expression-returns-then-begins_alone-clause-parsed
+expression-returns-then-begins_alone-clause-parsed t c =
+    parsed_expression_alone _ (deeper _ c.args.left) _ _ _ (sym c.begins_alone.ensures ∙ c.if-begins_alone.true) c.literal.ensures.parsed
+
+pub expression-returns-then-is_none-clause-parsed : goal.expression-returns-then-is_none-clause-parsed
+expression-returns-then-is_none-clause-parsed t c =
+    expression_stays _ (deeper _ c.args.left) _ _ _ (no_word _ c.word.result _ c.is_none.result c.word.ensures c.is_none.ensures c.if-is_none.true)
+    c.negation-first.ensures.parsed
+
+pub sum-returns-then-begins_alone-clause-parsed : goal.sum-returns-then-begins_alone-clause-parsed
+sum-returns-then-begins_alone-clause-parsed t c =
+    parsed_sum_alone _ (deeper _ c.args.left) _ _ _ (sym c.begins_alone.ensures ∙ c.if-begins_alone.true) c.literal.ensures.parsed
+
+pub sum-returns-then-not-begins_sum-clause-parsed : goal.sum-returns-then-not-begins_sum-clause-parsed
+sum-returns-then-not-begins_sum-clause-parsed t c =
+    sum_stays _ (deeper _ c.args.left) _ _ _ (sym c.begins_sum.ensures ∙ c.if-not-begins_sum.true) c.power-first.ensures.parsed
+
+pub comparison-returns-then-not-begins_link-clause-parsed : goal.comparison-returns-then-not-begins_link-clause-parsed
+comparison-returns-then-not-begins_link-clause-parsed t c =
+    comparison_stays _ (deeper _ c.args.left) _ _ _ (c.begins_link.ensures c.if-not-begins_link.true) c.sum-first.ensures.parsed
+
+pub power-returns-then-not-begins_filter-clause-parsed : goal.power-returns-then-not-begins_filter-clause-parsed
+power-returns-then-not-begins_filter-clause-parsed t c =
+    power_stays _ (deeper _ c.args.left) _ _ _ (c.begins_filter.ensures c.if-not-begins_filter.true) c.unary-first.ensures.parsed
+
+pub operand_with_parts-returns-then-not-begins_part-clause-parsed : goal.operand_with_parts-returns-then-not-begins_part-clause-parsed
+operand_with_parts-returns-then-not-begins_part-clause-parsed t c =
+    parts_stay _ (deeper _ c.args.left) _ _ _ _ (sym c.begins_part.ensures ∙ c.if-not-begins_part.true) c.primary-first.ensures.parsed
+
+pub expression-returns-in_err-first-clause-parsed : goal.expression-returns-in_err-first-clause-parsed
+expression-returns-in_err-first-clause-parsed t c =
+    let refused : Refused (expression_by c.args.tokens.now.spans (deeper c.args.tokens.now.spans c.args.left) c.args.tokens.now.left)
+    c.in_err-first.field-0.0 = expression_refused _ _ _ _ c.in_err-first.ensures.parsed in
+    search rules
+
+pub expression-returns-clause-parsed : goal.expression-returns-clause-parsed
+expression-returns-clause-parsed t c =
+    let behind = rw c.span-span.ensures at (rw c.negation-first.ensures.spans at c.choice.ensures.parsed) in
+    expression_goes _ (deeper _ c.args.left) _ (node_of c.in_ok-first.field-0) _ _ _ c.in_ok-first.ensures.parsed behind
+
+pub sum-returns-in_err-first-clause-parsed : goal.sum-returns-in_err-first-clause-parsed
+sum-returns-in_err-first-clause-parsed t c =
+    let refused : Refused (terms_by c.args.tokens.now.spans (deeper c.args.tokens.now.spans c.args.left) c.args.tokens.now.left)
+    c.in_err-first.field-0.0 = sum_refused _ _ _ _ c.in_err-first.ensures.parsed in
+    search rules
+
+pub sum-returns-clause-parsed : goal.sum-returns-clause-parsed
+sum-returns-clause-parsed t c =
+    let behind = rw c.span-span.ensures at (rw c.power-first.ensures.spans at c.sum_behind.ensures.parsed) in
+    sum_goes _ (deeper _ c.args.left) _ (node_of c.in_ok-first.field-0) _ _ _ c.in_ok-first.ensures.parsed behind
+
+pub comparison-returns-in_err-first-clause-parsed : goal.comparison-returns-in_err-first-clause-parsed
+comparison-returns-in_err-first-clause-parsed t c =
+    let refused : Refused (comparison_by c.args.tokens.now.spans (deeper c.args.tokens.now.spans c.args.left) c.args.tokens.now.left)
+    c.in_err-first.field-0.0 = comparison_refused _ _ _ _ c.in_err-first.ensures.parsed in
+    search rules
+
+pub comparison-returns-clause-parsed : goal.comparison-returns-clause-parsed
+comparison-returns-clause-parsed t c =
+    let behind = rw c.span-span.ensures at (rw c.sum-first.ensures.spans at c.comparison_behind.ensures.parsed) in
+    comparison_goes _ (deeper _ c.args.left) _ (node_of c.in_ok-first.field-0) _ _ _ c.in_ok-first.ensures.parsed behind
+
+pub power-returns-in_err-first-clause-parsed : goal.power-returns-in_err-first-clause-parsed
+power-returns-in_err-first-clause-parsed t c =
+    let refused : Refused (power_by c.args.tokens.now.spans (deeper c.args.tokens.now.spans c.args.left) c.args.tokens.now.left)
+    c.in_err-first.field-0.0 = power_refused _ _ _ _ c.in_err-first.ensures.parsed in
+    search rules
+
+pub power-returns-clause-parsed : goal.power-returns-clause-parsed
+power-returns-clause-parsed t c =
+    let behind = rw c.span-span.ensures at (rw c.unary-first.ensures.spans at c.power_behind.ensures.parsed) in
+    power_goes _ (deeper _ c.args.left) _ (node_of c.in_ok-first.field-0) _ _ _ c.in_ok-first.ensures.parsed behind
+
+pub operand_with_parts-returns-in_err-first-clause-parsed : goal.operand_with_parts-returns-in_err-first-clause-parsed
+operand_with_parts-returns-in_err-first-clause-parsed t c =
+    let refused : Refused (and_then (primary_by c.args.tokens.now.spans (deeper c.args.tokens.now.spans c.args.left) c.args.tokens.now.left)
+    (all (part_step c.args.tokens.now.spans (deeper c.args.tokens.now.spans c.args.left) c.args.span))) c.in_err-first.field-0.0 =
+    parts_refused _ _ _ c.args.span _ c.in_err-first.ensures.parsed in
+    search rules
+
+pub operand_with_parts-returns-clause-parsed : goal.operand_with_parts-returns-clause-parsed
+operand_with_parts-returns-clause-parsed t c =
+    let behind = rw c.primary-first.ensures.spans at c.parts.ensures.parsed in
+    parts_go _ (deeper _ c.args.left) _ _ (node_of c.in_ok-first.field-0) _ _ _ c.in_ok-first.ensures.parsed behind

@@ -31,32 +31,50 @@ decreases-operand l = 100 * l.left + height (level_of l.level)
 abbrev pub decreases-expression : goal.decreases-expression
 decreases-expression l = 100 * l.left + 60
 
+abbrev pub decreases-choice : goal.decreases-choice
+decreases-choice l = 100 * l.left + 58
+
+abbrev pub decreases-choices : goal.decreases-choices
+decreases-choices l = 100 * l.left + 57
+
+abbrev pub decreases-sum : goal.decreases-sum
+decreases-sum l = 100 * l.left + 36
+
+abbrev pub decreases-sum_behind : goal.decreases-sum_behind
+decreases-sum_behind l = 100 * l.left + 35
+
+abbrev pub decreases-comparison_behind : goal.decreases-comparison_behind
+decreases-comparison_behind l = 100 * l.left + 41
+
+abbrev pub decreases-operand_with_parts : goal.decreases-operand_with_parts
+decreases-operand_with_parts l = 100 * l.left + 14
+
 abbrev pub decreases-branches : goal.decreases-branches
 decreases-branches l = 100 * l.left + 62
 
 abbrev pub decreases-negation : goal.decreases-negation
-decreases-negation l = 100 * l.left + 41
+decreases-negation l = 100 * l.left + 43
 
 abbrev pub decreases-comparison : goal.decreases-comparison
-decreases-comparison l = 100 * l.left + 40
+decreases-comparison l = 100 * l.left + 42
 
 abbrev pub decreases-links : goal.decreases-links
-decreases-links l = 100 * l.left + 39
+decreases-links l = 100 * l.left + 40
 
 abbrev pub decreases-next_link : goal.decreases-next_link
-decreases-next_link l = 100 * l.left + 38
+decreases-next_link l = 100 * l.left + 39
 
 abbrev pub decreases-next_not_in : goal.decreases-next_not_in
-decreases-next_not_in l = 100 * l.left + 37
+decreases-next_not_in l = 100 * l.left + 38
 
 abbrev pub decreases-put_link : goal.decreases-put_link
-decreases-put_link l = 100 * l.left + 36
+decreases-put_link l = 100 * l.left + 37
 
 abbrev pub decreases-power : goal.decreases-power
 decreases-power l = 100 * l.left + 22
 
-abbrev pub decreases-filtered : goal.decreases-filtered
-decreases-filtered l = 100 * l.left + 21
+abbrev pub decreases-power_behind : goal.decreases-power_behind
+decreases-power_behind l = 100 * l.left + 21
 
 abbrev pub decreases-filters : goal.decreases-filters
 decreases-filters l = 100 * l.left + 20
@@ -80,7 +98,7 @@ abbrev pub decreases-plain_test : goal.decreases-plain_test
 decreases-plain_test l = 100 * l.left + 16
 
 abbrev pub decreases-unary : goal.decreases-unary
-decreases-unary l = 100 * l.left + 14
+decreases-unary l = 100 * l.left + 15
 
 abbrev pub decreases-parts : goal.decreases-parts
 decreases-parts l = 100 * l.left + 13
