@@ -1,10 +1,9 @@
 //! The ends of loops.
-ghost use Rattle.std.specs.Prelude.{◌≡◌, Err, if◌then◌else◌};
+ghost use Rattle.std.specs.Prelude.{◌≡◌};
+ghost use Rattle.template_compiler_placed_grammar.specs.Views.{statement_node_of};
+ghost use Rattle.template_compiler_statement_leaves.specs.Loops.{loop_end_by};
 ghost use Rattle.template_compiler_statement_parts.specs.Parsed.{ParsedAs};
-ghost use Rattle.template_compiler_grammar.specs.TemplateReader.{tag_end};
-ghost use Rattle.template_compiler_tokens.specs.Token.{bad_syntax};
 ghost use Rattle.template_tree.specs.Tree.{break_loop, continue_loop};
-ghost use Rattle.template_tree_statements.specs.View.{statement_of};
 ghost use Rattle.template_tree_statements.specs.declared.statements.Stmt.TheVariants as statements;
 
 use template_compiler_statement_parts::expect_tag_end;
@@ -17,14 +16,16 @@ use template_tree_statements::{Break, Continue};
 /// # Errors
 ///
 /// The fault of the token that does not fit.
-#[tactic(auto, using(template_compiler_statement_parts::proofs::Again::tag_end_again))]
+#[tactic(auto, using(template_compiler_statement_parts::proofs::Again::tag_end_again), unfolding(template_compiler_tokens::specs::Steps::and_then))]
 pub fn read_break<'source>(
     tokens: &mut TokenStream<'source>,
     in_loop: bool,
     span: Span,
 ) -> Result<Spanned<Break>, Refusal>
-    ensures { ParsedAs (λ n. statement_of (statements.Break n))
-        (if in_loop then tag_end break_loop tokens.old.left else Err bad_syntax) tokens.new.left result }
+    ensures parsed { let table = tokens.old.spans in
+        ParsedAs (λ n. statement_node_of (statements.Break n)) (loop_end_by table in_loop break_loop span tokens.old.left)
+        tokens.new.left result }
+    ensures spans { tokens.new.spans ≡ tokens.old.spans }
 {
     if !in_loop {
         return Err(Refusal::Token(Fault::Syntax));
@@ -38,14 +39,16 @@ pub fn read_break<'source>(
 /// # Errors
 ///
 /// The fault of the token that does not fit.
-#[tactic(auto, using(template_compiler_statement_parts::proofs::Again::tag_end_again))]
+#[tactic(auto, using(template_compiler_statement_parts::proofs::Again::tag_end_again), unfolding(template_compiler_tokens::specs::Steps::and_then))]
 pub fn read_continue<'source>(
     tokens: &mut TokenStream<'source>,
     in_loop: bool,
     span: Span,
 ) -> Result<Spanned<Continue>, Refusal>
-    ensures { ParsedAs (λ n. statement_of (statements.Continue n))
-        (if in_loop then tag_end continue_loop tokens.old.left else Err bad_syntax) tokens.new.left result }
+    ensures parsed { let table = tokens.old.spans in
+        ParsedAs (λ n. statement_node_of (statements.Continue n)) (loop_end_by table in_loop continue_loop span tokens.old.left)
+        tokens.new.left result }
+    ensures spans { tokens.new.spans ≡ tokens.old.spans }
 {
     if !in_loop {
         return Err(Refusal::Token(Fault::Syntax));

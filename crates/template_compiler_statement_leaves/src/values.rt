@@ -1,11 +1,8 @@
 //! Statements about values.
 ghost use Rattle.std.specs.Prelude.{◌≡◌};
-ghost use Rattle.template_compiler_grammar.specs.Reader.{expression_at};
-ghost use Rattle.template_compiler_tokens.specs.Steps.{and_then};
 ghost use Rattle.template_compiler_statement_parts.specs.Parsed.{ParsedAs};
-ghost use Rattle.template_compiler_grammar.specs.TemplateReader.{do_by, here, print_end};
-ghost use Rattle.template_tree.specs.Tree.{print};
-ghost use Rattle.template_tree_statements.specs.View.{statement_of};
+ghost use Rattle.template_compiler_placed_grammar.specs.TemplateReader.{do_by, here, print_by};
+ghost use Rattle.template_compiler_placed_grammar.specs.Views.{statement_node_of};
 ghost use Rattle.template_tree_statements.specs.declared.statements.Stmt.TheVariants as statements;
 
 use std::alloc::Global;
@@ -20,15 +17,17 @@ use template_tree_statements::{Do, EmitExpr};
 /// # Errors
 ///
 /// The fault of the token that does not fit, or want of memory.
-#[tactic(auto, using(template_compiler_statement_parts::proofs::Again::print_end_again), unfolding(template_compiler_tokens::specs::Steps::and_then))]
+#[tactic(auto, using(template_compiler_statement_parts::proofs::Again::print_end_again), unfolding(template_compiler_tokens::specs::Steps::and_then, template_compiler_placed_grammar::specs::TemplateReader::here, template_compiler_placed_grammar::specs::TemplateReader::here_by, template_compiler_placed_grammar::specs::TemplateReader::print_by))]
 pub fn read_print<'source, R: ReadsExpressions>(
     alloc: Global,
     tokens: &mut TokenStream<'source>,
     left: u32,
     span: Span,
 ) -> Result<Spanned<EmitExpr<'source>>, Refusal>
-    ensures { ParsedAs (λ n. statement_of (statements.EmitExpr n))
-        (and_then (expression_at left tokens.old.left) (λ e us. print_end (print e) us)) tokens.new.left result }
+    ensures parsed { let table = tokens.old.spans in
+        ParsedAs (λ n. statement_node_of (statements.EmitExpr n)) (print_by table (here table left) span tokens.old.left)
+        tokens.new.left result }
+    ensures spans { tokens.new.spans ≡ tokens.old.spans }
 {
     let expr = R::read_expression(alloc, tokens, left)?;
     expect_print_end(tokens)?;
@@ -40,14 +39,16 @@ pub fn read_print<'source, R: ReadsExpressions>(
 /// # Errors
 ///
 /// The fault of the token that does not fit, or want of memory.
-#[tactic(auto, using(template_compiler_statement_values::proofs::Calls::call_here, template_compiler_statement_values::proofs::Calls::no_call, template_compiler_statement_parts::proofs::Again::tag_end_again), unfolding(template_compiler_tokens::specs::Steps::and_then, template_compiler_grammar::specs::TemplateReader::here, template_compiler_grammar::specs::TemplateReader::here_by, template_compiler_grammar::specs::TemplateReader::do_by))]
+#[tactic(auto, using(template_compiler_statement_values::proofs::Calls::call_here, template_compiler_statement_values::proofs::Calls::no_call, template_compiler_statement_parts::proofs::Again::tag_end_again), unfolding(template_compiler_tokens::specs::Steps::and_then, template_compiler_placed_grammar::specs::TemplateReader::here, template_compiler_placed_grammar::specs::TemplateReader::here_by, template_compiler_placed_grammar::specs::TemplateReader::do_by))]
 pub fn read_do<'source, R: ReadsExpressions>(
     alloc: Global,
     tokens: &mut TokenStream<'source>,
     left: u32,
     span: Span,
 ) -> Result<Spanned<Do<'source>>, Refusal>
-    ensures { ParsedAs (λ n. statement_of (statements.Do n)) (do_by (here left) tokens.old.left) tokens.new.left result }
+    ensures parsed { let table = tokens.old.spans in
+        ParsedAs (λ n. statement_node_of (statements.Do n)) (do_by table (here table left) span tokens.old.left) tokens.new.left result }
+    ensures spans { tokens.new.spans ≡ tokens.old.spans }
 {
     let expr = R::read_expression(alloc, tokens, left)?;
     match expr.into_call() {
