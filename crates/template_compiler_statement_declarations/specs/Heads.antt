@@ -66,9 +66,12 @@ call_head spans r ts =
     only_call (λ c args. tag_end (q, e.places, c, args)) (call_parts e.tree) vs))
 
 abbrev pub call_of : CallHead → PlacedParameters × Places × Expression × Arguments
-call_of head =
-    (placed_parameters_of head.parameters, call_places head.call, expression_of head.call.value.node.expr,
-    arguments_in head.call.value.node.args.items)
+call_of head = (
+  placed_parameters_of head.parameters,
+  call_places head.call,
+  expression_of head.call.value.node.expr,
+  arguments_in head.call.value.node.args.items,
+)
 
 -- a `set` with its values, or a set block: its target and its filters
 pub data SetRead : Type 0 where

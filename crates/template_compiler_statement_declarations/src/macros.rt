@@ -47,7 +47,8 @@ pub fn read_macro<'source, R: ReadsExpressions>(
     tokens: &mut TokenStream<'source>,
     left: u32,
 ) -> Result<MacroHead<'source>, Refusal>
-    ensures parsed { let table = tokens.old.spans in ParsedAs macro_of (macro_head (here table left) tokens.old.left) tokens.new.left result }
+    ensures parsed { let table = tokens.old.spans in
+        ParsedAs macro_of (macro_head (here table left) tokens.old.left) tokens.new.left result }
     ensures spans { tokens.new.spans ≡ tokens.old.spans }
 {
     match tokens.word() {

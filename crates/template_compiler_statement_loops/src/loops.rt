@@ -30,7 +30,8 @@ pub fn read_for<'source, R: ReadsExpressions>(
     left: u32,
     span: Span,
 ) -> Result<Box<Spanned<ForLoop<'source>>>, Refusal>
-    ensures parsed { let table = tokens.old.spans in ParsedAs loop_head (for_head table (here table left) tokens.old.left) tokens.new.left result }
+    ensures parsed { let table = tokens.old.spans in
+        ParsedAs loop_head (for_head table (here table left) tokens.old.left) tokens.new.left result }
     ensures spans { tokens.new.spans ≡ tokens.old.spans }
     ensures empty { IfOk result (λ n. n.value.node.body.items ≡ []) }
     ensures no_other { IfOk result (λ n. n.value.node.else_body.items ≡ []) }
