@@ -1,20 +1,17 @@
 -- A source's tree has its places, and one way to stand.
 use Rattle.std.proofs.Common.{◌≡◌, ℕ, List, [], Result, Ok, Err, sym, ap, subst, ◌∙◌}
 use Rattle.template_tree.specs.NodePlaces.{Places}
-use Rattle.template_tree.specs.Tree.{Expression, Statement, Statements, template}
+use Rattle.template_tree.specs.Tree.{Expression, Statement, template}
 use Rattle.template_compiler_tokens.specs.Token.{Token, TokenFault}
 use Rattle.template_compiler_tokens.proofs.Readings.{ok_tree}
 use Rattle.template_compiler_segments.proofs.Theorems.{one_tokens}
 use Rattle.template_compiler_syntax.specs.Syntax.{Syntax, IsUsable}
-use Rattle.template_compiler_tokenizer.specs.Spans.{Spanned, HasSpans, words_in}
+use Rattle.template_compiler_tokenizer.specs.Spans.{words_in}
 use Rattle.template_compiler_tokenizer.proofs.AllTokens.{one_spans, some_spans, words_are}
 use Rattle.template_compiler_source_tokens.specs.Spans.{token_spans}
 use Rattle.template_compiler_source_tokens.specs.Spelled.{IsSpelled, spelled_spans}
 use Rattle.template_compiler_source_tokens.proofs.Spelling.{one_spelled, one_spelling}
-use Rattle.template_compiler_grammar.specs.Grammar.{IsExpression}
 use Rattle.template_compiler_grammar.specs.TemplateGrammar.{IsTemplate}
-use Rattle.template_compiler_placed_grammar.specs.DerivedExpressions.{expression_places}
-use Rattle.template_compiler_placed_grammar.specs.DerivedStatements.{template_places}
 use Rattle.template_compiler_placed_grammar.specs.Nodes.{placed, Node}
 use Rattle.template_compiler_placed_grammar.specs.Reader.{expression_at}
 use Rattle.template_compiler_placed_grammar.specs.TemplateNodes.{PlacedStatement, PlacedTemplate}

@@ -28,12 +28,9 @@ use Rattle.template_compiler_syntax.specs.Syntax.{Syntax, IsUsable}
 use Rattle.template_compiler_segments.specs.Flat.{IsTokens}
 use Rattle.template_compiler_segments.proofs.Theorems.{one_tokens}
 use Rattle.template_compiler_grammar.specs.TemplateGrammar.{Around, nothing_around}
-use Rattle.template_compiler_grammar.specs.TemplateReader as plain
 use Rattle.template_compiler_grammar.specs.TemplateReader.{template_of}
 use Rattle.template_compiler_placed_grammar.specs.Nodes.{placed, Node}
 use Rattle.template_compiler_placed_grammar.specs.Reader as reader
-use Rattle.template_compiler_placed_grammar.specs.DerivedExpressions.{expression_places}
-use Rattle.template_compiler_placed_grammar.specs.DerivedStatements.{template_places}
 use Rattle.template_compiler_placed_grammar.specs.TemplateNodes.{PlacedStatement, PlacedStatements, PlacedTemplate, bare_template}
 use Rattle.template_compiler_placed_grammar.specs.TemplateReader as placed_reader
 use Rattle.template_compiler_placed_grammar.specs.Views.{statement_node_of}
@@ -41,7 +38,7 @@ use Rattle.template_compiler_placed_grammar.proofs.Laws.{expression_sound_placed
 use Rattle.template_compiler_placed_grammar.proofs.TemplateLaws.{template_sound_placed}
 use Rattle.template_compiler_placed_grammar.proofs.TemplatesErased.{template_erased}
 use Rattle.template_compiler_stream.specs.Spans.{PlacedTokens}
-use Rattle.template_compiler_tokenizer.specs.Spans.{Spanned, HasSpans, words_in}
+use Rattle.template_compiler_tokenizer.specs.Spans.{Spanned as PlacedToken, HasSpans, words_in}
 use Rattle.template_compiler_grammar.specs.TemplateTrees.{are_distinct, blocks_among}
 use Rattle.template_compiler_stream.specs.Tags.{is_done}
 use Rattle.template_compiler_grammar_laws.proofs.TemplatesComplete.{template_complete}
@@ -126,14 +123,14 @@ found_whole x source spans tokens left node h e (body, is, read) =
     subst (λ t. IsSource x source t) (sym (ap (λ (s : PlacedStatement). s.tree) is))
     (found_source x source tokens body.tree (subst (λ ts. IsTokens x source ts) (sym e) h) (read_bare spans tokens body read))
 
-placed_whole : (x : Syntax) (source : List ℕ) (tokens : List Spanned) (t : PlacedTemplate) → HasSpans x source tokens →
+placed_whole : (x : Syntax) (source : List ℕ) (tokens : List PlacedToken) (t : PlacedTemplate) → HasSpans x source tokens →
     placed_reader.template_of (token_spans tokens) (words_in tokens) ≡ Ok t → IsPlacedSource x source (placed (template t.tree) t.places)
 placed_whole x source tokens t h read =
     let sound = template_sound_placed (token_spans tokens) (words_in tokens) t read in
     subst (λ p. IsPlacedSource x source (placed (template t.tree) p)) (sym sound.1) (placed_source h sound.0)
 
 -- a stream of all tokens
-pub found_places : (x : Syntax) (source : List ℕ) (tokens : List Spanned) (stream : PlacedTokens) (node : Spanned TemplateNode) →
+pub found_places : (x : Syntax) (source : List ℕ) (tokens : List PlacedToken) (stream : PlacedTokens) (node : Spanned TemplateNode) →
     HasSpans x source tokens → HoldsTokens tokens stream → ParsedTemplate (placed_reader.template_of stream.spans stream.left) (Ok node) →
     IsPlacedSource x source (statement_node_of (Whole node))
 found_places x source tokens stream node h held (body, is, read) =
@@ -146,8 +143,11 @@ pub refused_whole : (x : Syntax) (source : List ℕ) (spans : List Span) (tokens
     kinds ≡ refused_kind e ∷ [] → RefusesSource x source kinds
 refused_whole x source spans tokens left (refusals.Token f) kinds u h e read is =
     subst (λ k. RefusesSource x source k) (sym is)
-    (inr (inr (fault_of f, refl,
-    faulty_source x source tokens (fault_of f) u (subst (λ ts. IsTokens x source ts) (sym e) h) (fails_bare spans tokens (fault_of f) read))))
+    (inr (inr (
+      fault_of f,
+      refl,
+      faulty_source x source tokens (fault_of f) u (subst (λ ts. IsTokens x source ts) (sym e) h) (fails_bare spans tokens (fault_of f) read),
+    )))
 refused_whole x source spans tokens left refusals.OutOfMemory kinds u h e read is = inl is
 
 pub found_alone : (source : List ℕ) (stream : PlacedTokens) (e : Node) → HoldsSpelled source stream →

@@ -27,20 +27,17 @@ body-returns-else-left-eq0-clause-parsed g t c =
     (sym (body_less c.args.tokens.now.spans c.args.left (c.args.left - 1) (around_of c.args.around) c.args.tokens.now.left (omega arith)))
     c.read_statements.ensures.parsed
 
-
 pub branches-returns-in-Ok-false-clause-parsed : goal.branches-returns-in-Ok-false-clause-parsed
 branches-returns-in-Ok-false-clause-parsed g t c =
     let spans = c.args.tokens.now.spans in
     let ended = rw c.loop-branches.invariant.0 at (rw c.in-Ok-false.field-0-test at c.in-Ok-false.ensures.parsed) in
     rounds_end (branch_step spans (here spans c.args.left) (around_of c.args.around)) _ _ _ _ _ _ c.loop-branches.invariant.1 ended
 
-
 pub branches-returns-in-Err-clause-parsed : goal.branches-returns-in-Err-clause-parsed
 branches-returns-in-Err-clause-parsed g t c =
     let spans = c.args.tokens.now.spans in
     let now = rw c.loop-branches.invariant.0 at c.in-Err.ensures.parsed in
     rounds_refused (branch_step spans (here spans c.args.left) (around_of c.args.around)) _ _ _ _ c.in-Err.refusal c.loop-branches.invariant.1 now
-
 
 pub branches-loop-branches-preserved : goal.branches-loop-branches-preserved
 branches-loop-branches-preserved g t c =
@@ -51,12 +48,10 @@ branches-loop-branches-preserved g t c =
           _ _ _ _ _ _ c.loop-branches.invariant.1 more,
     )
 
-
 pub branches-loop-branches-smaller : goal.branches-loop-branches-smaller
 branches-loop-branches-smaller g t c =
     let more = rw c.in-Ok-true.field-0-test at c.in-Ok-true.ensures.parsed in
     branches_fall _ c.args.left (around_of c.args.around) _ _ _ _ more
-
 
 pub read_statements-returns-in-Ok-false-clause-parsed : goal.read_statements-returns-in-Ok-false-clause-parsed
 unfolding statements_at statements_by
@@ -65,14 +60,12 @@ read_statements-returns-in-Ok-false-clause-parsed g t c =
     let ended = rw c.loop-statements.invariant.0 at (rw c.in-Ok-false.field-0-test at c.in-Ok-false.ensures.parsed) in
     rounds_end (statement_step spans (here spans c.args.left) (around_of c.args.around)) _ _ _ _ _ _ c.loop-statements.invariant.1 ended
 
-
 pub read_statements-returns-in-Err-clause-parsed : goal.read_statements-returns-in-Err-clause-parsed
 unfolding statements_at statements_by
 read_statements-returns-in-Err-clause-parsed g t c =
     let spans = c.args.tokens.now.spans in
     let now = rw c.loop-statements.invariant.0 at c.in-Err.ensures.parsed in
     rounds_refused (statement_step spans (here spans c.args.left) (around_of c.args.around)) _ _ _ _ c.in-Err.refusal c.loop-statements.invariant.1 now
-
 
 pub read_statements-loop-statements-preserved : goal.read_statements-loop-statements-preserved
 read_statements-loop-statements-preserved g t c =
@@ -83,12 +76,10 @@ read_statements-loop-statements-preserved g t c =
           _ _ _ _ _ _ c.loop-statements.invariant.1 more,
     )
 
-
 pub read_statements-loop-statements-smaller : goal.read_statements-loop-statements-smaller
 read_statements-loop-statements-smaller g t c =
     let more = rw c.in-Ok-true.field-0-test at c.in-Ok-true.ensures.parsed in
     statements_fall _ c.args.left (around_of c.args.around) _ _ _ _ more
-
 
 pub next_statement-returns-in-Some-tag_word-clause-parsed : goal.next_statement-returns-in-Some-tag_word-clause-parsed
 next_statement-returns-in-Some-tag_word-clause-parsed g t c =
@@ -97,7 +88,6 @@ next_statement-returns-in-Some-tag_word-clause-parsed g t c =
     subst (λ m. SteppedTo m ss c.args.tokens.now.left (statement_nodes_in c.next_tag.new.statements.items) c.next_tag.new.tokens.left c.next_tag.result)
     (sym (tag_here spans (here spans c.args.left) (around_of c.args.around) ss c.in-Some-tag_word.word.now c.args.tokens.now.left c.in-Some-tag_word.ensures))
     c.next_tag.ensures.parsed
-
 
 pub with_block-returns-clause-parsed : goal.with_block-returns-clause-parsed
 unfolding here here_by
@@ -109,7 +99,6 @@ with_block-returns-clause-parsed g t c =
     body_made spans r p (codes "endwith") c.args.span with_node (with_whole spans r p c.args.span c.args.tokens.now.left) _ _ c.in_ok-head.ensures.parsed _ _ _ _ _
     body (c.in_ok-body.ensures.spans ∙ c.in_ok-head.ensures.spans) c.expand_span.ensures c.in_ok-with_block.ensures
 
-
 pub with_block-returns-in_err-head-clause-parsed : goal.with_block-returns-in_err-head-clause-parsed
 with_block-returns-in_err-head-clause-parsed g t c =
     let spans = c.args.tokens.now.spans in
@@ -117,7 +106,6 @@ with_block-returns-in_err-head-clause-parsed g t c =
     let p = around_of c.args.around in
     let refused : Refused (with_by spans r p c.args.span c.args.tokens.now.left) c.in_err-head.field-0.0 = head_fails _ _ (with_whole spans r p c.args.span c.args.tokens.now.left) _ c.in_err-head.ensures.parsed in
     search rules
-
 
 pub with_block-returns-in_err-body-clause-parsed : goal.with_block-returns-in_err-body-clause-parsed
 unfolding here here_by
@@ -130,7 +118,6 @@ with_block-returns-in_err-body-clause-parsed g t c =
     body_fails spans r p (codes "endwith") c.args.span with_node (with_whole spans r p c.args.span c.args.tokens.now.left) _ _ c.in_ok-head.ensures.parsed _ body in
     search rules
 
-
 pub auto_escape-returns-clause-parsed : goal.auto_escape-returns-clause-parsed
 unfolding here here_by
 auto_escape-returns-clause-parsed g t c =
@@ -141,7 +128,6 @@ auto_escape-returns-clause-parsed g t c =
     body_made spans r p (codes "endautoescape") c.args.span auto_escape_node (autoescape_whole spans r p c.args.span c.args.tokens.now.left) _ _ c.in_ok-head.ensures.parsed _ _ _ _ _
     body (c.in_ok-body.ensures.spans ∙ c.in_ok-head.ensures.spans) c.expand_span.ensures c.auto_escape.ensures
 
-
 pub auto_escape-returns-in_err-head-clause-parsed : goal.auto_escape-returns-in_err-head-clause-parsed
 auto_escape-returns-in_err-head-clause-parsed g t c =
     let spans = c.args.tokens.now.spans in
@@ -149,7 +135,6 @@ auto_escape-returns-in_err-head-clause-parsed g t c =
     let p = around_of c.args.around in
     let refused : Refused (autoescape_by spans r p c.args.span c.args.tokens.now.left) c.in_err-head.field-0.0 = head_fails _ _ (autoescape_whole spans r p c.args.span c.args.tokens.now.left) _ c.in_err-head.ensures.parsed in
     search rules
-
 
 pub auto_escape-returns-in_err-body-clause-parsed : goal.auto_escape-returns-in_err-body-clause-parsed
 unfolding here here_by
@@ -162,7 +147,6 @@ auto_escape-returns-in_err-body-clause-parsed g t c =
     body_fails spans r p (codes "endautoescape") c.args.span auto_escape_node (autoescape_whole spans r p c.args.span c.args.tokens.now.left) _ _ c.in_ok-head.ensures.parsed _ body in
     search rules
 
-
 pub filter_block-returns-clause-parsed : goal.filter_block-returns-clause-parsed
 unfolding here here_by
 filter_block-returns-clause-parsed g t c =
@@ -173,7 +157,6 @@ filter_block-returns-clause-parsed g t c =
     body_made spans r p (codes "endfilter") c.args.span filter_block_node (filter_whole spans r p c.args.span c.args.tokens.now.left) _ _ c.in_ok-head.ensures.parsed _ _ _ _ _
     body (c.in_ok-body.ensures.spans ∙ c.in_ok-head.ensures.spans) c.expand_span.ensures c.filter_block.ensures
 
-
 pub filter_block-returns-in_err-head-clause-parsed : goal.filter_block-returns-in_err-head-clause-parsed
 filter_block-returns-in_err-head-clause-parsed g t c =
     let spans = c.args.tokens.now.spans in
@@ -181,7 +164,6 @@ filter_block-returns-in_err-head-clause-parsed g t c =
     let p = around_of c.args.around in
     let refused : Refused (filter_block_by spans r p c.args.span c.args.tokens.now.left) c.in_err-head.field-0.0 = head_fails _ _ (filter_whole spans r p c.args.span c.args.tokens.now.left) _ c.in_err-head.ensures.parsed in
     search rules
-
 
 pub filter_block-returns-in_err-body-clause-parsed : goal.filter_block-returns-in_err-body-clause-parsed
 unfolding here here_by
@@ -194,7 +176,6 @@ filter_block-returns-in_err-body-clause-parsed g t c =
     body_fails spans r p (codes "endfilter") c.args.span filter_block_node (filter_whole spans r p c.args.span c.args.tokens.now.left) _ _ c.in_ok-head.ensures.parsed _ body in
     search rules
 
-
 pub macro_block-returns-clause-parsed : goal.macro_block-returns-clause-parsed
 unfolding here here_by
 macro_block-returns-clause-parsed g t c =
@@ -204,14 +185,12 @@ macro_block-returns-clause-parsed g t c =
     body_made spans r macro_around (codes "endmacro") c.args.span (λ h. macro_node h.1 h.0) (macro_whole spans r c.args.span c.args.tokens.now.left) _ _ c.in_ok-head.ensures.parsed _ _ _ _ _
     body (c.in_ok-body.ensures.spans ∙ c.in_ok-head.ensures.spans) c.expand_span.ensures c.in_ok-macro_block.ensures
 
-
 pub macro_block-returns-in_err-head-clause-parsed : goal.macro_block-returns-in_err-head-clause-parsed
 macro_block-returns-in_err-head-clause-parsed g t c =
     let spans = c.args.tokens.now.spans in
     let r = here spans c.args.left in
     let refused : Refused (macro_by spans r c.args.span c.args.tokens.now.left) c.in_err-head.field-0.0 = head_fails _ _ (macro_whole spans r c.args.span c.args.tokens.now.left) _ c.in_err-head.ensures.parsed in
     search rules
-
 
 pub macro_block-returns-in_err-body-clause-parsed : goal.macro_block-returns-in_err-body-clause-parsed
 unfolding here here_by
@@ -223,7 +202,6 @@ macro_block-returns-in_err-body-clause-parsed g t c =
     body_fails spans r macro_around (codes "endmacro") c.args.span (λ h. macro_node h.1 h.0) (macro_whole spans r c.args.span c.args.tokens.now.left) _ _ c.in_ok-head.ensures.parsed _ body in
     search rules
 
-
 pub call_block-returns-clause-parsed : goal.call_block-returns-clause-parsed
 unfolding here here_by
 call_block-returns-clause-parsed g t c =
@@ -233,14 +211,12 @@ call_block-returns-clause-parsed g t c =
     body_made spans r macro_around (codes "endcall") c.args.span (λ h. call_block_node h.2 h.3 h.1 h.0) (call_whole spans r c.args.span c.args.tokens.now.left) _ _ c.in_ok-head.ensures.parsed _ _ _ _ _
     body (c.in_ok-body.ensures.spans ∙ c.in_ok-head.ensures.spans) c.expand_span.ensures c.in_ok-call_block.ensures
 
-
 pub call_block-returns-in_err-head-clause-parsed : goal.call_block-returns-in_err-head-clause-parsed
 call_block-returns-in_err-head-clause-parsed g t c =
     let spans = c.args.tokens.now.spans in
     let r = here spans c.args.left in
     let refused : Refused (call_by spans r c.args.span c.args.tokens.now.left) c.in_err-head.field-0.0 = head_fails _ _ (call_whole spans r c.args.span c.args.tokens.now.left) _ c.in_err-head.ensures.parsed in
     search rules
-
 
 pub call_block-returns-in_err-body-clause-parsed : goal.call_block-returns-in_err-body-clause-parsed
 unfolding here here_by
@@ -252,7 +228,6 @@ call_block-returns-in_err-body-clause-parsed g t c =
     body_fails spans r macro_around (codes "endcall") c.args.span (λ h. call_block_node h.2 h.3 h.1 h.0) (call_whole spans r c.args.span c.args.tokens.now.left) _ _ c.in_ok-head.ensures.parsed _ body in
     search rules
 
-
 pub set-returns-in_err-node-clause-parsed : goal.set-returns-in_err-node-clause-parsed
 set-returns-in_err-node-clause-parsed g t c =
     let spans = c.args.tokens.now.spans in
@@ -262,7 +237,6 @@ set-returns-in_err-node-clause-parsed g t c =
     head_fails _ (set_rest spans r p c.args.span) (set_whole_by spans r p c.args.span c.args.tokens.now.left) _ c.in_err-node.ensures.parsed in
     search rules
 
-
 pub set-returns-in-Values-clause-parsed : goal.set-returns-in-Values-clause-parsed
 set-returns-in-Values-clause-parsed g t c =
     let spans = c.args.tokens.now.spans in
@@ -270,7 +244,6 @@ set-returns-in-Values-clause-parsed g t c =
     let p = around_of c.args.around in
     behind (set_rest spans r p c.args.span) (set_whole_by spans r p c.args.span c.args.tokens.now.left) _ _
     (rw c.in-Values.is at c.in_ok-node.ensures.parsed) refl
-
 
 pub set-returns-in-Block-clause-parsed : goal.set-returns-in-Block-clause-parsed
 set-returns-in-Block-clause-parsed g t c =
@@ -282,7 +255,6 @@ set-returns-in-Block-clause-parsed g t c =
     subst (λ m. ParsedStatement m c.set_block.new.tokens.left c.map.result)
     (sym (behind (set_rest spans r p c.args.span) (set_whole_by spans r p c.args.span c.args.tokens.now.left) _ _ head refl)) (search rules)
 
-
 pub set_block-returns-clause-parsed : goal.set_block-returns-clause-parsed
 unfolding here here_by
 set_block-returns-clause-parsed g t c =
@@ -291,7 +263,6 @@ set_block-returns-clause-parsed g t c =
     let p = around_of c.args.around in
     set_body_made spans r p c.args.span (set_block_of c.args.head) _ _ _ _ _ _ c.in_ok-body.ensures.parsed c.in_ok-body.ensures.spans
     c.expand_span.ensures c.set_block.ensures
-
 
 pub set_block-returns-in_err-body-clause-parsed : goal.set_block-returns-in_err-body-clause-parsed
 unfolding here here_by
@@ -302,7 +273,6 @@ set_block-returns-in_err-body-clause-parsed g t c =
     let refused : Refused (set_rest spans r p c.args.span (set_over (set_block_of c.args.head)) c.args.tokens.now.left) c.in_err-body.field-0.0 =
     set_body_fails spans r p c.args.span (set_block_of c.args.head) _ _ c.in_err-body.ensures.parsed in
     search rules
-
 
 pub block-returns-clause-parsed : goal.block-returns-clause-parsed
 unfolding here here_by
@@ -316,7 +286,6 @@ block-returns-clause-parsed g t c =
     (sym (behind (block_rest spans r p c.args.span) (block_whole spans r p c.args.span c.args.tokens.now.left) _ _ c.in_ok-head.ensures.parsed
     (then_goes _ body refl))) end
 
-
 pub block-returns-in_err-head-clause-parsed : goal.block-returns-in_err-head-clause-parsed
 block-returns-in_err-head-clause-parsed g t c =
     let spans = c.args.tokens.now.spans in
@@ -325,7 +294,6 @@ block-returns-in_err-head-clause-parsed g t c =
     let refused : Refused (block_by spans r p c.args.span c.args.tokens.now.left) c.in_err-head.field-0.0 =
     head_fails _ (block_rest spans r p c.args.span) (block_whole spans r p c.args.span c.args.tokens.now.left) _ c.in_err-head.ensures.parsed in
     search rules
-
 
 pub block-returns-in_err-body-clause-parsed : goal.block-returns-in_err-body-clause-parsed
 unfolding here here_by
@@ -339,7 +307,6 @@ block-returns-in_err-body-clause-parsed g t c =
     (head_fails _ _ refl _ body) in
     search rules
 
-
 pub for_loop-returns-clause-parsed : goal.for_loop-returns-clause-parsed
 unfolding here here_by
 for_loop-returns-clause-parsed g t c =
@@ -352,7 +319,6 @@ for_loop-returns-clause-parsed g t c =
     for_made spans r p c.args.span _ _ _ _ _ _ _ _ _ _ c.in_ok-head.ensures.parsed body other (c.in_ok-else_body.ensures.spans ∙ same)
     c.expand_span.ensures c.for_loop.ensures
 
-
 pub for_loop-returns-in_err-head-clause-parsed : goal.for_loop-returns-in_err-head-clause-parsed
 for_loop-returns-in_err-head-clause-parsed g t c =
     let spans = c.args.tokens.now.spans in
@@ -361,7 +327,6 @@ for_loop-returns-in_err-head-clause-parsed g t c =
     let refused : Refused (for_by spans r p c.args.span c.args.tokens.now.left) c.in_err-head.field-0.0 =
     head_fails _ (for_rest spans r p c.args.span) (for_whole spans r p c.args.span c.args.tokens.now.left) _ c.in_err-head.ensures.parsed in
     search rules
-
 
 pub for_loop-returns-in_err-body-clause-parsed : goal.for_loop-returns-in_err-body-clause-parsed
 unfolding here here_by
@@ -373,7 +338,6 @@ for_loop-returns-in_err-body-clause-parsed g t c =
     let refused : Refused (for_by spans r p c.args.span c.args.tokens.now.left) c.in_err-body.field-0.0 =
     for_body_fails spans r p c.args.span _ _ _ c.in_ok-head.ensures.parsed _ body in
     search rules
-
 
 pub for_loop-returns-in_err-else_body-clause-parsed : goal.for_loop-returns-in_err-else_body-clause-parsed
 unfolding here here_by
@@ -387,7 +351,6 @@ for_loop-returns-in_err-else_body-clause-parsed g t c =
     for_else_fails spans r p c.args.span _ _ _ _ _ c.in_ok-head.ensures.parsed body _ other in
     search rules
 
-
 pub if_condition-returns-clause-parsed : goal.if_condition-returns-clause-parsed
 if_condition-returns-clause-parsed g t c =
     let spans = c.args.tokens.now.spans in
@@ -399,7 +362,6 @@ if_condition-returns-clause-parsed g t c =
     if_made spans r p c.args.span _ _ _ _ _ _ _ _ _ _ _ c.in_ok-first.ensures.parsed others last (c.in_ok-last.ensures.spans ∙ same)
     c.expand_span-whole.ensures c.in_ok-false_body.ensures c.otherwise-2.ensures
 
-
 pub if_condition-returns-in_err-first-clause-parsed : goal.if_condition-returns-in_err-first-clause-parsed
 if_condition-returns-in_err-first-clause-parsed g t c =
     let spans = c.args.tokens.now.spans in
@@ -408,7 +370,6 @@ if_condition-returns-in_err-first-clause-parsed g t c =
     let refused : Refused (if_by spans r p c.args.span c.args.tokens.now.left) c.in_err-first.field-0.0 =
     if_fails spans r p c.args.span _ _ c.in_err-first.ensures.parsed in
     search rules
-
 
 pub if_condition-returns-in_err-others-clause-parsed : goal.if_condition-returns-in_err-others-clause-parsed
 if_condition-returns-in_err-others-clause-parsed g t c =
@@ -419,7 +380,6 @@ if_condition-returns-in_err-others-clause-parsed g t c =
     let refused : Refused (if_by spans r p c.args.span c.args.tokens.now.left) c.in_err-others.field-0.0 =
     branches_fail spans r p c.args.span _ _ _ c.in_ok-first.ensures.parsed _ others in
     search rules
-
 
 pub if_condition-returns-in_err-last-clause-parsed : goal.if_condition-returns-in_err-last-clause-parsed
 if_condition-returns-in_err-last-clause-parsed g t c =
@@ -432,7 +392,6 @@ if_condition-returns-in_err-last-clause-parsed g t c =
     else_fails spans r p c.args.span _ _ _ _ _ c.in_ok-first.ensures.parsed others _ last in
     search rules
 
-
 pub read_branch-returns-clause-parsed : goal.read_branch-returns-clause-parsed
 unfolding here here_by
 read_branch-returns-clause-parsed g t c =
@@ -443,7 +402,6 @@ read_branch-returns-clause-parsed g t c =
     behind _ (branch_whole spans r p c.args.tokens.now.left) _ _ c.in_ok-head.ensures.parsed (then_goes _ body refl) ∙
     ap (λ b. Ok (b, c.body.new.tokens.left)) (sym c.branch-head-2.ensures.branch)
 
-
 pub read_branch-returns-in_err-head-clause-parsed : goal.read_branch-returns-in_err-head-clause-parsed
 read_branch-returns-in_err-head-clause-parsed g t c =
     let spans = c.args.tokens.now.spans in
@@ -452,7 +410,6 @@ read_branch-returns-in_err-head-clause-parsed g t c =
     let refused : Refused (branch_by spans r p c.args.tokens.now.left) c.in_err-head.field-0.0 =
     head_fails _ _ (branch_whole spans r p c.args.tokens.now.left) _ c.in_err-head.ensures.parsed in
     search rules
-
 
 pub read_branch-returns-in_err-body-clause-parsed : goal.read_branch-returns-in_err-body-clause-parsed
 unfolding here here_by
@@ -465,7 +422,6 @@ read_branch-returns-in_err-body-clause-parsed g t c =
     behind_fails _ (branch_whole spans r p c.args.tokens.now.left) _ _ c.in_ok-head.ensures.parsed _ (head_fails _ _ refl _ body) in
     search rules
 
-
 pub opened-returns-in-Leaf-clause-parsed : goal.opened-returns-in-Leaf-clause-parsed
 opened-returns-in-Leaf-clause-parsed g t c =
     let spans = c.args.tokens.now.spans in
@@ -473,7 +429,6 @@ opened-returns-in-Leaf-clause-parsed g t c =
     let p = around_of c.args.around in
     subst (λ o. ParsedStatement (opened_by spans r p o c.args.span c.args.tokens.now.left) c.read_leaf.new.tokens.left c.read_leaf.result)
     c.in-Leaf.ensures c.read_leaf.ensures.parsed
-
 
 pub opened-returns-in-Parent-clause-parsed : goal.opened-returns-in-Parent-clause-parsed
 opened-returns-in-Parent-clause-parsed g t c =
