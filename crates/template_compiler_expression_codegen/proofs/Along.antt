@@ -1,5 +1,5 @@
 -- Along a left chain: each node is runnable, and adds its own to what stands.
-use Rattle.std.proofs.Common.{◌≡◌, ℕ, ◌+◌, ◌<◌, ◌≤◌, zero, suc, Bool, true, false, not, Result, Ok, Err, List, [], ◌∷◌, ◌++◌, length, map, take, get_or, Option, None, Some, is_some, option_map, Bor, sym, ap, subst, ◌∙◌, add-zero, arith}
+use Rattle.std.proofs.Common.{◌≡◌, ℕ, ◌+◌, ◌<◌, ◌≤◌, zero, suc, Result, Ok, Err, List, [], ◌∷◌, ◌++◌, length, map, take, get_or, Option, None, Some, option_map, Bor, sym, ap, subst, ◌∙◌, add-zero, arith}
 use Rattle.std.specs.List.{All, fold}
 use Rattle.std.specs.Prelude.{IfOk}
 use Rattle.std.proofs.lemmas.List.{take_more}
@@ -17,6 +17,7 @@ use Rattle.template_compiler_codegen.specs.Expressions.{expression_code}
 use Rattle.template_code.specs.Listing.{code_in}
 use Rattle.template_code.specs.declared.listing.Instructions.{Instructions}
 use Rattle.template_compiler_emission.specs.Puts.{Puts, unless}
+use Rattle.template_compiler_emission.proofs.Putting.{same_then}
 use Rattle.template_compiler_expression_codegen.specs.Own.{own_constant, own_code}
 use Rattle.template_compiler_expression_codegen.proofs.Own.{known, add_own, with_own, no_left, own_step, own_runnable, added}
 
@@ -76,11 +77,10 @@ one_node ns i n begun old new k o within read runnable known_is old_is own_is ne
           ap (λ (a : Option Val × List Code). begun ++ a.1) (sym more),
     )
 
-pub nothing_left : (x : Option (Bor Expr)) (b : Bool) (e : Expression) → is_some x ≡ not b → b ≡ true
-    → option_map (λ (part : Bor Expr). expression_of part.now) x ≡ left_of e → left_of e ≡ None
-nothing_left None b e n t h = sym h
-nothing_left (Some part) true e n t h = cc
-nothing_left (Some part) false e n t h = cc
+pub nothing_there : (x : Option (Bor Expr)) (e : Expression) → x ≡ None → option_map (λ (part : Bor Expr). expression_of part.now) x ≡ left_of e
+    → left_of e ≡ None
+nothing_there None e n h = sym h
+nothing_there (Some part) e n h = cc
 
 -- a tree without a left part
 pub alone : (e : Expression) (old new : List Code) (o : Option Val) → IsRunnable e → left_of e ≡ None
@@ -104,3 +104,33 @@ pub alone_put : {E : Type 0} (e : Expression) (old new : Instructions) (x : Resu
 alone_put e old new (Ok o) runnable none is put =
     record { code = (alone e (code_in old) (code_in new) o runnable none is put.code).1; same = put.same }
 alone_put e old new (Err f) runnable none is put = tt
+
+-- a tree behind its left part
+behind_part : (e l : Expression) (begun mid new : List Code) (k o : Option Val) → IsRunnable e → left_of e ≡ Some l
+    → k ≡ constant_of l → mid ≡ begun ++ unless k (expression_code l) (length begun)
+    → o ≡ own_constant k e → new ≡ mid ++ unless o (own_code k e) (length mid)
+    → (o ≡ constant_of e) × (new ≡ begun ++ unless o (expression_code e) (length begun))
+behind_part e l begun mid new k o runnable part known_is mid_is own_is new_is =
+    let p = length begun in
+    let s : Option Val × List Code = known p l in
+    let same : known p e ≡ with_own p s e =
+    own_step p e ∙ ap (λ (x : Option Expression). add_own p (before (known p) no_left x) e) part ∙ own_runnable p s e runnable in
+    let code_is : mid ≡ begun ++ s.1 = mid_is ∙ ap (λ (x : Option Val). begun ++ unless x (expression_code l) p) known_is in
+    let own : o ≡ own_constant s.0 e = own_is ∙ ap (λ (x : Option Val). own_constant x e) known_is in
+    let o_is : o ≡ constant_of e = own ∙ sym (ap (λ (a : Option Val × List Code). a.0) same) in (
+      o_is,
+      added begun s.1 mid new (unless o (own_code k e)) code_is new_is ∙
+          ap (λ (x : Option Val). begun ++ (s.1 ++ unless x (own_code k e) (p + length s.1))) own ∙
+          ap (λ (x : Option Val). begun ++ (s.1 ++ unless (own_constant s.0 e) (own_code x e) (p + length s.1))) known_is ∙
+          ap (λ (a : Option Val × List Code). begun ++ a.1) (sym same) ∙
+          ap (λ (x : Option Val). begun ++ unless x (expression_code e) p) (sym o_is),
+    )
+
+pub part_put : {E : Type 0} (e l : Expression) (k : Option Val) (begun mid new : Instructions) (x : Result (Option Val) E) → IsRunnable e
+    → Some l ≡ left_of e → k ≡ constant_of l → Puts (unless k (expression_code l)) begun mid → IfOk x (λ o. o ≡ own_constant k e)
+    → IfOk x (λ o. Puts (unless o (own_code k e)) mid new) → IfOk x (λ o. Puts (unless o (expression_code e)) begun new)
+part_put e l k begun mid new (Ok o) runnable part known_is left own_is put = record {
+  code = (behind_part e l (code_in begun) (code_in mid) (code_in new) k o runnable (sym part) known_is left.code own_is put.code).1;
+  same = same_then left.same put.same;
+}
+part_put e l k begun mid new (Err f) runnable part known_is left own_is put = tt

@@ -8,7 +8,7 @@ ghost use Rattle.template_tree.specs.View.{expression_of, optional_in, expressio
 ghost use Rattle.template_walk.specs.Constants.{constant_of, chain_constant};
 ghost use Rattle.template_walk.specs.Runnable.{IsRunnable, IsRunnableIfGiven, AreRunnable, IsRunnableChain, AreRunnableLinks};
 ghost use Rattle.template_walk.specs.Statements.{number_of};
-ghost use Rattle.template_code.specs.Code.{build_list, build_map, build_tuple, get_item, operate, slice};
+ghost use Rattle.template_code.specs.Code.{build_list, build_map, build_tuple, get_attr, get_item, operate, slice};
 ghost use Rattle.template_code.specs.Listing.{code_in, TakesNoMore};
 ghost use Rattle.template_compiler_codegen.specs.Expressions.{one, then_code, skipped, either_code, unary_code, expression_code, optional_code, expressions_code, entries_code, codes_of, entry_count, chain_code};
 ghost use Rattle.template_compiler_folding.specs.Folding.{unary_folded, binary_folded, comparison_folded};
@@ -29,9 +29,11 @@ use template_tree_parts::{left, spine};
 use template_values_core::Value;
 use template_values_errors::Error;
 
+// How many left parts of an expression are gone along by calls. Most have fewer, and no list is made for them.
+const NEAR: u32 = 8;
+
 /// The value of an expression that is a constant tree, for which nothing is put; else its code is put
-/// behind the instructions. Linear in the expression, besides what its operators cost. Most expressions have no
-/// left part, and no list is made for them.
+/// behind the instructions. Linear in the expression, besides what its operators cost.
 ///
 /// # Errors
 ///
@@ -48,9 +50,50 @@ pub fn fold_expr<'source>(
     ensures put { IfOk result (λ o. Puts (unless o (expression_code (expression_of expr.now))) code.old code.new) }
     ensures refused { IfErr result (TakesNoMore (code_in code.new)) }
 {
-    if left(expr).is_none() {
-        return fold_node(alloc, code, expr, &mut None, from);
+    fold_left(alloc, code, expr, NEAR, from)
+}
+
+// The same, where so many left parts are gone along by calls; what has more is gone along by a list.
+#[cycle(expression)]
+fn fold_left<'source>(
+    alloc: Global,
+    code: &mut Instructions<'source>,
+    expr: &Expr<'source>,
+    near: u32,
+    from: Option<Span>,
+) -> Result<Option<Value>, Error>
+    requires { IsRunnable (expression_of expr.now) }
+    ensures constant { IfOk result (λ o. o ≡ constant_of (expression_of expr.now)) }
+    ensures put { IfOk result (λ o. Puts (unless o (expression_code (expression_of expr.now))) code.old code.new) }
+    ensures refused { IfErr result (TakesNoMore (code_in code.new)) }
+{
+    match left(expr) {
+        Some(part) => {
+            if near == 0 {
+                return fold_spine(alloc, code, expr, from);
+            }
+            let mut constant = fold_left(alloc, code, part, near - 1, from)?;
+            let told = first_from(1, &constant, from);
+            fold_node(alloc, code, expr, &mut constant, told)
+        }
+        None => fold_node(alloc, code, expr, &mut None, from),
     }
+}
+
+// The same along a list of the left parts.
+#[cycle(expression)]
+#[inline(never)]
+fn fold_spine<'source>(
+    alloc: Global,
+    code: &mut Instructions<'source>,
+    expr: &Expr<'source>,
+    from: Option<Span>,
+) -> Result<Option<Value>, Error>
+    requires { IsRunnable (expression_of expr.now) }
+    ensures constant { IfOk result (λ o. o ≡ constant_of (expression_of expr.now)) }
+    ensures put { IfOk result (λ o. Puts (unless o (expression_code (expression_of expr.now))) code.old code.new) }
+    ensures refused { IfErr result (TakesNoMore (code_in code.new)) }
+{
     let nodes = spine(alloc, expr)?;
     let mut constant = None;
     let mut i = 0;
@@ -131,12 +174,7 @@ fn fold_node<'source>(
             Ok(None)
         }
         Expr::GetAttr(n) => {
-            load(code, left.take(), from)?;
-            put(
-                code,
-                Instruction::GetAttr(CowStr::Borrowed(n.node.name)),
-                None,
-            )?;
+            compile_attribute(code, left.take(), n.node.name, from)?;
             Ok(None)
         }
         Expr::GetItem(n) => {
@@ -167,6 +205,7 @@ fn fold_node<'source>(
 
 // An operator before its operand.
 #[cycle(expression)]
+#[inline(never)]
 fn fold_unary_operator<'source>(
     alloc: Global,
     code: &mut Instructions<'source>,
@@ -188,6 +227,7 @@ fn fold_unary_operator<'source>(
 // `and` or `or` behind its left side, which is loaded before the right one, and dropped again where both
 // are constant.
 #[cycle(expression)]
+#[inline(never)]
 fn fold_choice<'source>(
     alloc: Global,
     code: &mut Instructions<'source>,
@@ -214,6 +254,7 @@ fn fold_choice<'source>(
 // Another operator behind its left side, which is loaded before the right one, and dropped again where
 // both are constant.
 #[cycle(expression)]
+#[inline(never)]
 fn fold_operator<'source>(
     alloc: Global,
     code: &mut Instructions<'source>,
@@ -255,6 +296,7 @@ fn compile_optional<'source>(
 
 // A test, and one of two values; the other one is undefined where it is left out.
 #[cycle(expression)]
+#[inline(never)]
 fn compile_choice<'source>(
     alloc: Global,
     code: &mut Instructions<'source>,
@@ -282,8 +324,24 @@ fn compile_choice<'source>(
     Ok(())
 }
 
+// An attribute of the left part.
+#[inline(never)]
+fn compile_attribute<'source>(
+    code: &mut Instructions<'source>,
+    left: Option<Value>,
+    name: &'source str,
+    from: Option<Span>,
+) -> Result<(), Error>
+    ensures put { OnOk result (Puts (behind left (one (get_attr name.now))) code.old code.new) }
+    ensures refused { IfErr result (TakesNoMore (code_in code.new)) }
+{
+    load(code, left, from)?;
+    put(code, Instruction::GetAttr(CowStr::Borrowed(name)), None)
+}
+
 // An item of the left part.
 #[cycle(expression)]
+#[inline(never)]
 fn compile_item<'source>(
     alloc: Global,
     code: &mut Instructions<'source>,
@@ -303,6 +361,7 @@ fn compile_item<'source>(
 
 // A slice of the left part; a bound that is left out is none.
 #[cycle(expression)]
+#[inline(never)]
 fn compile_slice<'source>(
     alloc: Global,
     code: &mut Instructions<'source>,
@@ -377,6 +436,7 @@ fn compile_entries<'source>(
 
 // A list of literals is a constant.
 #[cycle(expression)]
+#[inline(never)]
 fn fold_list_literal<'source>(
     alloc: Global,
     code: &mut Instructions<'source>,
@@ -402,6 +462,7 @@ fn fold_list_literal<'source>(
 
 // A tuple of literals is a constant.
 #[cycle(expression)]
+#[inline(never)]
 fn fold_tuple_literal<'source>(
     alloc: Global,
     code: &mut Instructions<'source>,
@@ -427,6 +488,7 @@ fn fold_tuple_literal<'source>(
 
 // A map of literals is a constant.
 #[cycle(expression)]
+#[inline(never)]
 fn fold_map_literal<'source>(
     alloc: Global,
     code: &mut Instructions<'source>,
@@ -542,6 +604,7 @@ fn compile_chain<'source>(
 
 // The comparisons behind the first operand, which are dropped again where they are constant.
 #[cycle(expression)]
+#[inline(never)]
 fn fold_chain<'source>(
     alloc: Global,
     code: &mut Instructions<'source>,

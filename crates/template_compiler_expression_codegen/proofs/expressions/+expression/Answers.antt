@@ -22,7 +22,7 @@ use Rattle.template_compiler_emission.specs.declared.leaps.Leap.TheVariants.{Alw
 use Rattle.template_compiler_emission.specs.Puts.{Puts, unless}
 use Rattle.template_compiler_emission.proofs.Putting.{same_then, puts_then, puts_either}
 use Rattle.template_compiler_expression_codegen.specs.Chains.{constant_behind, is_false, leaps_in, left_behind, linked_to}
-use Rattle.template_compiler_expression_codegen.proofs.Along.{alone_put, nothing_left, runnable_at, depth_at, one_node, so_far}
+use Rattle.template_compiler_expression_codegen.proofs.Along.{alone_put, part_put, nothing_there, runnable_at, depth_at, one_node, so_far}
 use Rattle.template_compiler_expression_codegen.proofs.Ends.{ends_choice, ends_operator, ends_unary, puts_over}
 use Rattle.template_compiler_expression_codegen.proofs.Items.{item_runnable, number_is, puts_item}
 use Rattle.template_compiler_expression_codegen.proofs.Linked.{behind_none, link_goes, link_known, link_more, link_runnable, links_at, place_more}
@@ -32,32 +32,39 @@ use Rattle.template_compiler_expression_codegen.proofs.Sizes.{item_deep, link_de
 use Rattle.template_compiler_expression_codegen.proofs.Trees.{chain_deep, chain_is, keys_deep, list_deep, list_is, map_is, tuple_deep, tuple_is, values_deep}
 use Rattle.template_compiler_expression_codegen.proofs.expressions.+expression.Goals as goal
 
-pub fold_expr-loop-i-preserved : goal.fold_expr-loop-i-preserved
-fold_expr-loop-i-preserved t c =
+pub fold_spine-loop-i-preserved : goal.fold_spine-loop-i-preserved
+fold_spine-loop-i-preserved t c =
     let ns = c.in_ok-nodes.nodes.items in
     let within : c.loop-i.i < length ns = omega arith in
-    let more = one_node ns c.loop-i.i c.index.result.now (code_in c.args.code.now) (code_in c.loop-i.code) (code_in c.fold_node-in-loop-i.new.code)
+    let more = one_node ns c.loop-i.i c.index.result.now (code_in c.args.code.now) (code_in c.loop-i.code) (code_in c.fold_node.new.code)
     c.loop-i.constant c.in_ok-constant.constant within c.index.ensures
     (runnable_at (expression_of c.args.expr.now) ns c.requires c.in_ok-nodes.ensures.nodes c.loop-i.i c.index.result.now within c.index.ensures)
     c.loop-i.invariant.constant c.loop-i.invariant.code c.in_ok-constant.ensures.constant c.in_ok-constant.ensures.put.code in
     record { constant = more.0; code = more.1; same = same_then c.loop-i.invariant.same c.in_ok-constant.ensures.put.same }
 
-pub fold_expr-returns-then-is_none-clause-put : goal.fold_expr-returns-then-is_none-clause-put
-fold_expr-returns-then-is_none-clause-put t c =
+pub fold_left-returns-in-None-clause-put : goal.fold_left-returns-in-None-clause-put
+fold_left-returns-in-None-clause-put t c =
     let e = expression_of c.args.expr.now in
-    let none = nothing_left c.left.result c.is_none.result e c.is_none.ensures c.if-is_none.true c.left.ensures.left in
-    alone_put e c.args.code.now c.fold_node.new.code c.fold_node.result c.requires none c.fold_node.ensures.constant c.fold_node.ensures.put
+    let none = nothing_there c.left.result e c.in-None.is c.left.ensures.left in
+    alone_put e c.args.code.now c.fold_node-in-None.new.code c.fold_node-in-None.result c.requires none c.fold_node-in-None.ensures.constant
+    c.fold_node-in-None.ensures.put
 
-pub fold_expr-returns-clause-constant : goal.fold_expr-returns-clause-constant
-fold_expr-returns-clause-constant t c =
+pub fold_left-returns-in_ok-constant-in-Some-clause-put : goal.fold_left-returns-in_ok-constant-in-Some-clause-put
+fold_left-returns-in_ok-constant-in-Some-clause-put t c =
+    part_put (expression_of c.args.expr.now) (expression_of c.in-Some.part.now) _ c.args.code.now _ _ c.fold_node.result c.requires
+    c.in-Some.ensures.left c.in_ok-constant-in-Some.ensures.constant c.in_ok-constant-in-Some.ensures.put c.fold_node.ensures.constant
+    c.fold_node.ensures.put
+
+pub fold_spine-returns-clause-constant : goal.fold_spine-returns-clause-constant
+fold_spine-returns-clause-constant t c =
     let ns = c.in_ok-nodes.nodes.items in
     let p = length (code_in c.args.code.now) in
     let e = expression_of c.args.expr.now in
     let all = walked (known p) (add_own p) no_left (own_step p) ns e c.loop-i.i (so_far p (take c.loop-i.i ns)) c.in_ok-nodes.ensures.nodes (omega arith) refl in
     c.loop-i.invariant.constant ∙ ap (λ a. a.0) all
 
-pub fold_expr-fold_node-requires-in-loop-i : goal.fold_expr-fold_node-requires-in-loop-i
-fold_expr-fold_node-requires-in-loop-i t c =
+pub fold_spine-fold_node-requires : goal.fold_spine-fold_node-requires
+fold_spine-fold_node-requires t c =
     let ns = c.in_ok-nodes.nodes.items in
     let within : c.loop-i.i < length ns = omega arith in
     let deep = depth_at (size-Expr c.args.expr.now) ns c.in_ok-nodes.ensures.depth c.loop-i.i c.index.result.now within c.index.ensures in (
@@ -65,8 +72,8 @@ fold_expr-fold_node-requires-in-loop-i t c =
       runnable_at (expression_of c.args.expr.now) ns c.requires c.in_ok-nodes.ensures.nodes c.loop-i.i c.index.result.now within c.index.ensures,
     )
 
-pub fold_expr-returns-clause-put : goal.fold_expr-returns-clause-put
-fold_expr-returns-clause-put t c =
+pub fold_spine-returns-clause-put : goal.fold_spine-returns-clause-put
+fold_spine-returns-clause-put t c =
     let ns = c.in_ok-nodes.nodes.items in
     let p = length (code_in c.args.code.now) in
     let e = expression_of c.args.expr.now in
