@@ -7,17 +7,13 @@ use Rattle.template_tree.specs.declared.span.Spanned.{Spanned}
 use Rattle.template_tree_statements.specs.declared.statements.EmitRaw.{EmitRaw as Text}
 use Rattle.template_tree_statements.specs.declared.statements.CallBlock.{CallBlock' as called}
 use Rattle.template_tree_statements.specs.declared.statements.Stmt.{Stmt, EmitRaw, CallBlock'}
-use Rattle.template_compiler_grammar.specs.TemplateTrees.{and_statement, is_blank}
+use Rattle.template_compiler_grammar.specs.TemplateTrees.{is_blank}
 use Rattle.template_compiler_placed_grammar.specs.Nodes.{placed}
 use Rattle.template_compiler_placed_grammar.specs.TemplateNodes.{and_placed_statement}
 use Rattle.template_compiler_placed_grammar.specs.TreeStatements.{statement_places}
 use Rattle.template_compiler_placed_grammar.specs.Views.{statement_node_of}
-use Rattle.template_compiler_statement_makers.specs.Listed.{statement_nodes_in, statements_in}
+use Rattle.template_compiler_statement_makers.specs.Listed.{statement_nodes_in}
 use Rattle.template_compiler_statement_makers.specs.Blank.{is_blank_statement}
-
-pub statements_push : (xs : List Stmt) (s : Stmt) → statements_in (xs ++ s ∷ []) ≡ and_statement (statements_in xs) (statement_of s)
-statements_push [] s = refl
-statements_push (x ∷ xs) s = ap (λ ss. statements_more (statement_of x) ss) (statements_push xs s)
 
 pub statement_nodes_push : (xs : List Stmt) (s : Stmt) →
     statement_nodes_in (xs ++ s ∷ []) ≡ and_placed_statement (statement_nodes_in xs) (statement_node_of s)

@@ -1,5 +1,5 @@
 -- A statement is its head, and what is read behind it.
-use Rattle.std.proofs.Common.{◌≡◌, ℕ, Bool, true, false, if◌then◌else◌, codes, List, ◌∷◌, Option, None, Some, Ok, Err, refl, sym, ap, ◌∙◌}
+use Rattle.std.proofs.Common.{◌≡◌, ℕ, Bool, true, false, if◌then◌else◌, codes, List, ◌∷◌, Option, None, Some, Ok, Err, refl, ◌∙◌}
 use Rattle.template_tree.specs.Tree.{Expression, Arguments}
 use Rattle.template_tree.specs.Kinds.{call_parts}
 use Rattle.template_tree.specs.NodePlaces.{Places, parts_more}
@@ -7,17 +7,13 @@ use Rattle.template_tree.specs.declared.span.Span.{Span}
 use Rattle.template_compiler_tokens.specs.Places.{next_span}
 use Rattle.template_compiler_tokens.specs.Token.{Token, bad_syntax, block_end, identifier, symbol, paren_open}
 use Rattle.template_compiler_tokens.specs.Steps.{Read, and_then}
-use Rattle.template_compiler_tokens.proofs.Loops.{then_goes, then_fails}
-use Rattle.template_compiler_stream.specs.declared.refusal.Refusal.{Refusal}
 use Rattle.template_compiler_stream.specs.declared.refusal.Refusal.TheVariants as refusals
-use Rattle.template_compiler_stream.specs.Refusals.{Refused}
 use Rattle.template_compiler_grammar.specs.TemplateWords.{is_reserved}
-use Rattle.template_compiler_grammar.specs.TemplateGrammar.{Around, loop_around, macro_around}
-use Rattle.template_compiler_grammar.specs.TemplateReader.{expect_tag, expect_word, tag_end, begins_values, word_by, only_call}
-use Rattle.template_compiler_placed_grammar.specs.Nodes.{placed, Node, OptionalNode, no_node, given_node}
-use Rattle.template_compiler_placed_grammar.specs.Reader.{up_to}
-use Rattle.template_compiler_placed_grammar.specs.TemplateNodes.{PlacedParameters, PlacedStatement, PlacedStatements, for_node, with_node, set_block_node, auto_escape_node, filter_block_node, macro_node, call_block_node}
-use Rattle.template_compiler_placed_grammar.specs.TemplateReader.{Here, body_by, targets_by, target_by, loop_filter_by, else_by, for_by, for_in, for_body, assignments_by, with_by, set_by, set_behind, set_body, autoescape_by, branch_by, filter_block_by, block_by, block_body, macro_by, optional_parameters_by, call_body, call_by}
+use Rattle.template_compiler_grammar.specs.TemplateGrammar.{Around, macro_around}
+use Rattle.template_compiler_grammar.specs.TemplateReader.{expect_word, tag_end, begins_values, word_by, only_call}
+use Rattle.template_compiler_placed_grammar.specs.Nodes.{placed, Node, no_node, given_node}
+use Rattle.template_compiler_placed_grammar.specs.TemplateNodes.{PlacedParameters, PlacedStatement, with_node, set_block_node, auto_escape_node, filter_block_node, macro_node, call_block_node}
+use Rattle.template_compiler_placed_grammar.specs.TemplateReader.{Here, body_by, targets_by, target_by, loop_filter_by, for_by, for_in, for_body, assignments_by, with_by, set_by, set_behind, set_body, autoescape_by, branch_by, filter_block_by, block_by, block_body, macro_by, optional_parameters_by, call_body, call_by}
 use Rattle.template_compiler_statement_loops.specs.Heads.{for_head, expression_head, filter_head, with_head, for_rest}
 use Rattle.template_compiler_statement_declarations.specs.Heads.{block_head, declared_head, macro_head, call_head, set_targets, set_block_head, set_head, set_whole, set_over, block_rest, set_rest}
 
@@ -150,79 +146,3 @@ module _ (spans : List Span) where
   unfolding set_by set_behind
   set_whole_by r p start ts =
       through (target_by spans true (r.inner true) ts) _ _ _ (λ t us. set_cases r p start (next_span spans ts) t us (begins_values us))
-
-  -- a body is read with its end
-  body_whole : (r : Here) (p : Around) (end : List ℕ) (start : Span) (make : PlacedStatements → Span → PlacedStatement) (ts : List Token) →
-      body_by spans r p end start make ts ≡
-      and_then (and_then (r.body p ts) (expect_tag end)) (λ body us. Ok (make body (up_to spans start us), us))
-  unfolding body_by
-  body_whole r p end start make ts = through (r.body p ts) _ _ _ (λ body us. refl)
-
-  -- what is made stands up to the end of what was read
-  stood : (make : Span → PlacedStatement) (start span : Span) (now : List Span) (new : List Token) (s : PlacedStatement) →
-      now ≡ spans → span ≡ up_to now start new → s ≡ make span →
-      ◌≡◌ {A = Read PlacedStatement} (Ok (make (up_to spans start new), new)) (Ok (s, new))
-  stood make start span now new s table stands made =
-      ap (λ s. Ok (s, new)) (sym (made ∙ ap make (stands ∙ ap (λ spans. up_to spans start new) table)))
-
-  -- a statement with one body
-  module _ {H : Type 0} {w : Read PlacedStatement} {m : Read H} (r : Here) (p : Around) (end : List ℕ) (start : Span)
-      (make : H → PlacedStatements → Span → PlacedStatement) (whole : w ≡ and_then m (λ h us. body_by spans r p end start (make h) us)) (h : H)
-      (mid : List Token) (head : m ≡ Ok (h, mid)) where
-    pub body_made : (b : PlacedStatements) (new : List Token) (now : List Span) (span : Span) (s : PlacedStatement) →
-        and_then (r.body p mid) (expect_tag end) ≡ Ok (b, new) → now ≡ spans → span ≡ up_to now start new → s ≡ make h b span →
-        w ≡ Ok (s, new)
-    body_made b new now span s e table stands made =
-        whole ∙ then_goes _ head (body_whole r p end start (make h) mid ∙ then_goes _ e (stood (make h b) start span now new s table stands made))
-
-    pub body_fails : (e : Refusal) → Refused (and_then (r.body p mid) (expect_tag end)) e → Refused w e
-    body_fails refusals.OutOfMemory g = tt
-    body_fails (refusals.Token f) g = whole ∙ then_goes _ head (body_whole r p end start (make h) mid ∙ then_fails _ g)
-
-  -- a loop's bodies
-  module _ (r : Here) (p : Around) (start : Span) (h : Node × Node × OptionalNode × Bool) (ts us : List Token)
-      (head : for_head spans r ts ≡ Ok (h, us)) where
-    pub for_made : (body other : PlacedStatements) (vs new : List Token) (now : List Span) (span : Span) (s : PlacedStatement) →
-        r.body (loop_around p) us ≡ Ok (body, vs) → else_by spans r p (codes "endfor") vs ≡ Ok (other, new) →
-        now ≡ spans → span ≡ up_to now start new → s ≡ for_node h.0 h.1 h.2 h.3 body other span → for_by spans r p start ts ≡ Ok (s, new)
-    for_made body other vs new now span s b c table stands made =
-        for_whole r p start ts ∙ then_goes (for_rest spans r p start) head (then_goes _ b (then_goes _ c
-        (stood (for_node h.0 h.1 h.2 h.3 body other) start span now new s table stands made)))
-
-    pub for_body_fails : (e : Refusal) → Refused (r.body (loop_around p) us) e → Refused (for_by spans r p start ts) e
-    for_body_fails refusals.OutOfMemory b = tt
-    for_body_fails (refusals.Token f) b = for_whole r p start ts ∙ then_goes (for_rest spans r p start) head (then_fails _ b)
-
-    pub for_else_fails : (body : PlacedStatements) (vs : List Token) → r.body (loop_around p) us ≡ Ok (body, vs) →
-        (e : Refusal) → Refused (else_by spans r p (codes "endfor") vs) e → Refused (for_by spans r p start ts) e
-    for_else_fails body vs b refusals.OutOfMemory c = tt
-    for_else_fails body vs b (refusals.Token f) c =
-        for_whole r p start ts ∙ then_goes (for_rest spans r p start) head (then_goes _ b (then_fails _ c))
-
-  -- a set block, behind its head
-  pub set_body_made : (r : Here) (p : Around) (start : Span) (h : Node × OptionalNode) (ts : List Token) (b : PlacedStatements) (new : List Token)
-      (now : List Span) (span : Span) (s : PlacedStatement) → and_then (r.body p ts) (expect_tag (codes "endset")) ≡ Ok (b, new) →
-      now ≡ spans → span ≡ up_to now start new → s ≡ set_block_node h.0 h.1 b span → set_rest spans r p start (set_over h) ts ≡ Ok (s, new)
-  set_body_made r p start h ts b new now span s e table stands made =
-      body_whole r p (codes "endset") start (set_block_node h.0 h.1) ts ∙
-      then_goes _ e (stood (set_block_node h.0 h.1 b) start span now new s table stands made)
-
-  pub set_body_fails : (r : Here) (p : Around) (start : Span) (h : Node × OptionalNode) (ts : List Token) (e : Refusal) →
-      Refused (and_then (r.body p ts) (expect_tag (codes "endset"))) e → Refused (set_rest spans r p start (set_over h) ts) e
-  set_body_fails r p start h ts refusals.OutOfMemory a = tt
-  set_body_fails r p start h ts (refusals.Token f) a = body_whole r p (codes "endset") start (set_block_node h.0 h.1) ts ∙ then_fails _ a
-
--- what is behind a head
-pub head_fails : {A H : Type 0} {w : Read A} (m : Read H) (go : H → List Token → Read A) → w ≡ and_then m go →
-    (e : Refusal) → Refused m e → Refused w e
-head_fails m go whole refusals.OutOfMemory h = tt
-head_fails m go whole (refusals.Token f) h = whole ∙ then_fails go h
-
-pub behind : {A H : Type 0} {w r : Read A} {m : Read H} (go : H → List Token → Read A) → w ≡ and_then m go →
-    (h : H) (us : List Token) → m ≡ Ok (h, us) → go h us ≡ r → w ≡ r
-behind go whole h us a b = whole ∙ then_goes go a b
-
-pub behind_fails : {A H : Type 0} {w : Read A} {m : Read H} (go : H → List Token → Read A) → w ≡ and_then m go →
-    (h : H) (us : List Token) → m ≡ Ok (h, us) → (e : Refusal) → Refused (go h us) e → Refused w e
-behind_fails go whole h us a refusals.OutOfMemory b = tt
-behind_fails go whole h us a (refusals.Token f) b = whole ∙ then_goes go a b

@@ -1,15 +1,13 @@
 -- What is read where a token stands next, and where it does not.
 use Rattle.std.proofs.Common.{◌≡◌, ℕ, true, false, if◌then◌else◌, List, [], ◌∷◌, None, Some, Ok, Err, codes, bytes_eq, refl, sym, ap, ◌∙◌}
-use Rattle.template_tree.specs.Tree.{Expression, absent, given, no_assignments}
-use Rattle.template_compiler_tokens.specs.Token.{Token, Symbol, bad_syntax, comma, paren_open, variable_end, block_start, block_end, identifier, symbol, assign, paren_close}
-use Rattle.template_compiler_tokens.specs.Steps.{Read, fault, and_then, stops, all}
+use Rattle.template_compiler_tokens.specs.Token.{Token, Symbol, bad_syntax, comma, variable_end, block_start, block_end, identifier, symbol, assign, paren_close}
+use Rattle.template_compiler_tokens.specs.Steps.{Read, fault, stops}
 use Rattle.template_compiler_grammar.specs.Words.{begins_word}
 use Rattle.template_compiler_grammar.specs.Reader.{paren_end}
 use Rattle.template_compiler_stream.specs.Left.{passed}
 use Rattle.template_compiler_stream.specs.Signs.{begins_symbol, next_symbol, next_word, second_word}
 use Rattle.template_compiler_stream.specs.Tags.{begins_variable_end, begins_block_end, begins_block_start}
-use Rattle.template_compiler_grammar.specs.TemplateReader.{Here, print_end, tag_end, expect_word, expect_assign, expect_tag, more_step, begins_tag, begins_values, word_by, context_by, loop_filter_by, optional_parameters_by, parameter_by, parameters_by, default_by, is_nothing, assignment_by, assignments_by, block_end_by, end_name_by}
-use Rattle.template_compiler_grammar.specs.TemplateTrees.{Parameters, no_parameters, and_plain}
+use Rattle.template_compiler_grammar.specs.TemplateReader.{print_end, tag_end, expect_word, expect_assign, expect_tag, more_step, begins_tag, begins_values, word_by, context_by, block_end_by, end_name_by}
 use Rattle.template_compiler_statement_parts.specs.Tags.{next_tag}
 
 pub print_end_here : {A : Type 0} (a : A) (ts : List Token) → begins_variable_end ts ≡ true → print_end a ts ≡ Ok (a, passed ts)
@@ -131,51 +129,12 @@ unfolding context_by
 context_none a [] h = refl
 context_none a (t ∷ ts) h = ap (λ b. if b then expect_word (codes "context") a ts else Ok (a, t ∷ ts)) h
 
-pub no_filter : (read : List Token → Read Expression) (ts : List Token) → begins_word (codes "if") ts ≡ false → loop_filter_by read ts ≡ Ok (absent, ts)
-unfolding loop_filter_by
-no_filter read [] h = refl
-no_filter read (t ∷ ts) h = ap (λ b. if b then and_then (read ts) (λ e us. Ok (given e, us)) else Ok (absent, t ∷ ts)) h
-
 -- signs that do not stand next
 pub no_more : {A : Type 0} (item : A → List Token → Read A) (a : A) (ts : List Token) → begins_symbol comma ts ≡ false → more_step item a ts ≡ stops
 unfolding more_step
 no_more item a [] h = refl
 no_more item a (symbol comma ∷ ts) h = cc
 no_more item a (t ∷ ts) h = refl
-
-pub no_parens : (r : Here) (ts : List Token) → begins_symbol paren_open ts ≡ false → optional_parameters_by r ts ≡ Ok (no_parameters, ts)
-unfolding optional_parameters_by
-no_parens r [] h = refl
-no_parens r (symbol paren_open ∷ ts) h = cc
-no_parens r (t ∷ ts) h = refl
-
-pub some_parameters : (read : List Token → Read Expression) (ts : List Token) → begins_symbol paren_close ts ≡ false →
-    parameters_by read ts ≡ and_then (parameter_by read no_parameters ts) (λ p us. and_then (all (more_step (parameter_by read)) p us) paren_end)
-unfolding parameters_by
-some_parameters read [] h = refl
-some_parameters read (symbol paren_close ∷ ts) h = cc
-some_parameters read (t ∷ ts) h = refl
-
-pub no_default : (read : List Token → Read Expression) (p : Parameters) (a : Expression) (ts : List Token) → begins_symbol assign ts ≡ false →
-    default_by read p a ts ≡ (if is_nothing p.1 then Ok (and_plain p a, ts) else Err bad_syntax)
-unfolding default_by
-no_default read p a [] h = refl
-no_default read p a (symbol assign ∷ ts) h = cc
-no_default read p a (t ∷ ts) h = refl
-
--- the end of a tag
-pub no_assignment : (r : Here) (ts : List Token) → begins_block_end ts ≡ true → assignments_by r ts ≡ Ok (no_assignments, ts)
-unfolding assignments_by
-no_assignment r [] h = cc
-no_assignment r (block_end ∷ ts) h = refl
-no_assignment r (t ∷ ts) h = cc
-
-pub some_assignment : (r : Here) (ts : List Token) → begins_block_end ts ≡ false →
-    assignments_by r ts ≡ and_then (assignment_by r no_assignments ts) (all (more_step (assignment_by r)))
-unfolding assignments_by
-some_assignment r [] h = refl
-some_assignment r (block_end ∷ ts) h = cc
-some_assignment r (t ∷ ts) h = refl
 
 -- the end of a block
 pub block_end_none : {A : Type 0} (n : List ℕ) (a : A) (ts : List Token) → begins_block_start ts ≡ false → block_end_by n a ts ≡ Err (fault ts)
