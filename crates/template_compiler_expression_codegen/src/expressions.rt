@@ -8,7 +8,7 @@ ghost use Rattle.template_tree.specs.View.{expression_of, optional_in, expressio
 ghost use Rattle.template_walk.specs.Constants.{constant_of, chain_constant};
 ghost use Rattle.template_walk.specs.Runnable.{IsRunnable, IsRunnableIfGiven, AreRunnable, IsRunnableChain, AreRunnableLinks};
 ghost use Rattle.template_walk.specs.Statements.{number_of};
-ghost use Rattle.template_code.specs.Code.{build_list, build_map, build_tuple, get_attr, get_item, operate, slice};
+ghost use Rattle.template_code.specs.Code.{build_list, build_map, build_tuple, get_attr, get_item, lookup, operate, slice};
 ghost use Rattle.template_code.specs.Listing.{code_in, TakesNoMore};
 ghost use Rattle.template_compiler_codegen.specs.Expressions.{one, then_code, skipped, either_code, unary_code, expression_code, optional_code, expressions_code, entries_code, codes_of, entry_count, chain_code};
 ghost use Rattle.template_compiler_folding.specs.Folding.{unary_folded, binary_folded, comparison_folded};
@@ -67,6 +67,9 @@ fn fold_left<'source>(
     ensures put { IfOk result (λ o. Puts (unless o (expression_code (expression_of expr.now))) code.old code.new) }
     ensures refused { IfErr result (TakesNoMore (code_in code.new)) }
 {
+    if let Expr::Var(n) = expr {
+        return fold_name(code, n.node.id, from);
+    }
     match left(expr) {
         Some(part) => {
             if near == 0 {
@@ -133,6 +136,21 @@ pub(crate) fn compile_expr<'source>(
     load(code, constant, from)
 }
 
+// A name, which is no constant.
+#[inline(never)]
+fn fold_name<'source>(
+    code: &mut Instructions<'source>,
+    name: &'source str,
+    from: Option<Span>,
+) -> Result<Option<Value>, Error>
+    ensures constant { IfOk result (λ o. o ≡ None) }
+    ensures put { IfOk result (λ o. Puts (unless o (one (lookup name.now))) code.old code.new) }
+    ensures refused { IfErr result (TakesNoMore (code_in code.new)) }
+{
+    put(code, Instruction::Lookup(CowStr::Borrowed(name)), from)?;
+    Ok(None)
+}
+
 // A node behind its left part, whose value is given where it was held back, and taken where it is put.
 #[cycle(expression)]
 fn fold_node<'source>(
@@ -148,10 +166,7 @@ fn fold_node<'source>(
     ensures refused { IfErr result (TakesNoMore (code_in code.new)) }
 {
     match expr {
-        Expr::Var(n) => {
-            put(code, Instruction::Lookup(CowStr::Borrowed(n.node.id)), from)?;
-            Ok(None)
-        }
+        Expr::Var(n) => fold_name(code, n.node.id, from),
         Expr::Const(n) => {
             let value = n.node.value.copy()?;
             Ok(Some(value))

@@ -42,6 +42,9 @@ fold_spine-loop-i-preserved t c =
     c.loop-i.invariant.constant c.loop-i.invariant.code c.in_ok-constant.ensures.constant c.in_ok-constant.ensures.put.code in
     record { constant = more.0; code = more.1; same = same_then c.loop-i.invariant.same c.in_ok-constant.ensures.put.same }
 
+pub fold_left-returns-in-Var-clause-put : goal.fold_left-returns-in-Var-clause-put
+fold_left-returns-in-Var-clause-put t c = rw c.in-Var.is c.fold_name.ensures.put
+
 pub fold_left-returns-in-None-clause-put : goal.fold_left-returns-in-None-clause-put
 fold_left-returns-in-None-clause-put t c =
     let e = expression_of c.args.expr.now in
