@@ -7,7 +7,6 @@ use Rattle.template_tree.specs.declared.span.Span.{Span}
 use Rattle.template_compiler_tokens.specs.Places.{next_span}
 use Rattle.template_compiler_tokens.specs.Token.{Token, bad_syntax, block_end, identifier, symbol, paren_open}
 use Rattle.template_compiler_tokens.specs.Steps.{Read, and_then}
-use Rattle.template_compiler_stream.specs.declared.refusal.Refusal.TheVariants as refusals
 use Rattle.template_compiler_grammar.specs.TemplateWords.{is_reserved}
 use Rattle.template_compiler_grammar.specs.TemplateGrammar.{Around, macro_around}
 use Rattle.template_compiler_grammar.specs.TemplateReader.{expect_word, tag_end, begins_values, word_by, only_call}
