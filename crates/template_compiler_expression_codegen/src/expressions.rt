@@ -22,7 +22,7 @@ use crate::operators::{Choice, end_choice, end_operator, end_unary};
 use std::alloc::Global;
 use std::borrow::CowStr;
 use template_code::{Instruction, Instructions};
-use template_compiler_emission::{Leap, land, leap_of, load, load_copy, put, reserve};
+use template_compiler_emission::{Leap, land, leap_of, load, load_copy, operator_instruction, put, reserve, unary_instruction};
 use template_compiler_folding::{fold_list, fold_map, fold_tuple};
 use template_tree::{BinOpKind, CompareOp, Expr, Span, UnaryOpKind};
 use template_tree_parts::{left, spine};
@@ -41,25 +41,105 @@ pub fn fold_expr<'source>(
     alloc: Global,
     code: &mut Instructions<'source>,
     expr: &Expr<'source>,
+    value: &mut Option<Value>,
     from: Option<Span>,
-) -> Result<Option<Value>, Error>
-    requires { IsRunnable (expression_of expr.now) }
-    ensures constant { IfOk result (λ o. o ≡ constant_of (expression_of expr.now)) }
-    ensures put { IfOk result (λ o. Puts (unless o (expression_code (expression_of expr.now))) code.old code.new) }
+) -> Result<(), Error>
+    requires runs { IsRunnable (expression_of expr.now) }
+    requires none { value.old ≡ None }
+    ensures constant { OnOk result (value.new ≡ constant_of (expression_of expr.now)) }
+    ensures put { OnOk result (Puts (unless value.new (expression_code (expression_of expr.now))) code.old code.new) }
     ensures refused { IfErr result (TakesNoMore (code_in code.new)) }
 {
-    if left(expr).is_none() {
-        return fold_node(alloc, code, expr, &mut None, from);
+    fold_left(alloc, code, expr, value, NEAR, from)
+}
+
+// How many left parts are gone along by calls before a list is made for the others.
+const NEAR: u32 = 8;
+
+#[cycle(expression)]
+fn fold_left<'source>(
+    alloc: Global,
+    code: &mut Instructions<'source>,
+    expr: &Expr<'source>,
+    value: &mut Option<Value>,
+    near: u32,
+    from: Option<Span>,
+) -> Result<(), Error>
+    requires runs { IsRunnable (expression_of expr.now) }
+    requires none { value.old ≡ None }
+    ensures constant { OnOk result (value.new ≡ constant_of (expression_of expr.now)) }
+    ensures put { OnOk result (Puts (unless value.new (expression_code (expression_of expr.now))) code.old code.new) }
+    ensures refused { IfErr result (TakesNoMore (code_in code.new)) }
+{
+    match expr {
+        Expr::Var(n) => put(code, Instruction::Lookup(CowStr::Borrowed(n.node.id)), from),
+        Expr::Const(n) => hold(value, &n.node.value),
+        _ => match left(expr) {
+            Some(part) => fold_behind(alloc, code, expr, part, value, near, from),
+            None => fold_node(alloc, code, expr, value, from),
+        },
     }
+}
+
+fn hold(value: &mut Option<Value>, constant: &Value) -> Result<(), Error>
+    ensures { OnOk result (value.new ≡ Some constant.now) }
+{
+    *value = Some(constant.copy()?);
+    Ok(())
+}
+
+#[cycle(expression)]
+fn fold_behind<'source>(
+    alloc: Global,
+    code: &mut Instructions<'source>,
+    expr: &Expr<'source>,
+    part: &Expr<'source>,
+    value: &mut Option<Value>,
+    near: u32,
+    from: Option<Span>,
+) -> Result<(), Error>
+    requires runs { IsRunnable (expression_of expr.now) }
+    requires part { left_of (expression_of expr.now) ≡ Some (expression_of part.now) }
+    requires none { value.old ≡ None }
+    ensures constant { OnOk result (value.new ≡ constant_of (expression_of expr.now)) }
+    ensures put { OnOk result (Puts (unless value.new (expression_code (expression_of expr.now))) code.old code.new) }
+    ensures refused { IfErr result (TakesNoMore (code_in code.new)) }
+{
+    if near == 0 {
+        return fold_spine(alloc, code, expr, value, from);
+    }
+    fold_left(alloc, code, part, value, near - 1, from)?;
+    if value.is_some() {
+        fold_node(alloc, code, expr, value, from)
+    } else {
+        fold_node(alloc, code, expr, value, None)
+    }
+}
+
+// The same by a list of the left parts.
+#[cycle(expression)]
+#[inline(never)]
+fn fold_spine<'source>(
+    alloc: Global,
+    code: &mut Instructions<'source>,
+    expr: &Expr<'source>,
+    value: &mut Option<Value>,
+    from: Option<Span>,
+) -> Result<(), Error>
+    requires runs { IsRunnable (expression_of expr.now) }
+    requires none { value.old ≡ None }
+    ensures constant { OnOk result (value.new ≡ constant_of (expression_of expr.now)) }
+    ensures put { OnOk result (Puts (unless value.new (expression_code (expression_of expr.now))) code.old code.new) }
+    ensures refused { IfErr result (TakesNoMore (code_in code.new)) }
+{
     let nodes = spine(alloc, expr)?;
-    let mut constant = None;
     let mut i = 0;
     while i < nodes.len() {
-        let told = first_from(i, &constant, from);
-        constant = fold_node(alloc, code, nodes[i], &mut constant, told)?;
+        let told = first_from(i, value, from);
+        fold_node(alloc, code, nodes[i], value, told)?;
         i += 1;
     }
-    Ok(constant)
+    Ok(())
 }
 
 // Where the next node of a left chain comes from: the span is still to be told where nothing is put yet.
@@ -86,37 +166,32 @@ pub(crate) fn compile_expr<'source>(
     if let Expr::Var(n) = expr {
         return put(code, Instruction::Lookup(CowStr::Borrowed(n.node.id)), from);
     }
-    let constant = fold_expr(alloc, code, expr, from)?;
+    let mut constant = None;
+    fold_expr(alloc, code, expr, &mut constant, from)?;
     load(code, constant, from)
 }
 
-// A node behind its left part, whose value is given where it was held back, and taken where it is put.
+// A node behind its left part, whose value is given where it was held back; the value of the node takes its place.
 #[cycle(expression)]
 fn fold_node<'source>(
     alloc: Global,
     code: &mut Instructions<'source>,
     expr: &Expr<'source>,
-    left: &mut Option<Value>,
+    value: &mut Option<Value>,
     from: Option<Span>,
-) -> Result<Option<Value>, Error>
+) -> Result<(), Error>
     requires { IsRunnable (expression_of expr.now) }
-    ensures constant { IfOk result (λ o. o ≡ own_constant left.old (expression_of expr.now)) }
-    ensures put { IfOk result (λ o. Puts (unless o (own_code left.old (expression_of expr.now))) code.old code.new) }
+    ensures constant { OnOk result (value.new ≡ own_constant value.old (expression_of expr.now)) }
+    ensures put { OnOk result (Puts (unless value.new (own_code value.old (expression_of expr.now))) code.old code.new) }
     ensures refused { IfErr result (TakesNoMore (code_in code.new)) }
 {
     match expr {
-        Expr::Var(n) => {
-            put(code, Instruction::Lookup(CowStr::Borrowed(n.node.id)), from)?;
-            Ok(None)
-        }
-        Expr::Const(n) => {
-            let value = n.node.value.copy()?;
-            Ok(Some(value))
-        }
-        Expr::UnaryOp(n) => fold_unary_operator(alloc, code, n.node.op, &n.node.expr, from),
+        Expr::Var(n) => put(code, Instruction::Lookup(CowStr::Borrowed(n.node.id)), from),
+        Expr::Const(n) => hold(value, &n.node.value),
+        Expr::UnaryOp(n) => fold_unary_operator(alloc, code, n.node.op, &n.node.expr, value, from),
         Expr::BinOp(n) => match leap_of(n.node.op) {
-            Some(leap) => fold_choice(alloc, code, n.node.op, leap, left, &n.node.right, from),
-            None => fold_operator(alloc, code, n.node.op, left, &n.node.right, from),
+            Some(leap) => fold_choice(alloc, code, n.node.op, leap, value, &n.node.right, from),
+            None => fold_operator(alloc, code, n.node.op, value, &n.node.right, from),
         },
         Expr::IfExpr(n) => {
             let node = &n.node;
@@ -127,22 +202,10 @@ fn fold_node<'source>(
                 &node.true_expr,
                 &node.false_expr,
                 from,
-            )?;
-            Ok(None)
+            )
         }
-        Expr::GetAttr(n) => {
-            load(code, left.take(), from)?;
-            put(
-                code,
-                Instruction::GetAttr(CowStr::Borrowed(n.node.name)),
-                None,
-            )?;
-            Ok(None)
-        }
-        Expr::GetItem(n) => {
-            compile_item(alloc, code, left.take(), &n.node.subscript_expr, from)?;
-            Ok(None)
-        }
+        Expr::GetAttr(n) => compile_attribute(code, value.take(), n.node.name, from),
+        Expr::GetItem(n) => compile_item(alloc, code, value.take(), &n.node.subscript_expr, from),
         Expr::Filter(_) => unreachable!(),
         Expr::Test(_) => unreachable!(),
         Expr::Call(_) => unreachable!(),
@@ -150,89 +213,178 @@ fn fold_node<'source>(
             compile_slice(
                 alloc,
                 code,
-                left.take(),
+                value.take(),
                 &n.node.start,
                 &n.node.stop,
                 &n.node.step,
                 from,
-            )?;
-            Ok(None)
+            )
         }
-        Expr::Compare(n) => fold_chain(alloc, code, left, &n.node.ops, from),
-        Expr::List(n) => fold_list_literal(alloc, code, &n.node.items, from),
-        Expr::Tuple(n) => fold_tuple_literal(alloc, code, &n.node.items, from),
-        Expr::Map(n) => fold_map_literal(alloc, code, &n.node.keys, &n.node.values, from),
+        Expr::Compare(n) => {
+            let held = fold_chain(alloc, code, value, &n.node.ops, from)?;
+            *value = held;
+            Ok(())
+        }
+        Expr::List(n) => {
+            *value = fold_list_literal(alloc, code, &n.node.items, from)?;
+            Ok(())
+        }
+        Expr::Tuple(n) => {
+            *value = fold_tuple_literal(alloc, code, &n.node.items, from)?;
+            Ok(())
+        }
+        Expr::Map(n) => {
+            *value = fold_map_literal(alloc, code, &n.node.keys, &n.node.values, from)?;
+            Ok(())
+        }
     }
+}
+
+#[inline(never)]
+fn compile_attribute<'source>(
+    code: &mut Instructions<'source>,
+    left: Option<Value>,
+    name: &'source str,
+    from: Option<Span>,
+) -> Result<(), Error>
+    ensures put { OnOk result (Puts (behind left (one (get_attr name.now))) code.old code.new) }
+    ensures refused { IfErr result (TakesNoMore (code_in code.new)) }
+{
+    load(code, left, from)?;
+    put(code, Instruction::GetAttr(CowStr::Borrowed(name)), None)
 }
 
 // An operator before its operand.
 #[cycle(expression)]
+#[inline(never)]
 fn fold_unary_operator<'source>(
     alloc: Global,
     code: &mut Instructions<'source>,
     op: UnaryOpKind,
     operand: &Expr<'source>,
+    value: &mut Option<Value>,
     from: Option<Span>,
-) -> Result<Option<Value>, Error>
-    requires { IsRunnable (expression_of operand.now) }
-    ensures constant { IfOk result (λ o. o ≡ unary_folded op (constant_of (expression_of operand.now))) }
-    ensures put { IfOk result
-        (λ o. Puts (unless o (then_code (expression_code (expression_of operand.now)) (one (unary_code op)))) code.old code.new) }
+) -> Result<(), Error>
+    requires runs { IsRunnable (expression_of operand.now) }
+    requires none { value.old ≡ None }
+    ensures constant { OnOk result (value.new ≡ unary_folded op (constant_of (expression_of operand.now))) }
+    ensures put { OnOk result (Puts (unless value.new (then_code (expression_code (expression_of operand.now)) (one (unary_code op)))) code.old
+        code.new) }
     ensures refused { IfErr result (TakesNoMore (code_in code.new)) }
 {
     let begins = code.len();
-    let constant = fold_expr(alloc, code, operand, from)?;
-    end_unary(code, begins, op, constant, from)
+    fold_expr(alloc, code, operand, value, from)?;
+    if value.is_none() {
+        return put(code, unary_instruction(op), None);
+    }
+    *value = end_unary(code, begins, op, value.take(), from)?;
+    Ok(())
 }
 
 // `and` or `or` behind its left side, which is loaded before the right one, and dropped again where both
 // are constant.
 #[cycle(expression)]
+#[inline(never)]
 fn fold_choice<'source>(
     alloc: Global,
     code: &mut Instructions<'source>,
     op: BinOpKind,
     leap: Leap,
-    left: &Option<Value>,
+    value: &mut Option<Value>,
     right: &Expr<'source>,
     from: Option<Span>,
-) -> Result<Option<Value>, Error>
+) -> Result<(), Error>
     requires { IsRunnable (expression_of right.now) }
-    ensures constant { IfOk result (λ o. o ≡ binary_folded op left.now (constant_of (expression_of right.now))) }
-    ensures put { IfOk result
-        (λ o. Puts (unless o (behind left.now (skipped (leap_code leap) (expression_code (expression_of right.now))))) code.old code.new) }
+    ensures constant { OnOk result (value.new ≡ binary_folded op value.old (constant_of (expression_of right.now))) }
+    ensures put { OnOk result
+        (Puts (unless value.new (behind value.old (skipped (leap_code leap) (expression_code (expression_of right.now))))) code.old code.new) }
+    ensures refused { IfErr result (TakesNoMore (code_in code.new)) }
+{
+    if value.is_none() {
+        let jump = reserve(code, leap, None)?;
+        compile_expr(alloc, code, right, None)?;
+        land(code, jump, leap);
+        return Ok(());
+    }
+    fold_constant_choice(alloc, code, op, leap, value, right, from)
+}
+
+#[cycle(expression)]
+#[inline(never)]
+fn fold_constant_choice<'source>(
+    alloc: Global,
+    code: &mut Instructions<'source>,
+    op: BinOpKind,
+    leap: Leap,
+    value: &mut Option<Value>,
+    right: &Expr<'source>,
+    from: Option<Span>,
+) -> Result<(), Error>
+    requires { IsRunnable (expression_of right.now) }
+    ensures constant { OnOk result (value.new ≡ binary_folded op value.old (constant_of (expression_of right.now))) }
+    ensures put { OnOk result
+        (Puts (unless value.new (behind value.old (skipped (leap_code leap) (expression_code (expression_of right.now))))) code.old code.new) }
     ensures refused { IfErr result (TakesNoMore (code_in code.new)) }
 {
     let begins = code.len();
-    load_copy(code, left, from)?;
+    load_copy(code, value, from)?;
     let jump = reserve(code, leap, None)?;
-    let constant = fold_expr(alloc, code, right, None)?;
+    let mut constant = None;
+    fold_expr(alloc, code, right, &mut constant, None)?;
     let choice = Choice { begins, jump, leap };
-    end_choice(alloc, code, choice, op, left, constant)
+    *value = end_choice(alloc, code, choice, op, value, constant)?;
+    Ok(())
 }
 
 // Another operator behind its left side, which is loaded before the right one, and dropped again where
 // both are constant.
 #[cycle(expression)]
+#[inline(never)]
 fn fold_operator<'source>(
     alloc: Global,
     code: &mut Instructions<'source>,
     op: BinOpKind,
-    left: &Option<Value>,
+    value: &mut Option<Value>,
     right: &Expr<'source>,
     from: Option<Span>,
-) -> Result<Option<Value>, Error>
+) -> Result<(), Error>
     requires right { IsRunnable (expression_of right.now) }
     requires op { IsNone (leap_of op) }
-    ensures constant { IfOk result (λ o. o ≡ binary_folded op left.now (constant_of (expression_of right.now))) }
-    ensures put { IfOk result
-        (λ o. Puts (unless o (behind left.now (then_code (expression_code (expression_of right.now)) (one (operate op))))) code.old code.new) }
+    ensures constant { OnOk result (value.new ≡ binary_folded op value.old (constant_of (expression_of right.now))) }
+    ensures put { OnOk result
+        (Puts (unless value.new (behind value.old (then_code (expression_code (expression_of right.now)) (one (operate op))))) code.old code.new) }
+    ensures refused { IfErr result (TakesNoMore (code_in code.new)) }
+{
+    if value.is_none() {
+        compile_expr(alloc, code, right, None)?;
+        return put(code, operator_instruction(op), None);
+    }
+    fold_constant_operator(alloc, code, op, value, right, from)
+}
+
+#[cycle(expression)]
+#[inline(never)]
+fn fold_constant_operator<'source>(
+    alloc: Global,
+    code: &mut Instructions<'source>,
+    op: BinOpKind,
+    value: &mut Option<Value>,
+    right: &Expr<'source>,
+    from: Option<Span>,
+) -> Result<(), Error>
+    requires right { IsRunnable (expression_of right.now) }
+    requires op { IsNone (leap_of op) }
+    ensures constant { OnOk result (value.new ≡ binary_folded op value.old (constant_of (expression_of right.now))) }
+    ensures put { OnOk result
+        (Puts (unless value.new (behind value.old (then_code (expression_code (expression_of right.now)) (one (operate op))))) code.old code.new) }
     ensures refused { IfErr result (TakesNoMore (code_in code.new)) }
 {
     let begins = code.len();
-    load_copy(code, left, from)?;
-    let constant = fold_expr(alloc, code, right, None)?;
-    end_operator(alloc, code, begins, op, left, constant)
+    load_copy(code, value, from)?;
+    let mut constant = None;
+    fold_expr(alloc, code, right, &mut constant, None)?;
+    *value = end_operator(alloc, code, begins, op, value, constant)?;
+    Ok(())
 }
 
 // An expression that may be left out, for which a constant stands then.
@@ -255,6 +407,7 @@ fn compile_optional<'source>(
 
 // A test, and one of two values; the other one is undefined where it is left out.
 #[cycle(expression)]
+#[inline(never)]
 fn compile_choice<'source>(
     alloc: Global,
     code: &mut Instructions<'source>,
@@ -284,6 +437,7 @@ fn compile_choice<'source>(
 
 // An item of the left part.
 #[cycle(expression)]
+#[inline(never)]
 fn compile_item<'source>(
     alloc: Global,
     code: &mut Instructions<'source>,
@@ -303,6 +457,7 @@ fn compile_item<'source>(
 
 // A slice of the left part; a bound that is left out is none.
 #[cycle(expression)]
+#[inline(never)]
 fn compile_slice<'source>(
     alloc: Global,
     code: &mut Instructions<'source>,
@@ -377,6 +532,7 @@ fn compile_entries<'source>(
 
 // A list of literals is a constant.
 #[cycle(expression)]
+#[inline(never)]
 fn fold_list_literal<'source>(
     alloc: Global,
     code: &mut Instructions<'source>,
@@ -402,6 +558,7 @@ fn fold_list_literal<'source>(
 
 // A tuple of literals is a constant.
 #[cycle(expression)]
+#[inline(never)]
 fn fold_tuple_literal<'source>(
     alloc: Global,
     code: &mut Instructions<'source>,
@@ -427,6 +584,7 @@ fn fold_tuple_literal<'source>(
 
 // A map of literals is a constant.
 #[cycle(expression)]
+#[inline(never)]
 fn fold_map_literal<'source>(
     alloc: Global,
     code: &mut Instructions<'source>,
@@ -474,7 +632,8 @@ fn compile_link<'source>(
     ensures put { OnOk result (Puts (link_code link.now.op (expression_of link.now.expr)) code.old code.new) }
     ensures refused { IfErr result (TakesNoMore (code_in code.new)) }
 {
-    let right = fold_expr(alloc, code, &link.expr, None)?;
+    let mut right = None;
+    fold_expr(alloc, code, &link.expr, &mut right, None)?;
     end_link(code, left, link.op, right)
 }
 
@@ -542,6 +701,7 @@ fn compile_chain<'source>(
 
 // The comparisons behind the first operand, which are dropped again where they are constant.
 #[cycle(expression)]
+#[inline(never)]
 fn fold_chain<'source>(
     alloc: Global,
     code: &mut Instructions<'source>,
