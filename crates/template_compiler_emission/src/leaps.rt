@@ -62,7 +62,7 @@ fn add_from<'source>(
 }
 
 // Puts one instruction behind the others, which comes from a span of the source, and answers its place.
-#[inline(never)]
+#[inline(always)]
 fn add_at<'source>(
     code: &mut Instructions<'source>,
     instruction: Instruction<'source>,
@@ -126,6 +126,7 @@ pub fn land<'source>(code: &mut Instructions<'source>, place: u32, leap: Leap)
 /// # Errors
 ///
 /// Those of [`Instructions::add`].
+#[inline(always)]
 pub fn load<'source>(
     code: &mut Instructions<'source>,
     constant: Option<Value>,
@@ -158,6 +159,7 @@ fn load_value<'source>(
 /// # Errors
 ///
 /// Those of [`Instructions::add`].
+#[inline(always)]
 pub fn load_copy<'source>(
     code: &mut Instructions<'source>,
     constant: &Option<Value>,

@@ -102,6 +102,9 @@ fn value_of(base: u32, digits: &[u8]) -> Option<u128>
     requires high { base ≤ 16 }
     ensures { SomeIff result (number.value_of base digits.now < 2 ^ 127) (number.value_of base digits.now) }
 {
+    if let [digit] = digits {
+        return with_digit(base, 0, *digit);
+    }
     let mut value = 0;
     for byte in digits {
         match with_digit(base, value, *byte) {
