@@ -1,5 +1,5 @@
 -- Where a place stands in a source. Lines and columns stop at 65535, offsets at 2^32 - 1.
-use Rattle.std.specs.Prelude.{◌≡◌, ℕ, ◌+◌, ◌-◌, ◌^◌, min, List, length, fold, count_by}
+use Rattle.std.specs.Prelude.{◌≡◌, ℕ, ◌+◌, ◌-◌, ◌*◌, ◌/◌, ◌%◌, ◌^◌, min, List, length, fold, count_by}
 use Rattle.template_compiler_places.specs.Bytes.{is_newline, next_column}
 use Rattle.template_tree.specs.declared.span.Span.{Span}
 use Rattle.template_compiler_places.specs.declared.place.Place.{Place}
@@ -36,3 +36,11 @@ span_between start end = record {
   end_col = min (column_behind end) 65535;
   end_offset = min (length end) (2 ^ 32 - 1);
 }
+
+-- a place in one number: its line and its column take 16 bits each, its offset those above them
+abbrev pub packed_of : Place → ℕ
+packed_of place = place.line + place.column * 65536 + place.offset * 4294967296
+
+-- the place in a number
+abbrev pub place_in : ℕ → Place
+place_in n = record { line = n % 65536; column = n / 65536 % 65536; offset = n / 4294967296 }

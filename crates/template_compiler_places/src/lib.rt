@@ -10,4 +10,4 @@ mod stretch;
 pub use bytes::{behind_white_space, goes_before, is_low_surrogate, last_between};
 pub use place::Place;
 pub use starts::are_apart;
-pub use stretch::{Stretch, span_in};
+pub use stretch::{Stretch, next_span, span_in};

@@ -1,8 +1,15 @@
 //! A place in a source.
-ghost use Rattle.std.specs.Prelude.{◌≡◌, ℕ, ◌+◌, IsTrue, true, false, ◌++◌, List, [], length, min, count_by, fold};
+ghost use Rattle.std.specs.Prelude.{◌≡◌, ℕ, ◌+◌, ◌-◌, ◌^◌, ◌≤◌, IsTrue, true, false, ◌++◌, List, [], length, min, count_by, fold};
 ghost use Rattle.template_compiler_places.specs.Bytes.{is_newline, begins_character, next_column, ArePlain};
 
 use template_tree::Span;
+
+// What a column, an offset and a character of one byte count for in a place that is one number.
+const COLUMN: u64 = 1 << 16;
+
+const OFFSET: u64 = 1 << 32;
+
+const CHARACTER: u64 = COLUMN + OFFSET;
 
 /// A place in a source. Lines begin at 1, columns at 0; lines and columns stop at 65535, offsets at 2^32 - 1.
 #[derive(Clone, Copy, Debug, PartialEq, Eq)]
@@ -13,7 +20,7 @@ pub struct Place {
 }
 
 impl Place {
-    ghost use Rattle.template_compiler_places.specs.Places.{IsBehind, IsBetween};
+    ghost use Rattle.template_compiler_places.specs.Places.{IsBehind, IsBetween, packed_of, place_in};
 
     /// Where a source begins.
     pub fn start() -> Place
@@ -57,6 +64,39 @@ impl Place {
             line: self.line.saturating_add(saturate(newlines)),
             column: saturate(column),
             offset: saturate_offset(self.offset, bytes.len()),
+        }
+    }
+
+    // The place behind so many characters of one byte each, on the line of this one.
+    #[inline(always)]
+    pub(crate) fn along(self, passed: usize) -> Place
+        requires columns { self.column + passed ≤ 65535 }
+        requires offsets { self.offset + passed ≤ 2 ^ 32 - 1 }
+        ensures line { result.line ≡ self.line }
+        ensures column { result.column ≡ self.column + passed }
+        ensures offset { result.offset ≡ self.offset + passed }
+    {
+        Place::unpacked(self.packed() + passed as u64 * CHARACTER)
+    }
+
+    /// The place in one number: a register has room for it.
+    #[inline(always)]
+    pub(crate) fn packed(self) -> u64
+        ensures number { result ≡ packed_of self }
+        ensures place { place_in result ≡ self }
+    {
+        u64::from(self.line) + u64::from(self.column) * COLUMN + u64::from(self.offset) * OFFSET
+    }
+
+    /// The place in a number.
+    #[inline(always)]
+    pub(crate) fn unpacked(packed: u64) -> Place
+        ensures { result ≡ place_in packed }
+    {
+        Place {
+            line: (packed % COLUMN) as u16,
+            column: (packed / COLUMN % COLUMN) as u16,
+            offset: (packed / OFFSET) as u32,
         }
     }
 

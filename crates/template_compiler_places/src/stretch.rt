@@ -1,7 +1,7 @@
 //! A stretch of a source whose places are told without a look at its bytes.
 ghost use Rattle.std.specs.Prelude.{◌≡◌, ◌+◌, ◌-◌, ◌≤◌, ◌<◌, ℕ, List, length, take, slice_index};
 ghost use Rattle.template_compiler_places.specs.Bytes.{ArePlain};
-ghost use Rattle.template_compiler_places.specs.Places.{span_between};
+ghost use Rattle.template_compiler_places.specs.Places.{IsBehind, place_in, span_between};
 ghost use Rattle.template_compiler_places.specs.Stretches.{BeginsBy};
 
 use crate::place::{Place, is_plain};
@@ -80,12 +80,7 @@ impl Stretch {
         requires narrow { IsNarrow self }
         ensures { (source : List ℕ) → IsStretch source self → IsBehind (take at source) result }
     {
-        let passed = at - self.begin;
-        Place {
-            line: self.first.line,
-            column: self.first.column + passed as u16,
-            offset: self.first.offset + passed as u32,
-        }
+        self.first.along(at - self.begin)
     }
 }
 
@@ -99,9 +94,67 @@ pub fn span_in(text: &str, stretch: Stretch, begin: usize, end: usize) -> (Span,
     ensures span { result.0 ≡ span_between (take begin text.now) (take end text.now) }
     ensures begins { BeginsBy text.now end result.1 }
 {
+    let mut ends = stretch;
+    let span = next_span(text, &mut ends, begin, end);
+    (span, ends)
+}
+
+/// The same, where the stretch is put into the place of the one that is given.
+#[inline(always)]
+pub fn next_span(text: &str, stretch: &mut Stretch, begin: usize, end: usize) -> Span
+    requires begins { BeginsBy text.now begin stretch.old }
+    requires ordered { begin ≤ end }
+    requires within { end ≤ length text.now }
+    ensures span { result ≡ span_between (take begin text.now) (take end text.now) }
+    ensures begins { BeginsBy text.now end stretch.new }
+{
+    let Ends { first, last } = next_ends(text, stretch, begin, end);
+    Place::unpacked(first).to(Place::unpacked(last))
+}
+
+// The places where a span begins and ends, each in one number.
+#[derive(Clone, Copy)]
+struct Ends {
+    first: u64,
+    last: u64,
+}
+
+// Most spans end where their stretch does, or before.
+#[inline(always)]
+fn next_ends(text: &str, stretch: &mut Stretch, begin: usize, end: usize) -> Ends
+    requires begins { BeginsBy text.now begin stretch.old }
+    requires ordered { begin ≤ end }
+    requires within { end ≤ length text.now }
+    ensures first { IsBehind (take begin text.now) (place_in result.first) }
+    ensures last { IsBehind (take end text.now) (place_in result.last) }
+    ensures begins { BeginsBy text.now end stretch.new }
+{
+    if end <= stretch.end {
+        Ends {
+            first: stretch.place(begin).packed(),
+            last: stretch.place(end).packed(),
+        }
+    } else {
+        ends_beyond(text, stretch, begin, end)
+    }
+}
+
+#[inline(never)]
+fn ends_beyond(text: &str, stretch: &mut Stretch, begin: usize, end: usize) -> Ends
+    requires begins { BeginsBy text.now begin stretch.old }
+    requires ordered { begin ≤ end }
+    requires within { end ≤ length text.now }
+    ensures first { IsBehind (take begin text.now) (place_in result.first) }
+    ensures last { IsBehind (take end text.now) (place_in result.last) }
+    ensures begins { BeginsBy text.now end stretch.new }
+{
     let starts = stretch.reaching(text, begin);
     let ends = starts.reaching(text, end);
-    (starts.place(begin).to(ends.place(end)), ends)
+    *stretch = ends;
+    Ends {
+        first: starts.place(begin).packed(),
+        last: ends.place(end).packed(),
+    }
 }
 
 // The first bytes, as many as the limit at most.
