@@ -1,5 +1,6 @@
 pub mod Names
 pub mod Digits
+pub mod Lone
 pub mod Characters
 pub mod Cuts
 pub mod Pieces

@@ -1,5 +1,5 @@
 -- Signs, names and classes of tokens.
-use Rattle.std.proofs.Common.{◌≡◌, ℕ, ◌<◌, ◌⊎◌, inl, inr, Result, Ok, Err, IfOk, IsUtf8, IsCharBoundary, if◌then◌else◌, Bool, true, false, ◌==◌, ◌||◌, List, Option, None, Some, option_map, slice_index, refl, sym, ◌∙◌}
+use Rattle.std.proofs.Common.{◌≡◌, ℕ, ◌<◌, ◌⊎◌, inl, inr, Result, Ok, Err, IfOk, IsUtf8, IsCharBoundary, if◌then◌else◌, Bool, true, false, ◌==◌, ◌||◌, List, None, Some, slice_index, refl, sym, ◌∙◌}
 use Rattle.std.specs.Char.{is_ascii_digit}
 use Rattle.std.proofs.lemmas.Bool.{eq-eqb, eqb-true, false_from_ne_true}
 use Rattle.template_values_errors.specs.declared.ErrorKind.{ErrorKind}
@@ -11,29 +11,14 @@ use Rattle.template_compiler_tokens.proofs.Ends.{begins_ends}
 use Rattle.template_compiler_tokens.proofs.Views.{never_bad, taken_whole}
 use Rattle.template_compiler_scanner.specs.Scans.{Scans, ScansNumber, ScansText, ScansSign}
 use Rattle.template_compiler_scanner.proofs.Cuts.{cut_behind_ascii}
-use Rattle.template_compiler_tokens.specs.Lexical.{is_name_start, long_sign, short_sign, IsSign, long, short, no_sign, Class, name_class, number_class, text_class, sign_class, class_of, BeginsAs, Begins}
+use Rattle.template_compiler_tokens.specs.Lexical.{is_name_start, long_sign, short_sign, IsSign, long, short, Class, name_class, number_class, text_class, sign_class, class_of, BeginsAs, Begins}
 
-symbol_of : (o : Option Symbol) (t : Token) → Some t ≡ option_map symbol o → (x : Symbol) × (o ≡ Some x) × (t ≡ symbol x)
-symbol_of None t e = absurd cc
-symbol_of (Some x) t e = (x, refl, cc)
+pub long_found : (s : List ℕ) (t : Token) (x : Symbol) → t ≡ symbol x → Some x ≡ long_sign (slice_index s 0) (slice_index s 1) → IsSign s t 2
+long_found s t x e f = rw e (long (sym f))
 
-no_symbol : (o : Option Symbol) → option_map symbol o ≡ None → o ≡ None
-no_symbol None e = refl
-no_symbol (Some x) e = absurd cc
-
-pub long_found : (s : List ℕ) (t : Token) → Some t ≡ option_map symbol (long_sign (slice_index s 0) (slice_index s 1)) → IsSign s t 2
-long_found s t e = let x = symbol_of (long_sign (slice_index s 0) (slice_index s 1)) t e in rw x.2 (long x.1)
-
-pub short_found : (s : List ℕ) (t : Token) → option_map symbol (long_sign (slice_index s 0) (slice_index s 1)) ≡ None →
-    Some t ≡ option_map symbol (short_sign (slice_index s 0)) → IsSign s t 1
-short_found s t e f =
-    let x = symbol_of (short_sign (slice_index s 0)) t f in
-    rw x.2 (short (no_symbol (long_sign (slice_index s 0) (slice_index s 1)) e) x.1)
-
-pub none_found : (s : List ℕ) → option_map symbol (long_sign (slice_index s 0) (slice_index s 1)) ≡ None →
-    option_map symbol (short_sign (slice_index s 0)) ≡ None → IsSign s (bad bad_syntax) 0
-none_found s e f =
-    no_sign (no_symbol (long_sign (slice_index s 0) (slice_index s 1)) e) (no_symbol (short_sign (slice_index s 0)) f)
+pub short_found : (s : List ℕ) (t : Token) (x : Symbol) → t ≡ symbol x → long_sign (slice_index s 0) (slice_index s 1) ≡ None →
+    Some x ≡ short_sign (slice_index s 0) → IsSign s t 1
+short_found s t x e none f = rw e (short none (sym f))
 
 pub class_name : (b : ℕ) → is_name_start b ≡ true → class_of b ≡ name_class
 unfolding class_of

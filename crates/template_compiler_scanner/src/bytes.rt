@@ -17,7 +17,7 @@ pub fn byte_at(text: &[u8], at: usize) -> u8
 pub fn is_name_start(byte: u8) -> bool
     ensures { result ≡ name_start byte }
 {
-    byte.is_ascii_alphabetic() || byte == b'_'
+    byte.is_ascii_lowercase() || byte.is_ascii_alphabetic() || byte == b'_'
 }
 
 /// The byte may stand in a name. Most are small letters, which are asked for first.
@@ -25,7 +25,7 @@ pub fn is_name_start(byte: u8) -> bool
 pub fn is_name_part(byte: u8) -> bool
     ensures { result ≡ name_part byte }
 {
-    byte.is_ascii_lowercase() || byte.is_ascii_alphanumeric() || byte == b'_'
+    byte.is_ascii_lowercase() || (byte >= b'0' && (byte.is_ascii_alphanumeric() || byte == b'_'))
 }
 
 /// How many of the first bytes may stand in a name.

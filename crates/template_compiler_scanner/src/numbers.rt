@@ -6,7 +6,7 @@ ghost use Rattle.template_compiler_tokens.specs.Token as token;
 ghost use Rattle.template_compiler_tokens.specs.View.{token_of};
 ghost use Rattle.template_compiler_scanner.specs.Scans.{ScansNumber};
 
-use crate::bytes::byte_at;
+use crate::bytes::{byte_at, is_name_part};
 use template_compiler_tokens::Token;
 use template_values_errors::ErrorKind;
 
@@ -158,6 +158,32 @@ fn is_float(base: u32, behind: &[u8]) -> bool
 /// The number that the text begins with, and how many bytes it takes. A fraction or an exponent directly
 /// behind decimal digits is refused by `NoFloats`, a number of 2^127 or more by `SyntaxError`.
 pub fn scan_number<'source>(text: &[u8]) -> Result<(Token<'source>, usize), ErrorKind>
+    ensures { ScansNumber text.now result }
+{
+    match lone_digit(text) {
+        Some(digit) => Ok((Token::Int(digit), 1)),
+        None => scan_digits(text),
+    }
+}
+
+// The value of the number that the text begins with, where that is a digit alone, as most are.
+#[inline(always)]
+fn lone_digit(text: &[u8]) -> Option<u64>
+    ensures value { IfSome result (λ digit. number.number_at text.now ≡ token.number digit) }
+    ensures width { IfSome result (λ digit. number.number_width text.now ≡ 1) }
+{
+    let first = byte_at(text, 0);
+    let next = byte_at(text, 1);
+    if first.is_ascii_digit() && next != b'.' && !is_name_part(next) {
+        Some(u64::from(first - b'0'))
+    } else {
+        None
+    }
+}
+
+// The same for a number of any length.
+#[inline(never)]
+fn scan_digits<'source>(text: &[u8]) -> Result<(Token<'source>, usize), ErrorKind>
     ensures { ScansNumber text.now result }
 {
     let base = base_of(text);

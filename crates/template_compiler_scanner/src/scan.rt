@@ -1,7 +1,8 @@
 //! One token.
-ghost use Rattle.std.specs.Prelude.{◌≡◌, ◌<◌, IfOk, take_while};
-ghost use Rattle.template_compiler_tokens.specs.Lexical.{is_name_part};
+ghost use Rattle.std.specs.Prelude.{◌≡◌, ◌<◌, IfOk, IfSome, IsTrue, Ok, length, take_while};
+ghost use Rattle.template_compiler_tokens.specs.Lexical.{is_name_part, class_of, sign_class};
 ghost use Rattle.std.specs.Str.{IsCharBoundary};
+ghost use Rattle.template_compiler_tokens.specs.declared.token.Token.TheVariants.{Ident};
 ghost use Rattle.template_compiler_scanner.specs.Scans.{Scans};
 
 use crate::bytes::{byte_at, is_name_start, name_len};
@@ -40,6 +41,45 @@ pub fn scan_token<'source>(
         return scan_text(alloc, text);
     }
     scan_sign(text.as_bytes())
+}
+
+/// The name that the text begins with, if it begins with one.
+#[inline(always)]
+pub fn scan_name(text: &str) -> Option<&str>
+    ensures token { IfSome result (λ name. Scans text.now (Ok (Ident name, length name.now))) }
+    ensures cut { IfSome result (λ name. IsCharBoundary text.now (length name.now)) }
+    ensures some { IfSome result (λ name. 0 < length name.now) }
+{
+    if is_name_start(byte_at(text.as_bytes(), 0)) {
+        Some(leading_name(text))
+    } else {
+        None
+    }
+}
+
+/// The sign or the bracket that the text begins with, if it begins with one, and how many bytes it takes.
+#[inline(always)]
+pub fn scan_mark<'source>(text: &str) -> Option<(Token<'source>, usize)>
+    ensures token { IfSome result (λ found. Scans text.now (Ok found)) }
+    ensures cut { IfSome result (λ found. IsCharBoundary text.now found.1) }
+    ensures some { IfSome result (λ found. 0 < found.1) }
+{
+    if !begins_mark(byte_at(text.as_bytes(), 0)) {
+        return None;
+    }
+    match scan_sign(text.as_bytes()) {
+        Ok(found) => Some(found),
+        Err(_) => None,
+    }
+}
+
+// Neither a name, a number nor a text begins with the byte.
+#[inline(always)]
+#[tactic(auto, unfolding(template_compiler_tokens::specs::Lexical::class_of))]
+fn begins_mark(byte: u8) -> bool
+    ensures { IsTrue result → class_of byte ≡ sign_class }
+{
+    !is_name_start(byte) && !byte.is_ascii_digit() && byte != b'"' && byte != b'\''
 }
 
 /// The longest beginning of the text that may stand in a name.

@@ -4,52 +4,121 @@ ghost use Rattle.template_compiler_tokens.specs.Lexical.{long_sign as the_long_s
 ghost use Rattle.template_compiler_tokens.specs.Token.{symbol};
 ghost use Rattle.template_compiler_tokens.specs.View.{token_of};
 ghost use Rattle.template_compiler_scanner.specs.Scans.{ScansSign};
+ghost use Rattle.template_compiler_scanner.specs.Signs.{symbol_of};
 
 use crate::bytes::byte_at;
 use template_compiler_tokens::Token;
 use template_values_errors::ErrorKind;
 
+/// A sign or a bracket.
+#[derive(Clone, Copy)]
+pub(crate) enum Sign {
+    Plus,
+    Minus,
+    Mul,
+    Div,
+    FloorDiv,
+    Pow,
+    Mod,
+    Dot,
+    Comma,
+    Colon,
+    Tilde,
+    Assign,
+    Pipe,
+    Eq,
+    Ne,
+    Gt,
+    Gte,
+    Lt,
+    Lte,
+    BracketOpen,
+    BracketClose,
+    ParenOpen,
+    ParenClose,
+    BraceOpen,
+    BraceClose,
+}
+
+impl Sign {
+    // Its token.
+    #[inline(always)]
+    fn token<'source>(self) -> Token<'source>
+        ensures { token_of result ≡ symbol (symbol_of self) }
+    {
+        match self {
+            Sign::Plus => Token::Plus,
+            Sign::Minus => Token::Minus,
+            Sign::Mul => Token::Mul,
+            Sign::Div => Token::Div,
+            Sign::FloorDiv => Token::FloorDiv,
+            Sign::Pow => Token::Pow,
+            Sign::Mod => Token::Mod,
+            Sign::Dot => Token::Dot,
+            Sign::Comma => Token::Comma,
+            Sign::Colon => Token::Colon,
+            Sign::Tilde => Token::Tilde,
+            Sign::Assign => Token::Assign,
+            Sign::Pipe => Token::Pipe,
+            Sign::Eq => Token::Eq,
+            Sign::Ne => Token::Ne,
+            Sign::Gt => Token::Gt,
+            Sign::Gte => Token::Gte,
+            Sign::Lt => Token::Lt,
+            Sign::Lte => Token::Lte,
+            Sign::BracketOpen => Token::BracketOpen,
+            Sign::BracketClose => Token::BracketClose,
+            Sign::ParenOpen => Token::ParenOpen,
+            Sign::ParenClose => Token::ParenClose,
+            Sign::BraceOpen => Token::BraceOpen,
+            Sign::BraceClose => Token::BraceClose,
+        }
+    }
+}
+
 // The sign of two bytes.
 #[tactic(auto, unfolding(template_compiler_tokens::specs::Lexical::long_sign))]
-fn long_sign(first: u8, second: u8) -> Option<Token<'static>>
-    ensures { option_map token_of result ≡ option_map symbol (the_long_sign first second) }
+#[inline(always)]
+fn long_sign(first: u8, second: u8) -> Option<Sign>
+    ensures { option_map symbol_of result ≡ the_long_sign first second }
 {
     match (first, second) {
-        (b'=', b'=') => Some(Token::Eq),
-        (b'!', b'=') => Some(Token::Ne),
-        (b'>', b'=') => Some(Token::Gte),
-        (b'<', b'=') => Some(Token::Lte),
-        (b'/', b'/') => Some(Token::FloorDiv),
-        (b'*', b'*') => Some(Token::Pow),
+        (b'=', b'=') => Some(Sign::Eq),
+        (b'!', b'=') => Some(Sign::Ne),
+        (b'>', b'=') => Some(Sign::Gte),
+        (b'<', b'=') => Some(Sign::Lte),
+        (b'/', b'/') => Some(Sign::FloorDiv),
+        (b'*', b'*') => Some(Sign::Pow),
         _ => None,
     }
 }
 
 // The sign of one byte.
 #[tactic(auto, unfolding(template_compiler_tokens::specs::Lexical::short_sign))]
-fn short_sign(byte: u8) -> Option<Token<'static>>
-    ensures { option_map token_of result ≡ option_map symbol (the_short_sign byte) }
+#[inline(always)]
+fn short_sign(byte: u8) -> Option<Sign>
+    ensures { option_map symbol_of result ≡ the_short_sign byte }
 {
     match byte {
-        b'+' => Some(Token::Plus),
-        b'-' => Some(Token::Minus),
-        b'*' => Some(Token::Mul),
-        b'/' => Some(Token::Div),
-        b'%' => Some(Token::Mod),
-        b'.' => Some(Token::Dot),
-        b',' => Some(Token::Comma),
-        b':' => Some(Token::Colon),
-        b'~' => Some(Token::Tilde),
-        b'=' => Some(Token::Assign),
-        b'|' => Some(Token::Pipe),
-        b'>' => Some(Token::Gt),
-        b'<' => Some(Token::Lt),
-        b'[' => Some(Token::BracketOpen),
-        b']' => Some(Token::BracketClose),
-        b'(' => Some(Token::ParenOpen),
-        b')' => Some(Token::ParenClose),
-        b'{' => Some(Token::BraceOpen),
-        b'}' => Some(Token::BraceClose),
+        b'+' => Some(Sign::Plus),
+        b'-' => Some(Sign::Minus),
+        b'*' => Some(Sign::Mul),
+        b'/' => Some(Sign::Div),
+        b'%' => Some(Sign::Mod),
+        b'.' => Some(Sign::Dot),
+        b',' => Some(Sign::Comma),
+        b':' => Some(Sign::Colon),
+        b'~' => Some(Sign::Tilde),
+        b'=' => Some(Sign::Assign),
+        b'|' => Some(Sign::Pipe),
+        b'>' => Some(Sign::Gt),
+        b'<' => Some(Sign::Lt),
+        b'[' => Some(Sign::BracketOpen),
+        b']' => Some(Sign::BracketClose),
+        b'(' => Some(Sign::ParenOpen),
+        b')' => Some(Sign::ParenClose),
+        b'{' => Some(Sign::BraceOpen),
+        b'}' => Some(Sign::BraceClose),
         _ => None,
     }
 }
@@ -61,9 +130,9 @@ pub fn scan_sign<'source>(text: &[u8]) -> Result<(Token<'source>, usize), ErrorK
 {
     let first = byte_at(text, 0);
     match long_sign(first, byte_at(text, 1)) {
-        Some(sign) => Ok((sign, 2)),
+        Some(sign) => Ok((sign.token(), 2)),
         None => match short_sign(first) {
-            Some(sign) => Ok((sign, 1)),
+            Some(sign) => Ok((sign.token(), 1)),
             None => Err(ErrorKind::SyntaxError),
         },
     }

@@ -1,8 +1,8 @@
 use Rattle.std.proofs.Common.{sym, ◌∙◌, refl}
 use Rattle.template_compiler_tokens.specs.Token.{bad_syntax, float_literal}
 use Rattle.template_compiler_scanner.proofs.Digits.{IsNumberAt, scanned_float, scanned_number, scanned_large, scanned_width}
-use Rattle.template_compiler_scanner.proofs.numbers.scan_number.Goals as goal
-use Rattle.template_compiler_scanner.proofs.numbers.scan_number.Goals.{After-is_float}
+use Rattle.template_compiler_scanner.proofs.numbers.scan_digits.Goals as goal
+use Rattle.template_compiler_scanner.proofs.numbers.scan_digits.Goals.{After-is_float}
 
 parts : (c : After-is_float) →
     IsNumberAt c.args.text.now c.split_at.result.1.now c.split_at-2.result.1.now c.split_at-2.result.0.now c.base_of-base.result
