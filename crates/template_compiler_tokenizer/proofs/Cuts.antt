@@ -15,13 +15,18 @@ use Rattle.template_compiler_tokenizer.specs.Finds.{FindsDelimitedEnd, FindsEnd}
 use Rattle.template_compiler_segments.proofs.Searches.{newline_at}
 use Rattle.template_compiler_segments.proofs.Some.{stands_below, set_long}
 
+-- a text that stands at a place begins with the byte there
+pub stands_first : (s text : List ℕ) (i : ℕ) → IsSet text → StandsAt s i text → slice_index s i ≡ slice_index text 0
+stands_first s text i set stands =
+    let long = set_long text set in
+    sym (get_or-drop i s 0 0 ∙ ap (λ n. slice_index s n) (let e : i + 0 ≡ i = omega arith in e)) ∙
+    (sym (get_or-take (length text) (drop i s) 0 0 long) ∙ ap (λ t. slice_index t 0) stands)
+
 pub stands_start : (s text : List ℕ) (i : ℕ) → IsUtf8 text → IsSet text → StandsAt s i text → IsCharBoundary s i
 stands_start s text i utf8 set stands =
     let within = stands_below s i text set stands in
     let long = set_long text set in
-    let same : slice_index s i ≡ slice_index text 0 =
-    sym (get_or-drop i s 0 0 ∙ ap (λ n. slice_index s n) (let e : i + 0 ≡ i = omega arith in e)) ∙
-    (sym (get_or-take (length text) (drop i s) 0 0 long) ∙ ap (λ t. slice_index t 0) stands) in
+    let same = stands_first s text i set stands in
     (omega arith, λ h high. (let low = (IsCharBoundary-start text utf8).1 long (omega arith) in omega arith))
 
 pub stands_cut : (s text : List ℕ) (i : ℕ) → IsUtf8 s → IsUtf8 text → IsSet text → StandsAt s i text → IsCharBoundary s (i + length text)

@@ -20,18 +20,18 @@ use Rattle.template_compiler_tokenizer.specs.Finds.{FindsDelimitedEnd, FindsEnd}
 pub sign_past : (s : List ℕ) (i : ℕ) → length s ≤ i → sign_at s i ≡ Plain
 sign_past s i past = rw (get_or_past s i 0 past) refl
 
-print_ends : {x : Syntax} {s : List ℕ} {i next : ℕ} {last : Sign} → EndsAt x s Variable i last next →
+pub print_ends : {x : Syntax} {s : List ℕ} {i next : ℕ} {last : Sign} → EndsAt x s Variable i last next →
     (is_ascii_whitespace (slice_index s i) ≡ false) × IsEnd s (x.variable_end) i last next
 print_ends (print_end black end) = (black, end)
 
-block_ends : {x : Syntax} {s : List ℕ} {i next : ℕ} {last : Sign} → EndsAt x s Block i last next →
+pub block_ends : {x : Syntax} {s : List ℕ} {i next : ℕ} {last : Sign} → EndsAt x s Block i last next →
     (is_ascii_whitespace (slice_index s i) ≡ false) × IsEnd s (x.block_end) i last next
 block_ends (block_end black end) = (black, end)
 
-no_comment_end : {x : Syntax} {s : List ℕ} {i next : ℕ} {last : Sign} → EndsAt x s Comment i last next → ⊥
+pub no_comment_end : {x : Syntax} {s : List ℕ} {i next : ℕ} {last : Sign} → EndsAt x s Comment i last next → ⊥
 no_comment_end over = elim over [ ]
 
-no_line_comment_end : {x : Syntax} {s : List ℕ} {i next : ℕ} {last : Sign} → EndsAt x s LineComment i last next → ⊥
+pub no_line_comment_end : {x : Syntax} {s : List ℕ} {i next : ℕ} {last : Sign} → EndsAt x s LineComment i last next → ⊥
 no_line_comment_end over = elim over [ ]
 
 pub finds_print_end : (x : Syntax) (s : List ℕ) (i : ℕ) (r : Option (Sign × ℕ)) → FindsDelimitedEnd s (x.variable_end) i r → FindsEnd x s Variable i r

@@ -5,11 +5,13 @@ ghost use Rattle.template_compiler_segments.specs.Known.{Knows};
 ghost use Rattle.template_compiler_tokenizer.specs.Held.{Holds, ReadsAll, ReadsSome, StandsIn, left_of};
 ghost use Rattle.template_compiler_tokenizer.specs.Reads.{IsCut};
 
-use crate::inside::{Piece, next_inside};
+use crate::ends::SegmentEnd;
+use crate::inside::Piece;
 use crate::read::next_piece;
+use crate::segment::{Inner, read_inside};
 use crate::stage::Stage;
 use std::alloc::Global;
-use template_compiler_places::{Stretch, span_in};
+use template_compiler_places::{Stretch, next_span};
 use template_compiler_segments::StartFinder;
 use template_compiler_syntax::SyntaxConfig;
 use template_compiler_tokens::Token;
@@ -49,6 +51,7 @@ pub(crate) fn read_all<'source>(
 }
 
 // Reads the tokens of the segment that the reader stands in, if it does, with its end.
+#[inline(always)]
 fn read_segment<'source>(
     alloc: Global,
     source: &'source str,
@@ -59,19 +62,22 @@ fn read_segment<'source>(
     requires { StandsIn syntax.now source.now first }
     ensures { ReadsSome syntax.now source.now tokens.old.items first tokens.new.items result }
 {
-    let mut at = first;
-    while let Stage::Inside(kind, depth) = at.stage {
-        match next_inside(alloc, source, syntax, kind, depth, at.from) {
-            Ok(piece) => at = hold(source, at, piece, tokens)?,
-            Err(refused) => return Err(refused),
+    match first.stage {
+        Stage::Inside(kind, depth) => {
+            let at = Inner {
+                depth,
+                from: first.from,
+                stretch: first.stretch,
+            };
+            read_inside(alloc, source, SegmentEnd::of(syntax, kind), at, tokens)
         }
+        _ => Ok(first),
     }
-    Ok(at)
 }
 
-// Puts a token that was read from where the reader stands behind those that are held.
+/// Puts a token that was read from where the reader stands behind those that are held.
 #[inline(always)]
-fn hold<'source>(
+pub(crate) fn hold<'source>(
     source: &str,
     at: Standing,
     piece: Piece<'source>,
@@ -88,7 +94,8 @@ fn hold<'source>(
         end,
         next,
     } = piece;
-    let (span, stretch) = span_in(source, at.stretch, begin, end);
+    let mut stretch = at.stretch;
+    let span = next_span(source, &mut stretch, begin, end);
     push(tokens, token, span)?;
     Ok(Standing {
         stage,
@@ -97,8 +104,9 @@ fn hold<'source>(
     })
 }
 
+/// Puts a token with its span behind those that are held.
 #[inline(always)]
-fn push<'source>(
+pub(crate) fn push<'source>(
     tokens: &mut Vec<(Token<'source>, Span)>,
     token: Token<'source>,
     span: Span,

@@ -1,9 +1,10 @@
 // Where segments end.
-ghost use Rattle.std.specs.Prelude.{◌≡◌, ◌≤◌, true, length, slice_index, IfSome};
+ghost use Rattle.std.specs.Prelude.{◌≡◌, ◌≤◌, true, false, length, slice_index, IfSome};
 ghost use Rattle.std.specs.Str.{IsUtf8, IsCharBoundary};
 ghost use Rattle.std.specs.Char.{is_ascii_whitespace as white};
 ghost use Rattle.template_compiler_syntax.specs.Syntax.{Syntax};
 ghost use Rattle.template_compiler_tokenizer.specs.Finds.{FindsDelimiter, FindsDelimitedEnd, FindsEnd};
+ghost use Rattle.template_compiler_tokenizer.specs.Ends.{IsEndText, IsSegmentEnd};
 
 use template_compiler_segments::{Sign, newline_len, stands_at};
 use template_compiler_syntax::{StartMarker, SyntaxConfig};
@@ -18,29 +19,97 @@ pub(crate) fn is_white_at(bytes: &[u8], place: usize) -> bool
     }
 }
 
-/// The sign of the segment's end that stands at the place, and the place behind that end.
+/// Where segments of a kind end under a syntax: its end delimiter is looked up once. Other segments have an empty one.
+#[derive(Clone, Copy)]
+pub struct SegmentEnd<'syntax> {
+    pub syntax: &'syntax SyntaxConfig,
+    pub kind: StartMarker,
+    pub delimiter: &'syntax str,
+    pub first: u8,
+}
+
+impl<'syntax> SegmentEnd<'syntax> {
+    ghost use Rattle.template_compiler_tokenizer.specs.Ends.{IsSegmentEnd};
+
+    /// That of segments of the kind.
+    #[inline(always)]
+    pub fn of(syntax: &'syntax SyntaxConfig, kind: StartMarker) -> SegmentEnd<'syntax>
+        ensures end { IsSegmentEnd result }
+        ensures syntax { result.syntax.now ≡ syntax.now }
+        ensures kind { result.kind ≡ kind }
+    {
+        let delimiter = end_text(syntax, kind);
+        SegmentEnd {
+            syntax,
+            kind,
+            delimiter,
+            first: first_byte(delimiter.as_bytes()),
+        }
+    }
+
+    // Whether an end may begin with the byte, where no white space stands.
+    #[inline(always)]
+    fn may_begin_with(self, byte: u8) -> bool
+        ensures { result ≡ false → (byte ≡ self.entry.first → ⊥) × (byte ≡ 45 → ⊥) × (byte ≡ 43 → ⊥) }
+    {
+        byte == self.first || byte == b'-' || byte == b'+'
+    }
+}
+
 #[inline(always)]
-pub(crate) fn end_at(
-    bytes: &[u8],
-    syntax: &SyntaxConfig,
-    kind: StartMarker,
-    place: usize,
-) -> Option<(Sign, usize)>
-    requires { place ≤ length bytes.now }
-    ensures found { FindsEnd syntax.now bytes.now kind place result }
-    ensures cut { IfSome result (λ p. IsUtf8 bytes.now → IsCharBoundary bytes.now p.1) }
+fn end_text(syntax: &SyntaxConfig, kind: StartMarker) -> &str
+    ensures { IsEndText syntax.now kind result.now }
 {
     match kind {
-        StartMarker::Variable => delimited_end_at(
-            bytes,
-            syntax.variable_delimiters().1.as_bytes(),
-            place,
-        ),
-        StartMarker::Block => delimited_end_at(
-            bytes,
-            syntax.block_delimiters().1.as_bytes(),
-            place,
-        ),
+        StartMarker::Variable => syntax.variable_delimiters().1,
+        StartMarker::Block => syntax.block_delimiters().1,
+        StartMarker::Comment | StartMarker::LineStatement | StartMarker::LineComment => "",
+    }
+}
+
+#[inline(always)]
+fn first_byte(text: &[u8]) -> u8
+    ensures { result ≡ slice_index text.now 0 }
+{
+    match text.first() {
+        Some(first) => *first,
+        None => 0,
+    }
+}
+
+/// The sign of the segment's end that stands at a token's place, and the place behind that end. Few bytes begin one.
+#[inline(always)]
+pub(crate) fn black_end_at(bytes: &[u8], end: SegmentEnd, place: usize) -> Option<(Sign, usize)>
+    requires within { place ≤ length bytes.now }
+    requires end { IsSegmentEnd end }
+    requires black { white (slice_index bytes.now place) ≡ false }
+    ensures found { FindsEnd end.entry.syntax.now bytes.now end.entry.kind place result }
+    ensures cut { IfSome result (λ p. IsUtf8 bytes.now → IsCharBoundary bytes.now p.1) }
+{
+    match bytes.get(place) {
+        Some(byte) => {
+            if end.may_begin_with(*byte) {
+                end_at(bytes, end, place)
+            } else {
+                None
+            }
+        }
+        None => end_at(bytes, end, place),
+    }
+}
+
+/// The sign of the segment's end that stands at the place, and the place behind that end.
+#[inline(always)]
+pub(crate) fn end_at(bytes: &[u8], end: SegmentEnd, place: usize) -> Option<(Sign, usize)>
+    requires within { place ≤ length bytes.now }
+    requires end { IsSegmentEnd end }
+    ensures found { FindsEnd end.entry.syntax.now bytes.now end.entry.kind place result }
+    ensures cut { IfSome result (λ p. IsUtf8 bytes.now → IsCharBoundary bytes.now p.1) }
+{
+    match end.kind {
+        StartMarker::Variable | StartMarker::Block => {
+            delimited_end_at(bytes, end.delimiter.as_bytes(), place)
+        }
         StartMarker::LineStatement => line_end_at(bytes, place),
         StartMarker::Comment | StartMarker::LineComment => None,
     }
@@ -48,19 +117,15 @@ pub(crate) fn end_at(
 
 /// The same at white space, which ends line statements alone.
 #[inline(always)]
-pub(crate) fn blank_end_at(
-    bytes: &[u8],
-    syntax: &SyntaxConfig,
-    kind: StartMarker,
-    place: usize,
-) -> Option<(Sign, usize)>
+pub(crate) fn blank_end_at(bytes: &[u8], end: SegmentEnd, place: usize) -> Option<(Sign, usize)>
     requires within { place ≤ length bytes.now }
+    requires end { IsSegmentEnd end }
     requires blank { white (slice_index bytes.now place) ≡ true }
-    ensures found { FindsEnd syntax.now bytes.now kind place result }
+    ensures found { FindsEnd end.entry.syntax.now bytes.now end.entry.kind place result }
     ensures cut { IfSome result (λ p. IsUtf8 bytes.now → IsCharBoundary bytes.now p.1) }
 {
-    match kind {
-        StartMarker::LineStatement => end_at(bytes, syntax, kind, place),
+    match end.kind {
+        StartMarker::LineStatement => end_at(bytes, end, place),
         _ => None,
     }
 }

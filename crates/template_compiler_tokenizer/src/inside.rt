@@ -3,11 +3,12 @@ ghost use Rattle.std.specs.Prelude.{IfOk, ◌≡◌, ◌≤◌, ◌<◌, ◌^◌
 ghost use Rattle.std.specs.Str.{IsCharBoundary};
 ghost use Rattle.template_compiler_tokens.specs.View.{token_of};
 ghost use Rattle.template_compiler_segments.specs.Segments.{open_brackets};
+ghost use Rattle.template_compiler_tokenizer.specs.Ends.{IsSegmentEnd};
 ghost use Rattle.template_compiler_tokenizer.specs.Finds.{FindsPlace};
 ghost use Rattle.template_compiler_tokenizer.specs.Left.{end_token as token_of_end};
 ghost use Rattle.template_compiler_tokenizer.specs.Reads.{ReadsInside};
 
-use crate::ends::{blank_end_at, end_at, is_white_at};
+use crate::ends::{SegmentEnd, black_end_at, blank_end_at, is_white_at};
 use crate::stage::Stage;
 use std::alloc::Global;
 use template_compiler_scanner::scan_token;
@@ -37,18 +38,28 @@ pub(crate) fn next_place(
     requires { IsCharBoundary source.now from }
     ensures { FindsPlace syntax.now source.now kind depth from result }
 {
+    next_place_of(source, SegmentEnd::of(syntax, kind), depth, from)
+}
+
+/// The same inside a segment that ends so.
+#[inline(always)]
+pub(crate) fn next_place_of(source: &str, end: SegmentEnd, depth: usize, from: usize) -> Found
+    requires start { IsCharBoundary source.now from }
+    requires end { IsSegmentEnd end }
+    ensures { FindsPlace end.entry.syntax.now source.now end.entry.kind depth from result }
+{
     let bytes = source.as_bytes();
     let mut place = from;
     'blanks: while is_white_at(bytes, place) {
         if depth == 0 {
-            if let Some((last, next)) = blank_end_at(bytes, syntax, kind, place) {
+            if let Some((last, next)) = blank_end_at(bytes, end, place) {
                 return Found::End(place, last, next);
             }
         }
         place += 1;
     }
     if depth == 0 {
-        if let Some((last, next)) = end_at(bytes, syntax, kind, place) {
+        if let Some((last, next)) = black_end_at(bytes, end, place) {
             return Found::End(place, last, next);
         }
     }
@@ -107,7 +118,8 @@ pub(crate) fn next_inside<'source>(
     }
 }
 
-fn end_token(kind: StartMarker) -> Token<'static>
+#[inline(always)]
+pub(crate) fn end_token(kind: StartMarker) -> Token<'static>
     ensures { token_of result ≡ token_of_end kind }
 {
     match kind {
@@ -116,8 +128,9 @@ fn end_token(kind: StartMarker) -> Token<'static>
     }
 }
 
-// How many brackets are open behind a token.
-fn brackets_behind(token: &Token, depth: usize) -> usize
+/// How many brackets are open behind a token.
+#[inline(always)]
+pub(crate) fn brackets_behind(token: &Token, depth: usize) -> usize
     requires { depth < 2 ^ 63 }
     ensures { result ≡ open_brackets (token_of token.now) depth }
 {

@@ -8,6 +8,7 @@ mod ends;
 mod inside;
 mod laws;
 mod read;
+mod segment;
 mod stage;
 mod starts;
 mod stream;

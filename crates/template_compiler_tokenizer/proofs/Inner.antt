@@ -1,0 +1,111 @@
+-- What a reader inside a segment leaves.
+use Rattle.std.proofs.Common.{◌≡◌, ℕ, ◌+◌, ◌<◌, inl, inr, List, ◌∷◌, length, drop, Result, Ok, Err, refl, sym, ◌∙◌, ap, subst, arith}
+use Rattle.template_values_errors.specs.declared.ErrorKind.{ErrorKind}
+use Rattle.template_values_errors.specs.declared.ErrorKind.TheVariants.{OutOfMemory}
+use Rattle.std.specs.Prelude.{◌⊎◌}
+use Rattle.template_tree.specs.declared.span.Span.{Span}
+use Rattle.template_compiler_syntax.specs.declared.StartMarker.{StartMarker}
+use Rattle.template_compiler_syntax.specs.Syntax.{Syntax}
+use Rattle.template_compiler_tokens.specs.View.{token_of}
+use Rattle.template_compiler_tokens.specs.declared.token.Token.{Token}
+use Rattle.template_compiler_scanner.specs.Scans.{Scans}
+use Rattle.template_compiler_segments.specs.declared.edges.Sign.{Sign}
+use Rattle.template_compiler_segments.specs.declared.edges.Edge.TheVariants.{Beside}
+use Rattle.template_compiler_tokenizer.specs.Finds.{FindsPlace}
+use Rattle.template_compiler_tokenizer.specs.Held.{StandsIn, left_of, HoldsRead, HoldsRefused, IsFurther, Holds, ReadsSome}
+use Rattle.template_compiler_tokenizer.specs.Inner.{standing_in, IsPut, IsRead, Puts, ReadsToken}
+use Rattle.template_compiler_tokenizer.specs.Left.{placed, end_token, data_tokens, inside_tokens}
+use Rattle.template_compiler_tokenizer.specs.Reads.{ReadsPiece}
+use Rattle.template_compiler_tokenizer.specs.declared.all.Standing.{Standing}
+use Rattle.template_compiler_tokenizer.specs.declared.inside.Found.TheVariants.{End, Token as Other}
+use Rattle.template_compiler_tokenizer.specs.declared.inside.Piece.{Piece}
+use Rattle.template_compiler_tokenizer.specs.declared.segment.Inner.{Inner}
+use Rattle.template_compiler_tokenizer.specs.declared.stage.Stage.TheVariants as stage
+use Rattle.template_compiler_tokenizer.proofs.Held.{fewer_left, stands_next, holds_next, further_next}
+use Rattle.template_compiler_tokenizer.proofs.Scanned.{scanned, not_scanned, open_le}
+
+pub read_from_put : {A : Type 0} (s : List ℕ) (place : ℕ) (t : Token) (width : ℕ) (first at : Inner) (old held : List (Token × Span)) (r : Result A ErrorKind) →
+    IsRead s place t width → Puts s place t width first at old held r → ReadsToken s place first at old held r
+read_from_put s place t width first at old held (Ok done) read put = (t, width, read, put)
+read_from_put s place t width first at old held (Err kind) read put = (put.0, inl (put.1))
+
+-- the segment's end, as a piece
+abbrev pub end_piece : Token → StartMarker → Sign → ℕ → ℕ → Piece
+end_piece t k last place next = record { token = t; stage = stage.Data (Beside k last); begin = place; end = next; next = next }
+
+pub reads_end : (x : Syntax) (s : List ℕ) (k : StartMarker) (d from place next : ℕ) (last : Sign) (t : Token) → token_of t ≡ end_token k →
+    FindsPlace x s k d from (End place last next) → ReadsPiece x s from (inside_tokens x s k d from) (end_piece t k last place next)
+reads_end x s k d from place next last t e found =
+    let end = found.2 in
+    let low = end.low in
+    let high = end.high in
+    record {
+      first = end.tokens ∙ ap (λ u. placed u place next ∷ data_tokens x s (Beside k last) next) (sym e);
+      stage = found.1;
+      cut = record {
+        low = low;
+        ordered = high;
+        high = omega arith;
+        begin = end.cut;
+        end = found.1;
+        next = found.1;
+      };
+    }
+
+pub ends_some : (x : Syntax) (s : List ℕ) (f at : Standing) (piece : Piece) (old mid held : List (Token × Span)) (r : Result Standing ErrorKind) →
+    ReadsPiece x s at.from (left_of x s at) piece → HoldsRead s old (left_of x s f) mid (left_of x s at) → IsFurther x s f at →
+    Holds s piece mid held r → ReadsSome x s old f held r
+ends_some x s f at piece old mid held (Ok next) read before further holds = (
+  holds_next x s at next piece (holds.1) (holds.2) old mid held (left_of x s f) read before (holds.0),
+  stands_next x s at next piece (holds.1) (holds.2) read (holds.3),
+  further_next x s at next piece (holds.1) (holds.2) f read further,
+)
+ends_some x s f at piece old mid held (Err kind) read before further holds = (
+  left_of x s at,
+  subst (λ h. HoldsRead s old (left_of x s f) h (left_of x s at)) (sym (holds.0)) before,
+  inl (holds.1),
+)
+
+module _ (x : Syntax) (s : List ℕ) (k : StartMarker) (first : Inner) (place : ℕ) (stands : StandsIn x s (standing_in k first))
+    (found : FindsPlace x s k first.depth first.from (Other place)) (old mid held : List (Token × Span)) (f : Standing)
+    (before : HoldsRead s old (left_of x s f) mid (left_of x s (standing_in k first))) where
+  pub refused_there : (kind : ErrorKind) → (held ≡ mid) × ((kind ≡ OutOfMemory) ⊎ Scans (drop place s) (Err kind)) →
+      HoldsRefused s old (left_of x s f) held kind
+  refused_there kind h = (
+    left_of x s (standing_in k first),
+    subst (λ g. HoldsRead s old (left_of x s f) g (left_of x s (standing_in k first))) (sym (h.0)) before,
+    elim (h.1) [
+      | inl memory ↦ inl memory
+      | inr scans ↦ not_scanned x s (drop place s) k first.depth place first.from kind refl found.2 found.4 scans
+    ],
+  )
+
+  module _ (at : Inner) (t : Token) (width : ℕ) (read : IsRead s place t width) (put : IsPut s place t width first at mid held)
+      (further : IsFurther x s f (standing_in k first)) where
+    abbrev piece : Piece
+    piece = record { token = t; stage = stage.Inside k at.depth; begin = place; end = place + width; next = place + width }
+
+    reads : ReadsPiece x s first.from (left_of x s (standing_in k first)) piece
+    reads =
+        let low = found.0 in
+        let depth = put.depth in
+        let most = open_le (token_of t) first.depth in
+        let some = read.some in
+        let start = stands.0.1 in
+        record {
+          first = scanned x s (drop place s) k first.depth place first.from at.depth width t refl found.2 found.4 read.scans depth;
+          stage = (read.cut, omega arith);
+          cut = record { low = low; ordered = omega arith; high = omega arith; begin = found.1; end = read.cut; next = read.cut };
+        }
+
+    pub stands_behind : StandsIn x s (standing_in k at)
+    stands_behind = stands_next x s (standing_in k first) (standing_in k at) piece refl put.from reads put.begins
+
+    pub holds_behind : HoldsRead s old (left_of x s f) held (left_of x s (standing_in k at))
+    holds_behind = holds_next x s (standing_in k first) (standing_in k at) piece refl put.from old mid held (left_of x s f) reads before put.held
+
+    pub further_behind : IsFurther x s f (standing_in k at)
+    further_behind = further_next x s (standing_in k first) (standing_in k at) piece refl put.from f reads further
+
+    pub fewer_behind : length (left_of x s (standing_in k at)) < length (left_of x s (standing_in k first))
+    fewer_behind = fewer_left x s (standing_in k first) (standing_in k at) piece refl put.from reads

@@ -1,0 +1,133 @@
+// The tokens of a segment, one behind another.
+ghost use Rattle.std.specs.Prelude.{◌≤◌, ◌+◌, length};
+ghost use Rattle.std.specs.Str.{IsCharBoundary};
+ghost use Rattle.template_compiler_places.specs.Stretches.{BeginsBy};
+ghost use Rattle.template_compiler_tokenizer.specs.Ends.{IsSegmentEnd};
+ghost use Rattle.template_compiler_tokenizer.specs.Held.{ReadsSome, StandsIn};
+ghost use Rattle.template_compiler_tokenizer.specs.Inner.{Puts, ReadsToken, standing_in};
+
+use crate::all::{Standing, hold, push};
+use crate::ends::SegmentEnd;
+use crate::inside::{Found, Piece, brackets_behind, end_token, next_place_of};
+use crate::stage::Stage;
+use std::alloc::Global;
+use template_compiler_places::{Stretch, next_span};
+use template_compiler_scanner::{scan_mark, scan_name, scan_token};
+use template_compiler_segments::Edge;
+use template_compiler_tokens::Token;
+use template_tree::Span;
+use template_values_errors::ErrorKind;
+
+/// Where a reader stands inside a segment, with so many open brackets.
+#[derive(Clone, Copy)]
+pub struct Inner {
+    pub depth: usize,
+    pub from: usize,
+    pub stretch: Stretch,
+}
+
+/// Reads the tokens of the segment that a reader stands in and that ends so, with its end.
+#[inline(always)]
+pub(crate) fn read_inside<'source>(
+    alloc: Global,
+    source: &'source str,
+    end: SegmentEnd,
+    first: Inner,
+    tokens: &mut Vec<(Token<'source>, Span)>,
+) -> Result<Standing, ErrorKind>
+    requires end { IsSegmentEnd end }
+    requires stands { StandsIn end.syntax.now source.now (standing_in end.kind first) }
+    ensures { ReadsSome end.entry.syntax.now source.now tokens.old.items (standing_in end.entry.kind first) tokens.new.items result }
+{
+    let mut at = first;
+    'tokens: loop {
+        match next_place_of(source, end, at.depth, at.from) {
+            Found::End(place, last, next) => {
+                let standing = Standing {
+                    stage: Stage::Inside(end.kind, at.depth),
+                    from: at.from,
+                    stretch: at.stretch,
+                };
+                let piece = Piece {
+                    token: end_token(end.kind),
+                    stage: Stage::Data(Edge::Beside(end.kind, last)),
+                    begin: place,
+                    end: next,
+                    next,
+                };
+                return hold(source, standing, piece, tokens);
+            }
+            Found::Token(place) => match read_token(alloc, source, place, &mut at, tokens) {
+                Ok(()) => {}
+                Err(refused) => return Err(refused),
+            },
+        }
+    }
+}
+
+// Reads the token at a place behind white space: most are names and signs.
+#[inline(always)]
+fn read_token<'source>(
+    alloc: Global,
+    source: &'source str,
+    place: usize,
+    at: &mut Inner,
+    tokens: &mut Vec<(Token<'source>, Span)>,
+) -> Result<(), ErrorKind>
+    requires start { IsCharBoundary source.now place }
+    requires depth { at.old.depth ≤ place }
+    requires begins { BeginsBy source.now place at.old.stretch }
+    ensures { ReadsToken source.now place at.old at.new tokens.old.items tokens.new.items result }
+{
+    let rest = source.split_at(place).1;
+    match scan_name(rest) {
+        Some(name) => put(source, at, place, Token::Ident(name), name.len(), tokens),
+        None => match scan_mark(rest) {
+            Some((mark, width)) => put(source, at, place, mark, width, tokens),
+            None => read_other(alloc, source, place, at, tokens),
+        },
+    }
+}
+
+// The same for any token.
+#[inline(never)]
+fn read_other<'source>(
+    alloc: Global,
+    source: &'source str,
+    place: usize,
+    at: &mut Inner,
+    tokens: &mut Vec<(Token<'source>, Span)>,
+) -> Result<(), ErrorKind>
+    requires start { IsCharBoundary source.now place }
+    requires depth { at.old.depth ≤ place }
+    requires begins { BeginsBy source.now place at.old.stretch }
+    ensures { ReadsToken source.now place at.old at.new tokens.old.items tokens.new.items result }
+{
+    match scan_token(alloc, source.split_at(place).1) {
+        Ok((token, width)) => put(source, at, place, token, width, tokens),
+        Err(kind) => Err(kind),
+    }
+}
+
+// Puts a token behind those that are held, and passes it.
+#[inline(always)]
+fn put<'source>(
+    source: &str,
+    at: &mut Inner,
+    place: usize,
+    token: Token<'source>,
+    width: usize,
+    tokens: &mut Vec<(Token<'source>, Span)>,
+) -> Result<(), ErrorKind>
+    requires depth { at.old.depth ≤ place }
+    requires begins { BeginsBy source.now place at.old.stretch }
+    requires within { place + width ≤ length source.now }
+    ensures { Puts source.now place token.entry width at.old at.new tokens.old.items tokens.new.items result }
+{
+    let next = place + width;
+    let span = next_span(source, &mut at.stretch, place, next);
+    at.depth = brackets_behind(&token, at.depth);
+    at.from = next;
+    push(tokens, token, span)?;
+    Ok(())
+}
