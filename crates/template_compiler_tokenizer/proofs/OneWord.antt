@@ -115,6 +115,14 @@ not_begun_here x s rest from i word b e place lifts h may = λ last next has.
     let begins = begun_at (first.1) in
     false≢true (sym h ∙ may (begins.0) (subst (λ r. Begins r (identifier word) (begins.0)) (sym e) (begins.1)))
 
+-- a block does not begin with the word where no white space stands
+pub no_only_word : (x : Syntax) (s rest : List ℕ) (from i : ℕ) (word : List ℕ) (b : Bool) → rest ≡ drop i s → is_ascii_whitespace (slice_index s i) ≡ false →
+    Lifts x s Block 0 i from → b ≡ false → ((n : ℕ) → Begins rest (identifier word) n → b ≡ true) → FindsWord x s from word None
+no_only_word x s rest from i word b e black lifts h may = λ last next has.
+    let first = first_word black (lowered x s Block 0 i from (only word) (Some (last, next)) lifts has) in
+    let begins = begun_at (first.1) in
+    false≢true (sym h ∙ may (begins.0) (subst (λ r. Begins r (identifier word) (begins.0)) (sym e) (begins.1)))
+
 pub other_word_here : (x : Syntax) (s rest : List ℕ) (from i width : ℕ) (name word : List ℕ) → rest ≡ drop i s → IsTokenPlace x s Block 0 i →
     Lifts x s Block 0 i from → Begins rest (identifier name) width → (name ≡ word → ⊥) → FindsWord x s from word None
 other_word_here x s rest from i width name word e place lifts named other = λ last next h.

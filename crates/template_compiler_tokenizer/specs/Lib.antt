@@ -5,5 +5,6 @@ pub mod Reads
 pub mod Steps
 pub mod Read
 pub mod Held
+pub mod Reaches
 pub mod Tokenizer
 pub mod Stream

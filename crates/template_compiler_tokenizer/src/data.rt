@@ -281,7 +281,7 @@ fn enter_line_comment<'source>(
     }
 }
 
-fn is_nothing(text: &str) -> bool
+pub(crate) fn is_nothing(text: &str) -> bool
     ensures { IsTrue result ↔ (length text.now ≡ 0) }
 {
     text.is_empty()

@@ -17,7 +17,6 @@ use template_compiler_syntax::{StartMarker, SyntaxConfig};
 use template_values_errors::ErrorKind;
 
 /// The next token from a place in data on, behind what stands on its left; none at the end. Comments are passed.
-#[inline(always)]
 pub(crate) fn next_in_data<'source>(
     alloc: Global,
     source: &'source str,
@@ -70,6 +69,7 @@ fn next_at_start<'source>(
 }
 
 /// The next token from a place on, where this stands; none at the end.
+#[inline(never)]
 pub(crate) fn next_piece<'source>(
     alloc: Global,
     source: &'source str,

@@ -52,7 +52,7 @@ pub(crate) fn only_word(
 }
 
 // Whether the text may begin with the word, by its first byte. Most blocks are told so from raw ones.
-fn may_begin_with(text: &[u8], word: &[u8]) -> bool
+pub(crate) fn may_begin_with(text: &[u8], word: &[u8]) -> bool
     ensures { (n : ℕ) → Begins text.now (identifier word.now) n → IsTrue result }
 {
     match word.first() {
