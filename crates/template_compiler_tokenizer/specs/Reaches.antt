@@ -13,9 +13,15 @@ use Rattle.template_compiler_syntax.specs.declared.StartMarker.TheVariants.{Bloc
 use Rattle.template_compiler_tokens.specs.Token as spec
 use Rattle.template_compiler_tokens.specs.declared.token.Token.{Token}
 use Rattle.template_compiler_segments.specs.declared.edges.Edge.TheVariants.{Nothing, Beside}
-use Rattle.template_compiler_segments.specs.Segments.{IsNextStart, Ending, HasInside}
+use Rattle.template_compiler_segments.specs.Segments.{IsNextStart, Ending, HasInside, HoldsInside, only}
 use Rattle.template_compiler_tokenizer.specs.Left.{Placed, placed, data_tokens, inside_tokens}
 use Rattle.template_compiler_tokenizer.specs.Held.{HoldsRead, HoldsRefused}
+use Rattle.std.specs.Prelude.{Some, codes}
+use Rattle.template_compiler_tokens.specs.Token.{bad, bad_syntax}
+use Rattle.template_compiler_segments.specs.declared.edges.Sign.{Sign}
+use Rattle.template_compiler_tokenizer.specs.Steps.{IsRawData}
+use Rattle.template_compiler_tokenizer.specs.declared.reach.Raw.{Raw}
+use Rattle.template_compiler_tokenizer.specs.declared.reach.Raw.TheVariants as raw
 use Rattle.template_compiler_tokenizer.specs.declared.reach.Reached.{Reached}
 use Rattle.template_compiler_tokenizer.specs.declared.reach.Reached.TheVariants.{Inside, Data, Start, End, Refused}
 
@@ -53,3 +59,9 @@ abbrev pub FindsBlack : Syntax → List ℕ → ℕ → ℕ → Type 0
 FindsBlack x s from i = (from ≤ i) × IsCharBoundary s i × (is_ascii_whitespace (slice_index s i) ≡ false) ×
     ((tokens : List spec.Token) (ending : Ending) → HasInside x s Block 0 i tokens ending → HasInside x s Block 0 from tokens ending) ×
     (inside_tokens x s Block 0 from ≡ inside_tokens x s Block 0 i)
+
+-- what a block is that begins at the place: raw data, perhaps without an end, or another one
+abbrev pub FindsRaw : Syntax → List ℕ → ℕ → Raw → Type 0
+FindsRaw x s i (raw.Data found) = IsRawData x s i found
+FindsRaw x s i raw.Endless = data_tokens x s Nothing i ≡ placed (bad bad_syntax) i i ∷ []
+FindsRaw x s i raw.Other = (last : Sign) (next : ℕ) → HoldsInside x s Block i (only (codes "raw")) (Some (last, next)) → ⊥

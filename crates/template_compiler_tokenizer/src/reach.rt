@@ -9,12 +9,12 @@ ghost use Rattle.template_compiler_segments.specs.declared.edges.Edge.{Edge};
 ghost use Rattle.template_compiler_syntax.specs.Syntax.{Syntax, IsUsable};
 ghost use Rattle.template_compiler_tokens.specs.View.{token_of};
 ghost use Rattle.template_compiler_tokenizer.specs.Left.{data_tokens};
-ghost use Rattle.template_compiler_tokenizer.specs.Reaches.{FindsBlack, HoldsNext, HoldsUpTo, Reaches};
+ghost use Rattle.template_compiler_tokenizer.specs.Reaches.{FindsBlack, FindsRaw, HoldsNext, HoldsUpTo, Reaches};
 
-use crate::data::is_nothing;
+use crate::data::{RawData, is_nothing, raw_data};
 use crate::ends::is_white_at;
 use crate::starts::inside_from;
-use crate::words::may_begin_with;
+use crate::words::{may_begin_with, only_word};
 use template_compiler_places::{Stretch, span_in};
 use template_compiler_segments::{
     Edge, Sign, Start, StartFinder, comment_sign, data_start, data_text, find_text,
@@ -226,7 +226,7 @@ fn read_print<'source>(
     }
 }
 
-// A block begins, and its start is a token; what may be raw data is not entered.
+// A block begins, and its start is a token; or raw data, which is read.
 #[inline(always)]
 fn read_block<'source>(
     source: &'source str,
@@ -247,8 +247,22 @@ fn read_block<'source>(
     let place = behind_white_space(source, start.inside);
     let rest = source.split_at(place).1;
     if may_begin_with(rest.as_bytes(), "raw".as_bytes()) {
-        *from = start.place;
-        return Reached::Start(StartMarker::Block);
+        match find_raw(source, syntax, start.inside) {
+            Raw::Data(raw) => {
+                *from = raw.next;
+                if is_nothing(raw.text) {
+                    return Reached::Data(StartMarker::Block, raw.last);
+                }
+                let end = raw.begin + raw.text.len();
+                let token = Token::TemplateData(raw.text);
+                return match hold_token(source, token, raw.begin, end, stretch, tokens) {
+                    Ok(()) => Reached::Data(StartMarker::Block, raw.last),
+                    Err(kind) => Reached::Refused(kind),
+                };
+            }
+            Raw::Endless => return Reached::Refused(ErrorKind::SyntaxError),
+            Raw::Other => {}
+        }
     }
     *from = place;
     match hold_token(
@@ -261,6 +275,33 @@ fn read_block<'source>(
     ) {
         Ok(()) => Reached::Inside(StartMarker::Block),
         Err(kind) => Reached::Refused(kind),
+    }
+}
+
+// What a block is that may be raw data.
+enum Raw<'source> {
+    /// Raw data.
+    Data(RawData<'source>),
+    /// Raw data that never ends.
+    Endless,
+    /// Another block.
+    Other,
+}
+
+// What the block is whose inside begins at the place. Few blocks are asked.
+#[inline(never)]
+fn find_raw<'source>(source: &'source str, syntax: &SyntaxConfig, inside: usize) -> Raw<'source>
+    requires usable { IsUsable syntax.now }
+    requires cut { IsCharBoundary source.now inside }
+    ensures { (i : ℕ) → IsNextStart syntax.now source.now i i StartMarker.Block →
+        inside ≡ the_inside_from syntax.now source.now StartMarker.Block i → FindsRaw syntax.now source.now i result }
+{
+    match only_word(source, syntax, inside, "raw") {
+        Some((inner, from)) => match raw_data(source, syntax, inner, from) {
+            Some(raw) => Raw::Data(raw),
+            None => Raw::Endless,
+        },
+        None => Raw::Other,
     }
 }
 
