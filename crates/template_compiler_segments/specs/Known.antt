@@ -5,9 +5,10 @@ use Rattle.template_compiler_syntax.specs.declared.StartMarker.{StartMarker}
 use Rattle.template_compiler_syntax.specs.declared.StartMarker.TheVariants.{Variable, Block, Comment, LineStatement, LineComment}
 use Rattle.template_compiler_syntax.specs.Syntax.{Syntax, start_text, HasDefaultStarts}
 use Rattle.template_compiler_segments.specs.Places.{IsFirst, IsNowhere}
-use Rattle.template_compiler_segments.specs.Segments.{HasStart, HasNoStart, IsNextStart}
+use Rattle.template_compiler_segments.specs.Segments.{HasStart, HasNoStart, IsNextStart, start_sign, inside_from}
 use Rattle.template_compiler_segments.specs.declared.starts.Known.{Known}
 use Rattle.template_compiler_segments.specs.declared.starts.Known.TheVariants.{Unsearched, At, Nowhere}
+use Rattle.template_compiler_segments.specs.declared.starts.Start.{Start}
 use Rattle.template_compiler_segments.specs.declared.starts.StartFinder.{StartFinder}
 
 -- what is known of the start markers of a kind from a place on: nothing, none before this one, or that there is none
@@ -49,6 +50,12 @@ IsNearest x s from ks (Some p) = (from ≤ p.0) × HasStart x s (p.0) (p.1) × E
 abbrev pub IsNextOrNone : Syntax → List ℕ → ℕ → Option (ℕ × StartMarker) → Type 0
 IsNextOrNone x s from None = HasNoStart x s from
 IsNextOrNone x s from (Some p) = IsNextStart x s from (p.0) (p.1)
+
+-- the same, with its sign and where the inside of its segment begins
+abbrev pub FindsStart : Syntax → List ℕ → ℕ → Option Start → Type 0
+FindsStart x s from None = HasNoStart x s from
+FindsStart x s from (Some start) = IsNextStart x s from start.place start.kind ×
+    (start.sign ≡ start_sign x s start.kind start.place) × (start.inside ≡ inside_from x s start.kind start.place)
 
 -- a start marker is left of another, or stands there too and is no shorter
 abbrev pub StaysNearest : Syntax → ℕ → StartMarker → ℕ → StartMarker → Type 0

@@ -1,6 +1,6 @@
 //! What stands at the places of a source.
 ghost use Rattle.std.specs.Prelude.{◌≡◌, ◌≤◌, ◌<◌, ◌↔◌, ℕ, [], ◌∷◌, IsTrue, MatchOption, take, drop, length};
-ghost use Rattle.memchr.specs.Find.{FindsNeedle};
+ghost use Rattle.memchr.specs.Find.{FindsNeedle, IsFirstByte, is_byte};
 ghost use Rattle.template_compiler_segments.specs.Places.{StandsAt, IsFirst, IsNowhere, IsLineEnd};
 ghost use Rattle.template_compiler_segments.specs.Places.{blanks_from as blanks_before, is_first_on_line as first_on_line, newline_len as newline_width, is_blank as blank};
 
@@ -73,7 +73,7 @@ fn find_pair(bytes: &[u8], from: usize, text: &[u8]) -> Option<usize>
 {
     let first = text[0];
     let mut at = from;
-    while let Some(skipped) = memchr(first, rest_from(bytes, at)) {
+    while let Some(skipped) = find_byte(first, rest_from(bytes, at)) {
         let place = at + skipped;
         if stands_at(bytes, place, text) {
             return Some(place);
@@ -81,6 +81,16 @@ fn find_pair(bytes: &[u8], from: usize, text: &[u8]) -> Option<usize>
         at = place + 1;
     }
     None
+}
+
+// Where the byte stands first, which most often is at once.
+fn find_byte(byte: u8, rest: &[u8]) -> Option<usize>
+    ensures { IsFirstByte (is_byte byte) rest.now result }
+{
+    match rest {
+        [first, ..] if *first == byte => Some(0),
+        _ => memchr(byte, rest),
+    }
 }
 
 fn find_in(rest: &[u8], text: &[u8]) -> Option<usize>

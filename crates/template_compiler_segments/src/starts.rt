@@ -1,12 +1,14 @@
 //! The search for the next start marker.
 ghost use Rattle.std.specs.Prelude.{◌≡◌, ◌≤◌, ◌+◌, ◌<◌, ◌↔◌, ℕ, List, [], ◌∷◌, IsTrue, MatchOption, Option, None, slice_index, length};
 ghost use Rattle.memchr.specs.Find.{IsFirstByte, is_byte};
-ghost use Rattle.template_compiler_syntax.specs.Syntax.{Syntax, HasDefaultStarts, start_text as start_of};
+ghost use Rattle.std.specs.Bool.{OnTrue};
+ghost use Rattle.template_compiler_syntax.specs.Syntax.{Syntax, IsSet, HasDefaultStarts, start_text as start_of};
 ghost use Rattle.template_compiler_syntax.specs.declared.StartMarker.{StartMarker};
 ghost use Rattle.template_compiler_segments.specs.Places.{IsFirst, IsNowhere};
-ghost use Rattle.template_compiler_segments.specs.Segments.{IsEligible};
+ghost use Rattle.template_compiler_segments.specs.Segments.{IsEligible, start_sign as sign_of_start};
 ghost use Rattle.template_compiler_segments.specs.Known.{IsKnown, IsSought, IsNearer, StaysNearest, IsNextOrNone, IsBraces, IsBracesOf};
 
+use crate::edges::Sign;
 use crate::places::{find_text, is_first_on_line, rest_from};
 use memchr::memchr;
 use template_compiler_places::goes_before;
@@ -23,6 +25,19 @@ pub enum Known {
     Nowhere,
 }
 
+/// A start marker in a source.
+#[derive(Clone, Copy)]
+pub struct Start {
+    /// Which one.
+    pub kind: StartMarker,
+    /// The sign behind it.
+    pub sign: Sign,
+    /// Where it begins.
+    pub place: usize,
+    /// Where the inside of its segment begins, behind the sign.
+    pub inside: usize,
+}
+
 /// Searches one source for start markers, from left to right, in time that grows with the source alone:
 /// it keeps where the next marker of each kind stands.
 #[derive(Drop)]
@@ -36,7 +51,7 @@ pub struct StartFinder {
 }
 
 impl StartFinder {
-    ghost use Rattle.template_compiler_segments.specs.Known.{Knows};
+    ghost use Rattle.template_compiler_segments.specs.Known.{FindsStart, Knows};
 
     /// A finder for one source under the syntax.
     pub fn new(syntax: &SyntaxConfig) -> StartFinder
@@ -70,6 +85,29 @@ impl StartFinder {
             find_braces(bytes, from)
         } else {
             self.find_nearest(bytes, syntax, from)
+        }
+    }
+
+    /// The same with the marker's sign, and where the inside of its segment begins.
+    #[inline(always)]
+    pub fn find_start(&mut self, bytes: &[u8], syntax: &SyntaxConfig, from: usize) -> Option<Start>
+        requires within { from ≤ length bytes.now }
+        requires knows { Knows syntax.now bytes.now from self.old }
+        ensures found { FindsStart syntax.now bytes.now from result }
+        ensures knows { Knows syntax.now bytes.now from self.new }
+    {
+        match self.next_start(bytes, syntax, from) {
+            Some((place, kind)) => {
+                let behind = place + marker_len(self.has_default_starts, syntax, kind);
+                let sign = sign_behind(bytes, kind, behind);
+                Some(Start {
+                    kind,
+                    sign,
+                    place,
+                    inside: behind + sign.width(),
+                })
+            }
+            None => None,
         }
     }
 
@@ -112,6 +150,32 @@ impl StartFinder {
         let nearest = nearer(syntax, nearest, comment, StartMarker::Comment);
         let nearest = nearer(syntax, nearest, line_statement, StartMarker::LineStatement);
         nearer(syntax, nearest, line_comment, StartMarker::LineComment)
+    }
+}
+
+// How long the start markers of the kind are, where there are any. Those of the default syntax are of two bytes.
+fn marker_len(has_default_starts: bool, syntax: &SyntaxConfig, kind: StartMarker) -> usize
+    requires default { OnTrue has_default_starts (HasDefaultStarts syntax.now) }
+    requires set { IsSet (start_of syntax.now kind) }
+    ensures { result ≡ length (start_of syntax.now kind) }
+{
+    if has_default_starts {
+        2
+    } else {
+        start_len(syntax, kind)
+    }
+}
+
+// The sign of a start marker of the kind, which ends at the place.
+fn sign_behind(bytes: &[u8], kind: StartMarker, behind: usize) -> Sign
+    requires { behind ≤ length bytes.now }
+    ensures { (x : Syntax) (place : ℕ) → behind ≡ place + length (start_of x kind) → result ≡ sign_of_start x bytes.now kind place }
+{
+    match kind {
+        StartMarker::Variable | StartMarker::Block | StartMarker::Comment => Sign::at(
+            bytes, behind,
+        ),
+        StartMarker::LineStatement | StartMarker::LineComment => Sign::Plain,
     }
 }
 
@@ -245,12 +309,13 @@ fn find_braces_place(bytes: &[u8], from: usize) -> Option<usize>
     None
 }
 
-// Where the first `{` stands. Most segments follow one another, or a few bytes of data.
+// Where the first `{` stands. Most segments follow one another, or a byte of data.
 fn find_brace(rest: &[u8]) -> Option<usize>
     ensures { IsFirstByte (is_byte 123) rest.now result }
 {
     match rest {
         [b'{', ..] => Some(0),
+        [_, b'{', ..] => Some(1),
         _ => memchr(b'{', rest),
     }
 }

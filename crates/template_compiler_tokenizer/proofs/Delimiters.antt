@@ -54,6 +54,9 @@ no_blank_end x s Comment i white other = λ h. no_comment_end (h.2)
 no_blank_end x s LineStatement i white other = λ h. other refl
 no_blank_end x s LineComment i white other = λ h. no_line_comment_end (h.2)
 
+pub white_no_block_end : (x : Syntax) (s : List ℕ) (i : ℕ) → is_ascii_whitespace (slice_index s i) ≡ true → IsOver x s Block i → ⊥
+white_no_block_end x s i white h = false≢true (sym ((block_ends (h.2)).0) ∙ white)
+
 pub line_goes_on : (x : Syntax) (s : List ℕ) (i : ℕ) → newline_len s i ≡ 0 → i < length s → FindsEnd x s LineStatement i None
 line_goes_on x s i none within h = elim (line_has_end (h.2)) [ inl newline ↦ omega arith | inr past ↦ omega arith ]
 

@@ -2,7 +2,7 @@
 use Rattle.std.proofs.Common.{◌≡◌, ℕ, suc, ◌+◌, ◌-◌, ◌<◌, ◌≤◌, ◌⊎◌, inl, inr, Bool, true, false, List, [], ◌∷◌, ◌++◌, length, take, drop, slice_index, None, Some, refl, sym, ◌∙◌, ap, subst, arith, length-take, length-drop}
 use Rattle.std.proofs.lemmas.Bool.{cases_lt, lt-ltb, le-ltb}
 use Rattle.std.specs.Prelude.{if◌then◌else◌, codes}
-use Rattle.std.specs.Str.{trim_end, chars}
+use Rattle.std.specs.Str.{trim_start, trim_end, chars}
 use Rattle.std.specs.Char.{is_ascii_whitespace}
 use Rattle.template_compiler_syntax.specs.declared.StartMarker.{StartMarker}
 use Rattle.template_compiler_syntax.specs.declared.StartMarker.TheVariants.{Variable, Block, Comment, LineStatement, LineComment}
@@ -16,7 +16,7 @@ use Rattle.template_compiler_segments.specs.declared.edges.Sign.{Sign}
 use Rattle.template_compiler_segments.specs.declared.edges.Sign.TheVariants.{Plain, Minus, Plus}
 use Rattle.template_compiler_segments.specs.Places.{stretch, IsFirst, IsNowhere, IsLineEnd, newline_len, is_first_on_line}
 use Rattle.template_compiler_segments.specs.Segments.{HasNoStart, IsNextStart, start_sign, inside_from, EndsAt, IsOver, open_brackets, is_bad, Ending, HasInside, ended, blank, token, no_token, HoldsInside, only, IsRawEnd, comment_sign, IsCommentEnd, Piece, data_piece, endless_piece, IsSegment, print_segment, block_segment, raw_segment, comment_segment, line_statement_segment, line_comment_segment, IsEndless, endless_print, endless_block, endless_line_statement, endless_raw, endless_comment, HasPieces, no_start, next_start, endless_start}
-use Rattle.template_compiler_segments.specs.Stripping.{stripped, stripped_from, stripped_to, with_data, with_stripped, next_edge, less_blanks}
+use Rattle.template_compiler_segments.specs.Stripping.{stripped, stripped_from, stripped_to, with_data, with_stripped, next_edge, less_blanks, past_newline}
 use Rattle.template_compiler_segments.proofs.Bytes.{takes_bytes}
 use Rattle.template_compiler_segments.proofs.One.{one_inside, one_list}
 use Rattle.template_compiler_segments.proofs.Pieces.{some_inside, some_list, begun}
@@ -29,6 +29,18 @@ unfolding trim_end chars
 empty_minus s i =
     let none : i - i ≡ 0 = omega arith in
     let nothing : length (trim_end (stretch s i i)) ≡ 0 = ap (λ n. length (trim_end (take n (drop i s)))) none in omega arith
+
+empty_start : (s : List ℕ) (i : ℕ) → i - length (trim_start (stretch s i i)) ≡ i
+unfolding trim_start chars
+empty_start s i =
+    let none : i - i ≡ 0 = omega arith in
+    let nothing : length (trim_start (stretch s i i)) ≡ 0 = ap (λ n. length (trim_start (take n (drop i s)))) none in omega arith
+
+empty_line : (s : List ℕ) (t : Bool) (i : ℕ) → (if t then past_newline s i i else i) ≡ i
+empty_line s true i =
+    let none : i - i ≡ 0 = omega arith in
+    let nothing : newline_len (stretch s i i) 0 ≡ 0 = ap (λ n. newline_len (take n (drop i s)) 0) none in omega arith
+empty_line s false i = refl
 
 empty_if : (s : List ℕ) (t : Bool) (i : ℕ) → (if t then less_blanks s i else i) ≤ i
 empty_if s true i = less_blanks_le s i
@@ -183,6 +195,30 @@ module _ (x : Syntax) (s : List ℕ) where
           | inr some ↦
               let begin = stripped_from x s left from i in
               inr (some.0, whole ∙ (some.1 ∙ ap (λ ts. placed (template_data text) begin (begin + length text) ∷ ts) (sym here)), some.2)
+        ]
+
+    empty_from : (left : Edge) (i : ℕ) → stripped_from x s left i i ≡ i
+    empty_from Nothing i = refl
+    empty_from (Beside k Minus) i = empty_start s i
+    empty_from (Beside k Plus) i = refl
+    empty_from (Beside Variable Plain) i = refl
+    empty_from (Beside Block Plain) i = empty_line s (x.trim_blocks) i
+    empty_from (Beside Comment Plain) i = empty_line s (x.trim_blocks) i
+    empty_from (Beside LineStatement Plain) i = refl
+    empty_from (Beside LineComment Plain) i = refl
+
+    -- no data stands before a start marker that follows at once
+    pub no_data : (left : Edge) (i : ℕ) (k : StartMarker) → IsNextStart x s i i k → i ≤ length s → data_tokens x s left i ≡ data_tokens x s Nothing i
+    no_data left i k start within =
+        let right = Beside k (start_sign x s k i) in
+        let begin = stripped_from x s left i i in
+        let at = empty_from left i in
+        let high : stripped_to x s right begin i ≤ i = subst (λ b. stripped_to x s right b i ≤ i) (sym at) (empty_to right i) in
+        let none : stripped_to x s right begin i - begin ≡ 0 = omega arith in
+        let e : [] ≡ stretch s begin (stripped_to x s right begin i) = sym (ap (λ n. take n (drop begin s)) none) in
+        elim (data_next left i i k [] start e (omega arith)) [
+          | inl empty ↦ empty.1
+          | inr some ↦ absurd (let long = some.0 in omega arith)
         ]
 
     -- data to the end

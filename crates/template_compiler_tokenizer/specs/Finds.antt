@@ -1,13 +1,12 @@
 -- What a tokenizer finds inside a segment.
-use Rattle.std.specs.Prelude.{codes, ◌≡◌, ℕ, ◌≤◌, false, List, [], ◌∷◌, slice_index, Option, None, Some}
+use Rattle.std.specs.Prelude.{codes, ◌≡◌, ℕ, ◌≤◌, true, false, List, [], ◌∷◌, slice_index, Option, None, Some}
 use Rattle.std.specs.Str.{IsCharBoundary}
 use Rattle.std.specs.Char.{is_ascii_whitespace}
 use Rattle.template_compiler_syntax.specs.declared.StartMarker.{StartMarker}
 use Rattle.template_compiler_syntax.specs.Syntax.{Syntax}
-use Rattle.std.specs.Borrow.{Bor}
 use Rattle.template_compiler_syntax.specs.declared.StartMarker.TheVariants.{Block}
-use Rattle.template_compiler_tokens.specs.Token.{Token, identifier}
-use Rattle.template_compiler_tokens.specs.Lexical.{Begins}
+use Rattle.template_compiler_tokens.specs.Token.{Token}
+use Rattle.template_compiler_tokens.specs.Lexical.{is_name_start}
 use Rattle.template_compiler_segments.specs.declared.edges.Sign.{Sign}
 use Rattle.template_compiler_segments.specs.declared.edges.Edge.TheVariants.{Beside}
 use Rattle.template_compiler_segments.specs.Segments.{IsEnd, EndsAt, IsOver, Ending, HasInside, HoldsInside, only, IsRawEnd}
@@ -51,14 +50,9 @@ FindsPlace x s k d from (Other i) = (from ≤ i) × IsCharBoundary s i × IsToke
     ((tokens : List Token) (ending : Ending) → HasInside x s k d i tokens ending → HasInside x s k d from tokens ending) ×
     (inside_tokens x s k d from ≡ inside_tokens x s k d i)
 
-abbrev pub word_in : Token → Option (List ℕ)
-word_in (identifier word) = Some word
-word_in _ = None
-
--- the word that the text begins with, and how many bytes it takes; or it begins with none
-abbrev pub ScansWord : List ℕ → Option (Bor (List ℕ) × ℕ) → Type 0
-ScansWord s None = (word : List ℕ) (n : ℕ) → Begins s (identifier word) n → ⊥
-ScansWord s (Some found) = Begins s (identifier (found.0.now)) (found.1)
+-- a name begins as names do
+abbrev pub IsName : List ℕ → Type 0
+IsName word = is_name_start (slice_index word 0) ≡ true
 
 -- the block has no further word, and ends so; or it has one
 abbrev pub FindsEndBehind : Syntax → List ℕ → ℕ → Option (Sign × ℕ) → Type 0

@@ -7,5 +7,6 @@ pub mod Steps
 pub mod Read
 pub mod Held
 pub mod Inner
+pub mod Reaches
 pub mod Tokenizer
 pub mod Stream

@@ -7,12 +7,13 @@ ghost use Rattle.template_compiler_tokenizer.specs.Reads.{IsCut};
 
 use crate::ends::SegmentEnd;
 use crate::inside::Piece;
+use crate::reach::{Reached, read_data};
 use crate::read::next_piece;
 use crate::segment::{Inner, read_inside};
 use crate::stage::Stage;
 use std::alloc::Global;
 use template_compiler_places::{Stretch, next_span};
-use template_compiler_segments::StartFinder;
+use template_compiler_segments::{Edge, StartFinder};
 use template_compiler_syntax::SyntaxConfig;
 use template_compiler_tokens::Token;
 use template_tree::Span;
@@ -42,6 +43,45 @@ pub(crate) fn read_all<'source>(
     let mut at = first;
     loop {
         at = read_segment(alloc, source, syntax, at, tokens)?;
+        if let Stage::Data(left) = at.stage {
+            let mut from = at.from;
+            let mut stretch = at.stretch;
+            match read_data(
+                source,
+                syntax,
+                finder,
+                left,
+                &mut from,
+                &mut stretch,
+                tokens,
+            ) {
+                Reached::Inside(kind) => {
+                    at = Standing {
+                        stage: Stage::Inside(kind, 0),
+                        from,
+                        stretch,
+                    };
+                    continue;
+                }
+                Reached::Data(kind, sign) => {
+                    at = Standing {
+                        stage: Stage::Data(Edge::Beside(kind, sign)),
+                        from,
+                        stretch,
+                    };
+                    continue;
+                }
+                Reached::Start(kind) => {
+                    at = Standing {
+                        stage: Stage::Start(kind),
+                        from,
+                        stretch,
+                    };
+                }
+                Reached::End => return Ok(()),
+                Reached::Refused(kind) => return Err(kind),
+            }
+        }
         match next_piece(alloc, source, syntax, finder, at.stage, at.from) {
             Ok(Some(piece)) => at = hold(source, at, piece, tokens)?,
             Ok(None) => return Ok(()),

@@ -1,18 +1,17 @@
 // Data, and what begins behind it.
-ghost use Rattle.std.specs.Prelude.{◌≡◌, ◌≤◌, ◌↔◌, Some, IsTrue, length, codes};
+ghost use Rattle.std.specs.Prelude.{◌≡◌, ◌≤◌, ◌↔◌, ℕ, Some, IsTrue, length, codes};
 ghost use Rattle.std.specs.Str.{IsCharBoundary};
 ghost use Rattle.template_compiler_segments.specs.Segments.{IsNextStart, HasNoStart, HoldsInside, only};
 ghost use Rattle.template_compiler_segments.specs.Known.{Knows};
 ghost use Rattle.template_compiler_syntax.specs.Syntax.{IsUsable};
 ghost use Rattle.template_compiler_tokenizer.specs.Left.{data_tokens};
-ghost use Rattle.template_compiler_tokenizer.specs.Steps.{Steps};
+ghost use Rattle.template_compiler_tokenizer.specs.Steps.{FindsRawData, Steps};
 ghost use Rattle.template_compiler_segments.specs.declared.edges.Edge.{Edge};
 
 use crate::inside::Piece;
 use crate::stage::Stage;
 use crate::starts::inside_from;
 use crate::words::{find_raw_end, only_word};
-use std::alloc::Global;
 use template_compiler_segments::{
     Edge, Sign, StartFinder, comment_sign, data_start, data_text, find_line_end, find_text,
     is_first_on_line, newline_len, start_sign,
@@ -35,7 +34,6 @@ pub(crate) enum Step<'source> {
 /// A step over the data at a place, behind what stands on its left: the data, or what begins behind it.
 #[inline(always)]
 pub(crate) fn data_step<'source>(
-    alloc: Global,
     source: &'source str,
     syntax: &SyntaxConfig,
     finder: &mut StartFinder,
@@ -49,7 +47,7 @@ pub(crate) fn data_step<'source>(
 {
     let (_, _) = syntax.block_delimiters();
     match finder.next_start(source.as_bytes(), syntax, from) {
-        Some((start, kind)) => before_start(alloc, source, syntax, left, from, start, kind),
+        Some((start, kind)) => before_start(source, syntax, left, from, start, kind),
         None => last_data(source, syntax, left, from),
     }
 }
@@ -84,7 +82,6 @@ fn last_data<'source>(
 // The data before a start marker, or what begins there.
 #[inline(always)]
 fn before_start<'source>(
-    alloc: Global,
     source: &'source str,
     syntax: &SyntaxConfig,
     left: Edge,
@@ -101,7 +98,7 @@ fn before_start<'source>(
     let right = Edge::Beside(kind, start_sign(source.as_bytes(), syntax, kind, start));
     let text = data_text(source, syntax, left, right, from, start);
     if is_nothing(text) {
-        return enter(alloc, source, syntax, kind, start);
+        return enter(source, syntax, kind, start);
     }
     let begin = data_start(source, syntax, left, from, start);
     Ok(Step::Reads(Piece {
@@ -116,7 +113,6 @@ fn before_start<'source>(
 /// What begins at a start marker.
 #[inline(always)]
 pub(crate) fn enter<'source>(
-    alloc: Global,
     source: &'source str,
     syntax: &SyntaxConfig,
     kind: StartMarker,
@@ -128,7 +124,7 @@ pub(crate) fn enter<'source>(
 {
     match kind {
         StartMarker::Variable => enter_print(source, syntax, start),
-        StartMarker::Block => enter_block(alloc, source, syntax, start),
+        StartMarker::Block => enter_block(source, syntax, start),
         StartMarker::Comment => enter_comment(source, syntax, start),
         StartMarker::LineStatement => enter_line_statement(source, syntax, start),
         StartMarker::LineComment => enter_line_comment(source, syntax, start),
@@ -178,7 +174,6 @@ fn enter_line_statement<'source>(
 // A block begins, or raw data.
 #[inline(always)]
 fn enter_block<'source>(
-    alloc: Global,
     source: &'source str,
     syntax: &SyntaxConfig,
     start: usize,
@@ -188,8 +183,8 @@ fn enter_block<'source>(
     ensures { Steps syntax.now source.now start (data_tokens syntax.now source.now Edge.Nothing start) result }
 {
     let inside = inside_from(source, syntax, StartMarker::Block, start);
-    match only_word(alloc, source, syntax, inside, "raw") {
-        Some((inner, from)) => enter_raw(alloc, source, syntax, start, inner, from),
+    match only_word(source, syntax, inside, "raw") {
+        Some((inner, from)) => enter_raw(source, syntax, start, inner, from),
         None => Ok(Step::Reads(Piece {
             token: Token::BlockStart,
             stage: Stage::Inside(StartMarker::Block, 0),
@@ -202,7 +197,6 @@ fn enter_block<'source>(
 
 // Raw data, up to the block that ends it.
 fn enter_raw<'source>(
-    alloc: Global,
     source: &'source str,
     syntax: &SyntaxConfig,
     start: usize,
@@ -215,8 +209,56 @@ fn enter_raw<'source>(
     requires cut { IsCharBoundary source.now from }
     ensures { Steps syntax.now source.now start (data_tokens syntax.now source.now Edge.Nothing start) result }
 {
-    let Some((to, last, next)) = find_raw_end(alloc, source, syntax, from) else {
+    let Some(raw) = raw_data(source, syntax, inner, from) else {
         return Err(ErrorKind::SyntaxError);
+    };
+    let RawData {
+        text,
+        begin,
+        last,
+        next,
+    } = raw;
+    if is_nothing(text) {
+        return Ok(Step::Passes(Edge::Beside(StartMarker::Block, last), next));
+    }
+    Ok(Step::Reads(Piece {
+        token: Token::TemplateData(text),
+        stage: Stage::Data(Edge::Beside(StartMarker::Block, last)),
+        begin,
+        end: begin + text.len(),
+        next,
+    }))
+}
+
+/// What is left of a raw block's data, and where it ends.
+#[derive(Clone, Copy)]
+pub(crate) struct RawData<'source> {
+    /// The data, which may be empty.
+    pub(crate) text: &'source str,
+    /// Where it begins.
+    pub(crate) begin: usize,
+    /// The sign of the end of the block that ends it.
+    pub(crate) last: Sign,
+    /// The place behind that block.
+    pub(crate) next: usize,
+}
+
+/// The data of a raw block, up to the block that ends it. Its inside begins at the place, behind the sign of its own end.
+#[inline(always)]
+pub(crate) fn raw_data<'source>(
+    source: &'source str,
+    syntax: &SyntaxConfig,
+    inner: Sign,
+    from: usize,
+) -> Option<RawData<'source>>
+    requires usable { IsUsable syntax.now }
+    requires cut { IsCharBoundary source.now from }
+    ensures { (i : ℕ) → IsNextStart syntax.now source.now i i StartMarker.Block →
+        HoldsInside syntax.now source.now StartMarker.Block i (only (codes "raw")) (Some (inner, from)) →
+        FindsRawData syntax.now source.now i result }
+{
+    let Some((to, last, next)) = find_raw_end(source, syntax, from) else {
+        return None;
     };
     let _inside = inside_from(source, syntax, StartMarker::Block, to);
     let right = Edge::Beside(
@@ -225,17 +267,13 @@ fn enter_raw<'source>(
     );
     let left = Edge::Beside(StartMarker::Block, inner);
     let text = data_text(source, syntax, left, right, from, to);
-    if is_nothing(text) {
-        return Ok(Step::Passes(Edge::Beside(StartMarker::Block, last), next));
-    }
     let begin = data_start(source, syntax, left, from, to);
-    Ok(Step::Reads(Piece {
-        token: Token::TemplateData(text),
-        stage: Stage::Data(Edge::Beside(StartMarker::Block, last)),
+    Some(RawData {
+        text,
         begin,
-        end: begin + text.len(),
+        last,
         next,
-    }))
+    })
 }
 
 // A comment, up to its first end.
@@ -281,7 +319,7 @@ fn enter_line_comment<'source>(
     }
 }
 
-fn is_nothing(text: &str) -> bool
+pub(crate) fn is_nothing(text: &str) -> bool
     ensures { IsTrue result ↔ (length text.now ≡ 0) }
 {
     text.is_empty()

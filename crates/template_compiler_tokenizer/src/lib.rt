@@ -7,6 +7,7 @@ mod data;
 mod ends;
 mod inside;
 mod laws;
+mod reach;
 mod read;
 mod segment;
 mod stage;

@@ -17,9 +17,7 @@ use template_compiler_syntax::{StartMarker, SyntaxConfig};
 use template_values_errors::ErrorKind;
 
 /// The next token from a place in data on, behind what stands on its left; none at the end. Comments are passed.
-#[inline(always)]
 pub(crate) fn next_in_data<'source>(
-    alloc: Global,
     source: &'source str,
     syntax: &SyntaxConfig,
     finder: &mut StartFinder,
@@ -34,7 +32,7 @@ pub(crate) fn next_in_data<'source>(
     let mut edge = left;
     let mut place = from;
     loop {
-        match data_step(alloc, source, syntax, finder, edge, place) {
+        match data_step(source, syntax, finder, edge, place) {
             Ok(Step::Reads(piece)) => return Ok(Some(piece)),
             Ok(Step::Passes(passed, next)) => {
                 edge = passed;
@@ -48,7 +46,6 @@ pub(crate) fn next_in_data<'source>(
 
 // The next token from a start marker on; none at the end.
 fn next_at_start<'source>(
-    alloc: Global,
     source: &'source str,
     syntax: &SyntaxConfig,
     finder: &mut StartFinder,
@@ -61,15 +58,16 @@ fn next_at_start<'source>(
     ensures knows { IfOk result (λ read. IfSome read (λ piece. Knows syntax.now source.now piece.next finder.new)) }
 {
     let (_, _) = syntax.block_delimiters();
-    match enter(alloc, source, syntax, kind, start) {
+    match enter(source, syntax, kind, start) {
         Ok(Step::Reads(piece)) => Ok(Some(piece)),
-        Ok(Step::Passes(edge, next)) => next_in_data(alloc, source, syntax, finder, edge, next),
+        Ok(Step::Passes(edge, next)) => next_in_data(source, syntax, finder, edge, next),
         Ok(Step::Ends) => Ok(None),
         Err(refused) => Err(refused),
     }
 }
 
 /// The next token from a place on, where this stands; none at the end.
+#[inline(never)]
 pub(crate) fn next_piece<'source>(
     alloc: Global,
     source: &'source str,
@@ -84,8 +82,8 @@ pub(crate) fn next_piece<'source>(
     ensures knows { IfOk result (λ read. IfSome read (λ piece. Knows syntax.now source.now piece.next finder.new)) }
 {
     match stage {
-        Stage::Data(left) => next_in_data(alloc, source, syntax, finder, left, from),
-        Stage::Start(kind) => next_at_start(alloc, source, syntax, finder, kind, from),
+        Stage::Data(left) => next_in_data(source, syntax, finder, left, from),
+        Stage::Start(kind) => next_at_start(source, syntax, finder, kind, from),
         Stage::Inside(kind, depth) => match next_inside(alloc, source, syntax, kind, depth, from) {
             Ok(piece) => Ok(Some(piece)),
             Err(refused) => Err(refused),

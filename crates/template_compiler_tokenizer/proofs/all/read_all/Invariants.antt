@@ -1,4 +1,4 @@
-use Rattle.std.proofs.Common.{length}
+use Rattle.std.proofs.Common.{◌+◌, ◌-◌, length}
 use Rattle.template_compiler_segments.specs.Known.{Knows}
 use Rattle.template_compiler_tokenizer.specs.Held.{StandsIn, left_of, HoldsRead}
 use Rattle.template_compiler_tokenizer.proofs.all.read_all.Given as goal
@@ -12,4 +12,4 @@ invariant-loop-at l = record {
 }
 
 abbrev pub decreases-loop-at : goal.decreases-loop-at
-decreases-loop-at l = length (left_of l.syntax l.source l.at)
+decreases-loop-at l = length (left_of l.syntax l.source l.at) + (length l.source - l.at.from)

@@ -4,8 +4,12 @@ use Rattle.std.specs.Prelude.{codes}
 use Rattle.template_compiler_segments.specs.Segments.{HasInside, only}
 use Rattle.template_compiler_tokens.specs.Token.{block_start}
 use Rattle.template_compiler_tokenizer.specs.Left.{placed, inside_tokens}
+use Rattle.template_compiler_tokenizer.proofs.OneWord.{raw_is_name}
 use Rattle.template_compiler_tokenizer.proofs.Steps.{at_block}
 use Rattle.template_compiler_tokenizer.proofs.data.enter_block.Goals as goal
+
+pub only_word-requires-clause-name : goal.only_word-requires-clause-name
+only_word-requires-clause-name c = raw_is_name
 
 pub returns-in-None : goal.returns-in-None
 returns-in-None c =

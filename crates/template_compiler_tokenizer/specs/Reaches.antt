@@ -1,0 +1,67 @@
+-- What a reader reaches from a place in data on.
+use Rattle.std.specs.Prelude.{◌≡◌, ℕ, ◌≤◌, ◌<◌, List, [], ◌∷◌, length, Result, Ok, Err}
+use Rattle.std.specs.Char.{is_ascii_whitespace}
+use Rattle.std.specs.Prelude.{false, slice_index}
+use Rattle.std.specs.Str.{IsCharBoundary}
+use Rattle.template_values_errors.specs.declared.ErrorKind.{ErrorKind}
+use Rattle.template_values_errors.specs.declared.ErrorKind.TheVariants.{OutOfMemory}
+use Rattle.template_tree.specs.declared.span.Span.{Span}
+use Rattle.template_compiler_places.specs.Stretches.{BeginsBy}
+use Rattle.template_compiler_places.specs.declared.stretch.Stretch.{Stretch}
+use Rattle.template_compiler_syntax.specs.Syntax.{Syntax}
+use Rattle.template_compiler_syntax.specs.declared.StartMarker.TheVariants.{Block}
+use Rattle.template_compiler_tokens.specs.Token as spec
+use Rattle.template_compiler_tokens.specs.declared.token.Token.{Token}
+use Rattle.template_compiler_segments.specs.declared.edges.Edge.TheVariants.{Nothing, Beside}
+use Rattle.template_compiler_segments.specs.Segments.{IsNextStart, Ending, HasInside, HoldsInside, only}
+use Rattle.template_compiler_tokenizer.specs.Left.{Placed, placed, data_tokens, inside_tokens}
+use Rattle.template_compiler_tokenizer.specs.Held.{HoldsRead, HoldsRefused}
+use Rattle.std.specs.Prelude.{Some, codes}
+use Rattle.template_compiler_tokens.specs.Token.{bad, bad_syntax}
+use Rattle.template_compiler_segments.specs.declared.edges.Sign.{Sign}
+use Rattle.template_compiler_tokenizer.specs.Steps.{IsRawData}
+use Rattle.template_compiler_tokenizer.specs.declared.reach.Raw.{Raw}
+use Rattle.template_compiler_tokenizer.specs.declared.reach.Raw.TheVariants as raw
+use Rattle.template_compiler_tokenizer.specs.declared.reach.Reached.{Reached}
+use Rattle.template_compiler_tokenizer.specs.declared.reach.Reached.TheVariants.{Inside, Data, Start, End, Refused}
+
+-- a token between two places was put behind the ones that were held; or memory was wanting
+abbrev pub HoldsNext : {A : Type 0} → List ℕ → List (Token × Span) → spec.Token → ℕ → ℕ → List (Token × Span) → Result A ErrorKind → Type 0
+HoldsNext s old t begin end held (Ok done) = (rest : List Placed) → HoldsRead s old (placed t begin end ∷ rest) held rest
+HoldsNext s old t begin end held (Err kind) = (held ≡ old) × (kind ≡ OutOfMemory)
+
+-- of the tokens that are left, those before the rest were put behind the ones that were held, and the rest begins at the place
+pub record GoesOn (s : List ℕ) (old : List (Token × Span)) (left : List Placed) (held : List (Token × Span)) (rest : List Placed) (next : ℕ)
+    (stretch : Stretch) : Type 0 where
+  pub reads : HoldsRead s old left held rest
+  pub fewer : length rest ≤ length left
+  pub begins : BeginsBy s next stretch
+
+-- so; or memory was wanting
+abbrev pub HoldsUpTo : {A : Type 0} → List ℕ → List (Token × Span) → List Placed → List (Token × Span) → List Placed → ℕ → Stretch →
+    Result A ErrorKind → Type 0
+HoldsUpTo s old left held rest next stretch (Ok done) = GoesOn s old left held rest next stretch
+HoldsUpTo s old left held rest next stretch (Err kind) = HoldsRefused s old left held kind
+
+-- what was reached, and where it stands
+abbrev pub Reaches : Syntax → List ℕ → List (Token × Span) → ℕ → List Placed → List (Token × Span) → ℕ → Stretch → Reached → Type 0
+Reaches x s old from left held next stretch (Inside k) =
+    GoesOn s old left held (inside_tokens x s k 0 next) next stretch × IsCharBoundary s next × (from < next)
+Reaches x s old from left held next stretch (Data k sign) =
+    GoesOn s old left held (data_tokens x s (Beside k sign) next) next stretch × IsCharBoundary s next × (from < next)
+Reaches x s old from left held next stretch (Start k) =
+    GoesOn s old left held (data_tokens x s Nothing next) next stretch × IsCharBoundary s next × (from ≤ next) × IsNextStart x s next next k
+Reaches x s old from left held next stretch End = HoldsRead s old left held []
+Reaches x s old from left held next stretch (Refused kind) = HoldsRefused s old left held kind
+
+-- the white space at a place in a block ends there
+abbrev pub FindsBlack : Syntax → List ℕ → ℕ → ℕ → Type 0
+FindsBlack x s from i = (from ≤ i) × IsCharBoundary s i × (is_ascii_whitespace (slice_index s i) ≡ false) ×
+    ((tokens : List spec.Token) (ending : Ending) → HasInside x s Block 0 i tokens ending → HasInside x s Block 0 from tokens ending) ×
+    (inside_tokens x s Block 0 from ≡ inside_tokens x s Block 0 i)
+
+-- what a block is that begins at the place: raw data, perhaps without an end, or another one
+abbrev pub FindsRaw : Syntax → List ℕ → ℕ → Raw → Type 0
+FindsRaw x s i (raw.Data found) = IsRawData x s i found
+FindsRaw x s i raw.Endless = data_tokens x s Nothing i ≡ placed (bad bad_syntax) i i ∷ []
+FindsRaw x s i raw.Other = (last : Sign) (next : ℕ) → HoldsInside x s Block i (only (codes "raw")) (Some (last, next)) → ⊥
