@@ -1,7 +1,7 @@
 -- Along a left chain: each node is runnable, and adds its own to what stands.
 use Rattle.std.proofs.Common.{◌≡◌, ℕ, ◌+◌, ◌<◌, ◌≤◌, zero, suc, Result, Ok, Err, List, [], ◌∷◌, ◌++◌, length, map, take, get_or, Option, None, Some, option_map, Bor, sym, ap, subst, ◌∙◌, add-zero, arith}
 use Rattle.std.specs.List.{All, fold}
-use Rattle.std.specs.Prelude.{IfOk}
+use Rattle.std.specs.Prelude.{OnOk}
 use Rattle.std.proofs.lemmas.List.{take_more}
 use Rattle.std.proofs.lemmas.List.Sums.{fold_push}
 use Rattle.std.proofs.lemmas.List.Elements.{All-nil, All-head, All-tail, All-same, All-push, All-get_or}
@@ -98,12 +98,14 @@ alone e old new o runnable none own_is new_is =
           ap (λ (x : Option Val). old ++ unless x (expression_code e) p) (sym o_is),
     )
 
-pub alone_put : {E : Type 0} (e : Expression) (old new : Instructions) (x : Result (Option Val) E) → IsRunnable e → left_of e ≡ None
-    → IfOk x (λ o. o ≡ own_constant None e) → IfOk x (λ o. Puts (unless o (own_code None e)) old new)
-    → IfOk x (λ o. Puts (unless o (expression_code e)) old new)
-alone_put e old new (Ok o) runnable none is put =
-    record { code = (alone e (code_in old) (code_in new) o runnable none is put.code).1; same = put.same }
-alone_put e old new (Err f) runnable none is put = tt
+pub alone_put : {X E : Type 0} (e : Expression) (k o : Option Val) (old new : Instructions) (x : Result X E) → IsRunnable e → left_of e ≡ None
+    → k ≡ None → OnOk x (o ≡ own_constant k e) → OnOk x (Puts (unless o (own_code k e)) old new)
+    → OnOk x ((o ≡ constant_of e) × Puts (unless o (expression_code e)) old new)
+alone_put e k o old new (Ok _) runnable none known_is own_is put =
+    let both = alone e (code_in old) (code_in new) o runnable none (own_is ∙ ap (λ (x : Option Val). own_constant x e) known_is)
+    (put.code ∙ ap (λ (x : Option Val). code_in old ++ unless o (own_code x e) (length (code_in old))) known_is) in
+    (both.0, record { code = both.1; same = put.same })
+alone_put e k o old new (Err f) runnable none known_is own_is put = tt
 
 -- a tree behind its left part
 behind_part : (e l : Expression) (begun mid new : List Code) (k o : Option Val) → IsRunnable e → left_of e ≡ Some l
@@ -126,11 +128,11 @@ behind_part e l begun mid new k o runnable part known_is mid_is own_is new_is =
           ap (λ (x : Option Val). begun ++ unless x (expression_code e) p) (sym o_is),
     )
 
-pub part_put : {E : Type 0} (e l : Expression) (k : Option Val) (begun mid new : Instructions) (x : Result (Option Val) E) → IsRunnable e
-    → Some l ≡ left_of e → k ≡ constant_of l → Puts (unless k (expression_code l)) begun mid → IfOk x (λ o. o ≡ own_constant k e)
-    → IfOk x (λ o. Puts (unless o (own_code k e)) mid new) → IfOk x (λ o. Puts (unless o (expression_code e)) begun new)
-part_put e l k begun mid new (Ok o) runnable part known_is left own_is put = record {
-  code = (behind_part e l (code_in begun) (code_in mid) (code_in new) k o runnable (sym part) known_is left.code own_is put.code).1;
-  same = same_then left.same put.same;
-}
-part_put e l k begun mid new (Err f) runnable part known_is left own_is put = tt
+pub part_put : {X E : Type 0} (e l : Expression) (k o : Option Val) (begun mid new : Instructions) (x : Result X E) → IsRunnable e
+    → Some l ≡ left_of e → k ≡ constant_of l → Puts (unless k (expression_code l)) begun mid → OnOk x (o ≡ own_constant k e)
+    → OnOk x (Puts (unless o (own_code k e)) mid new)
+    → OnOk x ((o ≡ constant_of e) × Puts (unless o (expression_code e)) begun new)
+part_put e l k o begun mid new (Ok _) runnable part known_is left own_is put =
+    let both = behind_part e l (code_in begun) (code_in mid) (code_in new) k o runnable (sym part) known_is left.code own_is put.code in
+    (both.0, record { code = both.1; same = same_then left.same put.same })
+part_put e l k o begun mid new (Err f) runnable part known_is left own_is put = tt

@@ -1,20 +1,22 @@
 //! Expressions. A tree is gone along its left parts in a loop; its other parts nest at most 150 deep. The code of
 //! an expression comes from one span: it is told with the first instruction that is put, and none is told with the
 //! others, which come from where the one before them comes.
-ghost use Rattle.std.specs.Prelude.{◌≡◌, IsNone, None, OnOk, IfOk, IfErr, length, option_and_then};
+ghost use Rattle.std.specs.Prelude.{◌≡◌, IsNone, None, Some, OnOk, IfOk, IfErr, length, option_and_then};
+ghost use Rattle.template_values_errors.specs.Memory.{NoMemory};
 ghost use Rattle.template_values_model.specs.Val.{none, silent_undefined};
 ghost use Rattle.template_tree.specs.Tree.{list_literal, tuple_literal, map_literal};
 ghost use Rattle.template_tree.specs.View.{expression_of, optional_in, expressions_in, links_in};
 ghost use Rattle.template_walk.specs.Constants.{constant_of, chain_constant};
 ghost use Rattle.template_walk.specs.Runnable.{IsRunnable, IsRunnableIfGiven, AreRunnable, IsRunnableChain, AreRunnableLinks};
 ghost use Rattle.template_walk.specs.Statements.{number_of};
-ghost use Rattle.template_code.specs.Code.{build_list, build_map, build_tuple, get_attr, get_item, lookup, operate, slice};
+ghost use Rattle.template_code.specs.Code.{build_list, build_map, build_tuple, get_attr, get_item, load_const, lookup, operate, slice};
 ghost use Rattle.template_code.specs.Listing.{code_in, TakesNoMore};
 ghost use Rattle.template_compiler_codegen.specs.Expressions.{one, then_code, skipped, either_code, unary_code, expression_code, optional_code, expressions_code, entries_code, codes_of, entry_count, chain_code};
 ghost use Rattle.template_compiler_folding.specs.Folding.{unary_folded, binary_folded, comparison_folded};
 ghost use Rattle.template_compiler_emission.specs.Leaps.{leap_code, leap_of};
-ghost use Rattle.template_compiler_emission.specs.Puts.{Puts, unless, behind};
+ghost use Rattle.template_compiler_emission.specs.Puts.{Puts, unless, held, behind};
 ghost use Rattle.template_compiler_expression_codegen.specs.Chains.{Grows, constant_behind, leaps_in, left_behind, link_code, linked_to};
+ghost use Rattle.template_compiler_expression_codegen.specs.Ends.{CutOr};
 ghost use Rattle.template_compiler_expression_codegen.specs.Own.{own_constant, own_code};
 
 use crate::chains::{Link, end_link, is_false, put_leap, tell_leaps};
@@ -22,7 +24,9 @@ use crate::operators::{Choice, end_choice, end_operator, end_unary};
 use std::alloc::Global;
 use std::borrow::CowStr;
 use template_code::{Instruction, Instructions};
-use template_compiler_emission::{Leap, land, leap_of, load, load_copy, put, reserve};
+use template_compiler_emission::{
+    Leap, land, leap_of, load, load_copy, operator_instruction, put, reserve, unary_instruction,
+};
 use template_compiler_folding::{fold_list, fold_map, fold_tuple};
 use template_tree::{BinOpKind, CompareOp, Expr, Span, UnaryOpKind};
 use template_tree_parts::{left, spine};
@@ -50,36 +54,41 @@ pub fn fold_expr<'source>(
     ensures put { IfOk result (λ o. Puts (unless o (expression_code (expression_of expr.now))) code.old code.new) }
     ensures refused { IfErr result (TakesNoMore (code_in code.new)) }
 {
-    fold_left(alloc, code, expr, NEAR, from)
+    let mut value = None;
+    fold_left(alloc, code, expr, &mut value, NEAR, from.as_ref())?;
+    Ok(value)
 }
 
-// The same, where so many left parts are gone along by calls; what has more is gone along by a list.
+// The same, where so many left parts are gone along by calls; what has more is gone along by a list. The constant stands
+// at a place of the caller's then, where none stood.
 #[cycle(expression)]
 fn fold_left<'source>(
     alloc: Global,
     code: &mut Instructions<'source>,
     expr: &Expr<'source>,
+    value: &mut Option<Value>,
     near: u32,
-    from: Option<Span>,
-) -> Result<Option<Value>, Error>
-    requires { IsRunnable (expression_of expr.now) }
-    ensures constant { IfOk result (λ o. o ≡ constant_of (expression_of expr.now)) }
-    ensures put { IfOk result (λ o. Puts (unless o (expression_code (expression_of expr.now))) code.old code.new) }
+    from: Option<&Span>,
+) -> Result<(), Error>
+    requires runs { IsRunnable (expression_of expr.now) }
+    requires none { value.old ≡ None }
+    ensures constant { OnOk result (value.new ≡ constant_of (expression_of expr.now)) }
+    ensures put { OnOk result (Puts (unless value.new (expression_code (expression_of expr.now))) code.old code.new) }
     ensures refused { IfErr result (TakesNoMore (code_in code.new)) }
 {
     if let Expr::Var(n) = expr {
-        return fold_name(code, n.node.id, from);
+        return put_name(code, n.node.id, from);
     }
     match left(expr) {
         Some(part) => {
             if near == 0 {
-                return fold_spine(alloc, code, expr, from);
+                return fold_spine(alloc, code, expr, value, from);
             }
-            let mut constant = fold_left(alloc, code, part, near - 1, from)?;
-            let told = first_from(1, &constant, from);
-            fold_node(alloc, code, expr, &mut constant, told)
+            fold_left(alloc, code, part, value, near - 1, from)?;
+            let told = first_from(1, &*value, from);
+            fold_node(alloc, code, expr, value, told)
         }
-        None => fold_node(alloc, code, expr, &mut None, from),
+        None => fold_node(alloc, code, expr, value, from),
     }
 }
 
@@ -90,26 +99,31 @@ fn fold_spine<'source>(
     alloc: Global,
     code: &mut Instructions<'source>,
     expr: &Expr<'source>,
-    from: Option<Span>,
-) -> Result<Option<Value>, Error>
-    requires { IsRunnable (expression_of expr.now) }
-    ensures constant { IfOk result (λ o. o ≡ constant_of (expression_of expr.now)) }
-    ensures put { IfOk result (λ o. Puts (unless o (expression_code (expression_of expr.now))) code.old code.new) }
+    value: &mut Option<Value>,
+    from: Option<&Span>,
+) -> Result<(), Error>
+    requires runs { IsRunnable (expression_of expr.now) }
+    requires none { value.old ≡ None }
+    ensures constant { OnOk result (value.new ≡ constant_of (expression_of expr.now)) }
+    ensures put { OnOk result (Puts (unless value.new (expression_code (expression_of expr.now))) code.old code.new) }
     ensures refused { IfErr result (TakesNoMore (code_in code.new)) }
 {
     let nodes = spine(alloc, expr)?;
-    let mut constant = None;
     let mut i = 0;
     while i < nodes.len() {
-        let told = first_from(i, &constant, from);
-        constant = fold_node(alloc, code, nodes[i], &mut constant, told)?;
+        let told = first_from(i, &*value, from);
+        fold_node(alloc, code, nodes[i], value, told)?;
         i += 1;
     }
-    Ok(constant)
+    Ok(())
 }
 
 // Where the next node of a left chain comes from: the span is still to be told where nothing is put yet.
-fn first_from(passed: usize, constant: &Option<Value>, from: Option<Span>) -> Option<Span> {
+fn first_from<'a>(
+    passed: usize,
+    constant: &Option<Value>,
+    from: Option<&'a Span>,
+) -> Option<&'a Span> {
     if passed == 0 || constant.is_some() {
         from
     } else {
@@ -123,61 +137,136 @@ pub(crate) fn compile_expr<'source>(
     alloc: Global,
     code: &mut Instructions<'source>,
     expr: &Expr<'source>,
-    from: Option<Span>,
+    from: Option<&Span>,
 ) -> Result<(), Error>
     requires { IsRunnable (expression_of expr.now) }
     ensures put { OnOk result (Puts (expression_code (expression_of expr.now)) code.old code.new) }
     ensures refused { IfErr result (TakesNoMore (code_in code.new)) }
 {
-    if let Expr::Var(n) = expr {
-        return put(code, Instruction::Lookup(CowStr::Borrowed(n.node.id)), from);
+    match expr {
+        Expr::Var(n) => put_name(code, n.node.id, from),
+        Expr::Const(n) => put_literal(code, &n.node.value, from),
+        _ => compile_tree(alloc, code, expr, from),
     }
-    let constant = fold_expr(alloc, code, expr, from)?;
-    load(code, constant, from)
+}
+
+// The same for what may be a constant tree.
+#[cycle(expression)]
+#[inline(never)]
+fn compile_tree<'source>(
+    alloc: Global,
+    code: &mut Instructions<'source>,
+    expr: &Expr<'source>,
+    from: Option<&Span>,
+) -> Result<(), Error>
+    requires { IsRunnable (expression_of expr.now) }
+    ensures put { OnOk result (Puts (expression_code (expression_of expr.now)) code.old code.new) }
+    ensures refused { IfErr result (TakesNoMore (code_in code.new)) }
+{
+    let mut value = None;
+    fold_left(alloc, code, expr, &mut value, NEAR, from)?;
+    load(code, value, from.copied())
 }
 
 // A name, which is no constant.
 #[inline(never)]
-fn fold_name<'source>(
+fn put_name<'source>(
     code: &mut Instructions<'source>,
     name: &'source str,
-    from: Option<Span>,
-) -> Result<Option<Value>, Error>
-    ensures constant { IfOk result (λ o. o ≡ None) }
-    ensures put { IfOk result (λ o. Puts (unless o (one (lookup name.now))) code.old code.new) }
+    from: Option<&Span>,
+) -> Result<(), Error>
+    ensures put { OnOk result (Puts (one (lookup name.now)) code.old code.new) }
     ensures refused { IfErr result (TakesNoMore (code_in code.new)) }
 {
-    put(code, Instruction::Lookup(CowStr::Borrowed(name)), from)?;
-    Ok(None)
+    put(
+        code,
+        Instruction::Lookup(CowStr::Borrowed(name)),
+        from.copied(),
+    )
 }
 
-// A node behind its left part, whose value is given where it was held back, and taken where it is put.
+// The load of a literal.
+#[inline(never)]
+fn put_literal<'source>(
+    code: &mut Instructions<'source>,
+    value: &Value,
+    from: Option<&Span>,
+) -> Result<(), Error>
+    ensures put { OnOk result (Puts (one (load_const value.now)) code.old code.new) }
+    ensures refused { IfErr result (TakesNoMore (code_in code.new)) }
+{
+    put(code, Instruction::LoadConst(value.copy()?), from.copied())
+}
+
+// Holds a literal back.
+#[inline(never)]
+fn hold(value: &mut Option<Value>, literal: &Value) -> Result<(), Error>
+    ensures held { OnOk result (value.new ≡ Some literal.now) }
+    ensures refused { IfErr result NoMemory }
+{
+    *value = Some(literal.copy()?);
+    Ok(())
+}
+
+// Puts the load of a constant that was held back.
+#[inline(always)]
+fn load_held<'source>(
+    code: &mut Instructions<'source>,
+    value: &mut Option<Value>,
+    from: Option<&Span>,
+) -> Result<(), Error>
+    ensures taken { OnOk result (value.new ≡ None) }
+    ensures put { OnOk result (Puts (held value.old) code.old code.new) }
+    ensures refused { IfErr result (TakesNoMore (code_in code.new)) }
+{
+    if value.is_none() {
+        return Ok(());
+    }
+    load_taken(code, value, from)
+}
+
+#[cold]
+#[inline(never)]
+fn load_taken<'source>(
+    code: &mut Instructions<'source>,
+    value: &mut Option<Value>,
+    from: Option<&Span>,
+) -> Result<(), Error>
+    ensures taken { OnOk result (value.new ≡ None) }
+    ensures put { OnOk result (Puts (held value.old) code.old code.new) }
+    ensures refused { IfErr result (TakesNoMore (code_in code.new)) }
+{
+    load(code, value.take(), from.copied())
+}
+
+// A node behind its left part, whose value is given where it was held back; the value of the node takes its place.
 #[cycle(expression)]
 fn fold_node<'source>(
     alloc: Global,
     code: &mut Instructions<'source>,
     expr: &Expr<'source>,
-    left: &mut Option<Value>,
-    from: Option<Span>,
-) -> Result<Option<Value>, Error>
+    value: &mut Option<Value>,
+    from: Option<&Span>,
+) -> Result<(), Error>
     requires { IsRunnable (expression_of expr.now) }
-    ensures constant { IfOk result (λ o. o ≡ own_constant left.old (expression_of expr.now)) }
-    ensures put { IfOk result (λ o. Puts (unless o (own_code left.old (expression_of expr.now))) code.old code.new) }
+    ensures constant { OnOk result (value.new ≡ own_constant value.old (expression_of expr.now)) }
+    ensures put { OnOk result (Puts (unless value.new (own_code value.old (expression_of expr.now))) code.old code.new) }
     ensures refused { IfErr result (TakesNoMore (code_in code.new)) }
 {
     match expr {
-        Expr::Var(n) => fold_name(code, n.node.id, from),
-        Expr::Const(n) => {
-            let value = n.node.value.copy()?;
-            Ok(Some(value))
+        Expr::Var(n) => {
+            *value = None;
+            put_name(code, n.node.id, from)
         }
-        Expr::UnaryOp(n) => fold_unary_operator(alloc, code, n.node.op, &n.node.expr, from),
+        Expr::Const(n) => hold(value, &n.node.value),
+        Expr::UnaryOp(n) => fold_unary_operator(alloc, code, n.node.op, &n.node.expr, value, from),
         Expr::BinOp(n) => match leap_of(n.node.op) {
-            Some(leap) => fold_choice(alloc, code, n.node.op, leap, left, &n.node.right, from),
-            None => fold_operator(alloc, code, n.node.op, left, &n.node.right, from),
+            Some(leap) => fold_choice(alloc, code, n.node.op, leap, value, &n.node.right, from),
+            None => fold_operator(alloc, code, n.node.op, value, &n.node.right, from),
         },
         Expr::IfExpr(n) => {
             let node = &n.node;
+            *value = None;
             compile_choice(
                 alloc,
                 code,
@@ -185,17 +274,10 @@ fn fold_node<'source>(
                 &node.true_expr,
                 &node.false_expr,
                 from,
-            )?;
-            Ok(None)
+            )
         }
-        Expr::GetAttr(n) => {
-            compile_attribute(code, left.take(), n.node.name, from)?;
-            Ok(None)
-        }
-        Expr::GetItem(n) => {
-            compile_item(alloc, code, left.take(), &n.node.subscript_expr, from)?;
-            Ok(None)
-        }
+        Expr::GetAttr(n) => compile_attribute(code, value, n.node.name, from),
+        Expr::GetItem(n) => compile_item(alloc, code, value, &n.node.subscript_expr, from),
         Expr::Filter(_) => unreachable!(),
         Expr::Test(_) => unreachable!(),
         Expr::Call(_) => unreachable!(),
@@ -203,18 +285,17 @@ fn fold_node<'source>(
             compile_slice(
                 alloc,
                 code,
-                left.take(),
+                value,
                 &n.node.start,
                 &n.node.stop,
                 &n.node.step,
                 from,
-            )?;
-            Ok(None)
+            )
         }
-        Expr::Compare(n) => fold_chain(alloc, code, left, &n.node.ops, from),
-        Expr::List(n) => fold_list_literal(alloc, code, &n.node.items, from),
-        Expr::Tuple(n) => fold_tuple_literal(alloc, code, &n.node.items, from),
-        Expr::Map(n) => fold_map_literal(alloc, code, &n.node.keys, &n.node.values, from),
+        Expr::Compare(n) => fold_chain(alloc, code, value, &n.node.ops, from),
+        Expr::List(n) => fold_list_literal(alloc, code, &n.node.items, value, from),
+        Expr::Tuple(n) => fold_tuple_literal(alloc, code, &n.node.items, value, from),
+        Expr::Map(n) => fold_map_literal(alloc, code, &n.node.keys, &n.node.values, value, from),
     }
 }
 
@@ -226,17 +307,40 @@ fn fold_unary_operator<'source>(
     code: &mut Instructions<'source>,
     op: UnaryOpKind,
     operand: &Expr<'source>,
-    from: Option<Span>,
-) -> Result<Option<Value>, Error>
+    value: &mut Option<Value>,
+    from: Option<&Span>,
+) -> Result<(), Error>
     requires { IsRunnable (expression_of operand.now) }
-    ensures constant { IfOk result (λ o. o ≡ unary_folded op (constant_of (expression_of operand.now))) }
-    ensures put { IfOk result
-        (λ o. Puts (unless o (then_code (expression_code (expression_of operand.now)) (one (unary_code op)))) code.old code.new) }
+    ensures constant { OnOk result (value.new ≡ unary_folded op (constant_of (expression_of operand.now))) }
+    ensures put { OnOk result
+        (Puts (unless value.new (then_code (expression_code (expression_of operand.now)) (one (unary_code op)))) code.old code.new) }
     ensures refused { IfErr result (TakesNoMore (code_in code.new)) }
 {
     let begins = code.len();
-    let constant = fold_expr(alloc, code, operand, from)?;
-    end_unary(code, begins, op, constant, from)
+    *value = None;
+    fold_left(alloc, code, operand, value, NEAR, from)?;
+    if value.is_none() {
+        return put(code, unary_instruction(op), None);
+    }
+    end_constant_unary(code, begins, op, value, from)
+}
+
+// The same behind a constant operand.
+#[inline(never)]
+fn end_constant_unary<'source>(
+    code: &mut Instructions<'source>,
+    begins: usize,
+    op: UnaryOpKind,
+    value: &mut Option<Value>,
+    from: Option<&Span>,
+) -> Result<(), Error>
+    ensures constant { OnOk result (value.new ≡ unary_folded op value.old) }
+    ensures put { OnOk result
+        (CutOr begins value.new code.old code.new (Puts (behind value.old (one (unary_code op))) code.old code.new)) }
+    ensures refused { IfErr result (TakesNoMore (code_in code.new)) }
+{
+    *value = end_unary(code, begins, op, value.take(), from.copied())?;
+    Ok(())
 }
 
 // `and` or `or` behind its left side, which is loaded before the right one, and dropped again where both
@@ -248,22 +352,50 @@ fn fold_choice<'source>(
     code: &mut Instructions<'source>,
     op: BinOpKind,
     leap: Leap,
-    left: &Option<Value>,
+    value: &mut Option<Value>,
     right: &Expr<'source>,
-    from: Option<Span>,
-) -> Result<Option<Value>, Error>
+    from: Option<&Span>,
+) -> Result<(), Error>
     requires { IsRunnable (expression_of right.now) }
-    ensures constant { IfOk result (λ o. o ≡ binary_folded op left.now (constant_of (expression_of right.now))) }
-    ensures put { IfOk result
-        (λ o. Puts (unless o (behind left.now (skipped (leap_code leap) (expression_code (expression_of right.now))))) code.old code.new) }
+    ensures constant { OnOk result (value.new ≡ binary_folded op value.old (constant_of (expression_of right.now))) }
+    ensures put { OnOk result
+        (Puts (unless value.new (behind value.old (skipped (leap_code leap) (expression_code (expression_of right.now))))) code.old code.new) }
+    ensures refused { IfErr result (TakesNoMore (code_in code.new)) }
+{
+    if value.is_some() {
+        return fold_constant_choice(alloc, code, op, leap, value, right, from);
+    }
+    let jump = reserve(code, leap, None)?;
+    compile_expr(alloc, code, right, None)?;
+    land(code, jump, leap);
+    Ok(())
+}
+
+// The same behind a constant.
+#[cycle(expression)]
+#[inline(never)]
+fn fold_constant_choice<'source>(
+    alloc: Global,
+    code: &mut Instructions<'source>,
+    op: BinOpKind,
+    leap: Leap,
+    value: &mut Option<Value>,
+    right: &Expr<'source>,
+    from: Option<&Span>,
+) -> Result<(), Error>
+    requires { IsRunnable (expression_of right.now) }
+    ensures constant { OnOk result (value.new ≡ binary_folded op value.old (constant_of (expression_of right.now))) }
+    ensures put { OnOk result
+        (Puts (unless value.new (behind value.old (skipped (leap_code leap) (expression_code (expression_of right.now))))) code.old code.new) }
     ensures refused { IfErr result (TakesNoMore (code_in code.new)) }
 {
     let begins = code.len();
-    load_copy(code, left, from)?;
+    load_copy(code, value, from.copied())?;
     let jump = reserve(code, leap, None)?;
     let constant = fold_expr(alloc, code, right, None)?;
     let choice = Choice { begins, jump, leap };
-    end_choice(alloc, code, choice, op, left, constant)
+    *value = end_choice(alloc, code, choice, op, value, constant)?;
+    Ok(())
 }
 
 // Another operator behind its left side, which is loaded before the right one, and dropped again where
@@ -274,21 +406,47 @@ fn fold_operator<'source>(
     alloc: Global,
     code: &mut Instructions<'source>,
     op: BinOpKind,
-    left: &Option<Value>,
+    value: &mut Option<Value>,
     right: &Expr<'source>,
-    from: Option<Span>,
-) -> Result<Option<Value>, Error>
+    from: Option<&Span>,
+) -> Result<(), Error>
     requires right { IsRunnable (expression_of right.now) }
     requires op { IsNone (leap_of op) }
-    ensures constant { IfOk result (λ o. o ≡ binary_folded op left.now (constant_of (expression_of right.now))) }
-    ensures put { IfOk result
-        (λ o. Puts (unless o (behind left.now (then_code (expression_code (expression_of right.now)) (one (operate op))))) code.old code.new) }
+    ensures constant { OnOk result (value.new ≡ binary_folded op value.old (constant_of (expression_of right.now))) }
+    ensures put { OnOk result
+        (Puts (unless value.new (behind value.old (then_code (expression_code (expression_of right.now)) (one (operate op))))) code.old code.new) }
+    ensures refused { IfErr result (TakesNoMore (code_in code.new)) }
+{
+    if value.is_some() {
+        return fold_constant_operator(alloc, code, op, value, right, from);
+    }
+    compile_expr(alloc, code, right, None)?;
+    put(code, operator_instruction(op), None)
+}
+
+// The same behind a constant.
+#[cycle(expression)]
+#[inline(never)]
+fn fold_constant_operator<'source>(
+    alloc: Global,
+    code: &mut Instructions<'source>,
+    op: BinOpKind,
+    value: &mut Option<Value>,
+    right: &Expr<'source>,
+    from: Option<&Span>,
+) -> Result<(), Error>
+    requires right { IsRunnable (expression_of right.now) }
+    requires op { IsNone (leap_of op) }
+    ensures constant { OnOk result (value.new ≡ binary_folded op value.old (constant_of (expression_of right.now))) }
+    ensures put { OnOk result
+        (Puts (unless value.new (behind value.old (then_code (expression_code (expression_of right.now)) (one (operate op))))) code.old code.new) }
     ensures refused { IfErr result (TakesNoMore (code_in code.new)) }
 {
     let begins = code.len();
-    load_copy(code, left, from)?;
+    load_copy(code, value, from.copied())?;
     let constant = fold_expr(alloc, code, right, None)?;
-    end_operator(alloc, code, begins, op, left, constant)
+    *value = end_operator(alloc, code, begins, op, value, constant)?;
+    Ok(())
 }
 
 // An expression that may be left out, for which a constant stands then.
@@ -318,7 +476,7 @@ fn compile_choice<'source>(
     test: &Expr<'source>,
     branch: &Expr<'source>,
     otherwise: &Option<Expr<'source>>,
-    from: Option<Span>,
+    from: Option<&Span>,
 ) -> Result<(), Error>
     requires test { IsRunnable (expression_of test.now) }
     requires branch { IsRunnable (expression_of branch.now) }
@@ -343,14 +501,15 @@ fn compile_choice<'source>(
 #[inline(never)]
 fn compile_attribute<'source>(
     code: &mut Instructions<'source>,
-    left: Option<Value>,
+    left: &mut Option<Value>,
     name: &'source str,
-    from: Option<Span>,
+    from: Option<&Span>,
 ) -> Result<(), Error>
-    ensures put { OnOk result (Puts (behind left (one (get_attr name.now))) code.old code.new) }
+    ensures taken { OnOk result (left.new ≡ None) }
+    ensures put { OnOk result (Puts (behind left.old (one (get_attr name.now))) code.old code.new) }
     ensures refused { IfErr result (TakesNoMore (code_in code.new)) }
 {
-    load(code, left, from)?;
+    load_held(code, left, from)?;
     put(code, Instruction::GetAttr(CowStr::Borrowed(name)), None)
 }
 
@@ -360,16 +519,17 @@ fn compile_attribute<'source>(
 fn compile_item<'source>(
     alloc: Global,
     code: &mut Instructions<'source>,
-    left: Option<Value>,
+    left: &mut Option<Value>,
     key: &Expr<'source>,
-    from: Option<Span>,
+    from: Option<&Span>,
 ) -> Result<(), Error>
     requires { IsRunnable (expression_of key.now) }
+    ensures taken { OnOk result (left.new ≡ None) }
     ensures put { OnOk result
-        (Puts (behind left (then_code (expression_code (expression_of key.now)) (one get_item))) code.old code.new) }
+        (Puts (behind left.old (then_code (expression_code (expression_of key.now)) (one get_item))) code.old code.new) }
     ensures refused { IfErr result (TakesNoMore (code_in code.new)) }
 {
-    load(code, left, from)?;
+    load_held(code, left, from)?;
     compile_expr(alloc, code, key, None)?;
     put(code, Instruction::GetItem, None)
 }
@@ -380,21 +540,22 @@ fn compile_item<'source>(
 fn compile_slice<'source>(
     alloc: Global,
     code: &mut Instructions<'source>,
-    left: Option<Value>,
+    left: &mut Option<Value>,
     start: &Option<Expr<'source>>,
     stop: &Option<Expr<'source>>,
     step: &Option<Expr<'source>>,
-    from: Option<Span>,
+    from: Option<&Span>,
 ) -> Result<(), Error>
     requires start { IsRunnableIfGiven (optional_in start.now) }
     requires stop { IsRunnableIfGiven (optional_in stop.now) }
     requires step { IsRunnableIfGiven (optional_in step.now) }
+    ensures taken { OnOk result (left.new ≡ None) }
     ensures put { OnOk result
-        (Puts (behind left (then_code (optional_code none (optional_in start.now)) (then_code (optional_code none (optional_in stop.now))
+        (Puts (behind left.old (then_code (optional_code none (optional_in start.now)) (then_code (optional_code none (optional_in stop.now))
         (then_code (optional_code none (optional_in step.now)) (one slice))))) code.old code.new) }
     ensures refused { IfErr result (TakesNoMore (code_in code.new)) }
 {
-    load(code, left, from)?;
+    load_held(code, left, from)?;
     compile_optional(alloc, code, start, Value::none())?;
     compile_optional(alloc, code, stop, Value::none())?;
     compile_optional(alloc, code, step, Value::none())?;
@@ -407,7 +568,7 @@ fn compile_items<'source>(
     alloc: Global,
     code: &mut Instructions<'source>,
     items: &[Expr<'source>],
-    from: Option<Span>,
+    from: Option<&Span>,
 ) -> Result<(), Error>
     requires { AreRunnable (expressions_in items.now) }
     ensures put { OnOk result (Puts (expressions_code (expressions_in items.now)) code.old code.new) }
@@ -428,7 +589,7 @@ fn compile_entries<'source>(
     code: &mut Instructions<'source>,
     keys: &[Expr<'source>],
     values: &[Expr<'source>],
-    from: Option<Span>,
+    from: Option<&Span>,
 ) -> Result<usize, Error>
     requires keys { AreRunnable (expressions_in keys.now) }
     requires values { AreRunnable (expressions_in values.now) }
@@ -456,21 +617,25 @@ fn fold_list_literal<'source>(
     alloc: Global,
     code: &mut Instructions<'source>,
     items: &[Expr<'source>],
-    from: Option<Span>,
-) -> Result<Option<Value>, Error>
+    value: &mut Option<Value>,
+    from: Option<&Span>,
+) -> Result<(), Error>
     requires { AreRunnable (expressions_in items.now) }
-    ensures constant { IfOk result (λ o. o ≡ constant_of (list_literal (expressions_in items.now))) }
-    ensures put { IfOk result (λ o. Puts (unless o
+    ensures constant { OnOk result (value.new ≡ constant_of (list_literal (expressions_in items.now))) }
+    ensures put { OnOk result (Puts (unless value.new
         (then_code (expressions_code (expressions_in items.now)) (one (build_list (number_of (expressions_in items.now))))))
         code.old code.new) }
     ensures refused { IfErr result (TakesNoMore (code_in code.new)) }
 {
     match fold_list(alloc, items)? {
-        Some(value) => Ok(Some(value)),
+        Some(found) => {
+            *value = Some(found);
+            Ok(())
+        }
         None => {
+            *value = None;
             compile_items(alloc, code, items, from)?;
-            put(code, Instruction::BuildList(Some(items.len())), None)?;
-            Ok(None)
+            put(code, Instruction::BuildList(Some(items.len())), None)
         }
     }
 }
@@ -482,21 +647,25 @@ fn fold_tuple_literal<'source>(
     alloc: Global,
     code: &mut Instructions<'source>,
     items: &[Expr<'source>],
-    from: Option<Span>,
-) -> Result<Option<Value>, Error>
+    value: &mut Option<Value>,
+    from: Option<&Span>,
+) -> Result<(), Error>
     requires { AreRunnable (expressions_in items.now) }
-    ensures constant { IfOk result (λ o. o ≡ constant_of (tuple_literal (expressions_in items.now))) }
-    ensures put { IfOk result (λ o. Puts (unless o
+    ensures constant { OnOk result (value.new ≡ constant_of (tuple_literal (expressions_in items.now))) }
+    ensures put { OnOk result (Puts (unless value.new
         (then_code (expressions_code (expressions_in items.now)) (one (build_tuple (number_of (expressions_in items.now))))))
         code.old code.new) }
     ensures refused { IfErr result (TakesNoMore (code_in code.new)) }
 {
     match fold_tuple(alloc, items)? {
-        Some(value) => Ok(Some(value)),
+        Some(found) => {
+            *value = Some(found);
+            Ok(())
+        }
         None => {
+            *value = None;
             compile_items(alloc, code, items, from)?;
-            put(code, Instruction::BuildTuple(Some(items.len())), None)?;
-            Ok(None)
+            put(code, Instruction::BuildTuple(Some(items.len())), None)
         }
     }
 }
@@ -509,23 +678,27 @@ fn fold_map_literal<'source>(
     code: &mut Instructions<'source>,
     keys: &[Expr<'source>],
     values: &[Expr<'source>],
-    from: Option<Span>,
-) -> Result<Option<Value>, Error>
+    value: &mut Option<Value>,
+    from: Option<&Span>,
+) -> Result<(), Error>
     requires keys { AreRunnable (expressions_in keys.now) }
     requires values { AreRunnable (expressions_in values.now) }
-    ensures constant { IfOk result (λ o. o ≡ constant_of (map_literal (expressions_in keys.now) (expressions_in values.now))) }
-    ensures put { IfOk result (λ o. Puts (unless o
+    ensures constant { OnOk result (value.new ≡ constant_of (map_literal (expressions_in keys.now) (expressions_in values.now))) }
+    ensures put { OnOk result (Puts (unless value.new
         (then_code (entries_code (expressions_in keys.now) (codes_of (expressions_in values.now)))
         (one (build_map (entry_count (expressions_in keys.now) (codes_of (expressions_in values.now)))))))
         code.old code.new) }
     ensures refused { IfErr result (TakesNoMore (code_in code.new)) }
 {
     match fold_map(alloc, keys, values)? {
-        Some(value) => Ok(Some(value)),
+        Some(found) => {
+            *value = Some(found);
+            Ok(())
+        }
         None => {
+            *value = None;
             let count = compile_entries(alloc, code, keys, values, from)?;
-            put(code, Instruction::BuildMap(count), None)?;
-            Ok(None)
+            put(code, Instruction::BuildMap(count), None)
         }
     }
 }
@@ -623,22 +796,26 @@ fn compile_chain<'source>(
 fn fold_chain<'source>(
     alloc: Global,
     code: &mut Instructions<'source>,
-    left: &Option<Value>,
+    value: &mut Option<Value>,
     links: &[CompareOp<'source>],
-    from: Option<Span>,
-) -> Result<Option<Value>, Error>
+    from: Option<&Span>,
+) -> Result<(), Error>
     requires { IsRunnableChain (links_in links.now) }
-    ensures constant { IfOk result (λ o. o ≡ option_and_then (λ v. chain_constant v (links_in links.now)) left.now) }
-    ensures put { IfOk result (λ o. Puts (unless o (behind left.now (chain_code (links_in links.now)))) code.old code.new) }
+    ensures constant { OnOk result (value.new ≡ option_and_then (λ v. chain_constant v (links_in links.now)) value.old) }
+    ensures put { OnOk result (Puts (unless value.new (behind value.old (chain_code (links_in links.now)))) code.old code.new) }
     ensures refused { IfErr result (TakesNoMore (code_in code.new)) }
 {
     let begins = code.len();
-    load_copy(code, left, from)?;
-    match compile_chain(alloc, code, left, links)? {
+    load_copy(code, value, from.copied())?;
+    match compile_chain(alloc, code, value, links)? {
         Some(holds) => {
             code.truncate(begins);
-            Ok(Some(holds))
+            *value = Some(holds);
+            Ok(())
         }
-        None => Ok(None),
+        None => {
+            *value = None;
+            Ok(())
+        }
     }
 }

@@ -27,5 +27,5 @@ pub fn compile_expr<'source>(
     ensures put { OnOk result (Puts (expression_code (expression_of expr.now)) code.old code.new) }
     ensures refused { IfErr result (TakesNoMore (code_in code.new)) }
 {
-    expressions::compile_expr(alloc, code, expr, Some(expr.span()))
+    expressions::compile_expr(alloc, code, expr, Some(&expr.span()))
 }

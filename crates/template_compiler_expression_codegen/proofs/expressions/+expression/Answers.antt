@@ -1,6 +1,6 @@
 use Rattle.std.proofs.Common.{◌≡◌, ℕ, ◌+◌, ◌<◌, ◌++◌, List, length, take, drop, false, Option, None, ap, sym, subst, ◌∙◌, arith, refl}
 use Rattle.std.proofs.lemmas.Result.{on_ok_weaker}
-use Rattle.std.specs.Prelude.{IfOk, option_and_then}
+use Rattle.std.specs.Prelude.{IfOk, OnOk, option_and_then}
 use Rattle.template_values_model.specs.Val.{Val}
 use Rattle.template_tree.specs.Tree.{Expression, Links, chain, links_more, list_literal, map_literal, tuple_literal}
 use Rattle.template_tree.specs.View.{expression_of, expressions_in, links_in, optional_in}
@@ -20,10 +20,10 @@ use Rattle.template_compiler_codegen.specs.Expressions.{chain_code, expression_c
 use Rattle.template_compiler_folding.specs.Folding.{binary_folded, comparison_folded, unary_folded}
 use Rattle.template_compiler_emission.specs.declared.leaps.Leap.TheVariants.{Always, IfFalse}
 use Rattle.template_compiler_emission.specs.Puts.{Puts, unless}
-use Rattle.template_compiler_emission.proofs.Putting.{same_then, puts_then, puts_either}
+use Rattle.template_compiler_emission.proofs.Putting.{same_then, puts_then, puts_either, puts_skipped}
 use Rattle.template_compiler_expression_codegen.specs.Chains.{constant_behind, is_false, leaps_in, left_behind, linked_to}
 use Rattle.template_compiler_expression_codegen.proofs.Along.{alone_put, part_put, nothing_there, runnable_at, depth_at, one_node, so_far}
-use Rattle.template_compiler_expression_codegen.proofs.Ends.{ends_choice, ends_operator, ends_unary, puts_over}
+use Rattle.template_compiler_expression_codegen.proofs.Ends.{choice_behind_none, ends_choice, ends_operator, ends_unary, puts_over}
 use Rattle.template_compiler_expression_codegen.proofs.Items.{item_runnable, number_is, puts_item}
 use Rattle.template_compiler_expression_codegen.proofs.Linked.{behind_none, link_goes, link_known, link_more, link_runnable, links_at, place_more}
 use Rattle.template_compiler_expression_codegen.proofs.Own.{known, add_own, no_left, own_step}
@@ -37,26 +37,28 @@ fold_spine-loop-i-preserved t c =
     let ns = c.in_ok-nodes.nodes.items in
     let within : c.loop-i.i < length ns = omega arith in
     let more = one_node ns c.loop-i.i c.index.result.now (code_in c.args.code.now) (code_in c.loop-i.code) (code_in c.fold_node.new.code)
-    c.loop-i.constant c.in_ok-constant.constant within c.index.ensures
-    (runnable_at (expression_of c.args.expr.now) ns c.requires c.in_ok-nodes.ensures.nodes c.loop-i.i c.index.result.now within c.index.ensures)
-    c.loop-i.invariant.constant c.loop-i.invariant.code c.in_ok-constant.ensures.constant c.in_ok-constant.ensures.put.code in
-    record { constant = more.0; code = more.1; same = same_then c.loop-i.invariant.same c.in_ok-constant.ensures.put.same }
+    c.loop-i.value c.fold_node.new.value within c.index.ensures
+    (runnable_at (expression_of c.args.expr.now) ns c.requires.runs c.in_ok-nodes.ensures.nodes c.loop-i.i c.index.result.now within c.index.ensures)
+    c.loop-i.invariant.constant c.loop-i.invariant.code c.in_ok-fold_node.ensures.constant c.in_ok-fold_node.ensures.put.code in
+    record { constant = more.0; code = more.1; same = same_then c.loop-i.invariant.same c.in_ok-fold_node.ensures.put.same }
 
 pub fold_left-returns-in-Var-clause-put : goal.fold_left-returns-in-Var-clause-put
-fold_left-returns-in-Var-clause-put t c = rw c.in-Var.is c.fold_name.ensures.put
+fold_left-returns-in-Var-clause-put t c = rw (c.in-Var.is, c.requires.none) c.put_name.ensures.put
 
 pub fold_left-returns-in-None-clause-put : goal.fold_left-returns-in-None-clause-put
 fold_left-returns-in-None-clause-put t c =
     let e = expression_of c.args.expr.now in
     let none = nothing_there c.left.result e c.in-None.is c.left.ensures.left in
-    alone_put e c.args.code.now c.fold_node-in-None.new.code c.fold_node-in-None.result c.requires none c.fold_node-in-None.ensures.constant
-    c.fold_node-in-None.ensures.put
+    on_ok_weaker c.fold_node-in-None.result (λ both. both.1)
+    (alone_put e c.args.value.now c.fold_node-in-None.new.value c.args.code.now c.fold_node-in-None.new.code c.fold_node-in-None.result
+    c.requires.runs none c.requires.none c.fold_node-in-None.ensures.constant c.fold_node-in-None.ensures.put)
 
-pub fold_left-returns-in_ok-constant-in-Some-clause-put : goal.fold_left-returns-in_ok-constant-in-Some-clause-put
-fold_left-returns-in_ok-constant-in-Some-clause-put t c =
-    part_put (expression_of c.args.expr.now) (expression_of c.in-Some.part.now) _ c.args.code.now _ _ c.fold_node.result c.requires
-    c.in-Some.ensures.left c.in_ok-constant-in-Some.ensures.constant c.in_ok-constant-in-Some.ensures.put c.fold_node.ensures.constant
-    c.fold_node.ensures.put
+pub fold_left-returns-in_ok-fold_left-in-Some-clause-put : goal.fold_left-returns-in_ok-fold_left-in-Some-clause-put
+fold_left-returns-in_ok-fold_left-in-Some-clause-put t c =
+    on_ok_weaker c.fold_node.result (λ both. both.1)
+    (part_put (expression_of c.args.expr.now) (expression_of c.in-Some.part.now) _ c.fold_node.new.value c.args.code.now _ _ c.fold_node.result
+    c.requires.runs c.in-Some.ensures.left c.in_ok-fold_left-in-Some.ensures.constant c.in_ok-fold_left-in-Some.ensures.put
+    c.fold_node.ensures.constant c.fold_node.ensures.put)
 
 pub fold_spine-returns-clause-constant : goal.fold_spine-returns-clause-constant
 fold_spine-returns-clause-constant t c =
@@ -72,7 +74,7 @@ fold_spine-fold_node-requires t c =
     let within : c.loop-i.i < length ns = omega arith in
     let deep = depth_at (size-Expr c.args.expr.now) ns c.in_ok-nodes.ensures.depth c.loop-i.i c.index.result.now within c.index.ensures in (
       omega (arith, deep, c.decreases),
-      runnable_at (expression_of c.args.expr.now) ns c.requires c.in_ok-nodes.ensures.nodes c.loop-i.i c.index.result.now within c.index.ensures,
+      runnable_at (expression_of c.args.expr.now) ns c.requires.runs c.in_ok-nodes.ensures.nodes c.loop-i.i c.index.result.now within c.index.ensures,
     )
 
 pub fold_spine-returns-clause-put : goal.fold_spine-returns-clause-put
@@ -195,15 +197,13 @@ compile_links-loop-next-preserved t c =
       grown = grows_then c.loop-next.invariant.grown (grows_then (grows_by c.in_ok-put_leap.ensures.put) (grows_by c.in_ok-link.ensures.put));
     }
 
-pub fold_list_literal-returns-in_ok-put-in-None-clause-put : goal.fold_list_literal-returns-in_ok-put-in-None-clause-put
-fold_list_literal-returns-in_ok-put-in-None-clause-put t c =
-    puts_then c.in_ok-compile_items-in-None.ensures.put
-    (puts_as (ap build_list (sym (number_is c.args.items.now))) c.in_ok-put-in-None.ensures.put)
+pub fold_list_literal-returns-in_ok-compile_items-in-None-clause-put : goal.fold_list_literal-returns-in_ok-compile_items-in-None-clause-put
+fold_list_literal-returns-in_ok-compile_items-in-None-clause-put t c = on_ok_weaker c.put.result (λ last.
+    puts_then c.in_ok-compile_items-in-None.ensures.put (puts_as (ap build_list (sym (number_is c.args.items.now))) last)) c.put.ensures.put
 
-pub fold_tuple_literal-returns-in_ok-put-in-None-clause-put : goal.fold_tuple_literal-returns-in_ok-put-in-None-clause-put
-fold_tuple_literal-returns-in_ok-put-in-None-clause-put t c =
-    puts_then c.in_ok-compile_items-in-None.ensures.put
-    (puts_as (ap build_tuple (sym (number_is c.args.items.now))) c.in_ok-put-in-None.ensures.put)
+pub fold_tuple_literal-returns-in_ok-compile_items-in-None-clause-put : goal.fold_tuple_literal-returns-in_ok-compile_items-in-None-clause-put
+fold_tuple_literal-returns-in_ok-compile_items-in-None-clause-put t c = on_ok_weaker c.put.result (λ last.
+    puts_then c.in_ok-compile_items-in-None.ensures.put (puts_as (ap build_tuple (sym (number_is c.args.items.now))) last)) c.put.ensures.put
 
 pub fold_node-fold_list_literal-requires : goal.fold_node-fold_list_literal-requires
 fold_node-fold_list_literal-requires t c =
@@ -298,7 +298,7 @@ compile_links-loop-next-init t c = record {
 
 pub compile_slice-returns-clause-put : goal.compile_slice-returns-clause-put
 compile_slice-returns-clause-put t c = on_ok_weaker c.put.result (λ last.
-    puts_behind c.args.left c.in_ok-load.ensures.put
+    puts_behind c.args.left.now c.in_ok-load_held.ensures.put
     (puts_then (puts_optional (optional_in c.args.start.now) c.none.ensures c.in_ok-compile_optional.ensures.put)
     (puts_then (puts_optional (optional_in c.args.stop.now) c.none-2.ensures c.in_ok-compile_optional-2.ensures.put)
     (puts_then (puts_optional (optional_in c.args.step.now) c.none-3.ensures c.in_ok-compile_optional-3.ensures.put) last)))) c.put.ensures.put
@@ -308,44 +308,53 @@ fold_chain-returns-in-Some-clause-put t c =
     grows_back_at c.len-begins.result c.len-begins.ensures.len (grows_then (grows_by c.in_ok-load_copy.ensures.put) c.in_ok-holds.ensures.grown)
     c.truncate.ensures.kept c.truncate.ensures.same c.truncate.ensures.places
 
-pub compile_expr-returns-clause-put : goal.compile_expr-returns-clause-put
-compile_expr-returns-clause-put t c = on_ok_weaker c.load.result (λ last.
-    puts_whole (expression_of c.args.expr.now) c.in_ok-constant.ensures.constant c.in_ok-constant.ensures.put last) c.load.ensures.put
+pub compile_tree-returns-clause-put : goal.compile_tree-returns-clause-put
+compile_tree-returns-clause-put t c = on_ok_weaker c.load.result (λ last.
+    puts_whole (expression_of c.args.expr.now) c.in_ok-fold_left.ensures.constant c.in_ok-fold_left.ensures.put last) c.load.ensures.put
 
 pub compile_item-returns-clause-put : goal.compile_item-returns-clause-put
 compile_item-returns-clause-put t c = on_ok_weaker c.put.result (λ last.
-    puts_behind c.args.left c.in_ok-load.ensures.put (puts_then c.in_ok-compile_expr.ensures.put last)) c.put.ensures.put
+    puts_behind c.args.left.now c.in_ok-load_held.ensures.put (puts_then c.in_ok-compile_expr.ensures.put last)) c.put.ensures.put
 
 pub fold_unary_operator-returns-clause-constant : goal.fold_unary_operator-returns-clause-constant
 fold_unary_operator-returns-clause-constant t c =
-    subst (λ (k : Option Val). IfOk c.end_unary.result (λ o. o ≡ unary_folded c.args.op k)) c.in_ok-constant.ensures.constant c.end_unary.ensures.constant
+    subst (λ (k : Option Val). OnOk c.end_constant_unary.result (c.end_constant_unary.new.value ≡ unary_folded c.args.op k))
+    c.in_ok-fold_left.ensures.constant c.end_constant_unary.ensures.constant
 
 pub fold_unary_operator-returns-clause-put : goal.fold_unary_operator-returns-clause-put
 fold_unary_operator-returns-clause-put t c =
-    ends_unary (expression_of c.args.operand.now) (one (unary_code c.args.op)) c.len-begins.result _ c.end_unary.result c.end_unary.new.code
-    c.len-begins.ensures.len c.in_ok-constant.ensures.constant c.in_ok-constant.ensures.put c.end_unary.ensures.put
+    ends_unary (expression_of c.args.operand.now) (one (unary_code c.args.op)) c.len-begins.result _ c.end_constant_unary.new.value
+    c.end_constant_unary.result c.end_constant_unary.new.code c.len-begins.ensures.len c.in_ok-fold_left.ensures.constant
+    c.in_ok-fold_left.ensures.put c.end_constant_unary.ensures.put
 
-pub fold_choice-returns-clause-constant : goal.fold_choice-returns-clause-constant
-fold_choice-returns-clause-constant t c =
-    subst (λ (k : Option Val). IfOk c.end_choice.result (λ o. o ≡ binary_folded c.args.op c.args.left.now k)) c.in_ok-constant.ensures.constant
-    c.end_choice.ensures.constant
+pub fold_constant_choice-returns-clause-constant : goal.fold_constant_choice-returns-clause-constant
+fold_constant_choice-returns-clause-constant t c =
+    subst (λ (k : Option Val). c.in_ok-value.field-0 ≡ binary_folded c.args.op c.args.value.now k) c.in_ok-constant.ensures.constant
+    c.in_ok-value.ensures.constant
 
 pub fold_choice-returns-clause-put : goal.fold_choice-returns-clause-put
 fold_choice-returns-clause-put t c =
-    ends_choice c.args.left.now (expression_of c.args.right.now) c.args.leap c.len-begins.result c.in_ok-jump.jump _ c.end_choice.result
+    let landed = landed_at c.args.leap c.in_ok-jump.jump (code_in c.args.code.now) (code_in c.compile_expr.new.code)
+    (code_in c.land.new.code) c.in_ok-jump.ensures.place c.land.ensures.landed in
+    choice_behind_none c.args.value.now c.args.leap (expression_code (expression_of c.args.right.now)) (sym c.is_some.ensures ∙ c.if-is_some.false)
+    (puts_skipped c.args.leap c.in_ok-jump.ensures.put c.in_ok-compile_expr.ensures.put landed c.land.ensures.same)
+
+pub fold_constant_choice-returns-clause-put : goal.fold_constant_choice-returns-clause-put
+fold_constant_choice-returns-clause-put t c =
+    ends_choice c.args.value.now (expression_of c.args.right.now) c.args.leap c.len-begins.result c.in_ok-jump.jump _ _
     c.end_choice.new.code c.len-begins.ensures.len c.in_ok-load_copy.ensures.put c.in_ok-jump.ensures.place c.in_ok-jump.ensures.put
-    c.in_ok-constant.ensures.constant c.in_ok-constant.ensures.put c.end_choice.ensures.put
+    c.in_ok-constant.ensures.constant c.in_ok-constant.ensures.put c.in_ok-value.ensures.put
 
-pub fold_operator-returns-clause-constant : goal.fold_operator-returns-clause-constant
-fold_operator-returns-clause-constant t c =
-    subst (λ (k : Option Val). IfOk c.end_operator.result (λ o. o ≡ binary_folded c.args.op c.args.left.now k)) c.in_ok-constant.ensures.constant
-    c.end_operator.ensures.constant
+pub fold_constant_operator-returns-clause-constant : goal.fold_constant_operator-returns-clause-constant
+fold_constant_operator-returns-clause-constant t c =
+    subst (λ (k : Option Val). c.in_ok-value.field-0 ≡ binary_folded c.args.op c.args.value.now k) c.in_ok-constant.ensures.constant
+    c.in_ok-value.ensures.constant
 
-pub fold_operator-returns-clause-put : goal.fold_operator-returns-clause-put
-fold_operator-returns-clause-put t c =
-    ends_operator c.args.left.now (expression_of c.args.right.now) (one (operate c.args.op)) c.len-begins.result _ c.end_operator.result
+pub fold_constant_operator-returns-clause-put : goal.fold_constant_operator-returns-clause-put
+fold_constant_operator-returns-clause-put t c =
+    ends_operator c.args.value.now (expression_of c.args.right.now) (one (operate c.args.op)) c.len-begins.result _ _
     c.end_operator.new.code c.len-begins.ensures.len c.in_ok-load_copy.ensures.put c.in_ok-constant.ensures.constant
-    c.in_ok-constant.ensures.put c.end_operator.ensures.put
+    c.in_ok-constant.ensures.put c.in_ok-value.ensures.put
 
 pub compile_link-returns-clause-holds : goal.compile_link-returns-clause-holds
 compile_link-returns-clause-holds t c =

@@ -23,6 +23,9 @@ decreases-fold_spine l = 16 * size-Expr l.expr.now + 1
 abbrev pub decreases-compile_expr : goal.decreases-compile_expr
 decreases-compile_expr l = 16 * size-Expr l.expr.now + 4
 
+abbrev pub decreases-compile_tree : goal.decreases-compile_tree
+decreases-compile_tree l = 16 * size-Expr l.expr.now + 3
+
 abbrev pub decreases-fold_node : goal.decreases-fold_node
 decreases-fold_node l = 16 * size-Expr l.expr.now
 
@@ -30,10 +33,16 @@ abbrev pub decreases-fold_unary_operator : goal.decreases-fold_unary_operator
 decreases-fold_unary_operator l = 16 * size-Expr l.operand.now + 5
 
 abbrev pub decreases-fold_choice : goal.decreases-fold_choice
-decreases-fold_choice l = 16 * size-Expr l.right.now + 5
+decreases-fold_choice l = 16 * size-Expr l.right.now + 6
+
+abbrev pub decreases-fold_constant_choice : goal.decreases-fold_constant_choice
+decreases-fold_constant_choice l = 16 * size-Expr l.right.now + 5
 
 abbrev pub decreases-fold_operator : goal.decreases-fold_operator
-decreases-fold_operator l = 16 * size-Expr l.right.now + 5
+decreases-fold_operator l = 16 * size-Expr l.right.now + 6
+
+abbrev pub decreases-fold_constant_operator : goal.decreases-fold_constant_operator
+decreases-fold_constant_operator l = 16 * size-Expr l.right.now + 5
 
 abbrev pub decreases-compile_optional : goal.decreases-compile_optional
 decreases-compile_optional l = 16 * optional_deep l.expr.now + 5
@@ -80,7 +89,7 @@ decreases-fold_spine-loop-i l = length l.nodes.items - l.i
 -- the constant and the code of the nodes so far
 abbrev pub invariant-fold_spine-loop-i : goal.invariant-fold_spine-loop-i
 invariant-fold_spine-loop-i l = record {
-  constant : l.constant ≡ (so_far (length (code_in l.initial.code)) (take l.i l.nodes.items)).0;
+  constant : l.value ≡ (so_far (length (code_in l.initial.code)) (take l.i l.nodes.items)).0;
   code : code_in l.code ≡ code_in l.initial.code ++ (so_far (length (code_in l.initial.code)) (take l.i l.nodes.items)).1;
   same : Keeps l.initial.code l.code;
 }
