@@ -47,6 +47,7 @@ pub fn expect_tag_end<'source>(tokens: &mut TokenStream<'source>) -> Result<(), 
 /// # Errors
 ///
 /// The fault of the token that stands there.
+#[inline(always)]
 #[tactic(auto, using(crate::proofs::Standing::word_none), unfolding(template_compiler_grammar::specs::TemplateReader::expect_word))]
 pub fn expect_word<'source>(tokens: &mut TokenStream<'source>, word: &str) -> Result<(), Refusal>
     ensures parsed { ParsedAs passing (expect_word word.now tt tokens.old.left) tokens.new.left result }
@@ -98,6 +99,7 @@ pub fn expect_paren_end<'source>(tokens: &mut TokenStream<'source>) -> Result<()
 /// # Errors
 ///
 /// The fault of the first token that does not fit.
+#[inline(always)]
 #[tactic(auto, using(crate::proofs::Standing::tag_next), unfolding(crate::proofs::Opened::tag_read))]
 pub fn expect_tag<'source>(tokens: &mut TokenStream<'source>, word: &str) -> Result<(), Refusal>
     ensures parsed { ParsedAs passing (expect_tag word.now tt tokens.old.left) tokens.new.left result }

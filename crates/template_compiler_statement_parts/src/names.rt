@@ -11,10 +11,10 @@ use template_tree::Expr;
 pub fn is_reserved(name: &str) -> bool
     ensures { result ≡ is_reserved name.now }
 {
-    [
-        "true", "True", "false", "False", "none", "None", "loop", "self",
-    ]
-    .contains(&name)
+    match name {
+        "true" | "True" | "false" | "False" | "none" | "None" | "loop" | "self" => true,
+        _ => false,
+    }
 }
 
 /// Reads a name that may be stored.
@@ -22,6 +22,7 @@ pub fn is_reserved(name: &str) -> bool
 /// # Errors
 ///
 /// The fault of the token that stands there.
+#[inline(always)]
 #[tactic(auto, using(crate::proofs::Placed::stored_word, crate::proofs::Placed::stored_none))]
 pub fn read_stored<'source>(tokens: &mut TokenStream<'source>) -> Result<Expr<'source>, Refusal>
     ensures parsed { ParsedNode (stored_by tokens.old.spans tokens.old.left) tokens.new.left result }

@@ -23,6 +23,7 @@ use template_tree::{Expr, Span};
 ///
 /// The fault of the token that does not fit, or want of memory.
 #[cycle(targets)]
+#[inline(always)]
 #[tactic(auto, using(crate::proofs::Parts::target_next), unfolding(crate::proofs::Opened::target_read))]
 pub fn read_target<'source>(
     alloc: Global,
@@ -45,6 +46,7 @@ pub fn read_target<'source>(
 
 // Targets in parentheses are one nesting level deeper.
 #[cycle(targets)]
+#[inline(never)]
 #[tactic(auto, unfolding(template_compiler_placed_grammar::specs::TemplateReader::inner_targets))]
 fn read_inner_targets<'source>(
     alloc: Global,
@@ -68,6 +70,7 @@ fn read_inner_targets<'source>(
 ///
 /// The fault of the token that does not fit, or want of memory.
 #[cycle(targets)]
+#[inline(always)]
 #[tactic(auto, unfolding(template_compiler_tokens::specs::Steps::and_then, template_compiler_placed_grammar::specs::TemplateReader::targets_by))]
 pub fn read_targets<'source>(
     alloc: Global,
@@ -90,7 +93,7 @@ pub fn read_targets<'source>(
 ///
 /// The fault of the token that does not fit, or want of memory.
 #[cycle(targets)]
-#[tactic(auto, unfolding(template_compiler_tokens::specs::Steps::and_then, template_compiler_placed_grammar::specs::TemplateReader::more_targets_by))]
+#[inline(always)]
 pub fn read_more_targets<'source>(
     alloc: Global,
     tokens: &mut TokenStream<'source>,
@@ -104,9 +107,30 @@ pub fn read_more_targets<'source>(
         tokens.new.left result }
     ensures spans { tokens.new.spans ≡ tokens.old.spans }
 {
-    if !begins_more(tokens) {
-        return Ok(first);
+    if begins_more(tokens) {
+        several_targets(alloc, tokens, left, dots, first, start)
+    } else {
+        Ok(first)
     }
+}
+
+// The targets behind the first one, where a comma stands next.
+#[cycle(targets)]
+#[inline(never)]
+#[tactic(auto, unfolding(template_compiler_tokens::specs::Steps::and_then, template_compiler_placed_grammar::specs::TemplateReader::more_targets_by))]
+fn several_targets<'source>(
+    alloc: Global,
+    tokens: &mut TokenStream<'source>,
+    left: u32,
+    dots: bool,
+    first: Expr<'source>,
+    start: Span,
+) -> Result<Expr<'source>, Refusal>
+    ensures parsed { let table = tokens.old.spans in
+        ParsedNode (more_targets_by table dots (inner_targets table dots left) start (node_of first.entry) tokens.old.left)
+        tokens.new.left result }
+    ensures spans { tokens.new.spans ≡ tokens.old.spans }
+{
     let mut targets = Vec::new(alloc);
     put(&mut targets, first)?;
     all_targets(alloc, tokens, left, dots, &mut targets)?;
@@ -172,6 +196,7 @@ fn begins_more<'source>(tokens: &TokenStream<'source>) -> bool
 }
 
 // A name, with the attributes behind it where it may have some.
+#[inline(always)]
 #[tactic(auto, unfolding(template_compiler_tokens::specs::Steps::and_then, template_compiler_placed_grammar::specs::TemplateReader::path_by))]
 fn read_path_target<'source>(
     alloc: Global,
@@ -192,6 +217,7 @@ fn read_path_target<'source>(
 }
 
 // The attributes behind a name, which begins at `start`.
+#[inline(never)]
 fn read_path<'source>(
     alloc: Global,
     tokens: &mut TokenStream<'source>,

@@ -8,6 +8,7 @@ use crate::ends::expect_word;
 use template_compiler_stream::{Refusal, Sign, TokenStream};
 
 /// The word of the tag that stands next.
+#[inline(always)]
 #[tactic(auto, using(crate::proofs::Standing::next_tag_here, crate::proofs::Standing::next_tag_none))]
 pub fn tag_word<'source>(tokens: &TokenStream<'source>) -> Option<&'source str>
     ensures { option_map (λ w. w.now) result ≡ next_tag tokens.now.left }
@@ -20,6 +21,7 @@ pub fn tag_word<'source>(tokens: &TokenStream<'source>) -> Option<&'source str>
 }
 
 /// Whether a tag of this word stands next.
+#[inline(always)]
 #[tactic(auto, using(crate::proofs::Standing::begins_tag_here, crate::proofs::Standing::begins_tag_none))]
 pub fn begins_tag<'source>(tokens: &TokenStream<'source>, word: &str) -> bool
     ensures { result ≡ begins_tag word.now tokens.now.left }

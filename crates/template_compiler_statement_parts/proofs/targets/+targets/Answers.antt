@@ -34,8 +34,8 @@ read_inner_targets-returns-else-left-eq0-clause-parsed t c =
     (sym (inner_less c.args.tokens.now.spans c.args.dots c.args.left (c.args.left - 1) c.args.tokens.now.left (omega arith)))
     c.read_targets.ensures.parsed
 
-pub read_more_targets-returns-then-not-begins_more-clause-parsed : goal.read_more_targets-returns-then-not-begins_more-clause-parsed
-read_more_targets-returns-then-not-begins_more-clause-parsed t c =
+pub read_more_targets-returns-else-begins_more-clause-parsed : goal.read_more_targets-returns-else-begins_more-clause-parsed
+read_more_targets-returns-else-begins_more-clause-parsed t c =
     let spans = c.args.tokens.now.spans in
     alone spans c.args.dots (inner_targets spans c.args.dots c.args.left) c.args.start (node_of c.args.first) c.args.tokens.now.left
-    (sym c.begins_more.ensures ∙ c.if-not-begins_more.true)
+    (sym c.begins_more.ensures ∙ c.if-begins_more.false)

@@ -12,10 +12,13 @@ abbrev pub decreases-read_inner_targets : goal.decreases-read_inner_targets
 decreases-read_inner_targets l = 8 * l.left + 1
 
 abbrev pub decreases-read_targets : goal.decreases-read_targets
-decreases-read_targets l = 8 * l.left + 6
+decreases-read_targets l = 8 * l.left + 7
 
 abbrev pub decreases-read_more_targets : goal.decreases-read_more_targets
-decreases-read_more_targets l = 8 * l.left + 5
+decreases-read_more_targets l = 8 * l.left + 6
+
+abbrev pub decreases-several_targets : goal.decreases-several_targets
+decreases-several_targets l = 8 * l.left + 5
 
 abbrev pub decreases-all_targets : goal.decreases-all_targets
 decreases-all_targets l = 8 * l.left + 4
