@@ -1,6 +1,6 @@
 //! The instructions of a template.
 
-ghost use Rattle.std.specs.Prelude.{◌≡◌, ◌^◌, ◌<◌, ◌+◌, ◌++◌, ◌∷◌, [], ◌↔◌, ◌⊎◌, All, IsTrue, not, IfOk, IfErr, OnOk, OnErr, IsErrAnd, filter, length, ltb, map, slice_get, option_map, take};
+ghost use Rattle.std.specs.Prelude.{◌≡◌, ◌^◌, ◌<◌, ◌≤◌, ◌+◌, ◌++◌, ◌∷◌, [], ◌↔◌, ◌⊎◌, All, IsTrue, not, IfOk, IfErr, OnOk, OnErr, IsErrAnd, filter, length, ltb, map, slice_get, option_map, take};
 ghost use Rattle.std.proofs.Math.ListN.{set};
 ghost use Rattle.template_values_errors.specs.Memory.{NoMemory};
 ghost use Rattle.template_code_marks.specs.Marked.{marks_in};
@@ -8,7 +8,7 @@ ghost use Rattle.template_code.specs.View.{code_of};
 ghost use Rattle.template_code.specs.Told.{told_span};
 
 use crate::instruction::{Instruction, owned};
-use std::alloc::Global;
+use std::alloc::{AllocError, Global};
 use std::borrow::CowStr;
 use template_code_marks::{Mark, Marks};
 use template_tree::Span;
@@ -176,7 +176,15 @@ impl<'source> Instructions<'source> {
         ensures unchanged { OnErr result (code_in self.new ≡ code_in self.old) }
         ensures unmarked { OnErr result (places_in self.new ≡ places_in self.old) }
     {
-        self.add_marked(instruction, line, None)
+        let start = self.add(instruction)?;
+        match self.marks.push(Mark {
+            start,
+            line,
+            span: None,
+        }) {
+            Ok(()) => Ok(start),
+            Err(_refused) => Err(taken_back(&mut self.code, start)),
+        }
     }
 
     /// The same for an instruction that comes from a span, with the line that this starts in. The default span tells
@@ -185,6 +193,7 @@ impl<'source> Instructions<'source> {
     /// # Errors
     ///
     /// As [`Instructions::add`].
+    #[inline(always)]
     pub fn add_with_span(
         &mut self,
         instruction: Instruction<'source>,
@@ -199,52 +208,10 @@ impl<'source> Instructions<'source> {
         ensures unchanged { OnErr result (code_in self.new ≡ code_in self.old) }
         ensures unmarked { OnErr result (places_in self.new ≡ places_in self.old) }
     {
-        if span.end_offset == 0 {
-            return self.add_early(instruction, span);
-        }
-        self.add_marked(instruction, span.start_line, Some(span))
-    }
-
-    // The same for a span that ends before the first byte does, as the default one.
-    #[inline(never)]
-    fn add_early(&mut self, instruction: Instruction<'source>, span: Span) -> Result<u32, Error>
-        ensures place { IfOk result (λ place. place ≡ length (code_in self.old)) }
-        ensures added { OnOk result (code_in self.new ≡ code_in self.old ++ code_of instruction.entry ∷ []) }
-        ensures marked { OnOk result (places_in self.new ≡ places_in self.old ++ span_mark (length (code_in self.old)) span ∷ []) }
-        ensures same { IsSameTemplate self.old self.new }
-        ensures refused { IfErr result (TakesNoMore (code_in self.old)) }
-        ensures full { IsFull (code_in self.old) → IsErrAnd result (λ kinds. kinds ≡ ErrorKind.TooLarge ∷ []) }
-        ensures unchanged { OnErr result (code_in self.new ≡ code_in self.old) }
-        ensures unmarked { OnErr result (places_in self.new ≡ places_in self.old) }
-    {
-        self.add_marked(instruction, span.start_line, told(span))
-    }
-
-    // Puts an instruction behind the others, with a mark of its own.
-    #[inline(always)]
-    fn add_marked(
-        &mut self,
-        instruction: Instruction<'source>,
-        line: u16,
-        span: Option<Span>,
-    ) -> Result<u32, Error>
-        ensures place { IfOk result (λ place. place ≡ length (code_in self.old)) }
-        ensures added { OnOk result (code_in self.new ≡ code_in self.old ++ code_of instruction.entry ∷ []) }
-        ensures marked { OnOk result (places_in self.new
-            ≡ places_in self.old ++ (record { start = length (code_in self.old); line = line; span = span }) ∷ []) }
-        ensures same { IsSameTemplate self.old self.new }
-        ensures refused { IfErr result (TakesNoMore (code_in self.old)) }
-        ensures full { IsFull (code_in self.old) → IsErrAnd result (λ kinds. kinds ≡ ErrorKind.TooLarge ∷ []) }
-        ensures unchanged { OnErr result (code_in self.new ≡ code_in self.old) }
-        ensures unmarked { OnErr result (places_in self.new ≡ places_in self.old) }
-    {
         let start = self.add(instruction)?;
-        match self.marks.push(Mark { start, line, span }) {
+        match mark_from(&mut self.marks, start, span) {
             Ok(()) => Ok(start),
-            Err(_refused) => {
-                self.code.truncate(start as usize);
-                Err(Error::new(ErrorKind::OutOfMemory))
-            }
+            Err(_refused) => Err(taken_back(&mut self.code, start)),
         }
     }
 
@@ -324,6 +291,50 @@ fn with_room<'source>(alloc: Global, count: usize) -> Vec<Instruction<'source>>
         Ok(code) => code,
         Err(_refused) => Vec::new(alloc),
     }
+}
+
+// Marks the instructions from a place on with a span. Few spans end before the first byte does, as the default one.
+#[inline(always)]
+fn mark_from(marks: &mut Marks, start: u32, span: Span) -> Result<(), AllocError>
+    requires { All (λ m. m.start ≤ start) (marks_in marks.old) }
+    ensures marked { OnOk result (marks_in marks.new
+        ≡ marks_in marks.old ++ (record { start = start; line = span.start_line; span = told_span span }) ∷ []) }
+    ensures unchanged { OnErr result (marks_in marks.new ≡ marks_in marks.old) }
+{
+    if span.end_offset == 0 {
+        return mark_early(marks, start, span);
+    }
+    marks.push(Mark {
+        start,
+        line: span.start_line,
+        span: Some(span),
+    })
+}
+
+#[cold]
+#[inline(never)]
+fn mark_early(marks: &mut Marks, start: u32, span: Span) -> Result<(), AllocError>
+    requires { All (λ m. m.start ≤ start) (marks_in marks.old) }
+    ensures marked { OnOk result (marks_in marks.new
+        ≡ marks_in marks.old ++ (record { start = start; line = span.start_line; span = told_span span }) ∷ []) }
+    ensures unchanged { OnErr result (marks_in marks.new ≡ marks_in marks.old) }
+{
+    marks.push(Mark {
+        start,
+        line: span.start_line,
+        span: told(span),
+    })
+}
+
+// Takes back the instruction at a place, whose mark was refused, with those behind it.
+#[cold]
+#[inline(never)]
+fn taken_back<'source>(code: &mut Vec<Instruction<'source>>, place: u32) -> Error
+    ensures kept { code.new.items ≡ take place code.old.items }
+    ensures refused { NoMemory result }
+{
+    code.truncate(place as usize);
+    Error::new(ErrorKind::OutOfMemory)
 }
 
 // The span, unless it is the default one.

@@ -99,6 +99,7 @@ pub fn put<'source>(
 /// # Errors
 ///
 /// Those of [`Instructions::add`].
+#[inline(always)]
 pub fn reserve<'source>(
     code: &mut Instructions<'source>,
     leap: Leap,

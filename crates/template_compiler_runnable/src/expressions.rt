@@ -22,8 +22,22 @@ fn is_kept_back(name: &str) -> bool
     name == "loop" || name == "caller" || name == "self" || name == "super"
 }
 
-// Whether an expression runs.
+// Whether an expression runs. Most are names and literals.
 #[cycle(expression)]
+#[inline(always)]
+pub(crate) fn operand_runs(expr: &Expr<'_>) -> bool
+    ensures { result ≡ runs (expression_of expr.now) }
+{
+    match expr {
+        Expr::Var(n) => !is_kept_back(n.node.id),
+        Expr::Const(_) => true,
+        _ => expression_runs(expr),
+    }
+}
+
+// The same, along the left parts.
+#[cycle(expression)]
+#[inline(never)]
 pub(crate) fn expression_runs(expr: &Expr<'_>) -> bool
     ensures { result ≡ runs (expression_of expr.now) }
 {
@@ -55,17 +69,17 @@ fn others_run(expr: &Expr<'_>) -> bool
             }
             optional_runs(&node.step)
         }
-        Expr::UnaryOp(n) => expression_runs(&n.node.expr),
-        Expr::BinOp(n) => expression_runs(&n.node.right),
+        Expr::UnaryOp(n) => operand_runs(&n.node.expr),
+        Expr::BinOp(n) => operand_runs(&n.node.right),
         Expr::Compare(n) => chain_runs(&n.node.ops),
         Expr::IfExpr(n) => {
             let node = &n.node;
-            expression_runs(&node.test_expr)
-                && expression_runs(&node.true_expr)
+            operand_runs(&node.test_expr)
+                && operand_runs(&node.true_expr)
                 && optional_runs(&node.false_expr)
         }
         Expr::GetAttr(_) => true,
-        Expr::GetItem(n) => expression_runs(&n.node.subscript_expr),
+        Expr::GetItem(n) => operand_runs(&n.node.subscript_expr),
         Expr::Filter(_) => has_walk(expr),
         Expr::Test(_) => has_walk(expr),
         Expr::Call(_) => has_walk(expr),
@@ -86,7 +100,7 @@ fn optional_runs(expr: &Option<Expr<'_>>) -> bool
     ensures { result ≡ runs_if_given (optional_in expr.now) }
 {
     match expr {
-        Some(expr) => expression_runs(expr),
+        Some(expr) => operand_runs(expr),
         None => true,
     }
 }
@@ -97,7 +111,7 @@ fn items_run(items: &[Expr<'_>]) -> bool
     ensures { result ≡ all_run (expressions_in items.now) }
 {
     for item in items {
-        if !expression_runs(item) {
+        if !operand_runs(item) {
             return false;
         }
     }
@@ -113,7 +127,7 @@ fn chain_runs(links: &[CompareOp<'_>]) -> bool
         return false;
     }
     for link in links {
-        if !expression_runs(&link.expr) {
+        if !operand_runs(&link.expr) {
             return false;
         }
     }

@@ -5,7 +5,7 @@ ghost use Rattle.template_tree_parts.specs.Listed.{statements_in};
 ghost use Rattle.template_compiler_runnable.specs.Running.{statement_runs, statements_run};
 ghost use Rattle.template_compiler_runnable.specs.Runs.{RunsWhole};
 
-use crate::expressions::expression_runs;
+use crate::expressions::operand_runs;
 use crate::targets::{assignments_run, is_target};
 use template_tree_statements::Stmt;
 
@@ -63,7 +63,7 @@ fn statement_runs(looping: bool, statement: &Stmt<'_>) -> bool
                 if node.false_body.len() != 1 {
                     return parts_run(looping, at);
                 }
-                if !expression_runs(&node.expr) {
+                if !operand_runs(&node.expr) {
                     return false;
                 }
                 if !statements_run(looping, &node.true_body) {
@@ -71,6 +71,8 @@ fn statement_runs(looping: bool, statement: &Stmt<'_>) -> bool
                 }
                 &node.false_body[0]
             }
+            Stmt::EmitRaw(_) => return true,
+            Stmt::EmitExpr(n) => return operand_runs(&n.node.expr),
             _ => return parts_run(looping, at),
         };
     }
@@ -84,7 +86,7 @@ fn parts_run(looping: bool, statement: &Stmt<'_>) -> bool
 {
     match statement {
         Stmt::EmitRaw(_) => true,
-        Stmt::EmitExpr(n) => expression_runs(&n.node.expr),
+        Stmt::EmitExpr(n) => operand_runs(&n.node.expr),
         Stmt::ForLoop(n) => {
             let node = &n.node;
             if node.filter_expr.is_some() {
@@ -96,7 +98,7 @@ fn parts_run(looping: bool, statement: &Stmt<'_>) -> bool
             if !is_target(&node.target) {
                 return false;
             }
-            if !expression_runs(&node.iter) {
+            if !operand_runs(&node.iter) {
                 return false;
             }
             if !statements_run(true, &node.body) {
@@ -106,7 +108,7 @@ fn parts_run(looping: bool, statement: &Stmt<'_>) -> bool
         }
         Stmt::IfCond(n) => {
             let node = &n.node;
-            if !expression_runs(&node.expr) {
+            if !operand_runs(&node.expr) {
                 return false;
             }
             if !statements_run(looping, &node.true_body) {
@@ -120,14 +122,14 @@ fn parts_run(looping: bool, statement: &Stmt<'_>) -> bool
             }
             statements_run(looping, &n.node.body)
         }
-        Stmt::Set(n) => is_target(&n.node.target) && expression_runs(&n.node.expr),
+        Stmt::Set(n) => is_target(&n.node.target) && operand_runs(&n.node.expr),
         Stmt::AutoEscape(n) => {
-            if !expression_runs(&n.node.enabled) {
+            if !operand_runs(&n.node.enabled) {
                 return false;
             }
             statements_run(looping, &n.node.body)
         }
-        Stmt::Include(n) => expression_runs(&n.node.name),
+        Stmt::Include(n) => operand_runs(&n.node.name),
         Stmt::Continue(_) => looping,
         Stmt::Break(_) => looping,
         Stmt::Template(_) => false,

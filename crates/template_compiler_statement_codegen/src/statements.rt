@@ -1,16 +1,16 @@
 //! Statements. Bodies nest at most 150 deep; a chain of `elif`, which may be as long as the source, is gone
 //! along in a loop.
-ghost use Rattle.std.specs.Prelude.{◌≡◌, ◌++◌, [], true, false, OnOk, IfOk, IfErr};
+ghost use Rattle.std.specs.Prelude.{◌≡◌, ◌++◌, [], true, false, length, OnOk, IfOk, IfErr};
 ghost use Rattle.template_tree.specs.Tree.{absent, auto_escape, for_loop, with_block};
 ghost use Rattle.template_tree_statements.specs.View.{statement_of, assignments_in};
 ghost use Rattle.template_tree.specs.View.{expression_of};
 ghost use Rattle.template_walk.specs.Runnable.{IsRunnable, IsTarget, AreAssignments, IsRunnableStatement, AreRunnableStatements};
-ghost use Rattle.template_code.specs.Code.{emit, include};
+ghost use Rattle.template_code.specs.Code.{emit, emit_raw, include};
 ghost use Rattle.template_code.specs.Listing.{code_in, TakesNoMore};
 ghost use Rattle.template_compiler_codegen.specs.Expressions.{then_code, one, expression_code};
 ghost use Rattle.template_compiler_codegen.specs.Statements.{loop_end_code, no_ways, own_ways, rounds_code, statements_code, target_code};
-ghost use Rattle.template_compiler_emission.specs.Puts.{Puts};
-ghost use Rattle.template_compiler_statement_codegen.specs.Breaks.{breaks_in, loop_end_places};
+ghost use Rattle.template_compiler_emission.specs.Puts.{Keeps, Puts};
+ghost use Rattle.template_compiler_statement_codegen.specs.Breaks.{breaks_in, led, loop_end_places};
 ghost use Rattle.template_tree_parts.specs.Listed.{statements_in};
 ghost use Rattle.template_compiler_statement_codegen.specs.Listed.{IsRunnableTree, body_in, condition_of};
 ghost use Rattle.template_compiler_statement_codegen.specs.Rounds.{Lowers, LowersBody, LowersStatement, LowersBranch, LowersChain, closed_code, closed_places, closing_code, places_in, ways_of};
@@ -105,11 +105,7 @@ fn compile_statement<'source>(
     ensures refused { IfErr result (TakesNoMore (code_in code.new)) }
 {
     match statement {
-        Stmt::EmitRaw(n) => put(
-            code,
-            Instruction::EmitRaw(CowStr::Borrowed(n.node.raw)),
-            Some(n.span),
-        ),
+        Stmt::EmitRaw(n) => compile_text(code, n.node.raw, n.span),
         Stmt::EmitExpr(n) => compile_print(alloc, code, &n.node.expr),
         Stmt::Set(n) => compile_set(alloc, code, &n.node.target, &n.node.expr),
         Stmt::Include(n) => compile_include(alloc, code, &n.node.name, n.node.ignore_missing),
@@ -153,6 +149,23 @@ fn compile_statement<'source>(
         Stmt::CallBlock(_) => unreachable!(),
         Stmt::Do(_) => unreachable!(),
     }
+}
+
+// A text, which is written as it stands.
+#[inline(always)]
+fn compile_text<'source>(
+    code: &mut Instructions<'source>,
+    text: &'source str,
+    span: Span,
+) -> Result<(), Error>
+    ensures put { OnOk result (Puts (one (emit_raw text.now)) code.old code.new) }
+    ensures refused { IfErr result (TakesNoMore (code_in code.new)) }
+{
+    put(
+        code,
+        Instruction::EmitRaw(CowStr::Borrowed(text)),
+        Some(span),
+    )
 }
 
 // A value that is printed.
@@ -298,6 +311,7 @@ fn compile_loop<'source>(
 // The rounds of a loop, whose ways out are its own. They ask where the items come from, and go back where the loop
 // does.
 #[cycle(statement)]
+#[inline(always)]
 fn compile_rounds<'source>(
     alloc: Global,
     code: &mut Instructions<'source>,
@@ -326,6 +340,7 @@ fn compile_rounds<'source>(
 
 // What stands behind the rounds of a loop, and comes from where these go back.
 #[cycle(statement)]
+#[inline(always)]
 fn compile_loop_end<'source>(
     alloc: Global,
     code: &mut Instructions<'source>,
@@ -350,9 +365,70 @@ fn compile_loop_end<'source>(
     Ok(())
 }
 
-// A condition, with the chain of `elif` behind it: each jump behind a branch leads to the end of the chain.
+// A condition, with the chain of `elif` behind it, where there is one.
 #[cycle(statement)]
 fn compile_condition<'source>(
+    alloc: Global,
+    code: &mut Instructions<'source>,
+    round: &mut Round,
+    first: &Box<Spanned<IfCond<'source>>>,
+) -> Result<(), Error>
+    requires { IsRunnableStatement true (condition_of first.now.value.node) }
+    ensures lowered { OnOk result (LowersStatement (condition_of first.now.value.node) code.old code.new round.old round.new) }
+    ensures refused { IfErr result (TakesNoMore (code_in code.new)) }
+{
+    if has_elif(&first.node.false_body) {
+        compile_elifs(alloc, code, round, first)
+    } else {
+        compile_alone(alloc, code, round, &first.node, first.span)
+    }
+}
+
+// Whether an else part is an `elif`.
+fn has_elif(other: &[Stmt<'_>]) -> bool {
+    if other.len() != 1 {
+        return false;
+    }
+    match &other[0] {
+        Stmt::IfCond(_) => true,
+        _ => false,
+    }
+}
+
+// A condition with its else part, which a jump behind its branch leads past.
+#[cycle(statement)]
+#[inline(always)]
+fn compile_alone<'source>(
+    alloc: Global,
+    code: &mut Instructions<'source>,
+    round: &mut Round,
+    condition: &IfCond<'source>,
+    span: Span,
+) -> Result<(), Error>
+    requires { IsRunnableStatement true (condition_of condition.now) }
+    ensures lowered { OnOk result (LowersStatement (condition_of condition.now) code.old code.new round.old round.new) }
+    ensures refused { IfErr result (TakesNoMore (code_in code.new)) }
+{
+    let end = compile_branch(alloc, code, round, condition, span)?;
+    compile_body(alloc, code, round, &condition.false_body)?;
+    tell_end(code, end);
+    Ok(())
+}
+
+// Tells the jump at a place, where there is one, that it leads behind the last instruction.
+fn tell_end<'source>(code: &mut Instructions<'source>, end: Option<u32>)
+    ensures told { code_in code.new ≡ led (length (code_in code.old)) (places_in end) (code_in code.old) }
+    ensures same { Keeps code.old code.new }
+{
+    if let Some(place) = end {
+        land(code, place, Leap::Always);
+    }
+}
+
+// A chain of `elif`: each jump behind a branch leads to its end.
+#[cycle(statement)]
+#[inline(never)]
+fn compile_elifs<'source>(
     alloc: Global,
     code: &mut Instructions<'source>,
     round: &mut Round,
@@ -401,6 +477,7 @@ fn compile_chain<'source>(
 // A test, and the branch that runs where it holds. Where an else part follows, a jump leads past it, whose
 // target is told later, and whose place is answered.
 #[cycle(statement)]
+#[inline(always)]
 fn compile_branch<'source>(
     alloc: Global,
     code: &mut Instructions<'source>,

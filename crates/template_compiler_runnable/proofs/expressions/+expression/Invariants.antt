@@ -20,17 +20,20 @@ invariant-items_run-loop-item l = all_run (expressions_in l.items) ≡ all_run (
 abbrev pub invariant-chain_runs-loop-link : goal.invariant-chain_runs-loop-link
 invariant-chain_runs-loop-link l = links_run (links_in l.links) ≡ links_run (links_in (drop l.link-index l.links))
 
+abbrev pub decreases-operand_runs : goal.decreases-operand_runs
+decreases-operand_runs l = 3 * size-Expr l.expr.now + 2
+
 abbrev pub decreases-expression_runs : goal.decreases-expression_runs
-decreases-expression_runs l = 2 * size-Expr l.expr.now + 1
+decreases-expression_runs l = 3 * size-Expr l.expr.now + 1
 
 abbrev pub decreases-others_run : goal.decreases-others_run
-decreases-others_run l = 2 * size-Expr l.expr.now
+decreases-others_run l = 3 * size-Expr l.expr.now
 
 abbrev pub decreases-optional_runs : goal.decreases-optional_runs
-decreases-optional_runs l = 2 * goal.size-optional_runs l + 2
+decreases-optional_runs l = 3 * goal.size-optional_runs l + 3
 
 abbrev pub decreases-items_run : goal.decreases-items_run
-decreases-items_run l = 2 * goal.size-items_run l + 2
+decreases-items_run l = 3 * goal.size-items_run l + 3
 
 abbrev pub decreases-chain_runs : goal.decreases-chain_runs
-decreases-chain_runs l = 2 * goal.size-chain_runs l + 2
+decreases-chain_runs l = 3 * goal.size-chain_runs l + 3

@@ -14,25 +14,25 @@ use Rattle.template_compiler_runnable.proofs.Parts.{first_fails, then}
 use Rattle.template_compiler_runnable.proofs.Bodies.{for_runs, if_runs, with_runs, escape_runs, no_call, only_runs, else_smaller}
 use Rattle.template_compiler_runnable.proofs.statements.+statement.Goals as goal
 
-pub parts_run-returns-then-not-expression_runs : goal.parts_run-returns-then-not-expression_runs
-parts_run-returns-then-not-expression_runs t c =
+pub parts_run-returns-then-not-operand_runs : goal.parts_run-returns-then-not-operand_runs
+parts_run-returns-then-not-operand_runs t c =
     let filter = ap (λ (f : Spanned ForLoopNode). is_some f.node.filter_expr) (sym c.deref.ensures) ∙ sym c.is_some.ensures ∙ c.if-is_some.false in
     let recursive = ap (λ (f : Spanned ForLoopNode). f.node.recursive) (sym c.deref.ensures) ∙ c.if-node.false in
     let target = c.is_target.ensures ∙ ap (λ (f : Spanned ForLoopNode). is_target (expression_of f.node.target)) c.deref.ensures in
-    let iter = c.expression_runs-in-ForLoop.ensures ∙ ap (λ (f : Spanned ForLoopNode). runs (expression_of f.node.iter)) c.deref.ensures in
+    let iter = c.operand_runs-in-ForLoop.ensures ∙ ap (λ (f : Spanned ForLoopNode). runs (expression_of f.node.iter)) c.deref.ensures in
     let whole = for_runs c.args.looping c.args.statement.now c.in-ForLoop.n c.in-ForLoop.is filter recursive in
-    first_fails _ (then _ whole (sym target ∙ c.if-not-is_target.false)) (sym iter ∙ c.if-not-expression_runs.true)
+    first_fails _ (then _ whole (sym target ∙ c.if-not-is_target.false)) (sym iter ∙ c.if-not-operand_runs.true)
 
 pub parts_run-returns-then-not-statements_run : goal.parts_run-returns-then-not-statements_run
 parts_run-returns-then-not-statements_run t c =
     let filter = ap (λ (f : Spanned ForLoopNode). is_some f.node.filter_expr) (sym c.deref.ensures) ∙ sym c.is_some.ensures ∙ c.if-is_some.false in
     let recursive = ap (λ (f : Spanned ForLoopNode). f.node.recursive) (sym c.deref.ensures) ∙ c.if-node.false in
     let target = c.is_target.ensures ∙ ap (λ (f : Spanned ForLoopNode). is_target (expression_of f.node.target)) c.deref.ensures in
-    let iter = c.expression_runs-in-ForLoop.ensures ∙ ap (λ (f : Spanned ForLoopNode). runs (expression_of f.node.iter)) c.deref.ensures in
+    let iter = c.operand_runs-in-ForLoop.ensures ∙ ap (λ (f : Spanned ForLoopNode). runs (expression_of f.node.iter)) c.deref.ensures in
     let body = c.statements_run.ensures ∙ ap (λ (ss : List Stmt). statements_run true (statements_in ss))
     (c.deref-in-ForLoop.ensures.value ∙ ap (λ (f : Spanned ForLoopNode). f.node.body.items) c.deref.ensures) in
     let whole = for_runs c.args.looping c.args.statement.now c.in-ForLoop.n c.in-ForLoop.is filter recursive in
-    first_fails _ (then _ (then _ whole (sym target ∙ c.if-not-is_target.false)) (sym iter ∙ c.if-not-expression_runs.false))
+    first_fails _ (then _ (then _ whole (sym target ∙ c.if-not-is_target.false)) (sym iter ∙ c.if-not-operand_runs.false))
     (sym body ∙ c.if-not-statements_run.true)
 
 pub parts_run-returns-else-not-statements_run : goal.parts_run-returns-else-not-statements_run
@@ -40,32 +40,32 @@ parts_run-returns-else-not-statements_run t c =
     let filter = ap (λ (f : Spanned ForLoopNode). is_some f.node.filter_expr) (sym c.deref.ensures) ∙ sym c.is_some.ensures ∙ c.if-is_some.false in
     let recursive = ap (λ (f : Spanned ForLoopNode). f.node.recursive) (sym c.deref.ensures) ∙ c.if-node.false in
     let target = c.is_target.ensures ∙ ap (λ (f : Spanned ForLoopNode). is_target (expression_of f.node.target)) c.deref.ensures in
-    let iter = c.expression_runs-in-ForLoop.ensures ∙ ap (λ (f : Spanned ForLoopNode). runs (expression_of f.node.iter)) c.deref.ensures in
+    let iter = c.operand_runs-in-ForLoop.ensures ∙ ap (λ (f : Spanned ForLoopNode). runs (expression_of f.node.iter)) c.deref.ensures in
     let body = c.statements_run.ensures ∙ ap (λ (ss : List Stmt). statements_run true (statements_in ss))
     (c.deref-in-ForLoop.ensures.value ∙ ap (λ (f : Spanned ForLoopNode). f.node.body.items) c.deref.ensures) in
     let other = c.statements_run-in-ForLoop.ensures ∙ ap (λ (ss : List Stmt). statements_run c.args.looping (statements_in ss))
     (c.deref-in-ForLoop-2.ensures.value ∙ ap (λ (f : Spanned ForLoopNode). f.node.else_body.items) c.deref.ensures) in
     let whole = for_runs c.args.looping c.args.statement.now c.in-ForLoop.n c.in-ForLoop.is filter recursive in
-    other ∙ sym (then _ (then _ (then _ whole (sym target ∙ c.if-not-is_target.false)) (sym iter ∙ c.if-not-expression_runs.false))
+    other ∙ sym (then _ (then _ (then _ whole (sym target ∙ c.if-not-is_target.false)) (sym iter ∙ c.if-not-operand_runs.false))
     (sym body ∙ c.if-not-statements_run.false))
 
 pub parts_run-returns-then-not-statements_run-2 : goal.parts_run-returns-then-not-statements_run-2
 parts_run-returns-then-not-statements_run-2 t c =
-    let test = c.expression_runs-in-IfCond.ensures ∙ ap (λ (f : Spanned IfCondNode). runs (expression_of f.node.expr)) c.deref-in-IfCond.ensures in
+    let test = c.operand_runs-in-IfCond.ensures ∙ ap (λ (f : Spanned IfCondNode). runs (expression_of f.node.expr)) c.deref-in-IfCond.ensures in
     let body = c.statements_run-in-IfCond.ensures ∙ ap (λ (ss : List Stmt). statements_run c.args.looping (statements_in ss))
     (c.deref-in-IfCond-2.ensures.value ∙ ap (λ (f : Spanned IfCondNode). f.node.true_body.items) c.deref-in-IfCond.ensures) in
     let whole = if_runs c.args.looping c.args.statement.now c.in-IfCond.n c.in-IfCond.is in
-    first_fails _ (then _ whole (sym test ∙ c.if-not-expression_runs-2.false)) (sym body ∙ c.if-not-statements_run-2.true)
+    first_fails _ (then _ whole (sym test ∙ c.if-not-operand_runs-2.false)) (sym body ∙ c.if-not-statements_run-2.true)
 
 pub parts_run-returns-else-not-statements_run-2 : goal.parts_run-returns-else-not-statements_run-2
 parts_run-returns-else-not-statements_run-2 t c =
-    let test = c.expression_runs-in-IfCond.ensures ∙ ap (λ (f : Spanned IfCondNode). runs (expression_of f.node.expr)) c.deref-in-IfCond.ensures in
+    let test = c.operand_runs-in-IfCond.ensures ∙ ap (λ (f : Spanned IfCondNode). runs (expression_of f.node.expr)) c.deref-in-IfCond.ensures in
     let body = c.statements_run-in-IfCond.ensures ∙ ap (λ (ss : List Stmt). statements_run c.args.looping (statements_in ss))
     (c.deref-in-IfCond-2.ensures.value ∙ ap (λ (f : Spanned IfCondNode). f.node.true_body.items) c.deref-in-IfCond.ensures) in
     let other = c.statements_run-in-IfCond-2.ensures ∙ ap (λ (ss : List Stmt). statements_run c.args.looping (statements_in ss))
     (c.deref-in-IfCond-3.ensures.value ∙ ap (λ (f : Spanned IfCondNode). f.node.false_body.items) c.deref-in-IfCond.ensures) in
     let whole = if_runs c.args.looping c.args.statement.now c.in-IfCond.n c.in-IfCond.is in
-    other ∙ sym (then _ (then _ whole (sym test ∙ c.if-not-expression_runs-2.false)) (sym body ∙ c.if-not-statements_run-2.false))
+    other ∙ sym (then _ (then _ whole (sym test ∙ c.if-not-operand_runs-2.false)) (sym body ∙ c.if-not-statements_run-2.false))
 
 pub parts_run-returns-else-not-assignments_run : goal.parts_run-returns-else-not-assignments_run
 parts_run-returns-else-not-assignments_run t c =
@@ -76,32 +76,32 @@ parts_run-returns-else-not-assignments_run t c =
     let whole = with_runs c.args.looping c.args.statement.now c.in-WithBlock.n c.in-WithBlock.is in
     body ∙ sym (then _ whole (sym pairs ∙ c.if-not-assignments_run.false))
 
-pub parts_run-returns-else-not-expression_runs-3 : goal.parts_run-returns-else-not-expression_runs-3
-parts_run-returns-else-not-expression_runs-3 t c =
-    let enabled = c.expression_runs-in-AutoEscape.ensures ∙ ap (λ (e : Spanned AutoEscapeNode). runs (expression_of e.node.enabled)) c.deref-in-AutoEscape.ensures in
+pub parts_run-returns-else-not-operand_runs-3 : goal.parts_run-returns-else-not-operand_runs-3
+parts_run-returns-else-not-operand_runs-3 t c =
+    let enabled = c.operand_runs-in-AutoEscape.ensures ∙ ap (λ (e : Spanned AutoEscapeNode). runs (expression_of e.node.enabled)) c.deref-in-AutoEscape.ensures in
     let body = c.statements_run-in-AutoEscape.ensures ∙ ap (λ (ss : List Stmt). statements_run c.args.looping (statements_in ss))
     (c.deref-in-AutoEscape-3.ensures.value ∙ ap (λ (e : Spanned AutoEscapeNode). e.node.body.items) c.deref-in-AutoEscape-2.ensures) in
     let whole = escape_runs c.args.looping c.args.statement.now c.in-AutoEscape.n c.in-AutoEscape.is in
-    body ∙ sym (then _ whole (sym enabled ∙ c.if-not-expression_runs-3.false))
+    body ∙ sym (then _ whole (sym enabled ∙ c.if-not-operand_runs-3.false))
 
 pub parts_run-returns-in-CallBlock : goal.parts_run-returns-in-CallBlock
 parts_run-returns-in-CallBlock t c = no_call c.args.looping c.args.statement.now c.in-CallBlock.field-0 c.in-CallBlock.is
 
 pub statement_runs-returns-then-not-statements_run : goal.statement_runs-returns-then-not-statements_run
 statement_runs-returns-then-not-statements_run t c =
-    let test = c.expression_runs.ensures ∙ ap (λ (f : Spanned IfCondNode). runs (expression_of f.node.expr)) c.deref.ensures in
+    let test = c.operand_runs.ensures ∙ ap (λ (f : Spanned IfCondNode). runs (expression_of f.node.expr)) c.deref.ensures in
     let body = c.statements_run.ensures ∙ ap (λ (ss : List Stmt). statements_run c.args.looping (statements_in ss))
     (c.deref-in-IfCond.ensures.value ∙ ap (λ (f : Spanned IfCondNode). f.node.true_body.items) c.deref.ensures) in
     let whole = if_runs c.args.looping c.loop-at.at.now c.in-IfCond.n c.in-IfCond.is in
-    first_fails _ (then _ (c.loop-at.invariant.decides ∙ whole) (sym test ∙ c.if-not-expression_runs.false)) (sym body ∙ c.if-not-statements_run.true)
+    first_fails _ (then _ (c.loop-at.invariant.decides ∙ whole) (sym test ∙ c.if-not-operand_runs.false)) (sym body ∙ c.if-not-statements_run.true)
 
 pub statement_runs-loop-at-preserved : goal.statement_runs-loop-at-preserved
 statement_runs-loop-at-preserved t c =
-    let test = c.expression_runs.ensures ∙ ap (λ (f : Spanned IfCondNode). runs (expression_of f.node.expr)) c.deref.ensures in
+    let test = c.operand_runs.ensures ∙ ap (λ (f : Spanned IfCondNode). runs (expression_of f.node.expr)) c.deref.ensures in
     let body = c.statements_run.ensures ∙ ap (λ (ss : List Stmt). statements_run c.args.looping (statements_in ss))
     (c.deref-in-IfCond.ensures.value ∙ ap (λ (f : Spanned IfCondNode). f.node.true_body.items) c.deref.ensures) in
     let whole = if_runs c.args.looping c.loop-at.at.now c.in-IfCond.n c.in-IfCond.is in
-    let others = then _ (then _ whole (sym test ∙ c.if-not-expression_runs.false)) (sym body ∙ c.if-not-statements_run.false) in
+    let others = then _ (then _ whole (sym test ∙ c.if-not-operand_runs.false)) (sym body ∙ c.if-not-statements_run.false) in
     let v = c.in-IfCond.n.value.node in
     let items = v.false_body.items in
     let shared = ap (λ (f : Spanned IfCondNode). vec_len f.node.false_body) (sym c.deref.ensures) in

@@ -1,4 +1,4 @@
-use Rattle.std.proofs.Common.{◌≡◌, ℕ, ◌<◌, List, length, get_or, vec_len, true, false, ap, sym, subst, ◌∙◌, arith, refl}
+use Rattle.std.proofs.Common.{◌≡◌, ℕ, ◌<◌, List, [], length, get_or, vec_len, true, false, ap, sym, subst, ◌∙◌, arith, refl}
 use Rattle.std.proofs.lemmas.Result.{on_ok_weaker}
 use Rattle.template_tree_statements.specs.View.{assignments_in, statement_of}
 use Rattle.template_tree.specs.Tree.{Statement, absent, auto_escape, for_loop, with_block}
@@ -66,8 +66,16 @@ compile_closed-returns-clause-lowered t c =
     lowers_closed c.args.closing (statements_in c.args.body.now) r inside behind last c.len-open.result c.in_ok-push.ensures.items refl refl
     c.in_ok-compile_body.ensures.lowered long c.truncate.ensures.items refl refl (puts_as c.instruction.ensures closed)) c.put.ensures.put
 
-pub compile_condition-returns-clause-lowered : goal.compile_condition-returns-clause-lowered
-compile_condition-returns-clause-lowered t c = remains_told c.in_ok-compile_chain.ensures.lowered c.tell_breaks.ensures.told c.tell_breaks.ensures.same
+pub compile_elifs-returns-clause-lowered : goal.compile_elifs-returns-clause-lowered
+compile_elifs-returns-clause-lowered t c = remains_told c.in_ok-compile_chain.ensures.lowered c.tell_breaks.ensures.told c.tell_breaks.ensures.same
+
+pub compile_alone-returns-clause-lowered : goal.compile_alone-returns-clause-lowered
+compile_alone-returns-clause-lowered t c =
+    let node = c.args.condition.now in
+    remains_told
+    (chain_ends node node node c.deref.result.now [] (places_in c.in_ok-end.end) (places_in c.in_ok-end.end) refl c.deref.ensures.value refl
+    (chain_begins node c.args.code.now c.args.round.now) c.in_ok-end.ensures.lowered c.in_ok-compile_body.ensures.lowered)
+    c.tell_end.ensures.told c.tell_end.ensures.same
 
 pub compile_chain-loop-end-init : goal.compile_chain-loop-end-init
 compile_chain-loop-end-init t c =

@@ -32,7 +32,13 @@ abbrev pub decreases-compile_loop_end : goal.decreases-compile_loop_end
 decreases-compile_loop_end l = 8 * body_deep l.otherwise.now + 3
 
 abbrev pub decreases-compile_condition : goal.decreases-compile_condition
-decreases-compile_condition l = 8 * condition_deep l.first.now.value.node + 5
+decreases-compile_condition l = 8 * condition_deep l.first.now.value.node + 6
+
+abbrev pub decreases-compile_alone : goal.decreases-compile_alone
+decreases-compile_alone l = 8 * condition_deep l.condition.now + 5
+
+abbrev pub decreases-compile_elifs : goal.decreases-compile_elifs
+decreases-compile_elifs l = 8 * condition_deep l.first.now.value.node + 5
 
 abbrev pub decreases-compile_chain : goal.decreases-compile_chain
 decreases-compile_chain l = 8 * condition_deep l.first.now.value.node + 4
