@@ -1,10 +1,11 @@
 -- Names in a text.
-use Rattle.std.proofs.Common.{◌≡◌, ℕ, zero, suc, ◌<◌, ◌≤◌, true, false, List, length, get_or, IsUtf8, IsCharBoundary, sym, add-one, arith}
+use Rattle.std.proofs.Common.{◌≡◌, ℕ, zero, suc, ◌<◌, ◌≤◌, true, false, List, [], ◌∷◌, ◌+◌, drop, length, get_or, IsUtf8, IsCharBoundary, sym, add-one, arith}
 use Rattle.std.specs.List.{prefix_len}
 use Rattle.std.proofs.lemmas.Str.{IsCharBoundary-start, IsCharBoundary-after_ascii}
 use Rattle.std.proofs.lemmas.List.Sums.{prefix_len_is, prefix_len_passes, prefix_len-le-length}
+use Rattle.std.proofs.lemmas.Bool.{false≢true}
 use Rattle.std.proofs.lemmas.Bool.Decides.{nat_tests}
-use Rattle.template_compiler_tokens.specs.Lexical.{is_name_part}
+use Rattle.template_compiler_tokens.specs.Lexical.{is_name_start, is_name_part}
 
 part_ascii : (b : ℕ) → is_name_part b ≡ true → b < 128
 unfolding is_name_part
@@ -27,3 +28,17 @@ pub name_cut : (s : List ℕ) → IsUtf8 s → IsCharBoundary s (prefix_len is_n
 name_cut s u =
     name_boundary s (prefix_len is_name_part s) u (prefix_len-le-length is_name_part s)
     (λ k h. prefix_len_passes is_name_part s k 0 h)
+
+pub start_part : (b : ℕ) → is_name_start b ≡ true → is_name_part b ≡ true
+unfolding is_name_part is_name_start
+start_part b e = grind (arith, nat_tests)
+
+pub begun_some : (s : List ℕ) → is_name_part (get_or s 0 0) ≡ true → 1 ≤ length s
+unfolding is_name_part
+begun_some [] e = absurd (false≢true e)
+begun_some (b ∷ s) e = omega arith
+
+-- a name behind its first byte
+pub begun_len : (s : List ℕ) → is_name_part (get_or s 0 0) ≡ true → 1 + prefix_len is_name_part (drop 1 s) ≡ prefix_len is_name_part s
+begun_len [] e = let some = begun_some [] e in absurd (omega arith)
+begun_len (b ∷ s) e = rw e (omega arith)

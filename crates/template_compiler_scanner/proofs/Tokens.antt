@@ -1,7 +1,8 @@
 -- Signs, names and classes of tokens.
-use Rattle.std.proofs.Common.{◌≡◌, ℕ, ◌<◌, ◌⊎◌, inl, inr, Result, Ok, Err, IfOk, IsUtf8, IsCharBoundary, if◌then◌else◌, Bool, true, false, ◌==◌, ◌||◌, List, None, Some, slice_index, refl, sym, ◌∙◌}
+use Rattle.std.proofs.Common.{◌≡◌, ℕ, ◌<◌, ◌⊎◌, inl, inr, Result, Ok, Err, IfOk, IsUtf8, IsCharBoundary, if◌then◌else◌, Bool, true, false, ◌==◌, ◌||◌, List, None, Some, slice_index, refl, sym, ◌∙◌, arith}
 use Rattle.std.specs.Char.{is_ascii_digit}
 use Rattle.std.proofs.lemmas.Bool.{eq-eqb, eqb-true, false_from_ne_true}
+use Rattle.std.proofs.lemmas.Bool.Decides.{nat_tests}
 use Rattle.template_values_errors.specs.declared.ErrorKind.{ErrorKind}
 use Rattle.template_compiler_tokens.specs.Token.{Symbol, Token, symbol, bad, bad_syntax}
 use Rattle.template_compiler_tokens.specs.Numbers.{number_width}
@@ -11,7 +12,7 @@ use Rattle.template_compiler_tokens.proofs.Ends.{begins_ends}
 use Rattle.template_compiler_tokens.proofs.Views.{never_bad, taken_whole}
 use Rattle.template_compiler_scanner.specs.Scans.{Scans, ScansNumber, ScansText, ScansSign}
 use Rattle.template_compiler_scanner.proofs.Cuts.{cut_behind_ascii}
-use Rattle.template_compiler_tokens.specs.Lexical.{is_name_start, long_sign, short_sign, IsSign, long, short, Class, name_class, number_class, text_class, sign_class, class_of, BeginsAs, Begins}
+use Rattle.template_compiler_tokens.specs.Lexical.{is_name_start, long_sign, short_sign, IsSign, long, short, no_sign, Class, name_class, number_class, text_class, sign_class, class_of, BeginsAs, Begins}
 
 pub long_found : (s : List ℕ) (t : Token) (x : Symbol) → t ≡ symbol x → Some x ≡ long_sign (slice_index s 0) (slice_index s 1) → IsSign s t 2
 long_found s t x e f = rw e (long (sym f))
@@ -68,3 +69,20 @@ scans_cut s (Err kind) u h = tt
 pub scans_some : (s : List ℕ) (r : Result (Scanned × ℕ) ErrorKind) → Scans s r → IfOk r (λ found. 0 < found.1)
 scans_some s (Ok found) h = elim (begins_ends s h) [ inl none ↦ absurd (never_bad found.0 none.0 none.1) | inr ends ↦ ends.some ]
 scans_some s (Err kind) h = tt
+
+-- a sign stands where neither a name, a number nor a text begins
+long_class : (b c : ℕ) (x : Symbol) → long_sign b c ≡ Some x → class_of b ≡ sign_class
+unfolding long_sign class_of is_name_start
+long_class b c x e = grind (arith, nat_tests)
+
+short_class : (b : ℕ) (x : Symbol) → short_sign b ≡ Some x → class_of b ≡ sign_class
+unfolding short_sign class_of is_name_start
+short_class b x e = grind (arith, nat_tests)
+
+sign_by : (s : List ℕ) (t : Scanned) (u : Token) (n : ℕ) → token_of t ≡ u → IsSign s u n → class_of (slice_index s 0) ≡ sign_class
+sign_by s t u n e (long {x = x} f) = long_class (slice_index s 0) (slice_index s 1) x f
+sign_by s t u n e (short {x = x} none f) = short_class (slice_index s 0) x f
+sign_by s t u n e (no_sign none f) = absurd (never_bad t bad_syntax e)
+
+pub sign_stands : (s : List ℕ) (t : Scanned) (n : ℕ) → IsSign s (token_of t) n → class_of (slice_index s 0) ≡ sign_class
+sign_stands s t n sign = sign_by s t (token_of t) n refl sign

@@ -1,5 +1,5 @@
 //! Bytes of a text, and what they begin.
-ghost use Rattle.std.specs.Prelude.{◌≡◌, ◌<◌, length, slice_index};
+ghost use Rattle.std.specs.Prelude.{◌≡◌, ◌<◌, true, length, slice_index};
 ghost use Rattle.std.specs.List.{prefix_len};
 ghost use Rattle.template_compiler_tokens.specs.Lexical.{is_name_start as name_start, is_name_part as name_part, class_of as the_class};
 
@@ -38,4 +38,13 @@ pub fn name_len(text: &[u8]) -> usize
         }
     }
     text.len()
+}
+
+/// The same of a text that begins with a byte of a name.
+#[inline(always)]
+pub fn begun_name_len(text: &[u8]) -> usize
+    requires { name_part (slice_index text.now 0) ≡ true }
+    ensures { result ≡ prefix_len name_part text.now }
+{
+    1 + name_len(text.split_at(1).1)
 }

@@ -1,11 +1,11 @@
 //! One token.
-ghost use Rattle.std.specs.Prelude.{◌≡◌, ◌<◌, IfOk, IfSome, IsTrue, Ok, length, take_while};
-ghost use Rattle.template_compiler_tokens.specs.Lexical.{is_name_part, class_of, sign_class};
+ghost use Rattle.std.specs.Prelude.{◌≡◌, ◌<◌, IfOk, IfSome, Ok, length, take_while};
+ghost use Rattle.template_compiler_tokens.specs.Lexical.{is_name_part};
 ghost use Rattle.std.specs.Str.{IsCharBoundary};
 ghost use Rattle.template_compiler_tokens.specs.declared.token.Token.TheVariants.{Ident};
 ghost use Rattle.template_compiler_scanner.specs.Scans.{Scans};
 
-use crate::bytes::{byte_at, is_name_start, name_len};
+use crate::bytes::{begun_name_len, byte_at, is_name_start, name_len};
 use crate::numbers::scan_number;
 use crate::signs::scan_sign;
 use crate::texts::scan_text;
@@ -50,8 +50,9 @@ pub fn scan_name(text: &str) -> Option<&str>
     ensures cut { IfSome result (λ name. IsCharBoundary text.now (length name.now)) }
     ensures some { IfSome result (λ name. 0 < length name.now) }
 {
-    if is_name_start(byte_at(text.as_bytes(), 0)) {
-        Some(leading_name(text))
+    let bytes = text.as_bytes();
+    if is_name_start(byte_at(bytes, 0)) {
+        Some(text.split_at(begun_name_len(bytes)).0)
     } else {
         None
     }
@@ -64,22 +65,10 @@ pub fn scan_mark<'source>(text: &str) -> Option<(Token<'source>, usize)>
     ensures cut { IfSome result (λ found. IsCharBoundary text.now found.1) }
     ensures some { IfSome result (λ found. 0 < found.1) }
 {
-    if !begins_mark(byte_at(text.as_bytes(), 0)) {
-        return None;
-    }
     match scan_sign(text.as_bytes()) {
         Ok(found) => Some(found),
         Err(_) => None,
     }
-}
-
-// Neither a name, a number nor a text begins with the byte.
-#[inline(always)]
-#[tactic(auto, unfolding(template_compiler_tokens::specs::Lexical::class_of))]
-fn begins_mark(byte: u8) -> bool
-    ensures { IsTrue result → class_of byte ≡ sign_class }
-{
-    !is_name_start(byte) && !byte.is_ascii_digit() && byte != b'"' && byte != b'\''
 }
 
 /// The longest beginning of the text that may stand in a name.
