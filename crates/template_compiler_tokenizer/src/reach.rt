@@ -11,11 +11,12 @@ ghost use Rattle.template_compiler_tokens.specs.View.{token_of};
 ghost use Rattle.template_compiler_tokenizer.specs.Left.{data_tokens};
 ghost use Rattle.template_compiler_tokenizer.specs.Reaches.{FindsBlack, FindsRaw, HoldsNext, HoldsUpTo, Reaches};
 
+use crate::all::push;
 use crate::data::{RawData, is_nothing, raw_data};
 use crate::ends::is_white_at;
 use crate::starts::inside_from;
 use crate::words::{may_begin_with, only_word};
-use template_compiler_places::{Stretch, span_in};
+use template_compiler_places::{Stretch, next_span};
 use template_compiler_segments::{
     Edge, Sign, Start, StartFinder, comment_sign, data_start, data_text, find_text,
 };
@@ -157,12 +158,8 @@ fn hold_token<'source>(
     ensures held { HoldsNext source.now tokens.old.items (token_of token.entry) begin end tokens.new.items result }
     ensures begins { BeginsBy source.now end stretch.new }
 {
-    let (span, behind) = span_in(source, *stretch, begin, end);
-    *stretch = behind;
-    match tokens.push((token, span)) {
-        Ok(()) => Ok(()),
-        Err(_refused) => Err(ErrorKind::OutOfMemory),
-    }
+    let span = next_span(source, stretch, begin, end);
+    push(tokens, token, span)
 }
 
 // What begins at a start marker.
