@@ -1,5 +1,5 @@
 -- Where segments of a kind end, as it is looked up once.
-use Rattle.std.proofs.Common.{◌≡◌, ℕ, ◌<◌, inl, inr, false, List, length, slice_index, Option, None, refl, sym, ◌∙◌, ap, subst, arith}
+use Rattle.std.proofs.Common.{◌≡◌, ℕ, ◌<◌, inl, inr, false, List, length, slice_index, Option, None, Some, refl, sym, ◌∙◌, ap, subst, arith}
 use Rattle.std.proofs.lemmas.Bool.{false≢true, false_from_ne_true, eqb-true}
 use Rattle.std.specs.Prelude.{◌⊎◌, ◌==◌, IfSome}
 use Rattle.std.specs.Char.{is_ascii_whitespace}
@@ -9,14 +9,14 @@ use Rattle.template_compiler_syntax.specs.declared.StartMarker.TheVariants.{Vari
 use Rattle.template_compiler_syntax.specs.Syntax.{Syntax, IsSet}
 use Rattle.template_compiler_segments.specs.declared.edges.Sign.{Sign}
 use Rattle.template_compiler_segments.specs.declared.edges.Sign.TheVariants.{Plain}
-use Rattle.template_compiler_segments.specs.Places.{sign_of}
-use Rattle.template_compiler_segments.specs.Segments.{IsEnd, bare_end, signed_end}
+use Rattle.template_compiler_segments.specs.Places.{sign_of, newline_len}
+use Rattle.template_compiler_segments.specs.Segments.{IsEnd, EndsAt, bare_end, signed_end, line_end}
 use Rattle.template_compiler_segments.proofs.Searches.{newline_at}
 use Rattle.template_compiler_segments.proofs.Some.{line_has_end}
 use Rattle.template_compiler_tokenizer.specs.Ends.{IsEndText}
-use Rattle.template_compiler_tokenizer.specs.Finds.{FindsDelimitedEnd, FindsEnd}
+use Rattle.template_compiler_tokenizer.specs.Finds.{FindsDelimitedEnd, FindsEnd, FindsOpenEnd, FindsPlainEnd}
 use Rattle.template_compiler_tokenizer.proofs.Cuts.{stands_first, delimited_cut}
-use Rattle.template_compiler_tokenizer.proofs.Delimiters.{print_ends, block_ends, no_comment_end, no_line_comment_end, finds_print_end, finds_block_end}
+use Rattle.template_compiler_tokenizer.proofs.Delimiters.{print_ends, block_ends, no_comment_end, no_line_comment_end, finds_print_end, finds_block_end, no_blank_end, line_goes_on}
 
 -- the byte is neither the first one of the text nor a sign
 pub record IsOther (b : ℕ) (text : List ℕ) : Type 0 where
@@ -68,3 +68,27 @@ finds_delimited_cut x s text Block i r kind is found utf8 = delimited_cut s text
 finds_delimited_cut x s text Comment i r kind is found utf8 = elim kind [ inl e ↦ absurd cc | inr e ↦ absurd cc ]
 finds_delimited_cut x s text LineStatement i r kind is found utf8 = elim kind [ inl e ↦ absurd cc | inr e ↦ absurd cc ]
 finds_delimited_cut x s text LineComment i r kind is found utf8 = elim kind [ inl e ↦ absurd cc | inr e ↦ absurd cc ]
+
+pub open_end : (x : Syntax) (s : List ℕ) (k : StartMarker) (d i : ℕ) (r : Option (Sign × ℕ)) → d ≡ 0 → FindsEnd x s k i r → FindsOpenEnd x s k d i r
+open_end x s k d i None e none = λ _. none
+open_end x s k d i (Some p) e over = (e, over)
+
+-- a line statement ends without a sign
+plain_line : {x : Syntax} {s : List ℕ} {i next : ℕ} {last : Sign} → EndsAt x s LineStatement i last next → last ≡ Plain
+plain_line (line_end over n) = refl
+
+pub plain_end : (x : Syntax) (s : List ℕ) (k : StartMarker) (d i next : ℕ) (last : Sign) → k ≡ LineStatement → d ≡ 0 → FindsEnd x s LineStatement i (Some (last, next)) →
+    FindsPlainEnd x s k d i (Some next)
+plain_end x s k d i next last kind e over =
+    (e, subst (λ m. EndsAt x s m i Plain next) (sym kind) (subst (λ l. EndsAt x s LineStatement i l next) (plain_line over) over))
+
+no_newline : (s : List ℕ) (i : ℕ) → slice_index s i ≡ 32 → newline_len s i ≡ 0
+no_newline s i e = rw e refl
+
+-- a space ends nothing
+pub space_goes_on : (x : Syntax) (s : List ℕ) (k : StartMarker) (i : ℕ) → slice_index s i ≡ 32 → i < length s → FindsEnd x s k i None
+space_goes_on x s Variable i e within = no_blank_end x s Variable i (ap is_ascii_whitespace e) (λ h. absurd cc)
+space_goes_on x s Block i e within = no_blank_end x s Block i (ap is_ascii_whitespace e) (λ h. absurd cc)
+space_goes_on x s Comment i e within = no_blank_end x s Comment i (ap is_ascii_whitespace e) (λ h. absurd cc)
+space_goes_on x s LineComment i e within = no_blank_end x s LineComment i (ap is_ascii_whitespace e) (λ h. absurd cc)
+space_goes_on x s LineStatement i e within = line_goes_on x s i (no_newline s i e) within

@@ -8,6 +8,7 @@ use Rattle.template_compiler_syntax.specs.declared.StartMarker.TheVariants.{Bloc
 use Rattle.template_compiler_tokens.specs.Token.{Token}
 use Rattle.template_compiler_tokens.specs.Lexical.{is_name_start}
 use Rattle.template_compiler_segments.specs.declared.edges.Sign.{Sign}
+use Rattle.template_compiler_segments.specs.declared.edges.Sign.TheVariants.{Plain}
 use Rattle.template_compiler_segments.specs.declared.edges.Edge.TheVariants.{Beside}
 use Rattle.template_compiler_segments.specs.Segments.{IsEnd, EndsAt, IsOver, Ending, HasInside, HoldsInside, only, IsRawEnd}
 use Rattle.template_compiler_segments.specs.Places.{IsFirst, IsNowhere}
@@ -29,6 +30,16 @@ FindsDelimitedEnd s end i (Some p) = (is_ascii_whitespace (slice_index s i) ≡ 
 abbrev pub FindsEnd : Syntax → List ℕ → StartMarker → ℕ → Option (Sign × ℕ) → Type 0
 FindsEnd x s k i None = IsOver x s k i → ⊥
 FindsEnd x s k i (Some p) = EndsAt x s k i (p.0) (p.1)
+
+-- the same where so many brackets are open: it ends where none is
+abbrev pub FindsOpenEnd : Syntax → List ℕ → StartMarker → ℕ → ℕ → Option (Sign × ℕ) → Type 0
+FindsOpenEnd x s k d i None = d ≡ 0 → IsOver x s k i → ⊥
+FindsOpenEnd x s k d i (Some p) = (d ≡ 0) × EndsAt x s k i (p.0) (p.1)
+
+-- the same of ends that have no sign
+abbrev pub FindsPlainEnd : Syntax → List ℕ → StartMarker → ℕ → ℕ → Option ℕ → Type 0
+FindsPlainEnd x s k d i None = d ≡ 0 → IsOver x s k i → ⊥
+FindsPlainEnd x s k d i (Some next) = (d ≡ 0) × EndsAt x s k i Plain next
 
 -- at the place stands a token, or what is none
 pub record IsTokenPlace (x : Syntax) (s : List ℕ) (k : StartMarker) (d i : ℕ) : Type 0 where

@@ -1,9 +1,9 @@
 // Where segments end.
-ghost use Rattle.std.specs.Prelude.{◌≡◌, ◌≤◌, true, false, length, slice_index, IfSome};
+ghost use Rattle.std.specs.Prelude.{◌≡◌, ◌≤◌, ◌<◌, IsTrue, true, false, length, slice_index, IfSome};
 ghost use Rattle.std.specs.Str.{IsUtf8, IsCharBoundary};
 ghost use Rattle.std.specs.Char.{is_ascii_whitespace as white};
 ghost use Rattle.template_compiler_syntax.specs.Syntax.{Syntax};
-ghost use Rattle.template_compiler_tokenizer.specs.Finds.{FindsDelimiter, FindsDelimitedEnd, FindsEnd};
+ghost use Rattle.template_compiler_tokenizer.specs.Finds.{FindsDelimiter, FindsDelimitedEnd, FindsEnd, FindsOpenEnd, FindsPlainEnd};
 ghost use Rattle.template_compiler_tokenizer.specs.Ends.{IsEndText, IsSegmentEnd};
 
 use template_compiler_segments::{Sign, newline_len, stands_at};
@@ -47,12 +47,12 @@ impl<'syntax> SegmentEnd<'syntax> {
         }
     }
 
-    // Whether an end may begin with the byte, where no white space stands.
+    // Whether an end may begin with the byte, perhaps with a sign: no other bytes than `,` stand among signs.
     #[inline(always)]
     fn may_begin_with(self, byte: u8) -> bool
         ensures { result ≡ false → (byte ≡ self.entry.first → ⊥) × (byte ≡ 45 → ⊥) × (byte ≡ 43 → ⊥) }
     {
-        byte == self.first || byte == b'-' || byte == b'+'
+        byte == self.first || (b'+' <= byte && byte <= b'-')
     }
 }
 
@@ -77,30 +77,98 @@ fn first_byte(text: &[u8]) -> u8
     }
 }
 
-/// The sign of the segment's end that stands at a token's place, and the place behind that end. Few bytes begin one.
+/// The sign of the segment's end that stands at a token's place, and the place behind that end, where no bracket is open.
+/// Few bytes begin an end.
 #[inline(always)]
-pub(crate) fn black_end_at(bytes: &[u8], end: SegmentEnd, place: usize) -> Option<(Sign, usize)>
+pub(crate) fn black_end_at(
+    bytes: &[u8],
+    end: SegmentEnd,
+    depth: usize,
+    place: usize,
+) -> Option<(Sign, usize)>
     requires within { place ≤ length bytes.now }
     requires end { IsSegmentEnd end }
     requires black { white (slice_index bytes.now place) ≡ false }
-    ensures found { FindsEnd end.entry.syntax.now bytes.now end.entry.kind place result }
+    ensures found { FindsOpenEnd end.entry.syntax.now bytes.now end.entry.kind depth place result }
     ensures cut { IfSome result (λ p. IsUtf8 bytes.now → IsCharBoundary bytes.now p.1) }
 {
     match bytes.get(place) {
-        Some(byte) => {
-            if end.may_begin_with(*byte) {
-                end_at(bytes, end, place)
-            } else {
-                None
-            }
-        }
-        None => end_at(bytes, end, place),
+        Some(byte) if !end.may_begin_with(*byte) => None,
+        _ => open_end_at(bytes, end, depth, place),
     }
 }
 
-/// The sign of the segment's end that stands at the place, and the place behind that end.
+/// The same at white space, which ends line statements alone, and there by a newline.
 #[inline(always)]
-pub(crate) fn end_at(bytes: &[u8], end: SegmentEnd, place: usize) -> Option<(Sign, usize)>
+pub(crate) fn blank_end_at(
+    bytes: &[u8],
+    end: SegmentEnd,
+    depth: usize,
+    place: usize,
+) -> Option<(Sign, usize)>
+    requires within { place ≤ length bytes.now }
+    requires blank { white (slice_index bytes.now place) ≡ true }
+    ensures found { FindsOpenEnd end.entry.syntax.now bytes.now end.entry.kind depth place result }
+    ensures cut { IfSome result (λ p. IsUtf8 bytes.now → IsCharBoundary bytes.now p.1) }
+{
+    if is_space_at(bytes, place) {
+        return None;
+    }
+    match newline_end_at(bytes, end, depth, place) {
+        Some(next) => Some((Sign::Plain, next)),
+        None => None,
+    }
+}
+
+#[inline(always)]
+fn is_space_at(bytes: &[u8], place: usize) -> bool
+    ensures byte { IsTrue result → slice_index bytes.now place ≡ 32 }
+    ensures within { IsTrue result → place < length bytes.now }
+{
+    match bytes.get(place) {
+        Some(byte) => *byte == b' ',
+        None => false,
+    }
+}
+
+// The place behind the end of a line statement that stands at white space.
+#[inline(never)]
+fn newline_end_at(bytes: &[u8], end: SegmentEnd, depth: usize, place: usize) -> Option<usize>
+    requires within { place ≤ length bytes.now }
+    requires blank { white (slice_index bytes.now place) ≡ true }
+    ensures found { FindsPlainEnd end.entry.syntax.now bytes.now end.entry.kind depth place result }
+    ensures cut { IfSome result (λ next. IsUtf8 bytes.now → IsCharBoundary bytes.now next) }
+{
+    if depth > 0 {
+        return None;
+    }
+    match end.kind {
+        StartMarker::LineStatement => match line_end_at(bytes, place) {
+            Some((_, next)) => Some(next),
+            None => None,
+        },
+        _ => None,
+    }
+}
+
+// The same at any place.
+#[inline(always)]
+fn open_end_at(bytes: &[u8], end: SegmentEnd, depth: usize, place: usize) -> Option<(Sign, usize)>
+    requires within { place ≤ length bytes.now }
+    requires end { IsSegmentEnd end }
+    ensures found { FindsOpenEnd end.entry.syntax.now bytes.now end.entry.kind depth place result }
+    ensures cut { IfSome result (λ p. IsUtf8 bytes.now → IsCharBoundary bytes.now p.1) }
+{
+    if depth == 0 {
+        end_at(bytes, end, place)
+    } else {
+        None
+    }
+}
+
+// The sign of the segment's end that stands at the place, and the place behind that end.
+#[inline(always)]
+fn end_at(bytes: &[u8], end: SegmentEnd, place: usize) -> Option<(Sign, usize)>
     requires within { place ≤ length bytes.now }
     requires end { IsSegmentEnd end }
     ensures found { FindsEnd end.entry.syntax.now bytes.now end.entry.kind place result }
@@ -112,21 +180,6 @@ pub(crate) fn end_at(bytes: &[u8], end: SegmentEnd, place: usize) -> Option<(Sig
         }
         StartMarker::LineStatement => line_end_at(bytes, place),
         StartMarker::Comment | StartMarker::LineComment => None,
-    }
-}
-
-/// The same at white space, which ends line statements alone.
-#[inline(always)]
-pub(crate) fn blank_end_at(bytes: &[u8], end: SegmentEnd, place: usize) -> Option<(Sign, usize)>
-    requires within { place ≤ length bytes.now }
-    requires end { IsSegmentEnd end }
-    requires blank { white (slice_index bytes.now place) ≡ true }
-    ensures found { FindsEnd end.entry.syntax.now bytes.now end.entry.kind place result }
-    ensures cut { IfSome result (λ p. IsUtf8 bytes.now → IsCharBoundary bytes.now p.1) }
-{
-    match end.kind {
-        StartMarker::LineStatement => end_at(bytes, end, place),
-        _ => None,
     }
 }
 

@@ -51,17 +51,13 @@ pub(crate) fn next_place_of(source: &str, end: SegmentEnd, depth: usize, from: u
     let bytes = source.as_bytes();
     let mut place = from;
     'blanks: while is_white_at(bytes, place) {
-        if depth == 0 {
-            if let Some((last, next)) = blank_end_at(bytes, end, place) {
-                return Found::End(place, last, next);
-            }
+        if let Some((last, next)) = blank_end_at(bytes, end, depth, place) {
+            return Found::End(place, last, next);
         }
         place += 1;
     }
-    if depth == 0 {
-        if let Some((last, next)) = black_end_at(bytes, end, place) {
-            return Found::End(place, last, next);
-        }
+    if let Some((last, next)) = black_end_at(bytes, end, depth, place) {
+        return Found::End(place, last, next);
     }
     Found::Token(place)
 }

@@ -1,6 +1,7 @@
-use Rattle.template_compiler_tokenizer.proofs.Delimiters.{no_blank_end}
+use Rattle.std.proofs.Common.{refl}
+use Rattle.template_compiler_tokenizer.proofs.EndBytes.{space_goes_on}
 use Rattle.template_compiler_tokenizer.proofs.ends.blank_end_at.Goals as goal
 
-pub returns-in_default-clause-found : goal.returns-in_default-clause-found
-returns-in_default-clause-found c =
-    no_blank_end c.args.end.syntax.now c.args.bytes.now c.args.end.kind c.args.place c.requires.blank c.in_default.not-LineStatement
+pub returns-then-is_space_at-clause-found : goal.returns-then-is_space_at-clause-found
+returns-then-is_space_at-clause-found c = λ _.
+    space_goes_on c.args.end.syntax.now c.args.bytes.now c.args.end.kind c.args.place (c.if-is_space_at.ensures.byte refl) (c.if-is_space_at.ensures.within refl)

@@ -1,11 +1,9 @@
-use Rattle.std.proofs.Common.{◌≡◌, sym, ◌∙◌, subst, arith}
+use Rattle.std.proofs.Common.{sym, ◌∙◌, subst, arith}
 use Rattle.std.specs.Str.{IsCharBoundary}
-use Rattle.template_compiler_segments.specs.Segments.{IsOver}
 use Rattle.template_compiler_tokenizer.proofs.Delimiters.{place_ended, place_passed, white_cut}
 use Rattle.template_compiler_tokenizer.proofs.Scanned.{next_end}
 use Rattle.template_compiler_tokenizer.proofs.Steps.{inside_blank}
 use Rattle.template_compiler_tokenizer.proofs.inside.next_place_of.Goals as goal
-use Rattle.template_compiler_tokenizer.proofs.inside.next_place_of.Goals.{then-depth-eq0+in_default, else-depth-eq0}
 
 pub returns-in-Some : goal.returns-in-Some
 returns-in-Some c =
@@ -14,10 +12,10 @@ returns-in-Some c =
     let b = c.as_bytes-bytes.result.now in
     let place = c.blanks.place in (
       place_ended x s b c.args.end.kind c.args.depth place c.args.from c.in-Some.next c.in-Some.last
-          c.as_bytes-bytes.ensures.value c.if-depth-eq0.true c.blanks.invariant.inside c.in-Some.ensures.found,
+          c.as_bytes-bytes.ensures.value c.in-Some.ensures.found.0 c.blanks.invariant.inside c.in-Some.ensures.found.1,
       subst (λ t. IsCharBoundary t c.in-Some.next) c.as_bytes-bytes.ensures.value (c.in-Some.ensures.cut c.as_bytes-bytes.ensures.utf8),
       next_end x s b c.args.end.kind c.args.depth place c.args.from c.in-Some.next c.in-Some.last c.as_bytes-bytes.ensures.value
-          c.if-depth-eq0.true c.blanks.invariant.low c.blanks.invariant.cut c.blanks.invariant.same c.in-Some.ensures.found,
+          c.in-Some.ensures.found.0 c.blanks.invariant.low c.blanks.invariant.cut c.blanks.invariant.same c.in-Some.ensures.found.1,
     )
 
 pub returns-in-Some-black_end_at : goal.returns-in-Some-black_end_at
@@ -27,10 +25,10 @@ returns-in-Some-black_end_at c =
     let b = c.as_bytes-bytes.result.now in
     let place = c.blanks.place in (
       place_ended x s b c.args.end.kind c.args.depth place c.args.from c.in-Some-black_end_at.next c.in-Some-black_end_at.last
-          c.as_bytes-bytes.ensures.value c.if-depth-eq0-2.true c.blanks.invariant.inside c.in-Some-black_end_at.ensures.found,
+          c.as_bytes-bytes.ensures.value c.in-Some-black_end_at.ensures.found.0 c.blanks.invariant.inside c.in-Some-black_end_at.ensures.found.1,
       subst (λ t. IsCharBoundary t c.in-Some-black_end_at.next) c.as_bytes-bytes.ensures.value (c.in-Some-black_end_at.ensures.cut c.as_bytes-bytes.ensures.utf8),
       next_end x s b c.args.end.kind c.args.depth place c.args.from c.in-Some-black_end_at.next c.in-Some-black_end_at.last c.as_bytes-bytes.ensures.value
-          c.if-depth-eq0-2.true c.blanks.invariant.low c.blanks.invariant.cut c.blanks.invariant.same c.in-Some-black_end_at.ensures.found,
+          c.in-Some-black_end_at.ensures.found.0 c.blanks.invariant.low c.blanks.invariant.cut c.blanks.invariant.same c.in-Some-black_end_at.ensures.found.1,
     )
 
 pub blanks-preserved : goal.blanks-preserved
@@ -39,10 +37,7 @@ blanks-preserved c =
     let b = c.as_bytes-bytes.result.now in
     let white = sym c.is_white_at.ensures ∙ c.blanks-test.true in
     let low = c.blanks.invariant.low in
-    let none : c.args.depth ≡ 0 → IsOver x b c.args.end.kind c.blanks.place → ⊥ = λ closed over. elim c.if-depth-eq0.branch [
-      | then-depth-eq0+in_default w ↦ w.in_default.ensures.found over
-      | else-depth-eq0 w ↦ w.if-depth-eq0.false closed
-    ] in
+    let none = c.in_default.ensures.found in
     record {
       low = omega arith;
       cut = white_cut b c.blanks.place c.as_bytes-bytes.ensures.utf8 c.blanks.invariant.cut white;
