@@ -17,9 +17,7 @@ use Rattle.template_compiler_segments.specs.Segments.{IsNextStart, Ending, HasIn
 use Rattle.template_compiler_tokenizer.specs.Left.{Placed, placed, data_tokens, inside_tokens}
 use Rattle.template_compiler_tokenizer.specs.Held.{HoldsRead, HoldsRefused}
 use Rattle.std.specs.Prelude.{Some, codes}
-use Rattle.template_compiler_tokens.specs.Token.{bad, bad_syntax}
 use Rattle.template_compiler_segments.specs.declared.edges.Sign.{Sign}
-use Rattle.template_compiler_tokenizer.specs.Steps.{IsRawData}
 use Rattle.template_compiler_tokenizer.specs.declared.reach.Raw.{Raw}
 use Rattle.template_compiler_tokenizer.specs.declared.reach.Raw.TheVariants as raw
 use Rattle.template_compiler_tokenizer.specs.declared.reach.Reached.{Reached}
@@ -60,8 +58,10 @@ FindsBlack x s from i = (from ≤ i) × IsCharBoundary s i × (is_ascii_whitespa
     ((tokens : List spec.Token) (ending : Ending) → HasInside x s Block 0 i tokens ending → HasInside x s Block 0 from tokens ending) ×
     (inside_tokens x s Block 0 from ≡ inside_tokens x s Block 0 i)
 
--- what a block is that begins at the place: raw data, perhaps without an end, or another one
-abbrev pub FindsRaw : Syntax → List ℕ → ℕ → Raw → Type 0
-FindsRaw x s i (raw.Data found) = IsRawData x s i found
-FindsRaw x s i raw.Endless = data_tokens x s Nothing i ≡ placed (bad bad_syntax) i i ∷ []
-FindsRaw x s i raw.Other = (last : Sign) (next : ℕ) → HoldsInside x s Block i (only (codes "raw")) (Some (last, next)) → ⊥
+-- what a block is that begins at the place: raw data, which was read; or another one
+abbrev pub ReadsRaw : Syntax → List ℕ → List (Token × Span) → ℕ → List (Token × Span) → ℕ → Stretch → Raw → Type 0
+ReadsRaw x s old i held next stretch (raw.Data last) =
+    GoesOn s old (data_tokens x s Nothing i) held (data_tokens x s (Beside Block last) next) next stretch × IsCharBoundary s next × (i < next)
+ReadsRaw x s old i held next stretch (raw.Refused kind) = HoldsRefused s old (data_tokens x s Nothing i) held kind
+ReadsRaw x s old i held next stretch raw.Other =
+    (held ≡ old) × ((last : Sign) (after : ℕ) → HoldsInside x s Block i (only (codes "raw")) (Some (last, after)) → ⊥)

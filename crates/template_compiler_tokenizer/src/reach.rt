@@ -9,10 +9,10 @@ ghost use Rattle.template_compiler_segments.specs.declared.edges.Edge.{Edge};
 ghost use Rattle.template_compiler_syntax.specs.Syntax.{Syntax, IsUsable};
 ghost use Rattle.template_compiler_tokens.specs.View.{token_of};
 ghost use Rattle.template_compiler_tokenizer.specs.Left.{data_tokens};
-ghost use Rattle.template_compiler_tokenizer.specs.Reaches.{FindsBlack, FindsRaw, HoldsNext, HoldsUpTo, Reaches};
+ghost use Rattle.template_compiler_tokenizer.specs.Reaches.{FindsBlack, HoldsNext, HoldsUpTo, Reaches, ReadsRaw};
 
 use crate::all::push;
-use crate::data::{RawData, is_nothing, raw_data};
+use crate::data::{is_nothing, raw_data};
 use crate::ends::is_white_at;
 use crate::starts::inside_from;
 use crate::words::{may_begin_with, only_word};
@@ -244,20 +244,15 @@ fn read_block<'source>(
     let place = behind_white_space(source, start.inside);
     let rest = source.split_at(place).1;
     if may_begin_with(rest.as_bytes(), "raw".as_bytes()) {
-        match find_raw(source, syntax, start.inside) {
-            Raw::Data(raw) => {
-                *from = raw.next;
-                if is_nothing(raw.text) {
-                    return Reached::Data(StartMarker::Block, raw.last);
-                }
-                let end = raw.begin + raw.text.len();
-                let token = Token::TemplateData(raw.text);
-                return match hold_token(source, token, raw.begin, end, stretch, tokens) {
-                    Ok(()) => Reached::Data(StartMarker::Block, raw.last),
-                    Err(kind) => Reached::Refused(kind),
-                };
+        let mut next = start.place;
+        let mut behind = *stretch;
+        match read_raw(source, syntax, start.inside, &mut next, &mut behind, tokens) {
+            Raw::Data(last) => {
+                *from = next;
+                *stretch = behind;
+                return Reached::Data(StartMarker::Block, last);
             }
-            Raw::Endless => return Reached::Refused(ErrorKind::SyntaxError),
+            Raw::Refused(kind) => return Reached::Refused(kind),
             Raw::Other => {}
         }
     }
@@ -276,27 +271,49 @@ fn read_block<'source>(
 }
 
 // What a block is that may be raw data.
-enum Raw<'source> {
-    /// Raw data.
-    Data(RawData<'source>),
-    /// Raw data that never ends.
-    Endless,
+#[derive(Clone, Copy)]
+pub(crate) enum Raw {
+    /// Raw data, which the end of a block with this sign ends.
+    Data(Sign),
+    /// Raw data that never ends; or memory was wanting.
+    Refused(ErrorKind),
     /// Another block.
     Other,
 }
 
-// What the block is whose inside begins at the place. Few blocks are asked.
+// Reads raw data, if the block is such that begins at the place and has its inside at the other.
+// Few blocks are asked: the reader's place and stretch are copies, so that those of all others stay in registers.
 #[inline(never)]
-fn find_raw<'source>(source: &'source str, syntax: &SyntaxConfig, inside: usize) -> Raw<'source>
+fn read_raw<'source>(
+    source: &'source str,
+    syntax: &SyntaxConfig,
+    inside: usize,
+    from: &mut usize,
+    stretch: &mut Stretch,
+    tokens: &mut Vec<(Token<'source>, Span)>,
+) -> Raw
     requires usable { IsUsable syntax.now }
+    requires start { IsNextStart syntax.now source.now from.old from.old StartMarker.Block }
+    requires inside { inside ≡ the_inside_from syntax.now source.now StartMarker.Block from.old }
     requires cut { IsCharBoundary source.now inside }
-    ensures { (i : ℕ) → IsNextStart syntax.now source.now i i StartMarker.Block →
-        inside ≡ the_inside_from syntax.now source.now StartMarker.Block i → FindsRaw syntax.now source.now i result }
+    requires begins { BeginsBy source.now from.old stretch.old }
+    ensures { ReadsRaw syntax.now source.now tokens.old.items from.old tokens.new.items from.new stretch.new result }
 {
     match only_word(source, syntax, inside, "raw") {
-        Some((inner, from)) => match raw_data(source, syntax, inner, from) {
-            Some(raw) => Raw::Data(raw),
-            None => Raw::Endless,
+        Some((inner, begin)) => match raw_data(source, syntax, inner, begin) {
+            Some(raw) => {
+                *from = raw.next;
+                if is_nothing(raw.text) {
+                    return Raw::Data(raw.last);
+                }
+                let end = raw.begin + raw.text.len();
+                let token = Token::TemplateData(raw.text);
+                match hold_token(source, token, raw.begin, end, stretch, tokens) {
+                    Ok(()) => Raw::Data(raw.last),
+                    Err(kind) => Raw::Refused(kind),
+                }
+            }
+            None => Raw::Refused(ErrorKind::SyntaxError),
         },
         None => Raw::Other,
     }
