@@ -241,6 +241,7 @@ fn load_taken<'source>(
 
 // A node behind its left part, whose value is given where it was held back; the value of the node takes its place.
 #[cycle(expression)]
+#[inline(always)]
 fn fold_node<'source>(
     alloc: Global,
     code: &mut Instructions<'source>,
