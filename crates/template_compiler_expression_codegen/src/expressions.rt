@@ -77,7 +77,11 @@ fn fold_left<'source>(
     ensures refused { IfErr result (TakesNoMore (code_in code.new)) }
 {
     if let Expr::Var(n) = expr {
-        return put_name(code, n.node.id, from);
+        return put(
+            code,
+            Instruction::Lookup(CowStr::Borrowed(n.node.id)),
+            from.copied(),
+        );
     }
     match left(expr) {
         Some(part) => {
@@ -165,7 +169,7 @@ fn compile_tree<'source>(
 {
     let mut value = None;
     fold_left(alloc, code, expr, &mut value, NEAR, from)?;
-    load(code, value, from.copied())
+    load_held(code, &mut value, from)
 }
 
 // A name, which is no constant.
@@ -208,7 +212,7 @@ fn hold(value: &mut Option<Value>, literal: &Value) -> Result<(), Error>
     Ok(())
 }
 
-// Puts the load of a constant that was held back.
+// Puts the load of a constant, where it was held back; nothing is held back then.
 #[inline(always)]
 fn load_held<'source>(
     code: &mut Instructions<'source>,
@@ -225,6 +229,7 @@ fn load_held<'source>(
     load_taken(code, value, from)
 }
 
+// The same where one may have been held back.
 #[cold]
 #[inline(never)]
 fn load_taken<'source>(
@@ -241,6 +246,7 @@ fn load_taken<'source>(
 
 // A node behind its left part, whose value is given where it was held back; the value of the node takes its place.
 #[cycle(expression)]
+#[inline(always)]
 fn fold_node<'source>(
     alloc: Global,
     code: &mut Instructions<'source>,

@@ -8,7 +8,9 @@ ghost use Rattle.template_compiler_emission.specs.Puts.{Puts};
 
 use crate::expressions;
 use std::alloc::Global;
-use template_code::Instructions;
+use std::borrow::CowStr;
+use template_code::{Instruction, Instructions};
+use template_compiler_emission::put;
 use template_tree::Expr;
 use template_values_errors::Error;
 
@@ -27,5 +29,12 @@ pub fn compile_expr<'source>(
     ensures put { OnOk result (Puts (expression_code (expression_of expr.now)) code.old code.new) }
     ensures refused { IfErr result (TakesNoMore (code_in code.new)) }
 {
-    expressions::compile_expr(alloc, code, expr, Some(&expr.span()))
+    match expr {
+        Expr::Var(n) => put(
+            code,
+            Instruction::Lookup(CowStr::Borrowed(n.node.id)),
+            Some(n.span),
+        ),
+        _ => expressions::compile_expr(alloc, code, expr, Some(&expr.span())),
+    }
 }

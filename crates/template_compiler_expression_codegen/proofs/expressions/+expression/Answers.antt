@@ -43,7 +43,7 @@ fold_spine-loop-i-preserved t c =
     record { constant = more.0; code = more.1; same = same_then c.loop-i.invariant.same c.in_ok-fold_node.ensures.put.same }
 
 pub fold_left-returns-in-Var-clause-put : goal.fold_left-returns-in-Var-clause-put
-fold_left-returns-in-Var-clause-put t c = rw (c.in-Var.is, c.requires.none) c.put_name.ensures.put
+fold_left-returns-in-Var-clause-put t c = rw (c.in-Var.is, c.requires.none) c.put.ensures.put
 
 pub fold_left-returns-in-None-clause-put : goal.fold_left-returns-in-None-clause-put
 fold_left-returns-in-None-clause-put t c =
@@ -309,8 +309,8 @@ fold_chain-returns-in-Some-clause-put t c =
     c.truncate.ensures.kept c.truncate.ensures.same c.truncate.ensures.places
 
 pub compile_tree-returns-clause-put : goal.compile_tree-returns-clause-put
-compile_tree-returns-clause-put t c = on_ok_weaker c.load.result (λ last.
-    puts_whole (expression_of c.args.expr.now) c.in_ok-fold_left.ensures.constant c.in_ok-fold_left.ensures.put last) c.load.ensures.put
+compile_tree-returns-clause-put t c = on_ok_weaker c.load_held.result (λ last.
+    puts_whole (expression_of c.args.expr.now) c.in_ok-fold_left.ensures.constant c.in_ok-fold_left.ensures.put last) c.load_held.ensures.put
 
 pub compile_item-returns-clause-put : goal.compile_item-returns-clause-put
 compile_item-returns-clause-put t c = on_ok_weaker c.put.result (λ last.
