@@ -93,8 +93,30 @@ fn compile_body<'source>(
     Ok(())
 }
 
+// A statement. Most are texts and values that are printed.
 #[cycle(statement)]
+#[inline(always)]
 fn compile_statement<'source>(
+    alloc: Global,
+    code: &mut Instructions<'source>,
+    round: &mut Round,
+    statement: &Stmt<'source>,
+) -> Result<(), Error>
+    requires { IsRunnableStatement true (statement_of statement.now) }
+    ensures lowered { OnOk result (LowersStatement (statement_of statement.now) code.old code.new round.old round.new) }
+    ensures refused { IfErr result (TakesNoMore (code_in code.new)) }
+{
+    match statement {
+        Stmt::EmitRaw(n) => compile_text(code, n.node.raw, n.span),
+        Stmt::EmitExpr(n) => compile_print(alloc, code, &n.node.expr),
+        _ => compile_any(alloc, code, round, statement),
+    }
+}
+
+// The same, each kind by a call.
+#[cycle(statement)]
+#[inline(never)]
+fn compile_any<'source>(
     alloc: Global,
     code: &mut Instructions<'source>,
     round: &mut Round,

@@ -168,12 +168,12 @@ compile_rounds-returns-clause-put t c =
     c.in_ok-compile_assignment.ensures.put c.in_ok-compile_body.ensures.lowered c.in_ok-put.ensures.put c.land.ensures.landed c.land.ensures.same
     c.tell_breaks.ensures.told c.tell_breaks.ensures.same
 
-pub compile_statement-unreachable-requires-in-CallBlock : goal.compile_statement-unreachable-requires-in-CallBlock
-compile_statement-unreachable-requires-in-CallBlock t c =
+pub compile_any-unreachable-requires-in-CallBlock : goal.compile_any-unreachable-requires-in-CallBlock
+compile_any-unreachable-requires-in-CallBlock t c =
     call_no_statement c.in-CallBlock.field-0 (subst (λ (s : Stmt). IsRunnableStatement true (statement_of s)) c.in-CallBlock.is c.requires)
 
-pub compile_statement-compile_condition-requires : goal.compile_statement-compile_condition-requires
-compile_statement-compile_condition-requires t c =
+pub compile_any-compile_condition-requires : goal.compile_any-compile_condition-requires
+compile_any-compile_condition-requires t c =
     let s = c.args.statement.now in
     let n = c.in-IfCond.n in
     let tree = condition_is s n n.value.node c.in-IfCond.is refl in (
@@ -181,13 +181,13 @@ compile_statement-compile_condition-requires t c =
       subst (λ (x : Statement). IsRunnableStatement true x) tree c.requires,
     )
 
-pub compile_statement-returns-in-IfCond-clause-lowered : goal.compile_statement-returns-in-IfCond-clause-lowered
-compile_statement-returns-in-IfCond-clause-lowered t c =
+pub compile_any-returns-in-IfCond-clause-lowered : goal.compile_any-returns-in-IfCond-clause-lowered
+compile_any-returns-in-IfCond-clause-lowered t c =
     let tree = condition_is c.args.statement.now c.in-IfCond.n c.in-IfCond.n.value.node c.in-IfCond.is refl in
     rw tree c.compile_condition.ensures.lowered
 
-pub compile_statement-compile_loop-requires : goal.compile_statement-compile_loop-requires
-compile_statement-compile_loop-requires t c =
+pub compile_any-compile_loop-requires : goal.compile_any-compile_loop-requires
+compile_any-compile_loop-requires t c =
     let s = c.args.statement.now in
     let n = c.in-ForLoop.n in
     let target = c.deref-in-ForLoop.result.now.node.target in
@@ -204,8 +204,8 @@ compile_statement-compile_loop-requires t c =
       (runs.0, (runs.1, (runs.2, runs.3))),
     )
 
-pub compile_statement-returns-in-ForLoop-clause-lowered : goal.compile_statement-returns-in-ForLoop-clause-lowered
-compile_statement-returns-in-ForLoop-clause-lowered t c =
+pub compile_any-returns-in-ForLoop-clause-lowered : goal.compile_any-returns-in-ForLoop-clause-lowered
+compile_any-returns-in-ForLoop-clause-lowered t c =
     let tree = loop_is c.args.statement.now c.in-ForLoop.n c.deref-in-ForLoop.result.now.node.target c.deref-in-ForLoop.result.now.node.iter
     c.deref-in-ForLoop-2.result.now c.deref-in-ForLoop-3.result.now c.requires c.in-ForLoop.is
     (ap (λ (l : Spanned ForLoopNode). l.node.target) c.deref-in-ForLoop.ensures) (ap (λ (l : Spanned ForLoopNode). l.node.iter) c.deref-in-ForLoop.ensures)
@@ -213,8 +213,8 @@ compile_statement-returns-in-ForLoop-clause-lowered t c =
     (c.deref-in-ForLoop-3.ensures.value ∙ ap (λ (l : Spanned ForLoopNode). l.node.else_body.items) c.deref-in-ForLoop.ensures) in
     rw tree c.compile_loop.ensures.lowered
 
-pub compile_statement-compile_with-requires : goal.compile_statement-compile_with-requires
-compile_statement-compile_with-requires t c =
+pub compile_any-compile_with-requires : goal.compile_any-compile_with-requires
+compile_any-compile_with-requires t c =
     let s = c.args.statement.now in
     let n = c.in-WithBlock.n in
     let pairs = c.deref-in-WithBlock-2.result.now in
@@ -227,15 +227,15 @@ compile_statement-compile_with-requires t c =
       (runs.0, runs.1),
     )
 
-pub compile_statement-returns-in-WithBlock-clause-lowered : goal.compile_statement-returns-in-WithBlock-clause-lowered
-compile_statement-returns-in-WithBlock-clause-lowered t c =
+pub compile_any-returns-in-WithBlock-clause-lowered : goal.compile_any-returns-in-WithBlock-clause-lowered
+compile_any-returns-in-WithBlock-clause-lowered t c =
     let tree = with_is c.args.statement.now c.in-WithBlock.n c.deref-in-WithBlock-2.result.now c.deref-in-WithBlock-4.result.now c.in-WithBlock.is
     (c.deref-in-WithBlock-2.ensures.value ∙ ap (λ (w : Spanned WithBlockNode). w.node.assignments.items) c.deref-in-WithBlock.ensures)
     (c.deref-in-WithBlock-4.ensures.value ∙ ap (λ (w : Spanned WithBlockNode). w.node.body.items) c.deref-in-WithBlock-3.ensures) in
     rw tree c.compile_with.ensures.lowered
 
-pub compile_statement-compile_auto_escape-requires : goal.compile_statement-compile_auto_escape-requires
-compile_statement-compile_auto_escape-requires t c =
+pub compile_any-compile_auto_escape-requires : goal.compile_any-compile_auto_escape-requires
+compile_any-compile_auto_escape-requires t c =
     let s = c.args.statement.now in
     let n = c.in-AutoEscape.n in
     let enabled = c.deref-in-AutoEscape.result.now.node.enabled in
@@ -248,8 +248,8 @@ compile_statement-compile_auto_escape-requires t c =
       (runs.0, runs.1),
     )
 
-pub compile_statement-returns-in-AutoEscape-clause-lowered : goal.compile_statement-returns-in-AutoEscape-clause-lowered
-compile_statement-returns-in-AutoEscape-clause-lowered t c =
+pub compile_any-returns-in-AutoEscape-clause-lowered : goal.compile_any-returns-in-AutoEscape-clause-lowered
+compile_any-returns-in-AutoEscape-clause-lowered t c =
     let tree = escape_is c.args.statement.now c.in-AutoEscape.n c.deref-in-AutoEscape.result.now.node.enabled c.deref-in-AutoEscape-3.result.now c.in-AutoEscape.is
     (ap (λ (a : Spanned AutoEscapeNode). a.node.enabled) c.deref-in-AutoEscape.ensures)
     (c.deref-in-AutoEscape-3.ensures.value ∙ ap (λ (a : Spanned AutoEscapeNode). a.node.body.items) c.deref-in-AutoEscape-2.ensures) in
@@ -260,29 +260,29 @@ compile_loop-returns-clause-lowered t c = on_ok_weaker c.compile_loop_end.result
     lowers_behind c.in_ok-compile_expr.ensures.put
     (lowers_behind c.in_ok-put.ensures.put (lowers_behind c.in_ok-compile_rounds.ensures.put last))) c.compile_loop_end.ensures.lowered
 
-pub compile_statement-unreachable-requires : goal.compile_statement-unreachable-requires
-compile_statement-unreachable-requires t c = subst (λ (s : Stmt). IsRunnableStatement true (statement_of s)) c.in-Template.is c.requires
+pub compile_any-unreachable-requires : goal.compile_any-unreachable-requires
+compile_any-unreachable-requires t c = subst (λ (s : Stmt). IsRunnableStatement true (statement_of s)) c.in-Template.is c.requires
 
-pub compile_statement-unreachable-requires-in-SetBlock : goal.compile_statement-unreachable-requires-in-SetBlock
-compile_statement-unreachable-requires-in-SetBlock t c = subst (λ (s : Stmt). IsRunnableStatement true (statement_of s)) c.in-SetBlock.is c.requires
+pub compile_any-unreachable-requires-in-SetBlock : goal.compile_any-unreachable-requires-in-SetBlock
+compile_any-unreachable-requires-in-SetBlock t c = subst (λ (s : Stmt). IsRunnableStatement true (statement_of s)) c.in-SetBlock.is c.requires
 
-pub compile_statement-unreachable-requires-in-FilterBlock : goal.compile_statement-unreachable-requires-in-FilterBlock
-compile_statement-unreachable-requires-in-FilterBlock t c = subst (λ (s : Stmt). IsRunnableStatement true (statement_of s)) c.in-FilterBlock.is c.requires
+pub compile_any-unreachable-requires-in-FilterBlock : goal.compile_any-unreachable-requires-in-FilterBlock
+compile_any-unreachable-requires-in-FilterBlock t c = subst (λ (s : Stmt). IsRunnableStatement true (statement_of s)) c.in-FilterBlock.is c.requires
 
-pub compile_statement-unreachable-requires-in-Block : goal.compile_statement-unreachable-requires-in-Block
-compile_statement-unreachable-requires-in-Block t c = subst (λ (s : Stmt). IsRunnableStatement true (statement_of s)) c.in-Block.is c.requires
+pub compile_any-unreachable-requires-in-Block : goal.compile_any-unreachable-requires-in-Block
+compile_any-unreachable-requires-in-Block t c = subst (λ (s : Stmt). IsRunnableStatement true (statement_of s)) c.in-Block.is c.requires
 
-pub compile_statement-unreachable-requires-in-Import : goal.compile_statement-unreachable-requires-in-Import
-compile_statement-unreachable-requires-in-Import t c = subst (λ (s : Stmt). IsRunnableStatement true (statement_of s)) c.in-Import.is c.requires
+pub compile_any-unreachable-requires-in-Import : goal.compile_any-unreachable-requires-in-Import
+compile_any-unreachable-requires-in-Import t c = subst (λ (s : Stmt). IsRunnableStatement true (statement_of s)) c.in-Import.is c.requires
 
-pub compile_statement-unreachable-requires-in-FromImport : goal.compile_statement-unreachable-requires-in-FromImport
-compile_statement-unreachable-requires-in-FromImport t c = subst (λ (s : Stmt). IsRunnableStatement true (statement_of s)) c.in-FromImport.is c.requires
+pub compile_any-unreachable-requires-in-FromImport : goal.compile_any-unreachable-requires-in-FromImport
+compile_any-unreachable-requires-in-FromImport t c = subst (λ (s : Stmt). IsRunnableStatement true (statement_of s)) c.in-FromImport.is c.requires
 
-pub compile_statement-unreachable-requires-in-Extends : goal.compile_statement-unreachable-requires-in-Extends
-compile_statement-unreachable-requires-in-Extends t c = subst (λ (s : Stmt). IsRunnableStatement true (statement_of s)) c.in-Extends.is c.requires
+pub compile_any-unreachable-requires-in-Extends : goal.compile_any-unreachable-requires-in-Extends
+compile_any-unreachable-requires-in-Extends t c = subst (λ (s : Stmt). IsRunnableStatement true (statement_of s)) c.in-Extends.is c.requires
 
-pub compile_statement-unreachable-requires-in-Macro : goal.compile_statement-unreachable-requires-in-Macro
-compile_statement-unreachable-requires-in-Macro t c = subst (λ (s : Stmt). IsRunnableStatement true (statement_of s)) c.in-Macro.is c.requires
+pub compile_any-unreachable-requires-in-Macro : goal.compile_any-unreachable-requires-in-Macro
+compile_any-unreachable-requires-in-Macro t c = subst (λ (s : Stmt). IsRunnableStatement true (statement_of s)) c.in-Macro.is c.requires
 
-pub compile_statement-unreachable-requires-in-Do : goal.compile_statement-unreachable-requires-in-Do
-compile_statement-unreachable-requires-in-Do t c = subst (λ (s : Stmt). IsRunnableStatement true (statement_of s)) c.in-Do.is c.requires
+pub compile_any-unreachable-requires-in-Do : goal.compile_any-unreachable-requires-in-Do
+compile_any-unreachable-requires-in-Do t c = subst (λ (s : Stmt). IsRunnableStatement true (statement_of s)) c.in-Do.is c.requires

@@ -31,6 +31,9 @@ decreases-compile_rounds l = 8 * body_deep l.body.now + 3
 abbrev pub decreases-compile_loop_end : goal.decreases-compile_loop_end
 decreases-compile_loop_end l = 8 * body_deep l.otherwise.now + 3
 
+abbrev pub decreases-compile_any : goal.decreases-compile_any
+decreases-compile_any l = 8 * size-Stmt l.statement.now
+
 abbrev pub decreases-compile_condition : goal.decreases-compile_condition
 decreases-compile_condition l = 8 * condition_deep l.first.now.value.node + 6
 
