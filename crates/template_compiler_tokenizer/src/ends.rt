@@ -47,12 +47,15 @@ impl<'syntax> SegmentEnd<'syntax> {
         }
     }
 
-    // Whether an end may begin with the byte, perhaps with a sign: no other bytes than `,` stand among signs.
+    // Whether an end may begin with the byte: its delimiter, or a sign before that.
     #[inline(always)]
     fn may_begin_with(self, byte: u8) -> bool
         ensures { result ≡ false → (byte ≡ self.entry.first → ⊥) × (byte ≡ 45 → ⊥) × (byte ≡ 43 → ⊥) }
     {
-        byte == self.first || (b'+' <= byte && byte <= b'-')
+        match byte {
+            b'+' | b'-' => true,
+            _ => byte == self.first,
+        }
     }
 }
 

@@ -7,7 +7,7 @@ pub returns-in-Ok-clause-placed : goal.returns-in-Ok-clause-placed
 returns-in-Ok-clause-placed c =
     let spans = c.args.tokenizer.spans in
     let held = c.read_all.new.tokens.items in
-    let none = none_before c.new-tokens.result.items spans c.new-tokens.ensures.items in
+    let none = none_before c.with_room-tokens.result.items spans c.with_room-tokens.ensures in
     holds_tokens held spans [] None c.new.result c.new.ensures.tokens c.new.ensures.spans
     (sym (append-nil (spanned_of held) ∙ c.in-Ok.ensures.taken ∙ none)) refl
 
@@ -17,7 +17,7 @@ returns-in-Ok-clause-tokens c = (returns-in-Ok-clause-placed c).words ∙ c.in-O
 pub returns-in-Some-clause-placed : goal.returns-in-Some-clause-placed
 returns-in-Some-clause-placed c =
     let spans = c.args.tokenizer.spans in
-    let none = none_before c.new-tokens.result.items spans c.new-tokens.ensures.items in
+    let none = none_before c.with_room-tokens.result.items spans c.with_room-tokens.ensures in
     let taken = c.in-Err.ensures.taken in
     holds_tokens c.read_all.new.tokens.items spans taken.0 (Some c.in-Some.fault) c.new-in-Some.result c.new-in-Some.ensures.tokens
     c.new-in-Some.ensures.spans (sym none ∙ taken.1)
