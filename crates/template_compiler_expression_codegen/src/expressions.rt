@@ -365,7 +365,8 @@ fn fold_choice<'source>(
     requires { IsRunnable (expression_of right.now) }
     ensures constant { OnOk result (value.new ≡ binary_folded op value.old (constant_of (expression_of right.now))) }
     ensures put { OnOk result
-        (Puts (unless value.new (behind value.old (skipped (leap_code leap) (expression_code (expression_of right.now))))) code.old code.new) }
+        (Puts (unless value.new (behind value.old (skipped (leap_code leap) (expression_code (expression_of right.now)))))
+        code.old code.new) }
     ensures refused { IfErr result (TakesNoMore (code_in code.new)) }
 {
     if value.is_some() {
@@ -392,7 +393,8 @@ fn fold_constant_choice<'source>(
     requires { IsRunnable (expression_of right.now) }
     ensures constant { OnOk result (value.new ≡ binary_folded op value.old (constant_of (expression_of right.now))) }
     ensures put { OnOk result
-        (Puts (unless value.new (behind value.old (skipped (leap_code leap) (expression_code (expression_of right.now))))) code.old code.new) }
+        (Puts (unless value.new (behind value.old (skipped (leap_code leap) (expression_code (expression_of right.now)))))
+        code.old code.new) }
     ensures refused { IfErr result (TakesNoMore (code_in code.new)) }
 {
     let begins = code.len();
@@ -420,7 +422,8 @@ fn fold_operator<'source>(
     requires op { IsNone (leap_of op) }
     ensures constant { OnOk result (value.new ≡ binary_folded op value.old (constant_of (expression_of right.now))) }
     ensures put { OnOk result
-        (Puts (unless value.new (behind value.old (then_code (expression_code (expression_of right.now)) (one (operate op))))) code.old code.new) }
+        (Puts (unless value.new (behind value.old (then_code (expression_code (expression_of right.now)) (one (operate op)))))
+        code.old code.new) }
     ensures refused { IfErr result (TakesNoMore (code_in code.new)) }
 {
     if value.is_some() {
@@ -445,7 +448,8 @@ fn fold_constant_operator<'source>(
     requires op { IsNone (leap_of op) }
     ensures constant { OnOk result (value.new ≡ binary_folded op value.old (constant_of (expression_of right.now))) }
     ensures put { OnOk result
-        (Puts (unless value.new (behind value.old (then_code (expression_code (expression_of right.now)) (one (operate op))))) code.old code.new) }
+        (Puts (unless value.new (behind value.old (then_code (expression_code (expression_of right.now)) (one (operate op)))))
+        code.old code.new) }
     ensures refused { IfErr result (TakesNoMore (code_in code.new)) }
 {
     let begins = code.len();
@@ -557,8 +561,9 @@ fn compile_slice<'source>(
     requires step { IsRunnableIfGiven (optional_in step.now) }
     ensures taken { OnOk result (left.new ≡ None) }
     ensures put { OnOk result
-        (Puts (behind left.old (then_code (optional_code none (optional_in start.now)) (then_code (optional_code none (optional_in stop.now))
-        (then_code (optional_code none (optional_in step.now)) (one slice))))) code.old code.new) }
+        (Puts (behind left.old (then_code (optional_code none (optional_in start.now))
+        (then_code (optional_code none (optional_in stop.now)) (then_code (optional_code none (optional_in step.now)) (one slice)))))
+        code.old code.new) }
     ensures refused { IfErr result (TakesNoMore (code_in code.new)) }
 {
     load_held(code, left, from)?;
