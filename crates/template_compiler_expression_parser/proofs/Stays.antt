@@ -3,13 +3,16 @@ use Rattle.std.proofs.Common.{◌≡◌, codes, bytes_eq, ℕ, Bool, true, false
 use Rattle.template_tree.specs.declared.expressions.Expr.{Expr}
 use Rattle.template_tree.specs.declared.span.Span.{Span}
 use Rattle.template_tree.specs.declared.operators.CompareOpKind.TheVariants as comparisons
+use Rattle.template_tree.specs.declared.operators.UnaryOpKind.TheVariants as unaries
+use Rattle.template_tree.specs.NodePlaces.{one}
+use Rattle.template_tree.specs.Tree.{unary}
 use Rattle.template_compiler_tokens.specs.Places.{next_span, stretch}
 use Rattle.template_compiler_tokens.specs.Token.{Token, Symbol, identifier, symbol, plus, minus, mul, div, floor_div, modulo, tilde, eq, ne, gt, gte, lt, lte, dot, bracket_open, paren_open, pipe, pow}
 use Rattle.template_compiler_tokens.specs.Steps.{Read, and_then, stops, all}
 use Rattle.template_compiler_tokens.proofs.Loops.{then_goes, then_fails, all_stops}
-use Rattle.template_compiler_grammar.specs.Words.{is_word, Level, factors, texts, terms, conjunction, disjunction}
-use Rattle.template_compiler_placed_grammar.specs.Nodes.{Node, PlacedLinks, no_placed_links, compared_node}
-use Rattle.template_compiler_placed_grammar.specs.Reader.{Deeper, primary_by, part_step, unary_by, filter_step, filtered_by, power_behind, power_by, operand_step, binary_of, terms_by, link_behind, link_step, comparison_by, negation_by, operand_by, binary_by, if_behind, expression_by}
+use Rattle.template_compiler_grammar.specs.Words.{begins_word, is_word, Level, factors, texts, terms, conjunction, disjunction}
+use Rattle.template_compiler_placed_grammar.specs.Nodes.{Node, node, PlacedLinks, no_placed_links, compared_node}
+use Rattle.template_compiler_placed_grammar.specs.Reader.{Deeper, primary_by, part_step, parts_by, up_to, unary_by, filter_step, filtered_by, power_behind, power_by, operand_step, binary_of, terms_by, link_behind, link_step, comparison_by, negation_by, operand_by, binary_by, if_behind, expression_by}
 use Rattle.template_compiler_placed_grammar.specs.Views.{node_of}
 use Rattle.template_compiler_stream.specs.Refusals.{Refused}
 use Rattle.template_compiler_stream.specs.Signs.{next_symbol, next_word, next_operator, begins_symbol}
@@ -17,7 +20,7 @@ use Rattle.template_compiler_stream.specs.declared.refusal.Refusal.{Refusal}
 use Rattle.template_compiler_stream.specs.declared.refusal.Refusal.TheVariants as refusals
 use Rattle.template_compiler_expression_parts.specs.Parsed.{Parsed}
 use Rattle.template_compiler_expression_parts.proofs.Rounds.{operand_none, filter_none}
-use Rattle.template_compiler_expression_parser.specs.Ahead.{is_sum_sign, is_part_sign, is_link_sign, is_link_word, is_filter_sign, begins_sign, HasNoLink, HasNoFilter, sum_from, comparison_from, choices_from}
+use Rattle.template_compiler_expression_parser.specs.Ahead.{is_sum_sign, is_part_sign, is_link_sign, is_link_word, is_filter_sign, begins_sign, HasNoLink, HasNoFilter, HasNoOperator, sum_from, comparison_from, operators_from, choices_from}
 
 -- by the token that stands next
 sum_ends : (ts : List Token) → begins_sign is_sum_sign ts ≡ false →
@@ -122,7 +125,30 @@ power_ends spans r start a [] h = refl
 power_ends spans r start a (symbol pow ∷ ts) h = cc
 power_ends spans r start a (t ∷ ts) h = refl
 
+negation_plain : (spans : List Span) (r : Deeper) (ts : List Token) → begins_word (codes "not") ts ≡ false →
+    negation_by spans r ts ≡ comparison_by spans r ts
+unfolding negation_by
+negation_plain spans r [] h = refl
+negation_plain spans r (t ∷ ts) h =
+    ap (λ b. if b
+    then and_then (r.negation ts)
+    (λ e us. Ok (node (unary unaries.Not e.tree) (stretch spans (t ∷ ts) us) (one e.places), us))
+    else comparison_by spans r (t ∷ ts)) h
+
+unary_plain : (spans : List Span) (r : Deeper) (ts : List Token) → begins_symbol minus ts ≡ false →
+    unary_by spans r ts ≡ and_then (primary_by spans r ts) (all (part_step spans r (next_span spans ts)))
+unfolding unary_by parts_by
+unary_plain spans r [] h = refl
+unary_plain spans r (symbol minus ∷ ts) h = cc
+unary_plain spans r (t ∷ ts) h = refl
+
 -- one reading behind another
+behind_all : (m : Read Node) (f g h k : Node → List Token → Read Node) →
+    and_then (and_then (and_then (and_then m f) g) h) k ≡ and_then (and_then m (λ b us. and_then (and_then (f b us) g) h)) k
+unfolding and_then
+behind_all (Ok x) f g h k = refl
+behind_all (Err e) f g h k = refl
+
 parsed_stays : (m : Read Node) (go : Node → List Token → Read Node) (new : List Token) (x : Result Expr Refusal) →
     ((a : Node) → go a new ≡ Ok (a, new)) → Parsed m new x → Parsed (and_then m go) new x
 parsed_stays m go new (Ok e) h p = then_goes go p (h (node_of e))
@@ -212,6 +238,31 @@ module _ (spans : List Span) (r : Deeper) (ts : List Token) where
   unfolding power_by filtered_by
   power_refused e h = refused_then _ (power_behind spans r start) e (refused_then _ (all (filter_step spans r start)) e h)
 
+  pub operators_stay : (new : List Token) (x : Result Expr Refusal) → HasNoOperator new → Parsed (unary_by spans r ts) new x →
+      Parsed (comparison_by spans r ts) new x
+  operators_stay new x h p = comparison_stays new x h.1 (sum_stays new x h.2 (power_stays new x h.0 p))
+
+  power_is : (a : Node) (mid : List Token) → unary_by spans r ts ≡ Ok (a, mid) →
+      power_by spans r ts ≡ and_then (all (filter_step spans r start) a mid) (power_behind spans r start)
+  unfolding power_by filtered_by
+  power_is a mid e = ap (λ m. and_then m (power_behind spans r start)) (then_goes (all (filter_step spans r start)) e refl)
+
+  operators_are : (a : Node) (mid : List Token) → unary_by spans r ts ≡ Ok (a, mid) →
+      comparison_by spans r ts ≡ operators_from spans r start a mid
+  unfolding comparison_by terms_by binary_of operand_by
+  operators_are a mid e =
+      ap (λ m. and_then (and_then (and_then (and_then m (level factors (operand_by spans r factors))) (level texts (operand_by spans r texts)))
+      (level terms (operand_by spans r terms))) compare) (power_is a mid e) ∙
+      behind_all (and_then (all (filter_step spans r start) a mid) (power_behind spans r start)) (level factors (operand_by spans r factors))
+      (level texts (operand_by spans r texts)) (level terms (operand_by spans r terms)) compare
+
+  pub operators_go : (a : Node) (mid new : List Token) (x : Result Expr Refusal) → unary_by spans r ts ≡ Ok (a, mid) →
+      Parsed (operators_from spans r start a mid) new x → Parsed (comparison_by spans r ts) new x
+  operators_go a mid new x e p = subst (λ q. Parsed q new x) (sym (operators_are a mid e)) p
+
+  pub operators_refused : (e : Refusal) → Refused (unary_by spans r ts) e → Refused (comparison_by spans r ts) e
+  operators_refused e h = comparison_refused e (sum_refused e (power_refused e h))
+
   pub parts_stay : (from : Span) (new : List Token) (x : Result Expr Refusal) → begins_sign is_part_sign new ≡ false →
       Parsed (primary_by spans r ts) new x → Parsed (and_then (primary_by spans r ts) (all (part_step spans r from))) new x
   parts_stay from new x h p =
@@ -251,3 +302,52 @@ module _ (spans : List Span) (r : Deeper) (ts : List Token) where
   expression_refused e h =
       refused_then _ (if_behind spans r start) e
       (refused_then _ (level disjunction (operand_by spans r disjunction)) e (refused_then _ (level conjunction (operand_by spans r conjunction)) e h))
+
+-- the operators behind a first operand, where no comparison ends them
+pub operators_end : (spans : List Span) (r : Deeper) (start : Span) (a b c : Node) (ts mid new : List Token) →
+    and_then (all (filter_step spans r start) a ts) (power_behind spans r start) ≡ Ok (b, mid) →
+    sum_from spans r start b mid ≡ Ok (c, new) → HasNoLink new → operators_from spans r start a ts ≡ Ok (c, new)
+operators_end spans r start a b c ts mid new e f h =
+    then_goes (λ b us. comparison_from spans r start b us) (then_goes (λ b us. sum_from spans r start b us) e f)
+    (then_goes (λ ls vs. Ok (compared_node c ls (up_to spans start vs), vs))
+    (all_stops (link_step spans (terms_by spans r)) no_placed_links new (link_ends spans (terms_by spans r) no_placed_links new h)) refl)
+
+-- a first token that is no `not`, and no minus
+module _ (spans : List Span) (r : Deeper) (ts mid : List Token) (same : mid ≡ ts) where
+  pub negation_stays : (new : List Token) (x : Result Expr Refusal) → begins_word (codes "not") ts ≡ false → HasNoOperator new →
+      Parsed (unary_by spans r mid) new x → Parsed (negation_by spans r ts) new x
+  negation_stays new x bare h p =
+      subst (λ q. Parsed q new x) (sym (negation_plain spans r ts bare))
+      (operators_stay spans r ts new x h (subst (λ us. Parsed (unary_by spans r us) new x) same p))
+
+  pub negation_goes : (a : Node) (next new : List Token) (x : Result Expr Refusal) → begins_word (codes "not") ts ≡ false →
+      unary_by spans r mid ≡ Ok (a, next) → Parsed (operators_from spans r (next_span spans ts) a next) new x →
+      Parsed (negation_by spans r ts) new x
+  negation_goes a next new x bare e p =
+      subst (λ q. Parsed q new x) (sym (negation_plain spans r ts bare))
+      (operators_go spans r ts a next new x (ap (unary_by spans r) (sym same) ∙ e) p)
+
+  pub negation_refused : (e : Refusal) → begins_word (codes "not") ts ≡ false → Refused (unary_by spans r mid) e →
+      Refused (negation_by spans r ts) e
+  negation_refused e bare h =
+      subst (λ q. Refused q e) (sym (negation_plain spans r ts bare))
+      (operators_refused spans r ts e (subst (λ us. Refused (unary_by spans r us) e) same h))
+
+  pub unary_stays : (new : List Token) (x : Result Expr Refusal) → begins_symbol minus ts ≡ false → begins_sign is_part_sign new ≡ false →
+      Parsed (primary_by spans r mid) new x → Parsed (unary_by spans r ts) new x
+  unary_stays new x bare h p =
+      subst (λ q. Parsed q new x) (sym (unary_plain spans r ts bare))
+      (parts_stay spans r ts (next_span spans ts) new x h (subst (λ us. Parsed (primary_by spans r us) new x) same p))
+
+  pub unary_goes : (a : Node) (next new : List Token) (x : Result Expr Refusal) → begins_symbol minus ts ≡ false →
+      primary_by spans r mid ≡ Ok (a, next) → Parsed (all (part_step spans r (next_span spans ts)) a next) new x →
+      Parsed (unary_by spans r ts) new x
+  unary_goes a next new x bare e p =
+      subst (λ q. Parsed q new x) (sym (unary_plain spans r ts bare))
+      (parts_go spans r ts (next_span spans ts) a next new x (ap (primary_by spans r) (sym same) ∙ e) p)
+
+  pub unary_refused : (e : Refusal) → begins_symbol minus ts ≡ false → Refused (primary_by spans r mid) e →
+      Refused (unary_by spans r ts) e
+  unary_refused e bare h =
+      subst (λ q. Refused q e) (sym (unary_plain spans r ts bare))
+      (parts_refused spans r ts (next_span spans ts) e (subst (λ us. Refused (primary_by spans r us) e) same h))

@@ -4,8 +4,11 @@ use Rattle.std.specs.Option.{option_map_or}
 use Rattle.template_compiler_tokens.specs.Token.{Token, Symbol, plus, minus, mul, div, floor_div, modulo, tilde, eq, ne, gt, gte, lt, lte, dot, bracket_open, paren_open, pipe, pow}
 use Rattle.template_compiler_tokens.specs.Steps.{Read, and_then, all}
 use Rattle.template_compiler_grammar.specs.Words.{begins_word, factors, texts, terms, conjunction, disjunction}
-use Rattle.template_compiler_placed_grammar.specs.Nodes.{Node, compared_node, no_placed_links}
-use Rattle.template_compiler_placed_grammar.specs.Reader.{Deeper, operand_by, operand_step, link_step, terms_by, up_to}
+use Rattle.template_compiler_placed_grammar.specs.Nodes.{Node, node, compared_node, no_placed_links}
+use Rattle.template_compiler_placed_grammar.specs.Reader.{Deeper, unary_by, filter_step, power_behind, operand_by, operand_step, link_step, terms_by, up_to}
+use Rattle.template_tree.specs.Tree.{unary}
+use Rattle.template_tree.specs.NodePlaces.{one}
+use Rattle.template_tree.specs.declared.operators.UnaryOpKind.TheVariants as unaries
 use Rattle.template_tree.specs.declared.span.Span.{Span}
 use Rattle.template_compiler_stream.specs.Signs.{next_symbol, next_comparison, begins_symbol}
 
@@ -58,6 +61,15 @@ HasNoLink ts = (next_comparison ts ≡ None) × (begins_word (codes "not") ts �
 abbrev pub HasNoFilter : List Token → Type 0
 HasNoFilter ts = (begins_symbol pipe ts ≡ false) × (begins_word (codes "is") ts ≡ false) × (begins_symbol pow ts ≡ false)
 
+-- none of these, nor an operator of a sum
+abbrev pub HasNoOperator : List Token → Type 0
+HasNoOperator ts = HasNoFilter ts × HasNoLink ts × (begins_sign is_sum_sign ts ≡ false)
+
+-- what is read behind a minus that starts at a span
+abbrev pub negative_from : List Span → Deeper → Span → List Token → Read Node
+negative_from spans r start ts =
+    and_then (unary_by spans r ts) (λ e us. Ok (node (unary unaries.Neg e.tree) (up_to spans start us) (one e.places), us))
+
 -- what is read behind a first operand that starts at a span
 module _ (spans : List Span) (r : Deeper) (start : Span) (a : Node) (ts : List Token) where
   -- the operators of a sum
@@ -78,3 +90,9 @@ module _ (spans : List Span) (r : Deeper) (start : Span) (a : Node) (ts : List T
   choices_from =
       and_then (all (operand_step spans conjunction (operand_by spans r conjunction) start) a ts)
       (all (operand_step spans disjunction (operand_by spans r disjunction) start))
+
+-- all operators: filters and a power, a sum, comparisons
+abbrev pub operators_from : List Span → Deeper → Span → Node → List Token → Read Node
+operators_from spans r start a ts =
+    and_then (and_then (and_then (all (filter_step spans r start) a ts) (power_behind spans r start)) (λ b us. sum_from spans r start b us))
+    (λ b us. comparison_from spans r start b us)

@@ -3,7 +3,7 @@ ghost use Rattle.std.specs.Prelude.{◌≡◌, true, false, Some, Ok, bytes_eq, 
 ghost use Rattle.std.specs.Cow.{cow_str_bytes};
 ghost use Rattle.template_compiler_expression_parts.specs.Parsed.{Parsed, ParsedAs, ParsedOptional, Stepped, SteppedTo, WentOn, paired_in, unnamed_by, written_in};
 ghost use Rattle.template_compiler_stream.specs.Signs.{level_of, symbol_of};
-ghost use Rattle.template_compiler_expression_parser.specs.Ahead.{HasNoFilter, HasNoLink, begins_sign, choices_from, comparison_from, is_filter_sign, is_link_sign, is_link_word, is_part_sign, is_sum_sign, sum_from};
+ghost use Rattle.template_compiler_expression_parser.specs.Ahead.{HasNoFilter, HasNoLink, HasNoOperator, begins_sign, choices_from, comparison_from, is_filter_sign, is_link_sign, is_link_word, is_part_sign, is_sum_sign, negative_from, operators_from, sum_from};
 ghost use Rattle.template_compiler_grammar.specs.Reader.{colon_end, paren_end};
 ghost use Rattle.template_compiler_placed_grammar.specs.Reader.{link_behind, argument_by, arguments_by, arguments_step, binary_by, bound_by, comparison_by, deeper, else_behind, expression_by, filter_by, filter_step, if_behind, is_by, items_step, link_step, list_by, map_by, negation_by, not_in_link, operand_by, operand_step, optional_arguments_by, paren_by, part_step, parts_by, pairs_step, power_behind, power_by, primary_by, slice_by, step_by, subscript_by, terms_by, test_arguments_by, test_by, through_next, unary_by, up_to};
 ghost use Rattle.template_compiler_placed_grammar.specs.Nodes.{first_node, given_node, no_placed_links, no_placed_pairs, no_placed_written, node};
@@ -62,7 +62,8 @@ fn choice<'source>(
         result }
     ensures spans { tokens.new.spans ≡ tokens.old.spans }
 {
-    let value = choices(alloc, tokens, left, first, span)?;
+    let value = operands(alloc, tokens, left, Level::Conjunction, first, span)?;
+    let value = operands(alloc, tokens, left, Level::Disjunction, value, span)?;
     if tokens.skip_word("if") {
         branches(alloc, tokens, deeper(left)?, value, span)
     } else {
@@ -70,27 +71,10 @@ fn choice<'source>(
     }
 }
 
-// Behind the first operand: those of `and` and of `or`.
-#[cycle(parser)]
-#[tactic(auto, unfolding(template_compiler_tokens::specs::Steps::and_then))]
-fn choices<'source>(
-    alloc: Global,
-    tokens: &mut TokenStream<'source>,
-    left: u32,
-    first: Expr<'source>,
-    span: Span,
-) -> Result<Expr<'source>, Refusal>
-    ensures parsed { let table = tokens.old.spans in
-        Parsed (choices_from table (deeper table left) span (node_of first.entry) tokens.old.left) tokens.new.left result }
-    ensures spans { tokens.new.spans ≡ tokens.old.spans }
-{
-    let value = operands(alloc, tokens, left, Level::Conjunction, first, span)?;
-    operands(alloc, tokens, left, Level::Disjunction, value, span)
-}
-
 // Behind `if`: the condition, and the other branch where there is one.
 #[cycle(parser)]
 #[tactic(auto, unfolding(template_compiler_tokens::specs::Steps::and_then, template_compiler_placed_grammar::specs::Reader::else_behind, template_compiler_placed_grammar::specs::Reader::deeper))]
+#[inline(never)]
 fn branches<'source>(
     alloc: Global,
     tokens: &mut TokenStream<'source>,
@@ -133,7 +117,9 @@ pub(crate) fn binary<'source>(
     operands(alloc, tokens, left, level, value, span)
 }
 
+// Behind a value: the operators of a level, each with its right side.
 #[cycle(parser)]
+#[inline(always)]
 fn operands<'source>(
     alloc: Global,
     tokens: &mut TokenStream<'source>,
@@ -148,44 +134,19 @@ fn operands<'source>(
     ensures spans { tokens.new.spans ≡ tokens.old.spans }
 {
     let mut value = value;
-    loop {
-        match next_operand(alloc, tokens, left, level, value, span) {
-            Ok(Behind::Goes(next)) => value = next,
-            Ok(Behind::Stops(end)) => return Ok(end),
+    while let Some(op) = tokens.skip_operator(level) {
+        let right = match operand(alloc, tokens, left, level) {
+            Ok(right) => right,
             Err(refusal) => return Err(refusal),
-        }
+        };
+        value = Expr::binary(alloc, op, value, right, tokens.expand_span(span))?;
     }
-}
-
-#[cycle(parser)]
-#[tactic(auto, using(template_compiler_expression_parts::proofs::Rounds::operand_found, template_compiler_expression_parts::proofs::Rounds::operand_none), unfolding(template_compiler_tokens::specs::Steps::under))]
-fn next_operand<'source>(
-    alloc: Global,
-    tokens: &mut TokenStream<'source>,
-    left: u32,
-    level: Level,
-    value: Expr<'source>,
-    span: Span,
-) -> Result<Behind<'source>, Refusal>
-    ensures parsed { let table = tokens.old.spans in
-        Stepped (operand_step table (level_of level) (operand_by table (deeper table left) (level_of level)) span (node_of value.entry)
-        tokens.old.left) (node_of value.entry) tokens.old.left tokens.new.left result }
-    ensures spans { tokens.new.spans ≡ tokens.old.spans }
-{
-    match tokens.skip_operator(level) {
-        Some(op) => {
-            let right = match operand(alloc, tokens, left, level) {
-                Ok(right) => right,
-                Err(refusal) => return Err(refusal),
-            };
-            Ok(Behind::Goes(Expr::binary(alloc, op, value, right, tokens.expand_span(span))?))
-        }
-        None => Ok(Behind::Stops(value)),
-    }
+    Ok(value)
 }
 
 #[cycle(parser)]
 #[tactic(auto, unfolding(template_compiler_placed_grammar::specs::Reader::operand_by, template_compiler_placed_grammar::specs::Reader::binary_by))]
+#[inline(always)]
 fn operand<'source>(
     alloc: Global,
     tokens: &mut TokenStream<'source>,
@@ -230,7 +191,7 @@ fn sum<'source>(
 // Behind the first operand of a sum: those of its operators, from the tightest on.
 #[cycle(parser)]
 #[tactic(auto, unfolding(template_compiler_tokens::specs::Steps::and_then))]
-#[inline(never)]
+#[inline(always)]
 fn sum_behind<'source>(
     alloc: Global,
     tokens: &mut TokenStream<'source>,
@@ -272,6 +233,7 @@ fn is_sum_sign(sign: Sign) -> bool
     }
 }
 
+// A `not`, or an unary with operators behind it, comparisons the loosest. Most have none.
 #[cycle(parser)]
 #[tactic(auto, unfolding(template_compiler_tokens::specs::Steps::and_then, template_compiler_placed_grammar::specs::Reader::negation_by, template_compiler_placed_grammar::specs::Reader::deeper))]
 fn negation<'source>(
@@ -285,32 +247,54 @@ fn negation<'source>(
 {
     let span = tokens.span();
     if tokens.skip_word("not") {
-        let operand = negation(alloc, tokens, deeper(left)?)?;
-        Expr::unary(alloc, UnaryOpKind::Not, operand, tokens.expand_span(span)).map_err(
-            Refusal::from,
-        )
-    } else {
-        comparison(alloc, tokens, left)
+        let operand = match negation(alloc, tokens, deeper(left)?) {
+            Ok(operand) => operand,
+            Err(refusal) => return Err(refusal),
+        };
+        return Ok(Expr::unary(alloc, UnaryOpKind::Not, operand, tokens.expand_span(span))?);
     }
+    let first = unary(alloc, tokens, left);
+    if !begins_operator(tokens) {
+        return first;
+    }
+    operators(alloc, tokens, left, first?, span)
 }
 
-// A sum, with comparisons behind it. Most have none.
+// The operators behind the first operand of a comparison, from the tightest on.
 #[cycle(parser)]
-fn comparison<'source>(
+#[tactic(auto, unfolding(template_compiler_tokens::specs::Steps::and_then))]
+#[inline(never)]
+fn operators<'source>(
     alloc: Global,
     tokens: &mut TokenStream<'source>,
     left: u32,
+    first: Expr<'source>,
+    span: Span,
 ) -> Result<Expr<'source>, Refusal>
     ensures parsed { let table = tokens.old.spans in
-        Parsed (comparison_by table (deeper table left) tokens.old.left) tokens.new.left result }
+        Parsed (operators_from table (deeper table left) span (node_of first.entry) tokens.old.left) tokens.new.left result }
     ensures spans { tokens.new.spans ≡ tokens.old.spans }
 {
-    let span = tokens.span();
-    let first = sum(alloc, tokens, left);
-    if !begins_link(tokens) {
-        return first;
+    let value = power_behind(alloc, tokens, left, first, span)?;
+    let value = sum_behind(alloc, tokens, left, value, span)?;
+    if begins_link(tokens) {
+        comparison_behind(alloc, tokens, left, value, span)
+    } else {
+        Ok(value)
     }
-    comparison_behind(alloc, tokens, left, first?, span)
+}
+
+// Whether an operator may stand next: where none does, no comparison goes on.
+fn begins_operator(tokens: &TokenStream) -> bool
+    ensures { (result ≡ false) → HasNoOperator tokens.now.left }
+{
+    if begins_filter(tokens) {
+        return true;
+    }
+    if begins_sum(tokens) {
+        return true;
+    }
+    begins_link(tokens)
 }
 
 // The comparisons behind a sum.
@@ -473,7 +457,7 @@ fn power<'source>(
 // Filters and tests behind an unary, and a power behind these.
 #[cycle(parser)]
 #[tactic(auto, unfolding(template_compiler_tokens::specs::Steps::and_then, template_compiler_placed_grammar::specs::Reader::power_behind, template_compiler_placed_grammar::specs::Reader::deeper))]
-#[inline(never)]
+#[inline(always)]
 fn power_behind<'source>(
     alloc: Global,
     tokens: &mut TokenStream<'source>,
@@ -531,6 +515,7 @@ fn is_filter_sign(sign: Sign) -> bool
 }
 
 #[cycle(parser)]
+#[inline(always)]
 fn filters<'source>(
     alloc: Global,
     tokens: &mut TokenStream<'source>,
@@ -554,6 +539,7 @@ fn filters<'source>(
 
 #[cycle(parser)]
 #[tactic(auto, using(template_compiler_expression_parts::proofs::Rounds::filter_none), unfolding(template_compiler_tokens::specs::Steps::under, template_compiler_placed_grammar::specs::Reader::filter_step))]
+#[inline(always)]
 fn next_filter<'source>(
     alloc: Global,
     tokens: &mut TokenStream<'source>,
@@ -578,6 +564,7 @@ fn next_filter<'source>(
 // Behind `|`: a filter, with the parts of its result.
 #[cycle(parser)]
 #[tactic(auto, unfolding(template_compiler_tokens::specs::Steps::and_then, template_compiler_placed_grammar::specs::Reader::parts_by))]
+#[inline(never)]
 fn piped<'source>(
     alloc: Global,
     tokens: &mut TokenStream<'source>,
@@ -636,6 +623,7 @@ fn optional_arguments<'source>(
 // Behind `is`.
 #[cycle(parser)]
 #[tactic(auto, using(template_compiler_expression_parts::proofs::Rounds::is_not, template_compiler_expression_parts::proofs::Rounds::is_plain))]
+#[inline(never)]
 fn asked<'source>(
     alloc: Global,
     tokens: &mut TokenStream<'source>,
@@ -677,6 +665,7 @@ fn test<'source>(
 // A test with one argument, which stands without parentheses.
 #[cycle(parser)]
 #[tactic(auto, unfolding(template_compiler_tokens::specs::Steps::and_then, template_compiler_placed_grammar::specs::Reader::test_arguments_by))]
+#[inline(never)]
 fn bare_test<'source>(
     alloc: Global,
     tokens: &mut TokenStream<'source>,
@@ -707,6 +696,7 @@ fn bare_test<'source>(
 // A test with arguments in parentheses, or with none.
 #[cycle(parser)]
 #[tactic(auto, unfolding(template_compiler_tokens::specs::Steps::and_then, template_compiler_placed_grammar::specs::Reader::test_arguments_by, template_compiler_placed_grammar::specs::Reader::parts_by))]
+#[inline(never)]
 fn plain_test<'source>(
     alloc: Global,
     tokens: &mut TokenStream<'source>,
@@ -733,9 +723,10 @@ fn plain_test<'source>(
     parts(alloc, tokens, left, test, span)
 }
 
-// A minus, or a primary with its parts.
+// A minus, or a primary with its parts. Many have none.
 #[cycle(parser)]
-#[tactic(auto, unfolding(template_compiler_tokens::specs::Steps::and_then, template_compiler_placed_grammar::specs::Reader::unary_by, template_compiler_placed_grammar::specs::Reader::parts_by, template_compiler_placed_grammar::specs::Reader::deeper))]
+#[tactic(auto, unfolding(template_compiler_tokens::specs::Steps::and_then, template_compiler_placed_grammar::specs::Reader::unary_by, template_compiler_placed_grammar::specs::Reader::deeper))]
+#[inline(always)]
 fn unary<'source>(
     alloc: Global,
     tokens: &mut TokenStream<'source>,
@@ -747,32 +738,31 @@ fn unary<'source>(
 {
     let span = tokens.span();
     if tokens.skip(Sign::Minus) {
-        let operand = unary(alloc, tokens, deeper(left)?)?;
-        Expr::unary(alloc, UnaryOpKind::Neg, operand, tokens.expand_span(span)).map_err(
-            Refusal::from,
-        )
-    } else {
-        operand_with_parts(alloc, tokens, left, span)
+        return negative(alloc, tokens, deeper(left)?, span);
     }
-}
-
-// A primary with its parts. Many have none.
-#[cycle(parser)]
-fn operand_with_parts<'source>(
-    alloc: Global,
-    tokens: &mut TokenStream<'source>,
-    left: u32,
-    span: Span,
-) -> Result<Expr<'source>, Refusal>
-    ensures parsed { let table = tokens.old.spans in let r = deeper table left in
-        Parsed (and_then (primary_by table r tokens.old.left) (all (part_step table r span))) tokens.new.left result }
-    ensures spans { tokens.new.spans ≡ tokens.old.spans }
-{
     let first = primary(alloc, tokens, left);
     if !begins_part(tokens) {
         return first;
     }
     parts(alloc, tokens, left, first?, span)
+}
+
+// Behind a minus.
+#[cycle(parser)]
+#[tactic(auto, unfolding(template_compiler_tokens::specs::Steps::and_then))]
+#[inline(never)]
+fn negative<'source>(
+    alloc: Global,
+    tokens: &mut TokenStream<'source>,
+    left: u32,
+    span: Span,
+) -> Result<Expr<'source>, Refusal>
+    ensures parsed { let table = tokens.old.spans in
+        Parsed (negative_from table (deeper table left) span tokens.old.left) tokens.new.left result }
+    ensures spans { tokens.new.spans ≡ tokens.old.spans }
+{
+    let operand = unary(alloc, tokens, left)?;
+    Ok(Expr::unary(alloc, UnaryOpKind::Neg, operand, tokens.expand_span(span))?)
 }
 
 // Whether what begins a part stands next.
@@ -795,6 +785,7 @@ fn is_part_sign(sign: Sign) -> bool
 }
 
 #[cycle(parser)]
+#[inline(never)]
 fn parts<'source>(
     alloc: Global,
     tokens: &mut TokenStream<'source>,
@@ -818,6 +809,7 @@ fn parts<'source>(
 
 #[cycle(parser)]
 #[tactic(auto, using(template_compiler_expression_parts::proofs::Rounds::part_none), unfolding(template_compiler_tokens::specs::Steps::under, template_compiler_placed_grammar::specs::Reader::part_step, template_compiler_placed_grammar::specs::Reader::deeper))]
+#[inline(always)]
 fn next_part<'source>(
     alloc: Global,
     tokens: &mut TokenStream<'source>,
@@ -844,6 +836,7 @@ fn next_part<'source>(
 // Behind the `(` of a call.
 #[cycle(parser)]
 #[tactic(auto, unfolding(template_compiler_tokens::specs::Steps::under))]
+#[inline(never)]
 fn call<'source>(
     alloc: Global,
     tokens: &mut TokenStream<'source>,
@@ -890,6 +883,7 @@ fn subscript<'source>(
 // Behind the first colon of a slice.
 #[cycle(parser)]
 #[tactic(auto, unfolding(template_compiler_tokens::specs::Steps::and_then, template_compiler_placed_grammar::specs::Reader::slice_by))]
+#[inline(never)]
 fn slice<'source>(
     alloc: Global,
     tokens: &mut TokenStream<'source>,
@@ -949,6 +943,7 @@ fn step<'source>(
 
 #[cycle(parser)]
 #[tactic(auto, using(template_compiler_expression_parts::proofs::Nothing::no_bracket_opens), unfolding(template_compiler_placed_grammar::specs::Reader::primary_by, template_compiler_placed_grammar::specs::Reader::deeper))]
+#[inline(always)]
 fn primary<'source>(
     alloc: Global,
     tokens: &mut TokenStream<'source>,
@@ -973,6 +968,7 @@ fn primary<'source>(
 // Behind `(`.
 #[cycle(parser)]
 #[tactic(auto, using(template_compiler_expression_parts::proofs::Nothing::not_empty, template_compiler_expression_parts::proofs::Nothing::no_tuple), unfolding(template_compiler_tokens::specs::Steps::and_then, template_compiler_placed_grammar::specs::Reader::paren_by, template_compiler_placed_grammar::specs::Reader::paren_behind, template_compiler_placed_grammar::specs::Reader::items_by))]
+#[inline(never)]
 fn paren<'source>(
     alloc: Global,
     tokens: &mut TokenStream<'source>,
@@ -1020,6 +1016,7 @@ fn tuple<'source>(
 // Behind the `[` of a list.
 #[cycle(parser)]
 #[tactic(auto, unfolding(template_compiler_tokens::specs::Steps::and_then, template_compiler_placed_grammar::specs::Reader::list_by, template_compiler_placed_grammar::specs::Reader::items_by))]
+#[inline(never)]
 fn list<'source>(
     alloc: Global,
     tokens: &mut TokenStream<'source>,
@@ -1086,6 +1083,7 @@ fn next_item<'source>(
 // Behind the `{` of a map.
 #[cycle(parser)]
 #[tactic(auto, unfolding(template_compiler_tokens::specs::Steps::and_then, template_compiler_placed_grammar::specs::Reader::map_by, template_compiler_placed_grammar::specs::Reader::pairs_by))]
+#[inline(never)]
 fn map<'source>(
     alloc: Global,
     tokens: &mut TokenStream<'source>,

@@ -1,6 +1,6 @@
 -- Rounds of repetitions, by what stands next.
 use Rattle.std.proofs.Common.{◌≡◌, codes, true, false, if◌then◌else◌, ℕ, Result, Ok, Err, List, [], ◌∷◌, None, Some, refl, sym, ap, subst, ◌∙◌}
-use Rattle.template_tree.specs.Tree.{Expression, binary}
+use Rattle.template_tree.specs.Tree.{Expression, attribute, binary}
 use Rattle.template_tree.specs.declared.operators.BinOpKind.{BinOpKind}
 use Rattle.template_tree.specs.declared.expressions.Expr.{Expr}
 use Rattle.template_compiler_tokens.specs.Token.{Token, TokenFault, bad, symbol, identifier, number, dot, pipe, bracket_open, paren_open}
@@ -14,7 +14,7 @@ use Rattle.template_compiler_stream.specs.declared.refusal.Refusal.TheVariants a
 use Rattle.template_compiler_stream.specs.Refusals.{Refused, fault_of}
 use Rattle.template_tree.specs.declared.span.Span.{Span}
 use Rattle.template_compiler_tokens.specs.Places.{next_span}
-use Rattle.template_compiler_placed_grammar.specs.Nodes.{Placed, placed, Node, OptionalNode, given_node, binary_node, bare_step}
+use Rattle.template_compiler_placed_grammar.specs.Nodes.{placed, Node, node, OptionalNode, given_node, binary_node}
 use Rattle.template_compiler_placed_grammar.specs.Reader.{Deeper, dot_part, operand_behind, operand_step, part_step, is_by, test_by, filter_by, filter_step, chain_step, up_to}
 use Rattle.template_compiler_placed_grammar.specs.Views.{node_of}
 use Rattle.template_tree.specs.View.{expression_of}
@@ -124,6 +124,25 @@ dot_at spans all start place whole a t old new r e f g i h =
     let here = subst (λ s. WentOn (dotted_by place s a t new) new r) (i ∙ ap (λ spans. up_to spans start new) g) h in
     let there = subst (λ s. WentOn (dotted_by s (up_to spans start new) a t new) new r) (f ∙ ap (next_span spans) e) here in
     subst (λ m. WentOn m new r) (sym (ap (dot_part spans start a) e ∙ dotted_same spans start a t new)) there
+
+dot_word : (spans : List Span) (start : Span) (a : Node) (n : List ℕ) (ts : List Token) → Some n ≡ next_word ts →
+    dot_part spans start a ts ≡ goes (node (attribute a.tree n) (up_to spans start (passed ts)) (one a.places)) (passed ts)
+unfolding dot_part
+dot_word spans start a n [] e = cc
+dot_word spans start a n (identifier m ∷ ts) e =
+    (let same : m ≡ n = cc in
+    ap (λ k. goes (node (attribute a.tree k) (up_to spans start ts) (one a.places)) ts) same)
+dot_word spans start a n (t ∷ ts) e = cc
+
+pub dot_named : (spans all : List Span) (start whole : Span) (a : Node) (n : List ℕ) (e : Expr) (old new : List Token) →
+    Some n ≡ next_word old → new ≡ passed old → all ≡ spans → whole ≡ up_to all start new → expression_of e ≡ attribute a.tree n →
+    places_of e ≡ at whole (one a.places) → dot_part spans start a old ≡ goes (node_of e) new
+dot_named spans all start whole a n e old new word behind table stands tree places =
+    let span : up_to spans start (passed old) ≡ whole =
+    sym (stands ∙ ap (λ spans. up_to spans start new) table ∙ ap (up_to spans start) behind) in
+    dot_word spans start a n old word ∙ ap (λ s. goes (node (attribute a.tree n) s (one a.places)) (passed old)) span ∙
+    ap (λ us. goes (node (attribute a.tree n) whole (one a.places)) us) (sym behind) ∙
+    ap (λ b. goes b new) (sym (node_is e (attribute a.tree n) (at whole (one a.places)) tree places))
 
 -- what stands next goes on with no filter, and with no part
 pub filter_none : (spans : List Span) (r : Deeper) (start : Span) (a : Node) (ts : List Token) → begins_symbol pipe ts ≡ false →

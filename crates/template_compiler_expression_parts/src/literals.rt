@@ -106,6 +106,7 @@ pub fn literal<'source>(
 
 // The literal that begins with the token, behind which the tokens stand.
 #[tactic(auto, unfolding(crate::specs::Parsed::literal_at))]
+#[inline(always)]
 fn literal_from<'source>(
     alloc: Global,
     tokens: &mut TokenStream<'source>,
@@ -128,6 +129,7 @@ fn literal_from<'source>(
 }
 
 // A name, or a word that is a literal.
+#[inline(always)]
 fn word<'source>(alloc: Global, name: &'source str, span: Span) -> Result<Expr<'source>, AllocError>
     ensures { IfOk result (λ e. node_of e ≡ node (word_tree (literal_word name.now) name.now) span no_parts) }
 {
@@ -138,12 +140,21 @@ fn word<'source>(alloc: Global, name: &'source str, span: Span) -> Result<Expr<'
 }
 
 // Told from most names by their length.
+#[inline(always)]
 fn literal_word(name: &str) -> Option<Value>
     ensures { result ≡ literal_word name.now }
 {
     if name.len() < 4 || 5 < name.len() {
-        return None;
+        None
+    } else {
+        short_literal_word(name)
     }
+}
+
+#[inline(never)]
+fn short_literal_word(name: &str) -> Option<Value>
+    ensures { result ≡ literal_word name.now }
+{
     match name {
         "true" => Some(Value::from_bool(true)),
         "True" => Some(Value::from_bool(true)),
@@ -167,6 +178,7 @@ fn whole(number: u128) -> Result<Value, Refusal>
 }
 
 // The text with those behind it.
+#[inline(never)]
 #[tactic(auto, unfolding(template_compiler_tokens::specs::Steps::and_then))]
 fn texts<'source>(
     alloc: Global,
@@ -213,6 +225,10 @@ pub fn attribute<'source>(
     ensures parsed { WentOn (dot_part tokens.old.spans span (node_of value.entry) tokens.old.left) tokens.new.left result }
     ensures spans { tokens.new.spans ≡ tokens.old.spans }
 {
+    if let Some(name) = tokens.word() {
+        tokens.advance();
+        return Ok(Expr::attribute(alloc, value, name, tokens.expand_span(span))?);
+    }
     match tokens.take() {
         First::Token(token, place) => {
             attribute_from(alloc, token, place, value, tokens.expand_span(span))
@@ -223,6 +239,7 @@ pub fn attribute<'source>(
 }
 
 #[tactic(auto, unfolding(crate::specs::Parsed::dotted_by))]
+#[inline(never)]
 fn attribute_from<'source>(
     alloc: Global,
     token: Token<'source>,

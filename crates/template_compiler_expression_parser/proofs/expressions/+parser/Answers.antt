@@ -1,14 +1,13 @@
-use Rattle.std.proofs.Common.{sym, ◌∙◌, ap, rules}
+use Rattle.std.proofs.Common.{refl, sym, ◌∙◌, ap, rules}
 use Rattle.template_compiler_stream.specs.Signs.{level_of}
-use Rattle.template_compiler_tokens.specs.Steps.{and_then, all}
 use Rattle.template_compiler_stream.specs.Refusals.{Refused}
-use Rattle.template_compiler_placed_grammar.specs.Reader.{deeper, comparison_by, expression_by, items_step, pairs_step, part_step, power_by, primary_by, terms_by}
+use Rattle.template_compiler_placed_grammar.specs.Reader.{deeper, expression_by, items_step, negation_by, operand_by, pairs_step, power_by, terms_by, unary_by}
 use Rattle.template_compiler_placed_grammar.specs.Views.{node_of, nodes_in, placed_argument_of}
 use Rattle.template_compiler_placed_grammar.proofs.Pushes.{nodes_push}
 use Rattle.template_compiler_expression_parts.specs.Parsed.{RefusedStep, paired_in}
-use Rattle.template_compiler_expression_parts.proofs.Rounds.{next_operand_goes, next_operand_refused, rounds_end, rounds_go, rounds_refused}
+use Rattle.template_compiler_expression_parts.proofs.Rounds.{next_operand_goes, next_operand_refused, operand_none, rounds_end, rounds_go, rounds_refused}
 use Rattle.template_compiler_expression_parser.proofs.Alone.{parsed_alone, parsed_expression_alone, parsed_sum_alone}
-use Rattle.template_compiler_expression_parser.proofs.Stays.{comparison_goes, comparison_refused, comparison_stays, expression_goes, expression_refused, expression_stays, no_word, parts_go, parts_refused, parts_stay, power_goes, power_refused, power_stays, sum_goes, sum_refused, sum_stays}
+use Rattle.template_compiler_expression_parser.proofs.Stays.{expression_goes, expression_refused, expression_stays, negation_goes, negation_refused, negation_stays, no_word, operators_end, power_goes, power_refused, power_stays, sum_goes, sum_refused, sum_stays, unary_goes, unary_refused, unary_stays}
 use Rattle.template_compiler_expression_parser.proofs.Falls.{operands_fall, parts_fall, filters_fall, links_fall, items_fall, pairs_fall, arguments_fall}
 use Rattle.template_compiler_expression_parser.proofs.Items.{argument_goes, item_goes, item_refused, item_unseparated, key_refused, pair_goes, pair_unseparated, value_refused}
 use Rattle.template_compiler_expression_parser.proofs.Subscripts.{item_read}
@@ -18,39 +17,6 @@ pub binary-returns-then-begins_alone-clause-parsed : goal.binary-returns-then-be
 binary-returns-then-begins_alone-clause-parsed t c =
     parsed_alone _ (deeper _ c.args.left) (level_of c.args.level) _ _ _ (sym c.begins_alone.ensures ∙ c.if-begins_alone.true)
     c.literal.ensures.parsed
-
-pub next_operand-returns-in_ok-binary-in-Some-clause-parsed : goal.next_operand-returns-in_ok-binary-in-Some-clause-parsed
-next_operand-returns-in_ok-binary-in-Some-clause-parsed t c =
-    let right = rw c.in-Some.ensures.spans at c.in-Ok.ensures.parsed in
-    let whole = rw (c.in-Ok.ensures.spans ∙ c.in-Some.ensures.spans) at c.expand_span.ensures in
-    next_operand_goes _ (level_of c.args.level) _ _ _ _ _ _ _ _ _ c.in-Some.op c.in-Some.ensures.operator c.in-Some.ensures.passed right
-    c.in_ok-binary-in-Some.ensures.tree c.in_ok-binary-in-Some.ensures.places whole
-
-pub next_operand-returns-in-Err-clause-parsed : goal.next_operand-returns-in-Err-clause-parsed
-next_operand-returns-in-Err-clause-parsed t c =
-    let right = rw c.in-Some.ensures.spans at c.in-Err.ensures.parsed in
-    next_operand_refused _ (level_of c.args.level) _ _ _ _ _ c.in-Some.op c.in-Err.refusal
-    c.in-Some.ensures.operator c.in-Some.ensures.passed right
-
-pub operands-returns-in-Ok-Stops-clause-parsed : goal.operands-returns-in-Ok-Stops-clause-parsed
-operands-returns-in-Ok-Stops-clause-parsed t c =
-    let ended = rw c.loop-next.invariant.0 at (rw c.in-Ok-Stops.field-0-is at c.in-Ok-Stops.ensures.parsed) in
-    rounds_end _ _ _ _ _ _ _ c.loop-next.invariant.1 ended
-
-pub operands-returns-in-Err-clause-parsed : goal.operands-returns-in-Err-clause-parsed
-operands-returns-in-Err-clause-parsed t c =
-    let now = rw c.loop-next.invariant.0 at c.in-Err.ensures.parsed in
-    rounds_refused _ _ _ _ _ c.in-Err.refusal c.loop-next.invariant.1 now
-
-pub operands-loop-next-preserved : goal.operands-loop-next-preserved
-operands-loop-next-preserved t c =
-    let more = rw c.loop-next.invariant.0 at (rw c.in-Ok-Goes.field-0-is at c.in-Ok-Goes.ensures.parsed) in
-    (c.in-Ok-Goes.ensures.spans ∙ c.loop-next.invariant.0, rounds_go _ (operands_fall _ c.args.left (level_of c.args.level) _) _ _ _ _ _ _ c.loop-next.invariant.1 more)
-
-pub operands-loop-next-smaller : goal.operands-loop-next-smaller
-operands-loop-next-smaller t c =
-    let more = rw c.in-Ok-Goes.field-0-is at c.in-Ok-Goes.ensures.parsed in
-    operands_fall _ c.args.left (level_of c.args.level) _ (node_of c.loop-next.value) (node_of c.in-Ok-Goes.next) _ _ more
 
 pub parts-returns-in-Ok-Stops-clause-parsed : goal.parts-returns-in-Ok-Stops-clause-parsed
 parts-returns-in-Ok-Stops-clause-parsed t c =
@@ -254,17 +220,9 @@ pub sum-returns-then-not-begins_sum-clause-parsed : goal.sum-returns-then-not-be
 sum-returns-then-not-begins_sum-clause-parsed t c =
     sum_stays _ (deeper _ c.args.left) _ _ _ (sym c.begins_sum.ensures ∙ c.if-not-begins_sum.true) c.power-first.ensures.parsed
 
-pub comparison-returns-then-not-begins_link-clause-parsed : goal.comparison-returns-then-not-begins_link-clause-parsed
-comparison-returns-then-not-begins_link-clause-parsed t c =
-    comparison_stays _ (deeper _ c.args.left) _ _ _ (c.begins_link.ensures c.if-not-begins_link.true) c.sum-first.ensures.parsed
-
 pub power-returns-then-not-begins_filter-clause-parsed : goal.power-returns-then-not-begins_filter-clause-parsed
 power-returns-then-not-begins_filter-clause-parsed t c =
     power_stays _ (deeper _ c.args.left) _ _ _ (c.begins_filter.ensures c.if-not-begins_filter.true) c.unary-first.ensures.parsed
-
-pub operand_with_parts-returns-then-not-begins_part-clause-parsed : goal.operand_with_parts-returns-then-not-begins_part-clause-parsed
-operand_with_parts-returns-then-not-begins_part-clause-parsed t c =
-    parts_stay _ (deeper _ c.args.left) _ _ _ _ (sym c.begins_part.ensures ∙ c.if-not-begins_part.true) c.primary-first.ensures.parsed
 
 pub expression-returns-in_err-first-clause-parsed : goal.expression-returns-in_err-first-clause-parsed
 expression-returns-in_err-first-clause-parsed t c =
@@ -288,17 +246,6 @@ sum-returns-clause-parsed t c =
     let behind = rw c.span-span.ensures at (rw c.power-first.ensures.spans at c.sum_behind.ensures.parsed) in
     sum_goes _ (deeper _ c.args.left) _ (node_of c.in_ok-first.field-0) _ _ _ c.in_ok-first.ensures.parsed behind
 
-pub comparison-returns-in_err-first-clause-parsed : goal.comparison-returns-in_err-first-clause-parsed
-comparison-returns-in_err-first-clause-parsed t c =
-    let refused : Refused (comparison_by c.args.tokens.now.spans (deeper c.args.tokens.now.spans c.args.left) c.args.tokens.now.left)
-    c.in_err-first.field-0.0 = comparison_refused _ _ _ _ c.in_err-first.ensures.parsed in
-    search rules
-
-pub comparison-returns-clause-parsed : goal.comparison-returns-clause-parsed
-comparison-returns-clause-parsed t c =
-    let behind = rw c.span-span.ensures at (rw c.sum-first.ensures.spans at c.comparison_behind.ensures.parsed) in
-    comparison_goes _ (deeper _ c.args.left) _ (node_of c.in_ok-first.field-0) _ _ _ c.in_ok-first.ensures.parsed behind
-
 pub power-returns-in_err-first-clause-parsed : goal.power-returns-in_err-first-clause-parsed
 power-returns-in_err-first-clause-parsed t c =
     let refused : Refused (power_by c.args.tokens.now.spans (deeper c.args.tokens.now.spans c.args.left) c.args.tokens.now.left)
@@ -310,14 +257,78 @@ power-returns-clause-parsed t c =
     let behind = rw c.span-span.ensures at (rw c.unary-first.ensures.spans at c.power_behind.ensures.parsed) in
     power_goes _ (deeper _ c.args.left) _ (node_of c.in_ok-first.field-0) _ _ _ c.in_ok-first.ensures.parsed behind
 
-pub operand_with_parts-returns-in_err-first-clause-parsed : goal.operand_with_parts-returns-in_err-first-clause-parsed
-operand_with_parts-returns-in_err-first-clause-parsed t c =
-    let refused : Refused (and_then (primary_by c.args.tokens.now.spans (deeper c.args.tokens.now.spans c.args.left) c.args.tokens.now.left)
-    (all (part_step c.args.tokens.now.spans (deeper c.args.tokens.now.spans c.args.left) c.args.span))) c.in_err-first.field-0.0 =
-    parts_refused _ _ _ c.args.span _ c.in_err-first.ensures.parsed in
+pub operands-loop-op-preserved : goal.operands-loop-op-preserved
+operands-loop-op-preserved t c =
+    let same = c.in-Some.ensures.spans ∙ c.loop-op.invariant.0 in
+    let right = rw same at c.in-Ok.ensures.parsed in
+    let whole = rw (c.in-Ok.ensures.spans ∙ same) at c.expand_span.ensures in
+    let more = next_operand_goes c.args.tokens.now.spans (level_of c.args.level) (operand_by c.args.tokens.now.spans (deeper c.args.tokens.now.spans c.args.left) (level_of c.args.level)) c.args.span _ (node_of c.loop-op.value) _ _ _ _ _
+    c.in-Some.op c.in-Some.ensures.operator c.in-Some.ensures.passed right c.in_ok-value.ensures.tree c.in_ok-value.ensures.places whole in
+    (c.in-Ok.ensures.spans ∙ same, rounds_go _ (operands_fall _ c.args.left (level_of c.args.level) _) _ _ _ _ _ _ c.loop-op.invariant.1 more)
+
+pub operands-loop-op-smaller : goal.operands-loop-op-smaller
+operands-loop-op-smaller t c =
+    let same = c.in-Some.ensures.spans ∙ c.loop-op.invariant.0 in
+    let right = rw same at c.in-Ok.ensures.parsed in
+    let whole = rw (c.in-Ok.ensures.spans ∙ same) at c.expand_span.ensures in
+    let more = next_operand_goes c.args.tokens.now.spans (level_of c.args.level) (operand_by c.args.tokens.now.spans (deeper c.args.tokens.now.spans c.args.left) (level_of c.args.level)) c.args.span _ (node_of c.loop-op.value) _ _ _ _ _
+    c.in-Some.op c.in-Some.ensures.operator c.in-Some.ensures.passed right c.in_ok-value.ensures.tree c.in_ok-value.ensures.places whole in
+    operands_fall _ c.args.left (level_of c.args.level) _ (node_of c.loop-op.value) _ _ _ more
+
+pub operands-returns-in-Err-clause-parsed : goal.operands-returns-in-Err-clause-parsed
+operands-returns-in-Err-clause-parsed t c =
+    let right = rw (c.in-Some.ensures.spans ∙ c.loop-op.invariant.0) at c.in-Err.ensures.parsed in
+    rounds_refused _ _ _ _ _ c.in-Err.refusal c.loop-op.invariant.1
+    (next_operand_refused c.args.tokens.now.spans (level_of c.args.level) (operand_by c.args.tokens.now.spans (deeper c.args.tokens.now.spans c.args.left) (level_of c.args.level)) c.args.span (node_of c.loop-op.value) _ _
+    c.in-Some.op c.in-Err.refusal c.in-Some.ensures.operator c.in-Some.ensures.passed right)
+
+pub operands-returns-clause-parsed : goal.operands-returns-clause-parsed
+operands-returns-clause-parsed t c =
+    rounds_end _ _ _ _ _ _ _ c.loop-op.invariant.1 (operand_none _ _ _ _ _ _ (sym c.in_default.ensures.operator), c.in_default.ensures.passed, refl)
+
+pub negation-returns-then-not-begins_operator-clause-parsed : goal.negation-returns-then-not-begins_operator-clause-parsed
+negation-returns-then-not-begins_operator-clause-parsed t c =
+    let bare = rw c.if-skip_word.false at c.skip_word.ensures.passed in
+    let read = rw c.skip_word.ensures.spans at c.unary-first.ensures.parsed in
+    negation_stays c.args.tokens.now.spans (deeper c.args.tokens.now.spans c.args.left) _ _ bare.0 _ _ bare.1 (c.begins_operator.ensures c.if-not-begins_operator.true) read
+
+pub negation-returns-in_err-first-clause-parsed : goal.negation-returns-in_err-first-clause-parsed
+negation-returns-in_err-first-clause-parsed t c =
+    let bare = rw c.if-skip_word.false at c.skip_word.ensures.passed in
+    let read = rw c.skip_word.ensures.spans at c.in_err-first.ensures.parsed in
+    let refused : Refused (negation_by c.args.tokens.now.spans (deeper c.args.tokens.now.spans c.args.left) c.args.tokens.now.left) c.in_err-first.field-0.0 =
+    negation_refused c.args.tokens.now.spans (deeper c.args.tokens.now.spans c.args.left) _ _ bare.0 _ bare.1 read in
     search rules
 
-pub operand_with_parts-returns-clause-parsed : goal.operand_with_parts-returns-clause-parsed
-operand_with_parts-returns-clause-parsed t c =
-    let behind = rw c.primary-first.ensures.spans at c.parts.ensures.parsed in
-    parts_go _ (deeper _ c.args.left) _ _ (node_of c.in_ok-first.field-0) _ _ _ c.in_ok-first.ensures.parsed behind
+pub negation-returns-clause-parsed : goal.negation-returns-clause-parsed
+negation-returns-clause-parsed t c =
+    let bare = rw c.if-skip_word.false at c.skip_word.ensures.passed in
+    let read = rw c.skip_word.ensures.spans at c.in_ok-first.ensures.parsed in
+    let behind = rw c.span-span.ensures at (rw (c.unary-first.ensures.spans ∙ c.skip_word.ensures.spans) at c.operators.ensures.parsed) in
+    negation_goes c.args.tokens.now.spans (deeper c.args.tokens.now.spans c.args.left) _ _ bare.0 (node_of c.in_ok-first.field-0) _ _ _ bare.1 read behind
+
+pub unary-returns-then-not-begins_part-clause-parsed : goal.unary-returns-then-not-begins_part-clause-parsed
+unary-returns-then-not-begins_part-clause-parsed t c =
+    let bare = rw c.if-skip.false at c.skip.ensures.passed in
+    let read = rw c.skip.ensures.spans at c.primary-first.ensures.parsed in
+    unary_stays c.args.tokens.now.spans (deeper c.args.tokens.now.spans c.args.left) _ _ bare.0 _ _ bare.1 (sym c.begins_part.ensures ∙ c.if-not-begins_part.true) read
+
+pub unary-returns-in_err-first-clause-parsed : goal.unary-returns-in_err-first-clause-parsed
+unary-returns-in_err-first-clause-parsed t c =
+    let bare = rw c.if-skip.false at c.skip.ensures.passed in
+    let read = rw c.skip.ensures.spans at c.in_err-first.ensures.parsed in
+    let refused : Refused (unary_by c.args.tokens.now.spans (deeper c.args.tokens.now.spans c.args.left) c.args.tokens.now.left) c.in_err-first.field-0.0 =
+    unary_refused c.args.tokens.now.spans (deeper c.args.tokens.now.spans c.args.left) _ _ bare.0 _ bare.1 read in
+    search rules
+
+pub unary-returns-clause-parsed : goal.unary-returns-clause-parsed
+unary-returns-clause-parsed t c =
+    let bare = rw c.if-skip.false at c.skip.ensures.passed in
+    let read = rw c.skip.ensures.spans at c.in_ok-first.ensures.parsed in
+    let behind = rw c.span-span.ensures at (rw (c.primary-first.ensures.spans ∙ c.skip.ensures.spans) at c.parts.ensures.parsed) in
+    unary_goes c.args.tokens.now.spans (deeper c.args.tokens.now.spans c.args.left) _ _ bare.0 (node_of c.in_ok-first.field-0) _ _ _ bare.1 read behind
+
+pub operators-returns-else-begins_link-clause-parsed : goal.operators-returns-else-begins_link-clause-parsed
+operators-returns-else-begins_link-clause-parsed t c =
+    let sum = rw c.in_ok-value.ensures.spans at c.in_ok-value-2.ensures.parsed in
+    operators_end c.args.tokens.now.spans (deeper c.args.tokens.now.spans c.args.left) c.args.span _ _ _ _ _ _ c.in_ok-value.ensures.parsed sum (c.begins_link.ensures c.if-begins_link.false)

@@ -22,9 +22,6 @@ decreases-binary l = 100 * l.left + (height (level_of l.level) + 3)
 abbrev pub decreases-operands : goal.decreases-operands
 decreases-operands l = 100 * l.left + (height (level_of l.level) + 2)
 
-abbrev pub decreases-next_operand : goal.decreases-next_operand
-decreases-next_operand l = 100 * l.left + (height (level_of l.level) + 1)
-
 abbrev pub decreases-operand : goal.decreases-operand
 decreases-operand l = 100 * l.left + height (level_of l.level)
 
@@ -33,9 +30,6 @@ decreases-expression l = 100 * l.left + 60
 
 abbrev pub decreases-choice : goal.decreases-choice
 decreases-choice l = 100 * l.left + 58
-
-abbrev pub decreases-choices : goal.decreases-choices
-decreases-choices l = 100 * l.left + 57
 
 abbrev pub decreases-sum : goal.decreases-sum
 decreases-sum l = 100 * l.left + 36
@@ -46,17 +40,11 @@ decreases-sum_behind l = 100 * l.left + 35
 abbrev pub decreases-comparison_behind : goal.decreases-comparison_behind
 decreases-comparison_behind l = 100 * l.left + 41
 
-abbrev pub decreases-operand_with_parts : goal.decreases-operand_with_parts
-decreases-operand_with_parts l = 100 * l.left + 14
-
 abbrev pub decreases-branches : goal.decreases-branches
 decreases-branches l = 100 * l.left + 62
 
 abbrev pub decreases-negation : goal.decreases-negation
 decreases-negation l = 100 * l.left + 43
-
-abbrev pub decreases-comparison : goal.decreases-comparison
-decreases-comparison l = 100 * l.left + 42
 
 abbrev pub decreases-links : goal.decreases-links
 decreases-links l = 100 * l.left + 40
@@ -96,6 +84,12 @@ decreases-bare_test l = 100 * l.left + 16
 
 abbrev pub decreases-plain_test : goal.decreases-plain_test
 decreases-plain_test l = 100 * l.left + 16
+
+abbrev pub decreases-operators : goal.decreases-operators
+decreases-operators l = 100 * l.left + 42
+
+abbrev pub decreases-negative : goal.decreases-negative
+decreases-negative l = 100 * l.left + 16
 
 abbrev pub decreases-unary : goal.decreases-unary
 decreases-unary l = 100 * l.left + 15
@@ -172,14 +166,14 @@ decreases-next_pair l = 100 * l.left + 80
 abbrev pub decreases-key : goal.decreases-key
 decreases-key l = 100 * l.left + 78
 
-abbrev pub invariant-operands-loop-next : goal.invariant-operands-loop-next
-invariant-operands-loop-next l =
+abbrev pub invariant-operands-loop-op : goal.invariant-operands-loop-op
+invariant-operands-loop-op l =
     (l.tokens.spans ≡ l.initial.tokens.spans) ×
     (all (operand_step l.initial.tokens.spans (level_of l.level) (operand_by l.initial.tokens.spans (deeper l.initial.tokens.spans l.left) (level_of l.level)) l.span) (node_of l.value) l.tokens.left ≡
     all (operand_step l.initial.tokens.spans (level_of l.level) (operand_by l.initial.tokens.spans (deeper l.initial.tokens.spans l.left) (level_of l.level)) l.span) (node_of l.initial.value) l.initial.tokens.left)
 
-abbrev pub decreases-operands-loop-next : goal.decreases-operands-loop-next
-decreases-operands-loop-next l = length l.tokens.left
+abbrev pub decreases-operands-loop-op : goal.decreases-operands-loop-op
+decreases-operands-loop-op l = length l.tokens.left
 
 abbrev pub invariant-parts-loop-next : goal.invariant-parts-loop-next
 invariant-parts-loop-next l =
