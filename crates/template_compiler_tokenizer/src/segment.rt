@@ -1,7 +1,9 @@
 // The tokens of a segment, one behind another.
-ghost use Rattle.std.specs.Prelude.{◌≤◌, ◌+◌, length};
+ghost use Rattle.std.specs.Prelude.{◌≤◌, ◌<◌, ◌+◌, Ok, drop, length};
 ghost use Rattle.std.specs.Str.{IsCharBoundary};
 ghost use Rattle.template_compiler_places.specs.Stretches.{BeginsBy};
+ghost use Rattle.template_compiler_scanner.specs.Scans.{Scans};
+ghost use Rattle.template_compiler_tokens.specs.declared.token.Token.TheVariants.{Ident};
 ghost use Rattle.template_compiler_tokenizer.specs.Ends.{IsSegmentEnd};
 ghost use Rattle.template_compiler_tokenizer.specs.Held.{ReadsSome, StandsIn};
 ghost use Rattle.template_compiler_tokenizer.specs.Inner.{Puts, ReadsToken, standing_in};
@@ -57,15 +59,41 @@ pub(crate) fn read_inside<'source>(
                 };
                 return hold(source, standing, piece, tokens);
             }
-            Found::Token(place) => match read_token(alloc, source, place, &mut at, tokens) {
-                Ok(()) => {}
-                Err(refused) => return Err(refused),
+            Found::Token(place) => match scan_name(source.split_at(place).1) {
+                Some(name) => match read_name(source, place, name, &mut at, tokens) {
+                    Ok(()) => {}
+                    Err(refused) => return Err(refused),
+                },
+                None => match read_token(alloc, source, place, &mut at, tokens) {
+                    Ok(()) => {}
+                    Err(refused) => return Err(refused),
+                },
             },
         }
     }
 }
 
-// Reads the token at a place behind white space: most are names and signs.
+// Reads the name at a place.
+#[inline(always)]
+fn read_name<'source>(
+    source: &str,
+    place: usize,
+    name: &'source str,
+    at: &mut Inner,
+    tokens: &mut Vec<(Token<'source>, Span)>,
+) -> Result<(), ErrorKind>
+    requires start { IsCharBoundary source.now place }
+    requires depth { at.old.depth ≤ place }
+    requires begins { BeginsBy source.now place at.old.stretch }
+    requires name { Scans (drop place source.now) (Ok (Ident name, length name.now)) }
+    requires cut { IsCharBoundary (drop place source.now) (length name.now) }
+    requires some { 0 < length name.now }
+    ensures { ReadsToken source.now place at.old at.new tokens.old.items tokens.new.items result }
+{
+    put(source, at, place, Token::Ident(name), name.len(), tokens)
+}
+
+// Reads the token at a place behind white space that is no name: most are signs.
 #[inline(always)]
 fn read_token<'source>(
     alloc: Global,
@@ -79,13 +107,9 @@ fn read_token<'source>(
     requires begins { BeginsBy source.now place at.old.stretch }
     ensures { ReadsToken source.now place at.old at.new tokens.old.items tokens.new.items result }
 {
-    let rest = source.split_at(place).1;
-    match scan_name(rest) {
-        Some(name) => put(source, at, place, Token::Ident(name), name.len(), tokens),
-        None => match scan_mark(rest) {
-            Some((mark, width)) => put(source, at, place, mark, width, tokens),
-            None => read_other(alloc, source, place, at, tokens),
-        },
+    match scan_mark(source.split_at(place).1) {
+        Some((mark, width)) => put(source, at, place, mark, width, tokens),
+        None => read_other(alloc, source, place, at, tokens),
     }
 }
 
