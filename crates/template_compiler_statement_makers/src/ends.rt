@@ -1,15 +1,11 @@
 //! Statements of their heads and their bodies. A head with its body is one node more at most.
 ghost use Rattle.std.specs.Prelude.{◌≡◌, ◌∷◌, [], IfOk};
-ghost use Rattle.template_compiler_placed_grammar.specs.Nodes.{given_node, placed};
-ghost use Rattle.template_compiler_placed_grammar.specs.TemplateNodes.{auto_escape_node, branched_node, filter_block_node, for_node, set_block_node};
-ghost use Rattle.template_compiler_placed_grammar.specs.TreeStatements.{places_of_statements};
+ghost use Rattle.template_compiler_placed_grammar.specs.Nodes.{given_node};
+ghost use Rattle.template_compiler_placed_grammar.specs.TemplateNodes.{auto_escape_node, branched_node, condition_node, filter_block_node, for_node, set_block_node};
 ghost use Rattle.template_compiler_placed_grammar.specs.Views.{node_of, statement_node_of};
 ghost use Rattle.template_compiler_statement_makers.specs.Begun.{loop_head, set_block_of};
 ghost use Rattle.template_compiler_statement_makers.specs.Branches.{branch_in, branches_in};
-ghost use Rattle.template_compiler_statement_makers.specs.Listed.{statement_nodes_in, statements_in};
-ghost use Rattle.template_tree.specs.ExpressionPlaces.{places_of};
-ghost use Rattle.template_tree.specs.NodePlaces.{parts_more};
-ghost use Rattle.template_tree.specs.View.{expression_of};
+ghost use Rattle.template_compiler_statement_makers.specs.Listed.{statement_nodes_in};
 ghost use Rattle.template_tree_statements.specs.declared.statements.Stmt.TheVariants as statements;
 
 use crate::makers;
@@ -18,38 +14,41 @@ use template_compiler_stream::until;
 use template_tree::{Span, Spanned};
 use template_tree_statements::{AutoEscape, FilterBlock, ForLoop, IfCond, SetBlock, Stmt};
 
-/// A loop with its bodies.
+/// A loop that has its bodies, up to where it ends.
+#[inline(always)]
 #[tactic(auto, using(crate::proofs::Rows::nodes_row))]
 pub fn for_loop<'source>(
     head: Box<Spanned<ForLoop<'source>>>,
-    body: Vec<Stmt<'source>>,
-    else_body: Vec<Stmt<'source>>,
     span: Span,
 ) -> Box<Spanned<ForLoop<'source>>>
-    ensures { let h = loop_head head.entry in statement_node_of (statements.ForLoop result) ≡
-        for_node h.0 h.1 h.2 h.3 (statement_nodes_in body.entry.items) (statement_nodes_in else_body.entry.items) span }
+    ensures { let h = loop_head head.entry in let n = head.entry.value.node in statement_node_of (statements.ForLoop result) ≡
+        for_node h.0 h.1 h.2 h.3 (statement_nodes_in n.body.items) (statement_nodes_in n.else_body.items) span }
 {
     let mut node = head;
-    end_loop(&mut node, body, else_body, span);
+    end(&mut node, span);
     node
 }
 
-fn end_loop<'source>(
-    node: &mut Spanned<ForLoop<'source>>,
-    body: Vec<Stmt<'source>>,
-    else_body: Vec<Stmt<'source>>,
+/// A condition that has its bodies, up to where it ends.
+#[inline(always)]
+#[tactic(auto, using(crate::proofs::Rows::nodes_row))]
+pub fn condition<'source>(
+    head: Box<Spanned<IfCond<'source>>>,
     span: Span,
-)
-    ensures target { node.new.node.target ≡ node.old.node.target }
-    ensures iter { node.new.node.iter ≡ node.old.node.iter }
-    ensures filter { node.new.node.filter_expr ≡ node.old.node.filter_expr }
-    ensures recursive { node.new.node.recursive ≡ node.old.node.recursive }
-    ensures body { node.new.node.body ≡ body.entry }
-    ensures else_body { node.new.node.else_body ≡ else_body.entry }
+) -> Box<Spanned<IfCond<'source>>>
+    ensures { statement_node_of (statements.IfCond result) ≡
+        condition_node (branch_in head.entry) (statement_nodes_in head.entry.value.node.false_body.items) span }
+{
+    let mut node = head;
+    end(&mut node, span);
+    node
+}
+
+// A node ends where the span does.
+fn end<T: Drop>(node: &mut Spanned<T>, span: Span)
+    ensures node { node.new.node ≡ node.old.node }
     ensures span { node.new.span ≡ span }
 {
-    put(&mut node.node.body, body);
-    put(&mut node.node.else_body, else_body);
     node.span = span;
 }
 
@@ -136,28 +135,6 @@ fn end_set_block<'source>(
 {
     put(&mut node.node.body, body);
     node.span = span;
-}
-
-/// A condition with its body; what stands for the other case comes later.
-pub fn branch<'source>(
-    head: Box<Spanned<IfCond<'source>>>,
-    body: Vec<Stmt<'source>>,
-) -> Box<Spanned<IfCond<'source>>>
-    ensures branch { branch_in result ≡ placed (expression_of head.entry.value.node.expr, statements_in body.entry.items)
-        (parts_more (places_of head.entry.value.node.expr) (places_of_statements body.entry.items)) }
-    ensures span { result.value.span ≡ head.entry.value.span }
-{
-    let mut node = head;
-    end_branch(&mut node, body);
-    node
-}
-
-fn end_branch<'source>(node: &mut Spanned<IfCond<'source>>, body: Vec<Stmt<'source>>)
-    ensures condition { node.new.node.expr ≡ node.old.node.expr }
-    ensures body { node.new.node.true_body ≡ body.entry }
-    ensures span { node.new.span ≡ node.old.span }
-{
-    put(&mut node.node.true_body, body);
 }
 
 /// Each branch is the one statement of the body before it, up to the end of the whole.

@@ -3,3 +3,4 @@ pub mod Less
 pub mod Falls
 pub mod Wholes
 pub mod Made
+pub mod Put

@@ -1,20 +1,27 @@
 -- What is made of a head and of what is read behind it, and when that is refused.
-use Rattle.std.proofs.Common.{◌≡◌, ℕ, Bool, codes, List, Ok, Err, refl, sym, ap, ◌∙◌}
+use Rattle.std.proofs.Common.{◌≡◌, ℕ, Bool, true, false, codes, List, [], Result, Ok, Err, refl, sym, ap, ◌∙◌}
 use Rattle.template_tree.specs.declared.span.Span.{Span}
 use Rattle.template_compiler_tokens.specs.Token.{Token}
 use Rattle.template_compiler_tokens.specs.Steps.{Read, and_then, all}
-use Rattle.template_compiler_tokens.proofs.Loops.{then_goes, then_fails}
+use Rattle.template_compiler_tokens.proofs.Loops.{all_stops, then_goes, then_fails}
 use Rattle.template_compiler_stream.specs.declared.refusal.Refusal.{Refusal}
 use Rattle.template_compiler_stream.specs.declared.refusal.Refusal.TheVariants as refusals
 use Rattle.template_compiler_stream.specs.Refusals.{Refused}
 use Rattle.template_compiler_grammar.specs.TemplateGrammar.{Around, loop_around}
-use Rattle.template_compiler_grammar.specs.TemplateReader.{expect_tag}
+use Rattle.template_compiler_grammar.specs.TemplateReader.{begins_tag, expect_tag, tag_end}
 use Rattle.template_compiler_placed_grammar.specs.Nodes.{Node, OptionalNode}
 use Rattle.template_compiler_placed_grammar.specs.Reader.{up_to}
-use Rattle.template_compiler_placed_grammar.specs.TemplateNodes.{PlacedBranch, PlacedBranches, PlacedStatement, PlacedStatements, branched_node, condition_node, for_node, no_placed_branches, set_block_node}
+use Rattle.template_compiler_placed_grammar.specs.TemplateNodes.{PlacedBranch, PlacedBranches, PlacedStatement, PlacedStatements, branched_node, condition_node, for_node, no_placed_branches, no_placed_statements, set_block_node}
 use Rattle.template_compiler_placed_grammar.specs.TemplateReader.{Here, body_by, branch_by, branch_step, else_by, for_by, if_by}
 use Rattle.template_compiler_statement_declarations.specs.Heads.{set_over, set_rest}
 use Rattle.template_compiler_statement_loops.specs.Heads.{for_head, for_rest}
+use Rattle.template_tree_statements.specs.declared.statements.Stmt.{Stmt}
+use Rattle.template_compiler_stream.specs.Left.{passed}
+use Rattle.template_compiler_statement_makers.specs.Listed.{statement_nodes_in}
+use Rattle.template_compiler_statement_parts.specs.Parsed.{ParsedAs, ParsedInto, passing}
+use Rattle.template_compiler_statement_parts.proofs.Again.{no_again, ok_again, tag_again, tag_end_again, unit}
+use Rattle.template_compiler_statement_parser.specs.Bodies.{if_rest}
+use Rattle.template_compiler_statement_parser.proofs.Next.{else_here, no_branch, no_else}
 use Rattle.template_compiler_statement_parser.proofs.Wholes.{for_whole}
 
 -- what is behind a head
@@ -73,6 +80,34 @@ module _ (spans : List Span) (r : Here) (p : Around) (end : List ℕ) (start : S
     pub body_fails : (e : Refusal) → Refused (and_then (r.body p mid) (expect_tag end)) e → Refused w e
     body_fails e g = behind_fails _ whole h mid head e (ended_fails (make h) mid e g)
 
+-- the other body, and the end of the statement
+module _ (spans : List Span) (r : Here) (p : Around) (end : List ℕ) (ts : List Token) where
+  pub else_ended : (other : List Stmt) (new : List Token) (result : Result (Unit {0}) Refusal) → begins_tag (codes "else") ts ≡ false →
+      other ≡ [] → ParsedAs passing (expect_tag end unit ts) new result → ParsedInto (else_by spans r p end ts) (statement_nodes_in other) new result
+  else_ended other new (Ok b) h e g =
+      no_else spans r p end ts h ∙ ok_again (tag_again end no_placed_statements ts) g ∙ ap (λ ss. Ok (ss, new)) (sym (ap statement_nodes_in e))
+  else_ended other new (Err x) h e g =
+      no_again (expect_tag end unit ts) no_placed_statements x (no_else spans r p end ts h ∙ tag_again end no_placed_statements ts) g
+
+  module _ (h : begins_tag (codes "else") ts ≡ true) where
+    pub else_tag_fails : (e : Refusal) → Refused (tag_end unit (passed (passed ts))) e → Refused (else_by spans r p end ts) e
+    else_tag_fails e g =
+        head_fails _ _ (else_here spans r p end ts h) e (no_again (tag_end unit (passed (passed ts))) false e (tag_end_again false (passed (passed ts))) g)
+
+    module _ (us : List Token) (tagged : tag_end unit (passed (passed ts)) ≡ Ok (unit, us)) where
+      pub else_body_fails : (e : Refusal) → Refused (r.body p us) e → Refused (else_by spans r p end ts) e
+      else_body_fails e g =
+          behind_fails _ (else_here spans r p end ts h) false us (ok_again (tag_end_again false (passed (passed ts))) tagged) e (head_fails _ _ refl e g)
+
+      pub else_read : (body : PlacedStatements) (vs new : List Token) (result : Result (Unit {0}) Refusal) → r.body p us ≡ Ok (body, vs) →
+          ParsedAs passing (expect_tag end unit vs) new result → ParsedInto (else_by spans r p end ts) body new result
+      else_read body vs new (Ok b) e g =
+          behind _ (else_here spans r p end ts h) false us (ok_again (tag_end_again false (passed (passed ts))) tagged)
+          (then_goes _ e (ok_again (tag_again end body vs) g))
+      else_read body vs new (Err x) e g =
+          behind_fails _ (else_here spans r p end ts h) false us (ok_again (tag_end_again false (passed (passed ts))) tagged) x
+          (behind_fails _ refl body vs e x (no_again (expect_tag end unit vs) body x (tag_again end body vs) g))
+
 module _ (spans : List Span) (r : Here) (p : Around) (start : Span) where
   -- a loop's bodies
   pub for_made : (h : Node × Node × OptionalNode × Bool) (body other : PlacedStatements) (ts us vs new : List Token) (now : List Span)
@@ -96,32 +131,39 @@ module _ (spans : List Span) (r : Here) (p : Around) (start : Span) where
       (behind_fails _ refl body vs b e (head_fails _ _ refl e c))
 
   -- a condition, the branches behind it, and what stands for the case that none holds
-  pub if_made : (b : PlacedBranch) (bs : PlacedBranches) (other body : PlacedStatements) (ts us vs new : List Token) (now : List Span)
-      (stands : Span) (s : PlacedStatement) → branch_by spans r p ts ≡ Ok (b, us) →
-      all (branch_step spans r p) no_placed_branches us ≡ Ok (bs, vs) → else_by spans r p (codes "endif") vs ≡ Ok (other, new) →
-      now ≡ spans → stands ≡ up_to now start new → body ≡ branched_node bs other stands → s ≡ condition_node b body stands →
-      if_by spans r p start ts ≡ Ok (s, new)
+  pub if_whole : (ts : List Token) → if_by spans r p start ts ≡ and_then (branch_by spans r p ts) (if_rest spans r p start)
   unfolding if_by
-  if_made b bs other body ts us vs new now stands s first others last same e branched made =
-      then_goes _ first (then_goes _ others (then_goes _ last
-      (stands_so (λ stands. condition_node b (branched_node bs other stands) stands) spans now start stands s new same e
-      (made ∙ ap (λ body. condition_node b body stands) branched))))
+  if_whole ts = refl
 
-  pub if_fails : (ts : List Token) (e : Refusal) → Refused (branch_by spans r p ts) e → Refused (if_by spans r p start ts) e
-  unfolding if_by
-  if_fails ts e h = head_fails _ _ refl e h
+  pub rest_made : (b : PlacedBranch) (bs : PlacedBranches) (other body : PlacedStatements) (us vs new : List Token) (now : List Span)
+      (stands : Span) (s : PlacedStatement) → all (branch_step spans r p) no_placed_branches us ≡ Ok (bs, vs) →
+      else_by spans r p (codes "endif") vs ≡ Ok (other, new) → now ≡ spans → stands ≡ up_to now start new →
+      body ≡ branched_node bs other stands → s ≡ condition_node b body stands → if_rest spans r p start b us ≡ Ok (s, new)
+  rest_made b bs other body us vs new now stands s others last same e branched made =
+      then_goes _ others (then_goes _ last (stands_so (λ stands. condition_node b (branched_node bs other stands) stands) spans now start stands s new
+      same e (made ∙ ap (λ body. condition_node b body stands) branched)))
 
-  pub branches_fail : (b : PlacedBranch) (ts us : List Token) → branch_by spans r p ts ≡ Ok (b, us) →
-      (e : Refusal) → Refused (all (branch_step spans r p) no_placed_branches us) e → Refused (if_by spans r p start ts) e
-  unfolding if_by
-  branches_fail b ts us first e h = behind_fails _ refl b us first e (head_fails _ _ refl e h)
+  pub branches_fail : (b : PlacedBranch) (us : List Token) (e : Refusal) → Refused (all (branch_step spans r p) no_placed_branches us) e →
+      Refused (if_rest spans r p start b us) e
+  branches_fail b us e h = head_fails _ _ refl e h
 
-  pub else_fails : (b : PlacedBranch) (bs : PlacedBranches) (ts us vs : List Token) → branch_by spans r p ts ≡ Ok (b, us) →
-      all (branch_step spans r p) no_placed_branches us ≡ Ok (bs, vs) →
-      (e : Refusal) → Refused (else_by spans r p (codes "endif") vs) e → Refused (if_by spans r p start ts) e
-  unfolding if_by
-  else_fails b bs ts us vs first others e h =
-      behind_fails _ refl b us first e (behind_fails _ refl bs vs others e (head_fails _ _ refl e h))
+  pub else_fails : (b : PlacedBranch) (bs : PlacedBranches) (us vs : List Token) → all (branch_step spans r p) no_placed_branches us ≡ Ok (bs, vs) →
+      (e : Refusal) → Refused (else_by spans r p (codes "endif") vs) e → Refused (if_rest spans r p start b us) e
+  else_fails b bs us vs others e h = behind_fails _ refl bs vs others e (head_fails _ _ refl e h)
+
+  -- where no branch stands behind the first one
+  no_others : (us : List Token) → begins_tag (codes "elif") us ≡ false → all (branch_step spans r p) no_placed_branches us ≡ Ok (no_placed_branches, us)
+  no_others us h = all_stops (branch_step spans r p) no_placed_branches us (no_branch spans r p no_placed_branches us h)
+
+  pub alone_made : (b : PlacedBranch) (other : PlacedStatements) (us new : List Token) (now : List Span) (stands : Span) (s : PlacedStatement) →
+      begins_tag (codes "elif") us ≡ false → else_by spans r p (codes "endif") us ≡ Ok (other, new) → now ≡ spans → stands ≡ up_to now start new →
+      s ≡ condition_node b other stands → if_rest spans r p start b us ≡ Ok (s, new)
+  alone_made b other us new now stands s h last same e made =
+      rest_made b no_placed_branches other other us us new now stands s (no_others us h) last same e refl made
+
+  pub alone_fails : (b : PlacedBranch) (us : List Token) → begins_tag (codes "elif") us ≡ false →
+      (e : Refusal) → Refused (else_by spans r p (codes "endif") us) e → Refused (if_rest spans r p start b us) e
+  alone_fails b us h e g = else_fails b no_placed_branches us us (no_others us h) e g
 
   -- a set block, behind its head
   pub set_body_made : (h : Node × OptionalNode) (b : PlacedStatements) (ts new : List Token) (now : List Span) (stands : Span)

@@ -1,25 +1,20 @@
 -- What is read by what stands next.
-use Rattle.std.proofs.Common.{◌≡◌, ℕ, ◌≤◌, true, false, if◌then◌else◌, List, [], ◌∷◌, ◌++◌, length, None, Some, codes, refl, sym, ap, ◌∙◌, arith}
+use Rattle.std.proofs.Common.{◌≡◌, ℕ, ◌≤◌, true, false, if◌then◌else◌, List, [], ◌∷◌, ◌++◌, length, None, Some, Ok, Err, codes, refl, sym, ap, ◌∙◌, arith}
 use Rattle.template_tree.specs.Tree.{raw}
 use Rattle.template_tree.specs.NodePlaces.{no_parts}
 use Rattle.template_tree.specs.declared.span.Span.{Span}
-use Rattle.template_tree.specs.declared.span.Spanned.{Spanned}
-use Rattle.template_tree_statements.specs.declared.statements.EmitRaw.{EmitRaw as Text}
-use Rattle.template_tree_statements.specs.declared.statements.Stmt.{Stmt, EmitRaw}
 use Rattle.template_compiler_tokens.specs.Places.{next_span, token_count}
 use Rattle.template_compiler_tokens.specs.Token.{Token, template_data, variable_start, block_start, identifier}
-use Rattle.template_compiler_tokens.specs.Steps.{goes, stops, under}
+use Rattle.template_compiler_tokens.specs.Steps.{and_then, fault, goes, stops, under}
 use Rattle.template_compiler_placed_grammar.proofs.Last.{stands_alone}
 use Rattle.template_compiler_stream.specs.Left.{passed}
 use Rattle.template_compiler_stream.specs.Signs.{next_word}
 use Rattle.template_compiler_stream.specs.Tags.{begins_variable_start, next_text}
 use Rattle.template_compiler_statement_parts.specs.Tags.{next_tag}
-use Rattle.template_compiler_statement_makers.specs.Listed.{statement_nodes_in}
-use Rattle.template_compiler_statement_makers.proofs.Lists.{statement_nodes_push}
 use Rattle.template_compiler_grammar.specs.TemplateGrammar.{Around}
-use Rattle.template_compiler_grammar.specs.TemplateReader.{begins_tag, opening}
-use Rattle.template_compiler_placed_grammar.specs.TemplateNodes.{PlacedBranches, and_placed_branch, PlacedStatements, and_placed_statement, statement_node}
-use Rattle.template_compiler_placed_grammar.specs.TemplateReader.{Here, branch_by, branch_step, opened_step, print_by, statement_step}
+use Rattle.template_compiler_grammar.specs.TemplateReader.{begins_tag, expect_tag, expect_word, opening, tag_end}
+use Rattle.template_compiler_placed_grammar.specs.TemplateNodes.{PlacedBranches, and_placed_branch, PlacedStatements, and_placed_statement, no_placed_statements, statement_node}
+use Rattle.template_compiler_placed_grammar.specs.TemplateReader.{Here, branch_by, branch_step, else_by, opened_step, print_by, statement_step}
 
 module _ (spans : List Span) (r : Here) (p : Around) where
   -- statements
@@ -34,17 +29,12 @@ module _ (spans : List Span) (r : Here) (p : Around) where
       ap (λ v. goes (and_placed_statement ss (statement_node (raw v) (next_span spans (template_data u ∷ ts)) no_parts)) ts) same
   text_here ss s (t ∷ ts) h counted = cc
 
-  pub text_put : (ss all : List Stmt) (n : Spanned Text) (s : List ℕ) (ts us : List Token) → Some s ≡ next_text ts →
-      token_count ts ≤ length spans → us ≡ passed ts → all ≡ ss ++ EmitRaw n ∷ [] → n.node.raw.now ≡ s → n.span ≡ next_span spans ts →
-      statement_step spans r p (statement_nodes_in ss) ts ≡ goes (statement_nodes_in all) us
-  text_put ss all n s ts us h counted behind put text stands =
-      let made : statement_nodes_in all ≡
-      and_placed_statement (statement_nodes_in ss) (statement_node (raw s) (next_span spans ts) no_parts) =
-      ap statement_nodes_in put ∙ statement_nodes_push ss (EmitRaw n) ∙
-      ap (λ w. and_placed_statement (statement_nodes_in ss) (statement_node (raw w) n.span no_parts)) text ∙
-      ap (λ span. and_placed_statement (statement_nodes_in ss) (statement_node (raw s) span no_parts)) stands in
-      text_here (statement_nodes_in ss) s ts h counted ∙ ap (λ ss. goes ss (passed ts)) (sym made) ∙
-      ap (λ us. goes (statement_nodes_in all) us) (sym behind)
+  pub text_put : (ss all : PlacedStatements) (s : List ℕ) (span : Span) (ts us : List Token) → Some s ≡ next_text ts →
+      token_count ts ≤ length spans → us ≡ passed ts → all ≡ and_placed_statement ss (statement_node (raw s) span no_parts) →
+      span ≡ next_span spans ts → statement_step spans r p ss ts ≡ goes all us
+  text_put ss all s span ts us h counted behind put stands =
+      let made = put ∙ ap (λ span. and_placed_statement ss (statement_node (raw s) span no_parts)) stands in
+      text_here ss s ts h counted ∙ ap (λ ss. goes ss (passed ts)) (sym made) ∙ ap (λ us. goes all us) (sym behind)
 
   pub print_here : (ss : PlacedStatements) (ts : List Token) → begins_variable_start ts ≡ true →
       statement_step spans r p ss ts ≡
@@ -83,6 +73,29 @@ module _ (spans : List Span) (r : Here) (p : Around) where
   nothing_here ss (variable_start ∷ ts) h k l = cc
   nothing_here ss (block_start ∷ ts) h k l = no_word ss ts l
   nothing_here ss (t ∷ ts) h k l = refl
+
+  -- the other body
+  else_word : (end : List ℕ) (ts : List Token) → begins_tag (codes "else") (block_start ∷ ts) ≡ true →
+      else_by spans r p end (block_start ∷ ts) ≡ and_then (tag_end false (passed ts)) (λ x us. and_then (r.body p us) (expect_tag end))
+  unfolding and_then else_by expect_tag expect_word
+  else_word end [] h = cc
+  else_word end (identifier n ∷ ts) h =
+      ap (λ b. if b then and_then (and_then (if b then Ok (false, ts) else Err (fault (identifier n ∷ ts))) tag_end)
+      (λ x us. and_then (r.body p us) (expect_tag end)) else expect_tag end no_placed_statements (block_start ∷ identifier n ∷ ts)) h
+  else_word end (t ∷ ts) h = cc
+
+  pub else_here : (end : List ℕ) (ts : List Token) → begins_tag (codes "else") ts ≡ true →
+      else_by spans r p end ts ≡ and_then (tag_end false (passed (passed ts))) (λ x us. and_then (r.body p us) (expect_tag end))
+  else_here end [] h = cc
+  else_here end (block_start ∷ ts) h = else_word end ts h
+  else_here end (t ∷ ts) h = cc
+
+  pub no_else : (end : List ℕ) (ts : List Token) → begins_tag (codes "else") ts ≡ false →
+      else_by spans r p end ts ≡ expect_tag end no_placed_statements ts
+  unfolding else_by
+  no_else end ts h =
+      ap (λ b. if b then and_then (expect_tag (codes "else") false ts) (λ x us. and_then (r.body p us) (expect_tag end))
+      else expect_tag end no_placed_statements ts) h
 
   -- branches
   branch_word : (bs : PlacedBranches) (ts : List Token) → begins_tag (codes "elif") (block_start ∷ ts) ≡ true →

@@ -17,8 +17,6 @@ leaf_opening leaves.Break = reader.break_tag
 leaf_opening leaves.Continue = reader.continue_tag
 
 abbrev pub parent_opening : Parent → reader.Opening
-parent_opening parents.For = reader.for_tag
-parent_opening parents.If = reader.if_tag
 parent_opening parents.With = reader.with_tag
 parent_opening parents.Set = reader.set_tag
 parent_opening parents.AutoEscape = reader.autoescape_tag
@@ -28,5 +26,7 @@ parent_opening parents.Macro = reader.macro_tag
 parent_opening parents.Call = reader.call_tag
 
 abbrev pub kind_opening : Kind → reader.Opening
+kind_opening kinds.Loop = reader.for_tag
+kind_opening kinds.Condition = reader.if_tag
 kind_opening (kinds.Leaf leaf) = leaf_opening leaf
 kind_opening (kinds.Parent parent) = parent_opening parent

@@ -25,11 +25,9 @@ pub(crate) enum Leaf {
     Continue,
 }
 
-/// A statement that has a body or may have one, by the word that begins it.
+/// Another statement that has a body or may have one, by the word that begins it.
 #[derive(Clone, Copy)]
 pub(crate) enum Parent {
-    For,
-    If,
     With,
     Set,
     AutoEscape,
@@ -42,6 +40,8 @@ pub(crate) enum Parent {
 /// What a word begins.
 #[derive(Clone, Copy)]
 pub(crate) enum Kind {
+    Loop,
+    Condition,
     Leaf(Leaf),
     Parent(Parent),
 }
@@ -52,8 +52,8 @@ pub(crate) fn kind_of(opening: Opening) -> Kind
     ensures { kind_opening result ≡ opening_of opening }
 {
     match opening {
-        Opening::For => Kind::Parent(Parent::For),
-        Opening::If => Kind::Parent(Parent::If),
+        Opening::For => Kind::Loop,
+        Opening::If => Kind::Condition,
         Opening::With => Kind::Parent(Parent::With),
         Opening::Set => Kind::Parent(Parent::Set),
         Opening::AutoEscape => Kind::Parent(Parent::AutoEscape),

@@ -146,6 +146,7 @@
 //! places of nodes nothing is said here.
 #![tactic(auto)]
 
+mod behind;
 mod kinds;
 mod statements;
 

@@ -1,12 +1,12 @@
 //! Statements and their bodies: what calls itself. A body is one nesting level deeper than its statement.
-ghost use Rattle.std.specs.Prelude.{◌≡◌, IfOk};
-ghost use Rattle.template_compiler_statement_parts.specs.Parsed.{ParsedAs, SteppedTo};
+ghost use Rattle.std.specs.Prelude.{◌≡◌, [], IfOk};
+ghost use Rattle.template_compiler_statement_parts.specs.Parsed.{ParsedAs, ParsedInto, SteppedTo};
 ghost use Rattle.template_compiler_tokens.specs.Places.{next_span};
 ghost use Rattle.template_compiler_tokens.specs.Steps.{all, and_then};
 ghost use Rattle.template_compiler_statement_declarations.specs.Heads.{set_over, set_rest};
 ghost use Rattle.template_compiler_statement_makers.specs.Begun.{set_block_of};
 ghost use Rattle.template_compiler_statement_makers.specs.Branches.{branch_in, branches_in};
-ghost use Rattle.template_compiler_statement_parser.specs.Bodies.{ParsedBody, ParsedStatement};
+ghost use Rattle.template_compiler_statement_parser.specs.Bodies.{ParsedBody, ParsedStatement, PutBehind, if_rest};
 ghost use Rattle.template_compiler_statement_parser.specs.Kinds.{parent_opening};
 ghost use Rattle.template_compiler_statement_makers.specs.Surroundings.{around_of, opening_of};
 ghost use Rattle.template_compiler_stream.specs.Left.{passed};
@@ -17,11 +17,11 @@ ghost use Rattle.template_compiler_placed_grammar.specs.Views.{statement_node_of
 ghost use Rattle.template_tree_statements.specs.declared.statements.Stmt.TheVariants as statements;
 ghost use Rattle.template_compiler_statement_makers.specs.Listed.{statement_nodes_in};
 
-use crate::kinds::{Kind, Parent, kind_of, read_leaf};
+use crate::behind::{put_condition, put_leaf, put_loop, put_print, put_text};
+use crate::kinds::{Kind, Parent, kind_of};
 use std::alloc::Global;
 use template_compiler_statement_declarations as declarations;
 use template_compiler_statement_declarations::SetHead;
-use template_compiler_statement_leaves as leaves;
 use template_compiler_statement_loops as loops;
 use template_compiler_statement_makers::{Around, Opening, ends, makers, opening_named};
 use template_compiler_statement_parts as parts;
@@ -29,26 +29,28 @@ use template_compiler_statement_values::ReadsExpressions;
 use template_compiler_stream::{Fault, Refusal, TokenStream};
 use template_tree::{Span, Spanned};
 use template_tree_statements::{
-    AutoEscape, Block, CallBlock, EmitRaw, FilterBlock, ForLoop, IfCond, Macro, SetBlock, Stmt,
-    WithBlock,
+    AutoEscape, Block, CallBlock, FilterBlock, ForLoop, IfCond, Macro, SetBlock, Stmt, WithBlock,
 };
 
-// A body, one nesting level deeper.
+// A body, one nesting level deeper, into its place, which is empty.
 #[cycle(statements)]
-#[tactic(auto, unfolding(template_compiler_placed_grammar::specs::TemplateReader::deeper_body, template_compiler_placed_grammar::specs::TemplateReader::statements_at, template_compiler_placed_grammar::specs::TemplateReader::here))]
-fn body<'source, R: ReadsExpressions>(
+#[tactic(auto, unfolding(template_compiler_placed_grammar::specs::TemplateReader::deeper_body))]
+fn read_body<'source, R: ReadsExpressions>(
     alloc: Global,
     tokens: &mut TokenStream<'source>,
     left: u32,
     around: Around,
-) -> Result<Vec<Stmt<'source>>, Refusal>
-    ensures parsed { ParsedBody (deeper_body tokens.old.spans left (around_of around) tokens.old.left) tokens.new.left result }
+    body: &mut Vec<Stmt<'source>>,
+) -> Result<(), Refusal>
+    requires { body.old.items ≡ [] }
+    ensures parsed { ParsedInto (deeper_body tokens.old.spans left (around_of around) tokens.old.left) (statement_nodes_in body.new.items)
+        tokens.new.left result }
     ensures spans { tokens.new.spans ≡ tokens.old.spans }
 {
     if left == 0 {
         Err(Refusal::Token(Fault::Syntax))
     } else {
-        read_statements::<R>(alloc, tokens, left - 1, around)
+        put_statements::<R>(alloc, tokens, left - 1, around, body)
     }
 }
 
@@ -57,7 +59,6 @@ fn body<'source, R: ReadsExpressions>(
 /// # Errors
 ///
 /// The fault of the token that does not fit, or want of memory.
-#[cycle(statements)]
 #[tactic(auto, unfolding(template_compiler_placed_grammar::specs::TemplateReader::statements_at, template_compiler_placed_grammar::specs::TemplateReader::statements_by))]
 pub fn read_statements<'source, R: ReadsExpressions>(
     alloc: Global,
@@ -69,10 +70,28 @@ pub fn read_statements<'source, R: ReadsExpressions>(
     ensures spans { tokens.new.spans ≡ tokens.old.spans }
 {
     let mut statements = Vec::new(alloc);
+    put_statements::<R>(alloc, tokens, left, around, &mut statements)?;
+    Ok(statements)
+}
+
+// Reads statements behind others, up to what begins none.
+#[cycle(statements)]
+fn put_statements<'source, R: ReadsExpressions>(
+    alloc: Global,
+    tokens: &mut TokenStream<'source>,
+    left: u32,
+    around: Around,
+    statements: &mut Vec<Stmt<'source>>,
+) -> Result<(), Refusal>
+    ensures parsed { let table = tokens.old.spans in
+        ParsedInto (all (statement_step table (here table left) (around_of around)) (statement_nodes_in statements.old.items) tokens.old.left)
+        (statement_nodes_in statements.new.items) tokens.new.left result }
+    ensures spans { tokens.new.spans ≡ tokens.old.spans }
+{
     loop {
-        match next_statement::<R>(alloc, tokens, left, around, &mut statements) {
+        match next_statement::<R>(alloc, tokens, left, around, statements) {
             Ok(true) => {}
-            Ok(false) => return Ok(statements),
+            Ok(false) => return Ok(()),
             Err(refusal) => return Err(refusal),
         }
     }
@@ -80,7 +99,7 @@ pub fn read_statements<'source, R: ReadsExpressions>(
 
 // A text, a print or a tag that begins a statement.
 #[cycle(statements)]
-#[tactic(auto, using(crate::proofs::Next::print_here, crate::proofs::Next::tag_here, crate::proofs::Next::nothing_here, template_compiler_statement_makers::proofs::Lists::statement_nodes_push), unfolding(template_compiler_tokens::specs::Steps::under, template_compiler_placed_grammar::specs::TemplateReader::here, template_compiler_placed_grammar::specs::TemplateReader::here_by))]
+#[tactic(auto, using(crate::proofs::Next::print_here, crate::proofs::Next::nothing_here), unfolding(template_compiler_tokens::specs::Steps::under))]
 fn next_statement<'source, R: ReadsExpressions>(
     alloc: Global,
     tokens: &mut TokenStream<'source>,
@@ -96,16 +115,12 @@ fn next_statement<'source, R: ReadsExpressions>(
     let span = tokens.span();
     if let Some(text) = tokens.text() {
         tokens.advance();
-        parts::put(
-            statements,
-            Stmt::EmitRaw(Spanned::new(EmitRaw { raw: text }, span)),
-        )?;
+        put_text(statements, text, span)?;
         return Ok(true);
     }
     if tokens.starts_print() {
         tokens.advance();
-        let print = leaves::read_print::<R>(alloc, tokens, left, span)?;
-        parts::put(statements, Stmt::EmitExpr(print))?;
+        put_print::<R>(alloc, tokens, left, span, statements)?;
         return Ok(true);
     }
     match parts::tag_word(tokens) {
@@ -116,7 +131,7 @@ fn next_statement<'source, R: ReadsExpressions>(
 
 // The statement that the word of the next tag begins.
 #[cycle(statements)]
-#[tactic(auto, using(template_compiler_statement_makers::proofs::Lists::statement_nodes_push), unfolding(template_compiler_tokens::specs::Steps::under, template_compiler_placed_grammar::specs::TemplateReader::opened_step))]
+#[tactic(auto, unfolding(template_compiler_tokens::specs::Steps::under, template_compiler_placed_grammar::specs::TemplateReader::opened_step))]
 fn next_tag<'source, R: ReadsExpressions>(
     alloc: Global,
     tokens: &mut TokenStream<'source>,
@@ -136,37 +151,66 @@ fn next_tag<'source, R: ReadsExpressions>(
             let span = tokens.span();
             tokens.advance();
             tokens.advance();
-            parts::put(
-                statements,
-                opened::<R>(alloc, tokens, left, around, opening, span)?,
-            )?;
+            put_opened::<R>(alloc, tokens, left, around, opening, span, statements)?;
             Ok(true)
         }
         None => Ok(false),
     }
 }
 
-// A statement, behind the word that begins it.
+// A statement, behind the word that begins it. Loops and conditions are most of them.
 #[cycle(statements)]
-fn opened<'source, R: ReadsExpressions>(
+fn put_opened<'source, R: ReadsExpressions>(
     alloc: Global,
     tokens: &mut TokenStream<'source>,
     left: u32,
     around: Around,
     opening: Opening,
     span: Span,
-) -> Result<Stmt<'source>, Refusal>
+    statements: &mut Vec<Stmt<'source>>,
+) -> Result<(), Refusal>
     ensures parsed { let table = tokens.old.spans in
-        ParsedStatement (opened_by table (here table left) (around_of around) (opening_of opening) span tokens.old.left) tokens.new.left result }
+        PutBehind (opened_by table (here table left) (around_of around) (opening_of opening) span tokens.old.left)
+        (statement_nodes_in statements.old.items) (statement_nodes_in statements.new.items) tokens.new.left result }
     ensures spans { tokens.new.spans ≡ tokens.old.spans }
 {
     match kind_of(opening) {
-        Kind::Leaf(leaf) => read_leaf::<R>(alloc, tokens, left, around, leaf, span),
-        Kind::Parent(parent) => read_parent::<R>(alloc, tokens, left, around, parent, span),
+        Kind::Loop => put_loop(
+            statements,
+            for_loop::<R>(alloc, tokens, left, around, span)?,
+        ),
+        Kind::Condition => put_condition(
+            statements,
+            if_condition::<R>(alloc, tokens, left, around, span)?,
+        ),
+        Kind::Leaf(leaf) => put_leaf::<R>(alloc, tokens, left, around, leaf, span, statements),
+        Kind::Parent(parent) => {
+            put_parent::<R>(alloc, tokens, left, around, parent, span, statements)
+        }
     }
 }
 
-// A statement that has a body or may have one.
+// Another statement that has a body or may have one.
+#[cycle(statements)]
+#[inline(never)]
+fn put_parent<'source, R: ReadsExpressions>(
+    alloc: Global,
+    tokens: &mut TokenStream<'source>,
+    left: u32,
+    around: Around,
+    parent: Parent,
+    span: Span,
+    statements: &mut Vec<Stmt<'source>>,
+) -> Result<(), Refusal>
+    ensures parsed { let table = tokens.old.spans in
+        PutBehind (opened_by table (here table left) (around_of around) (parent_opening parent) span tokens.old.left)
+        (statement_nodes_in statements.old.items) (statement_nodes_in statements.new.items) tokens.new.left result }
+    ensures spans { tokens.new.spans ≡ tokens.old.spans }
+{
+    let statement = read_parent::<R>(alloc, tokens, left, around, parent, span)?;
+    parts::put(statements, statement)
+}
+
 #[cycle(statements)]
 #[tactic(auto, unfolding(template_compiler_placed_grammar::specs::TemplateReader::opened_by))]
 fn read_parent<'source, R: ReadsExpressions>(
@@ -182,8 +226,6 @@ fn read_parent<'source, R: ReadsExpressions>(
     ensures spans { tokens.new.spans ≡ tokens.old.spans }
 {
     match parent {
-        Parent::For => return for_loop::<R>(alloc, tokens, left, around, span).map(Stmt::ForLoop),
-        Parent::If => return if_condition::<R>(alloc, tokens, left, around, span).map(Stmt::IfCond),
         Parent::With => return with_block::<R>(alloc, tokens, left, around, span).map(
             Stmt::WithBlock,
         ),
@@ -214,31 +256,37 @@ fn ended_body<'source, R: ReadsExpressions>(
         ParsedBody (and_then (deeper_body table left (around_of around) tokens.old.left) (expect_tag end.now)) tokens.new.left result }
     ensures spans { tokens.new.spans ≡ tokens.old.spans }
 {
-    let body = body::<R>(alloc, tokens, left, around)?;
+    let mut body = Vec::new(alloc);
+    read_body::<R>(alloc, tokens, left, around, &mut body)?;
     parts::expect_tag(tokens, end)?;
     Ok(body)
 }
 
-// The other body, where there is one, and the tag that ends the statement.
+// The other body, where there is one, into its place, which is empty, and the tag that ends the statement.
 #[cycle(statements)]
-#[tactic(auto, using(template_compiler_statement_parts::proofs::Again::tag_again), unfolding(template_compiler_tokens::specs::Steps::and_then, template_compiler_placed_grammar::specs::TemplateReader::here, template_compiler_placed_grammar::specs::TemplateReader::here_by, template_compiler_placed_grammar::specs::TemplateReader::else_by))]
+#[inline(always)]
 fn otherwise<'source, R: ReadsExpressions>(
     alloc: Global,
     tokens: &mut TokenStream<'source>,
     left: u32,
     around: Around,
     end: &str,
-) -> Result<Vec<Stmt<'source>>, Refusal>
+    other: &mut Vec<Stmt<'source>>,
+) -> Result<(), Refusal>
+    requires empty { other.old.items ≡ [] }
     ensures parsed { let table = tokens.old.spans in
-        ParsedBody (else_by table (here table left) (around_of around) end.now tokens.old.left) tokens.new.left result }
+        ParsedInto (else_by table (here table left) (around_of around) end.now tokens.old.left) (statement_nodes_in other.new.items)
+        tokens.new.left result }
     ensures spans { tokens.new.spans ≡ tokens.old.spans }
 {
     if parts::begins_tag(tokens, "else") {
-        parts::expect_tag(tokens, "else")?;
-        ended_body::<R>(alloc, tokens, left, around, end)
+        tokens.advance();
+        tokens.advance();
+        parts::expect_tag_end(tokens)?;
+        read_body::<R>(alloc, tokens, left, around, other)?;
+        parts::expect_tag(tokens, end)
     } else {
-        parts::expect_tag(tokens, end)?;
-        Ok(Vec::new(alloc))
+        parts::expect_tag(tokens, end)
     }
 }
 
@@ -257,14 +305,27 @@ fn for_loop<'source, R: ReadsExpressions>(
         tokens.new.left result }
     ensures spans { tokens.new.spans ≡ tokens.old.spans }
 {
-    let head = loops::read_for::<R>(alloc, tokens, left, span)?;
-    let body = body::<R>(alloc, tokens, left, around.within_loop())?;
-    let else_body = otherwise::<R>(alloc, tokens, left, around, "endfor")?;
-    Ok(ends::for_loop(head, body, else_body, tokens.expand_span(span)))
+    let mut head = loops::read_for::<R>(alloc, tokens, left, span)?;
+    read_body::<R>(
+        alloc,
+        tokens,
+        left,
+        around.within_loop(),
+        &mut head.node.body,
+    )?;
+    otherwise::<R>(
+        alloc,
+        tokens,
+        left,
+        around,
+        "endfor",
+        &mut head.node.else_body,
+    )?;
+    Ok(ends::for_loop(head, tokens.expand_span(span)))
 }
 
-// A condition, behind its word: its head and its body, the branches behind it, and what stands for the case that none holds.
-// Each branch becomes the other body of the one before it.
+// A condition, behind its word: its head and its body, and what stands for the case that it does not hold, perhaps behind
+// other branches.
 #[cycle(statements)]
 fn if_condition<'source, R: ReadsExpressions>(
     alloc: Global,
@@ -278,9 +339,41 @@ fn if_condition<'source, R: ReadsExpressions>(
         tokens.new.left result }
     ensures spans { tokens.new.spans ≡ tokens.old.spans }
 {
-    let first = read_branch::<R>(alloc, tokens, left, around, span)?;
+    let mut branch = read_branch::<R>(alloc, tokens, left, around, span)?;
+    if parts::begins_tag(tokens, "elif") {
+        return if_chain::<R>(alloc, tokens, left, around, branch, span);
+    }
+    otherwise::<R>(
+        alloc,
+        tokens,
+        left,
+        around,
+        "endif",
+        &mut branch.node.false_body,
+    )?;
+    Ok(ends::condition(branch, tokens.expand_span(span)))
+}
+
+// A condition behind its first branch, where others stand: these, and what stands for the case that none holds. Each branch
+// becomes the other body of the one before it.
+#[cycle(statements)]
+#[inline(never)]
+fn if_chain<'source, R: ReadsExpressions>(
+    alloc: Global,
+    tokens: &mut TokenStream<'source>,
+    left: u32,
+    around: Around,
+    first: Box<Spanned<IfCond<'source>>>,
+    span: Span,
+) -> Result<Box<Spanned<IfCond<'source>>>, Refusal>
+    ensures parsed { let table = tokens.old.spans in
+        ParsedAs (λ n. statement_node_of (statements.IfCond n)) (if_rest table (here table left) (around_of around) span (branch_in first.entry)
+        tokens.old.left) tokens.new.left result }
+    ensures spans { tokens.new.spans ≡ tokens.old.spans }
+{
     let others = branches::<R>(alloc, tokens, left, around)?;
-    let last = otherwise::<R>(alloc, tokens, left, around, "endif")?;
+    let mut last = Vec::new(alloc);
+    otherwise::<R>(alloc, tokens, left, around, "endif", &mut last)?;
     let whole = tokens.expand_span(span);
     let false_body = ends::branched(alloc, others, last, whole)?;
     Ok(makers::otherwise(first, false_body, whole))
@@ -298,11 +391,12 @@ fn read_branch<'source, R: ReadsExpressions>(
     ensures parsed { let table = tokens.old.spans in
         ParsedAs branch_in (branch_by table (here table left) (around_of around) tokens.old.left) tokens.new.left result }
     ensures span { IfOk result (λ branch. branch.value.span ≡ span) }
+    ensures no_other { IfOk result (λ branch. branch.value.node.false_body.items ≡ []) }
     ensures spans { tokens.new.spans ≡ tokens.old.spans }
 {
-    let head = loops::read_branch::<R>(alloc, tokens, left, span)?;
-    let body = body::<R>(alloc, tokens, left, around)?;
-    Ok(ends::branch(head, body))
+    let mut head = loops::read_branch::<R>(alloc, tokens, left, span)?;
+    read_body::<R>(alloc, tokens, left, around, &mut head.node.true_body)?;
+    Ok(head)
 }
 
 // The branches behind the first one.
@@ -470,7 +564,8 @@ fn block<'source, R: ReadsExpressions>(
     ensures spans { tokens.new.spans ≡ tokens.old.spans }
 {
     let head = declarations::read_block(tokens, around.in_macro)?;
-    let body = body::<R>(alloc, tokens, left, around.within_block())?;
+    let mut body = Vec::new(alloc);
+    read_body::<R>(alloc, tokens, left, around.within_block(), &mut body)?;
     declarations::read_block_end(alloc, tokens, head, body, span)
 }
 
