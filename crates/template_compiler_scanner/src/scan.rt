@@ -1,6 +1,7 @@
 //! One token.
-ghost use Rattle.std.specs.Prelude.{◌≡◌, ◌<◌, IfOk, IfSome, Ok, length, take_while};
-ghost use Rattle.template_compiler_tokens.specs.Lexical.{is_name_part};
+ghost use Rattle.std.specs.Prelude.{◌≡◌, ◌<◌, IfNone, IfOk, IfSome, Ok, false, length, slice_index, take_while};
+ghost use Rattle.template_compiler_tokens.specs.Lexical.{IsSign, is_name_part, is_name_start as name_start};
+ghost use Rattle.template_compiler_tokens.specs.Token.{bad, bad_syntax};
 ghost use Rattle.std.specs.Str.{IsCharBoundary};
 ghost use Rattle.template_compiler_tokens.specs.declared.token.Token.TheVariants.{Ident};
 ghost use Rattle.template_compiler_scanner.specs.Scans.{Scans};
@@ -49,6 +50,7 @@ pub fn scan_name(text: &str) -> Option<&str>
     ensures token { IfSome result (λ name. Scans text.now (Ok (Ident name, length name.now))) }
     ensures cut { IfSome result (λ name. IsCharBoundary text.now (length name.now)) }
     ensures some { IfSome result (λ name. 0 < length name.now) }
+    ensures none { IfNone result (name_start (slice_index text.now 0) ≡ false) }
 {
     let bytes = text.as_bytes();
     if is_name_start(byte_at(bytes, 0)) {
@@ -64,6 +66,7 @@ pub fn scan_mark<'source>(text: &str) -> Option<(Token<'source>, usize)>
     ensures token { IfSome result (λ found. Scans text.now (Ok found)) }
     ensures cut { IfSome result (λ found. IsCharBoundary text.now found.1) }
     ensures some { IfSome result (λ found. 0 < found.1) }
+    ensures none { IfNone result (IsSign text.now (bad bad_syntax) 0) }
 {
     match scan_sign(text.as_bytes()) {
         Ok(found) => Some(found),

@@ -12,4 +12,4 @@ returns-in-Ok c =
     let r : Result (Token × ℕ) ErrorKind = Ok found in
     let sign : ScansSign s r = rw c.as_bytes.ensures.value at c.in-Ok.ensures in
     let token : Scans s r = sign_scans s r (sign_stands s found.0 found.1 sign) sign in
-    record { token = token; cut = scans_cut s r c.utf8.text token; some = scans_some s r token }
+    record { token = token; cut = scans_cut s r c.utf8.text token; some = scans_some s r token; none = tt }

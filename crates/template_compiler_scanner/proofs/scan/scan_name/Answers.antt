@@ -28,4 +28,4 @@ returns-then-is_name_start c =
     let r : Result (Token × ℕ) ErrorKind = Ok (Ident name, length name.now) in
     let token : Scans s r =
     begins name_class s (identifier name.now) (length name.now) (class_name (slice_index s 0) start) (ap identifier whole, ap length whole) in
-    record { token = token; cut = scans_cut s r c.utf8.text token; some = scans_some s r token }
+    record { token = token; cut = scans_cut s r c.utf8.text token; some = scans_some s r token; none = tt }
