@@ -1,5 +1,5 @@
 -- How the search for start markers finds the next one.
-use Rattle.std.proofs.Common.{◌≡◌, ℕ, ◌+◌, ◌<◌, ◌≤◌, inl, inr, List, [], ◌∷◌, length, drop, slice_index, Option, None, Some, sym, ◌∙◌, ap, subst, arith, get_or-drop, zero-add}
+use Rattle.std.proofs.Common.{◌≡◌, ℕ, ◌+◌, ◌<◌, ◌≤◌, inl, inr, List, [], ◌∷◌, length, drop, slice_index, Option, None, Some, sym, ◌∙◌, ap, subst, arith, get_or-drop, zero-add, length-take, length-drop}
 use Rattle.std.proofs.lemmas.Bool.{cases_lt, cases_eq}
 use Rattle.std.proofs.lemmas.List.{get_or-take, get_or_past}
 use Rattle.memchr.specs.Find.{IsFirstByte, is_byte}
@@ -226,3 +226,17 @@ braces_nowhere s rest from at e never none k above braces =
         | inr past ↦ (let zero' = get_or_past s k 0 past in let is = braces.0 in absurd (omega arith))
       ]
     ]
+
+-- the start markers of the default syntax are of two bytes
+pub default_len : (x : Syntax) (k : StartMarker) → HasDefaultStarts x → IsSet (start_text x k) → length (start_text x k) ≡ 2
+default_len x Variable d set = ap length d.variable_start
+default_len x Block d set = ap length d.block_start
+default_len x Comment d set = ap length d.comment_start
+default_len x LineStatement d set = absurd (set d.line_statement_prefix)
+default_len x LineComment d set = absurd (set d.line_comment_prefix)
+
+pub default_within : (x : Syntax) (s : List ℕ) (from i : ℕ) (k : StartMarker) → HasDefaultStarts x → IsNextStart x s from i k → i + 2 ≤ length s
+default_within x s from i k d start =
+    let text = start_text x k in
+    let two = default_len x k d start.here.is_set in
+    omega (arith, two, ap length start.here.stands, length-take (length text) (drop i s), length-drop i s)

@@ -5,7 +5,7 @@ ghost use Rattle.std.specs.Bool.{OnTrue};
 ghost use Rattle.template_compiler_syntax.specs.Syntax.{Syntax, IsSet, HasDefaultStarts, start_text as start_of};
 ghost use Rattle.template_compiler_syntax.specs.declared.StartMarker.{StartMarker};
 ghost use Rattle.template_compiler_segments.specs.Places.{IsFirst, IsNowhere};
-ghost use Rattle.template_compiler_segments.specs.Segments.{IsEligible, start_sign as sign_of_start};
+ghost use Rattle.template_compiler_segments.specs.Segments.{IsEligible, inside_from as the_inside_from, start_sign as sign_of_start};
 ghost use Rattle.template_compiler_segments.specs.Known.{IsKnown, IsSought, IsNearer, StaysNearest, IsNextOrNone, IsBraces, IsBracesOf};
 
 use crate::edges::Sign;
@@ -96,16 +96,32 @@ impl StartFinder {
         ensures found { FindsStart syntax.now bytes.now from result }
         ensures knows { Knows syntax.now bytes.now from self.new }
     {
-        match self.next_start(bytes, syntax, from) {
+        if self.has_default_starts {
+            match find_braces(bytes, from) {
+                Some((place, kind)) => Some(start_at(bytes, kind, place, place + 2)),
+                None => None,
+            }
+        } else {
+            self.find_nearest_start(bytes, syntax, from)
+        }
+    }
+
+    #[inline(never)]
+    fn find_nearest_start(
+        &mut self,
+        bytes: &[u8],
+        syntax: &SyntaxConfig,
+        from: usize,
+    ) -> Option<Start>
+        requires within { from ≤ length bytes.now }
+        requires knows { Knows syntax.now bytes.now from self.old }
+        ensures found { FindsStart syntax.now bytes.now from result }
+        ensures knows { Knows syntax.now bytes.now from self.new }
+    {
+        match self.find_nearest(bytes, syntax, from) {
             Some((place, kind)) => {
-                let behind = place + marker_len(self.has_default_starts, syntax, kind);
-                let sign = sign_behind(bytes, kind, behind);
-                Some(Start {
-                    kind,
-                    sign,
-                    place,
-                    inside: behind + sign.width(),
-                })
+                let behind = place + start_len(syntax, kind);
+                Some(start_at(bytes, kind, place, behind))
             }
             None => None,
         }
@@ -153,29 +169,25 @@ impl StartFinder {
     }
 }
 
-// How long the start markers of the kind are, where there are any. Those of the default syntax are of two bytes.
-fn marker_len(has_default_starts: bool, syntax: &SyntaxConfig, kind: StartMarker) -> usize
-    requires default { OnTrue has_default_starts (HasDefaultStarts syntax.now) }
-    requires set { IsSet (start_of syntax.now kind) }
-    ensures { result ≡ length (start_of syntax.now kind) }
-{
-    if has_default_starts {
-        2
-    } else {
-        start_len(syntax, kind)
-    }
-}
-
-// The sign of a start marker of the kind, which ends at the place.
-fn sign_behind(bytes: &[u8], kind: StartMarker, behind: usize) -> Sign
+// The start marker of the kind that stands between two places.
+fn start_at(bytes: &[u8], kind: StartMarker, place: usize, behind: usize) -> Start
     requires { behind ≤ length bytes.now }
-    ensures { (x : Syntax) (place : ℕ) → behind ≡ place + length (start_of x kind) → result ≡ sign_of_start x bytes.now kind place }
+    ensures kind { result.kind ≡ kind }
+    ensures place { result.place ≡ place }
+    ensures sign { (x : Syntax) → behind ≡ place + length (start_of x kind) → result.sign ≡ sign_of_start x bytes.now kind place }
+    ensures inside { (x : Syntax) → behind ≡ place + length (start_of x kind) → result.inside ≡ the_inside_from x bytes.now kind place }
 {
-    match kind {
+    let sign = match kind {
         StartMarker::Variable | StartMarker::Block | StartMarker::Comment => Sign::at(
             bytes, behind,
         ),
         StartMarker::LineStatement | StartMarker::LineComment => Sign::Plain,
+    };
+    Start {
+        kind,
+        sign,
+        place,
+        inside: behind + sign.width(),
     }
 }
 

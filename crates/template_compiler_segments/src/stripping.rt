@@ -27,15 +27,37 @@ pub fn data_text<'source>(
         result.now ≡ stretch source.now begin (stripped_to syntax.now source.now right begin to) }
     ensures within { stripped_to syntax.now source.now right (stripped_from syntax.now source.now left from to) to ≤ to }
 {
+    data_between(source, syntax, left, right, from, to).0
+}
+
+/// The same, and where it begins.
+#[inline(always)]
+pub fn data_between<'source>(
+    source: &'source str,
+    syntax: &SyntaxConfig,
+    left: Edge,
+    right: Edge,
+    from: usize,
+    to: usize,
+) -> (&'source str, usize)
+    requires ordered { from ≤ to }
+    requires start { IsCharBoundary source.now from }
+    requires end { IsCharBoundary source.now to }
+    ensures text { let begin = stripped_from syntax.now source.now left from to in
+        result.0.now ≡ stretch source.now begin (stripped_to syntax.now source.now right begin to) }
+    ensures within { stripped_to syntax.now source.now right (stripped_from syntax.now source.now left from to) to ≤ to }
+    ensures begin { result.1 ≡ stripped_from syntax.now source.now left from to }
+    ensures ahead { from ≤ result.1 }
+{
     let text = without_start(&source[from..to], syntax, left);
+    let begin = to - text.len();
     if is_minus(right) {
-        text.trim_end()
+        (text.trim_end(), begin)
     } else if strips_blanks(syntax, right) {
-        let start = to - text.len();
         let end = less_blanks(source.as_bytes(), to);
-        text.split_at(end.saturating_sub(start)).0
+        (text.split_at(end.saturating_sub(begin)).0, begin)
     } else {
-        text
+        (text, begin)
     }
 }
 

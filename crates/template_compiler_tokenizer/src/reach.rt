@@ -18,7 +18,7 @@ use crate::starts::inside_from;
 use crate::words::{may_begin_with, only_word};
 use template_compiler_places::{Stretch, next_span};
 use template_compiler_segments::{
-    Edge, Sign, Start, StartFinder, comment_sign, data_start, data_text, find_text,
+    Edge, Sign, Start, StartFinder, comment_sign, data_between, find_text,
 };
 use template_compiler_syntax::{StartMarker, SyntaxConfig};
 use template_compiler_tokens::Token;
@@ -89,11 +89,10 @@ fn read_last<'source>(
         tokens.new.items next behind result }
 {
     let to = source.len();
-    let text = data_text(source, syntax, left, Edge::Nothing, from, to);
+    let (text, begin) = data_between(source, syntax, left, Edge::Nothing, from, to);
     if is_nothing(text) {
         return Reached::End;
     }
-    let begin = data_start(source, syntax, left, from, to);
     let mut stretch = stretch;
     let token = Token::TemplateData(text);
     match hold_token(
@@ -133,11 +132,10 @@ fn hold_data<'source>(
         return Ok(());
     }
     let right = Edge::Beside(start.kind, start.sign);
-    let text = data_text(source, syntax, left, right, from, start.place);
+    let (text, begin) = data_between(source, syntax, left, right, from, start.place);
     if is_nothing(text) {
         return Ok(());
     }
-    let begin = data_start(source, syntax, left, from, start.place);
     let token = Token::TemplateData(text);
     hold_token(source, token, begin, begin + text.len(), stretch, tokens)
 }

@@ -32,11 +32,11 @@ returns-then-is_nothing c =
     let from = c.args.from in
     let start = c.args.start.place in
     let left = c.args.left in
-    let text = c.data_text-text.result.now in
+    let text = c.data_between-begin.result.0.now in
     let begin = stripped_from x s left from start in
     let signs = c.requires.sign in
-    let e = subst (λ g. text ≡ stretch s begin (stripped_to x s (Beside kind g) begin start)) signs c.data_text-text.ensures.text in
-    let bound = subst (λ g. stripped_to x s (Beside kind g) begin start ≤ start) signs c.data_text-text.ensures.within in
+    let e = subst (λ g. text ≡ stretch s begin (stripped_to x s (Beside kind g) begin start)) signs c.data_between-begin.ensures.text in
+    let bound = subst (λ g. stripped_to x s (Beside kind g) begin start ≤ start) signs c.data_between-begin.ensures.within in
     let within = c.requires.place.0 in
     let none = c.is_nothing.ensures.0 c.if-is_nothing.true in
     let high : stripped_to x s (Beside kind (start_sign x s kind start)) begin start ≤ length s = omega arith in
@@ -55,16 +55,16 @@ returns c =
     let from = c.args.from in
     let start = c.args.start.place in
     let left = c.args.left in
-    let text = c.data_text-text.result.now in
+    let text = c.data_between-begin.result.0.now in
     let begin = stripped_from x s left from start in
     let signs = c.requires.sign in
     let stop = stripped_to x s (Beside kind (start_sign x s kind start)) begin start in
-    let e : text ≡ stretch s begin stop = subst (λ g. text ≡ stretch s begin (stripped_to x s (Beside kind g) begin start)) signs c.data_text-text.ensures.text in
-    let bound : stop ≤ start = subst (λ g. stripped_to x s (Beside kind g) begin start ≤ start) signs c.data_text-text.ensures.within in
+    let e : text ≡ stretch s begin stop = subst (λ g. text ≡ stretch s begin (stripped_to x s (Beside kind g) begin start)) signs c.data_between-begin.ensures.text in
+    let bound : stop ≤ start = subst (λ g. stripped_to x s (Beside kind g) begin start ≤ start) signs c.data_between-begin.ensures.within in
     let within = c.requires.place.0 in
     let high : stop ≤ length s = omega arith in
-    let at = c.data_start-begin.ensures.start in
-    let first = c.data_start-begin.result in
+    let at = c.data_between-begin.ensures.begin in
+    let first = c.data_between-begin.result.1 in
     elim (data_next x s c.requires.usable left from start kind text c.requires.start e high) [
       | inl empty ↦ absurd (false≢true (sym c.if-is_nothing.false ∙ c.is_nothing.ensures.1 empty.0))
       | inr some ↦

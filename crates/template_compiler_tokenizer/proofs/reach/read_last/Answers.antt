@@ -12,9 +12,9 @@ pub returns-then-is_nothing : goal.returns-then-is_nothing
 returns-then-is_nothing c = λ next behind.
     let x = c.args.syntax.now in
     let s = c.args.source.now in
-    let text = c.data_text-text.result.now in
+    let text = c.data_between-begin.result.0.now in
     let none = c.is_nothing.ensures.0 c.if-is_nothing.true in
-    elim (data_last x s c.requires.usable c.args.left c.args.from text c.requires.none c.data_text-text.ensures.text) [
+    elim (data_last x s c.requires.usable c.args.left c.args.from text c.requires.none c.data_between-begin.ensures.text) [
       | inl empty ↦ ap (λ ps. spanned_of c.args.tokens.now.items ++ spans_in s ps) empty.1
       | inr some ↦ absurd (let long = some.0 in omega arith)
     ]
@@ -23,9 +23,9 @@ pub returns-in-Ok : goal.returns-in-Ok
 returns-in-Ok c = λ next behind.
     let x = c.args.syntax.now in
     let s = c.args.source.now in
-    let text = c.data_text-text.result.now in
-    let at = c.data_start-begin.ensures.start in
-    elim (data_last x s c.requires.usable c.args.left c.args.from text c.requires.none c.data_text-text.ensures.text) [
+    let text = c.data_between-begin.result.0.now in
+    let at = c.data_between-begin.ensures.begin in
+    elim (data_last x s c.requires.usable c.args.left c.args.from text c.requires.none c.data_between-begin.ensures.text) [
       | inl empty ↦ absurd (false≢true (sym c.if-is_nothing.false ∙ c.is_nothing.ensures.1 empty.0))
       | inr some ↦
           ap (λ ps. spanned_of c.args.tokens.now.items ++ spans_in s ps)

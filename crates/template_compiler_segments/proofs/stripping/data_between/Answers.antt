@@ -1,7 +1,7 @@
 use Rattle.std.proofs.Common.{sym, ◌∙◌, ap}
 use Rattle.template_compiler_segments.specs.Stripping.{stripped_from, less_blanks}
 use Rattle.template_compiler_segments.proofs.Data.{begun_text, begin_at, minus_text, blanks_text, rest_text, blanks_cut, minus_within, blanks_within, rest_within}
-use Rattle.template_compiler_segments.proofs.stripping.data_text.Goals as goal
+use Rattle.template_compiler_segments.proofs.stripping.data_between.Goals as goal
 
 pub split_at-requires : goal.split_at-requires
 split_at-requires c =
