@@ -14,7 +14,7 @@ use Rattle.template_compiler_grammar.specs.Words.{literal_word}
 use Rattle.template_compiler_stream.specs.Left.{passed}
 use Rattle.template_compiler_stream.specs.Signs.{next_word}
 
-pub word_primary : (spans : List Span) (n : List ℕ) (ts : List Token) → Some n ≡ next_word ts →
+word_primary : (spans : List Span) (n : List ℕ) (ts : List Token) → Some n ≡ next_word ts →
     primary_by spans nothing_deeper ts ≡ Ok (node (word_tree (literal_word n) n) (next_span spans ts) no_parts, passed ts)
 unfolding primary_by
 word_primary spans n [] e = cc
@@ -22,6 +22,15 @@ word_primary spans n (identifier m ∷ ts) e =
     (let same : m ≡ n = cc in
     ap (λ k. Ok (node (word_tree (literal_word k) k) (next_span spans (identifier m ∷ ts)) no_parts, ts)) same)
 word_primary spans n (t ∷ ts) e = cc
+
+pub word_first : (spans : List Span) (n : List ℕ) (start : Span) (old new : List Token) (r : Result Expr Refusal) → Some n ≡ next_word old →
+    start ≡ next_span spans old → new ≡ passed old → Parsed (Ok (node (word_tree (literal_word n) n) start no_parts, new)) new r →
+    Parsed (primary_by spans nothing_deeper old) new r
+word_first spans n start old new r e f g h =
+    let whole : primary_by spans nothing_deeper old ≡ Ok (node (word_tree (literal_word n) n) start no_parts, new) =
+    word_primary spans n old e ∙ ap (λ s. Ok (node (word_tree (literal_word n) n) s no_parts, passed old)) (sym f) ∙
+    ap (λ us. Ok (node (word_tree (literal_word n) n) start no_parts, us)) (sym g) in
+    subst (λ m. Parsed m new r) (sym whole) h
 
 -- a primary without brackets, by its first token
 literal_same : (spans : List Span) (t : Token) (ts : List Token) →

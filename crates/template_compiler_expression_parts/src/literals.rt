@@ -83,7 +83,7 @@ fn parts(tokens: &mut TokenStream, name: String) -> Result<String, AllocError>
 /// # Errors
 ///
 /// The fault of the token that is none of these, or want of memory.
-#[tactic(auto, using(crate::proofs::Words::word_primary), unfolding(template_compiler_placed_grammar::specs::Reader::primary_by))]
+#[tactic(auto, unfolding(template_compiler_placed_grammar::specs::Reader::primary_by))]
 #[inline(always)]
 pub fn literal<'source>(
     alloc: Global,
@@ -95,7 +95,7 @@ pub fn literal<'source>(
     if let Some(name) = tokens.word() {
         let span = tokens.span();
         tokens.advance();
-        return word(alloc, name, span).map_err(Refusal::from);
+        return named(alloc, name, span);
     }
     match tokens.take() {
         First::Token(token, span) => literal_from(alloc, tokens, token, span),
@@ -117,7 +117,7 @@ fn literal_from<'source>(
     ensures spans { tokens.new.spans ≡ tokens.old.spans }
 {
     match token {
-        Token::Ident(name) => word(alloc, name, span).map_err(Refusal::from),
+        Token::Ident(name) => named(alloc, name, span),
         Token::Int(n) => Expr::constant(alloc, Value::from_int(i128::from(n)), span).map_err(
             Refusal::from,
         ),
@@ -130,11 +130,11 @@ fn literal_from<'source>(
 
 // A name, or a word that is a literal.
 #[inline(always)]
-fn word<'source>(alloc: Global, name: &'source str, span: Span) -> Result<Expr<'source>, AllocError>
-    ensures { IfOk result (λ e. node_of e ≡ node (word_tree (literal_word name.now) name.now) span no_parts) }
+fn named<'source>(alloc: Global, name: &'source str, span: Span) -> Result<Expr<'source>, Refusal>
+    ensures { (ts : List lexed.Token) → Parsed (Ok (node (word_tree (literal_word name.now) name.now) span no_parts, ts)) ts result }
 {
     match literal_word(name) {
-        Some(value) => Expr::constant(alloc, value, span),
+        Some(value) => Ok(Expr::constant(alloc, value, span)?),
         None => Ok(Expr::variable(name, span)),
     }
 }
