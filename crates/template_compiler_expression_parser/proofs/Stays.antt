@@ -155,11 +155,11 @@ parsed_stays m go new (Ok e) h p = then_goes go p (h (node_of e))
 parsed_stays m go new (Err (refusals.Token f)) h p = then_fails go p
 parsed_stays m go new (Err refusals.OutOfMemory) h p = tt
 
-pub parsed_behind : {m : Read Node} (go : Node → List Token → Read Node) (a : Node) (mid new : List Token) (x : Result Expr Refusal) →
+parsed_behind : {m : Read Node} (go : Node → List Token → Read Node) (a : Node) (mid new : List Token) (x : Result Expr Refusal) →
     m ≡ Ok (a, mid) → Parsed (go a mid) new x → Parsed (and_then m go) new x
 parsed_behind go a mid new x e p = subst (λ q. Parsed q new x) (sym (then_goes go e refl)) p
 
-pub refused_then : {A B : Type 0} (m : Read A) (go : A → List Token → Read B) (e : Refusal) → Refused m e → Refused (and_then m go) e
+refused_then : {A B : Type 0} (m : Read A) (go : A → List Token → Read B) (e : Refusal) → Refused m e → Refused (and_then m go) e
 refused_then m go (refusals.Token f) h = then_fails go h
 refused_then m go refusals.OutOfMemory h = tt
 
@@ -202,7 +202,7 @@ module _ (spans : List Span) (r : Deeper) (ts : List Token) where
   compare a us =
       and_then (all (link_step spans (terms_by spans r)) no_placed_links us) (λ ls vs. Ok (compared_node a ls (stretch spans ts vs), vs))
 
-  pub comparison_stays : (new : List Token) (x : Result Expr Refusal) → HasNoLink new → Parsed (terms_by spans r ts) new x →
+  comparison_stays : (new : List Token) (x : Result Expr Refusal) → HasNoLink new → Parsed (terms_by spans r ts) new x →
       Parsed (comparison_by spans r ts) new x
   unfolding comparison_by
   comparison_stays new x h p =
@@ -210,12 +210,7 @@ module _ (spans : List Span) (r : Deeper) (ts : List Token) where
       (λ a. then_goes (λ ls vs. Ok (compared_node a ls (stretch spans ts vs), vs))
       (all_stops (link_step spans (terms_by spans r)) no_placed_links new (link_ends spans (terms_by spans r) no_placed_links new h)) refl) p
 
-  pub comparison_goes : (a : Node) (mid new : List Token) (x : Result Expr Refusal) → terms_by spans r ts ≡ Ok (a, mid) →
-      Parsed (comparison_from spans r start a mid) new x → Parsed (comparison_by spans r ts) new x
-  unfolding comparison_by
-  comparison_goes a mid new x e p = parsed_behind compare a mid new x e p
-
-  pub comparison_refused : (e : Refusal) → Refused (terms_by spans r ts) e → Refused (comparison_by spans r ts) e
+  comparison_refused : (e : Refusal) → Refused (terms_by spans r ts) e → Refused (comparison_by spans r ts) e
   unfolding comparison_by
   comparison_refused e h = refused_then _ compare e h
 
@@ -238,7 +233,7 @@ module _ (spans : List Span) (r : Deeper) (ts : List Token) where
   unfolding power_by filtered_by
   power_refused e h = refused_then _ (power_behind spans r start) e (refused_then _ (all (filter_step spans r start)) e h)
 
-  pub operators_stay : (new : List Token) (x : Result Expr Refusal) → HasNoOperator new → Parsed (unary_by spans r ts) new x →
+  operators_stay : (new : List Token) (x : Result Expr Refusal) → HasNoOperator new → Parsed (unary_by spans r ts) new x →
       Parsed (comparison_by spans r ts) new x
   operators_stay new x h p = comparison_stays new x h.1 (sum_stays new x h.2 (power_stays new x h.0 p))
 
@@ -256,24 +251,24 @@ module _ (spans : List Span) (r : Deeper) (ts : List Token) where
       behind_all (and_then (all (filter_step spans r start) a mid) (power_behind spans r start)) (level factors (operand_by spans r factors))
       (level texts (operand_by spans r texts)) (level terms (operand_by spans r terms)) compare
 
-  pub operators_go : (a : Node) (mid new : List Token) (x : Result Expr Refusal) → unary_by spans r ts ≡ Ok (a, mid) →
+  operators_go : (a : Node) (mid new : List Token) (x : Result Expr Refusal) → unary_by spans r ts ≡ Ok (a, mid) →
       Parsed (operators_from spans r start a mid) new x → Parsed (comparison_by spans r ts) new x
   operators_go a mid new x e p = subst (λ q. Parsed q new x) (sym (operators_are a mid e)) p
 
-  pub operators_refused : (e : Refusal) → Refused (unary_by spans r ts) e → Refused (comparison_by spans r ts) e
+  operators_refused : (e : Refusal) → Refused (unary_by spans r ts) e → Refused (comparison_by spans r ts) e
   operators_refused e h = comparison_refused e (sum_refused e (power_refused e h))
 
-  pub parts_stay : (from : Span) (new : List Token) (x : Result Expr Refusal) → begins_sign is_part_sign new ≡ false →
+  parts_stay : (from : Span) (new : List Token) (x : Result Expr Refusal) → begins_sign is_part_sign new ≡ false →
       Parsed (primary_by spans r ts) new x → Parsed (and_then (primary_by spans r ts) (all (part_step spans r from))) new x
   parts_stay from new x h p =
       parsed_stays _ (all (part_step spans r from)) new x
       (λ a. all_stops (part_step spans r from) a new (part_ends spans r from a new h)) p
 
-  pub parts_go : (from : Span) (a : Node) (mid new : List Token) (x : Result Expr Refusal) → primary_by spans r ts ≡ Ok (a, mid) →
+  parts_go : (from : Span) (a : Node) (mid new : List Token) (x : Result Expr Refusal) → primary_by spans r ts ≡ Ok (a, mid) →
       Parsed (all (part_step spans r from) a mid) new x → Parsed (and_then (primary_by spans r ts) (all (part_step spans r from))) new x
   parts_go from a mid new x e p = parsed_behind (all (part_step spans r from)) a mid new x e p
 
-  pub parts_refused : (from : Span) (e : Refusal) → Refused (primary_by spans r ts) e →
+  parts_refused : (from : Span) (e : Refusal) → Refused (primary_by spans r ts) e →
       Refused (and_then (primary_by spans r ts) (all (part_step spans r from))) e
   parts_refused from e h = refused_then _ (all (part_step spans r from)) e h
 
