@@ -1,5 +1,6 @@
 -- What is made of a head and of what is read behind it, and when that is refused.
 use Rattle.std.proofs.Common.{◌≡◌, ℕ, Bool, true, false, codes, List, [], Result, Ok, Err, refl, sym, ap, ◌∙◌}
+use Rattle.template_tree.specs.NodePlaces.{parts_more}
 use Rattle.template_tree.specs.declared.span.Span.{Span}
 use Rattle.template_compiler_tokens.specs.Token.{Token}
 use Rattle.template_compiler_tokens.specs.Steps.{Read, and_then, all}
@@ -9,12 +10,12 @@ use Rattle.template_compiler_stream.specs.declared.refusal.Refusal.TheVariants a
 use Rattle.template_compiler_stream.specs.Refusals.{Refused}
 use Rattle.template_compiler_grammar.specs.TemplateGrammar.{Around, loop_around}
 use Rattle.template_compiler_grammar.specs.TemplateReader.{begins_tag, expect_tag, tag_end}
-use Rattle.template_compiler_placed_grammar.specs.Nodes.{Node, OptionalNode}
+use Rattle.template_compiler_placed_grammar.specs.Nodes.{Node, OptionalNode, placed}
 use Rattle.template_compiler_placed_grammar.specs.Reader.{up_to}
 use Rattle.template_compiler_placed_grammar.specs.TemplateNodes.{PlacedBranch, PlacedBranches, PlacedStatement, PlacedStatements, branched_node, condition_node, for_node, no_placed_branches, no_placed_statements, set_block_node}
-use Rattle.template_compiler_placed_grammar.specs.TemplateReader.{Here, body_by, branch_by, branch_step, else_by, for_by, if_by}
-use Rattle.template_compiler_statement_declarations.specs.Heads.{set_over, set_rest}
-use Rattle.template_compiler_statement_loops.specs.Heads.{for_head, for_rest}
+use Rattle.template_compiler_placed_grammar.specs.TemplateReader.{Here, body_by, branch_by, branch_step, else_by, for_by, if_by, set_by}
+use Rattle.template_compiler_statement_declarations.specs.Heads.{set_head, set_over, set_rest, set_whole}
+use Rattle.template_compiler_statement_loops.specs.Heads.{expression_head, for_head, for_rest}
 use Rattle.template_tree_statements.specs.declared.statements.Stmt.{Stmt}
 use Rattle.template_compiler_stream.specs.Left.{passed}
 use Rattle.template_compiler_statement_makers.specs.Listed.{statement_nodes_in}
@@ -22,7 +23,7 @@ use Rattle.template_compiler_statement_parts.specs.Parsed.{ParsedAs, ParsedInto,
 use Rattle.template_compiler_statement_parts.proofs.Again.{no_again, ok_again, tag_again, tag_end_again, unit}
 use Rattle.template_compiler_statement_parser.specs.Bodies.{if_rest}
 use Rattle.template_compiler_statement_parser.proofs.Next.{else_here, no_branch, no_else}
-use Rattle.template_compiler_statement_parser.proofs.Wholes.{for_whole}
+use Rattle.template_compiler_statement_parser.proofs.Wholes.{branch_whole, for_whole, set_whole_by}
 
 -- what is behind a head
 pub behind : {A H : Type 0} {w r : Read A} {m : Read H} (go : H → List Token → Read A) → w ≡ and_then m go →
@@ -164,6 +165,29 @@ module _ (spans : List Span) (r : Here) (p : Around) (start : Span) where
   pub alone_fails : (b : PlacedBranch) (us : List Token) → begins_tag (codes "elif") us ≡ false →
       (e : Refusal) → Refused (else_by spans r p (codes "endif") us) e → Refused (if_rest spans r p start b us) e
   alone_fails b us h e g = else_fails b no_placed_branches us us (no_others us h) e g
+
+  pub if_behind : (b : PlacedBranch) (ts us : List Token) → branch_by spans r p ts ≡ Ok (b, us) →
+      if_by spans r p start ts ≡ if_rest spans r p start b us
+  if_behind b ts us first = behind (if_rest spans r p start) (if_whole ts) b us first refl
+
+  pub if_made : (b : PlacedBranch) (other : PlacedStatements) (ts us new : List Token) (now : List Span) (stands : Span) (s : PlacedStatement) →
+      branch_by spans r p ts ≡ Ok (b, us) → begins_tag (codes "elif") us ≡ false → else_by spans r p (codes "endif") us ≡ Ok (other, new) →
+      now ≡ spans → stands ≡ up_to now start new → s ≡ condition_node b other stands → if_by spans r p start ts ≡ Ok (s, new)
+  if_made b other ts us new now stands s first h last same e made =
+      if_behind b ts us first ∙ alone_made b other us new now stands s h last same e made
+
+  -- a condition with its body
+  pub branch_made : (h : Node) (body : PlacedStatements) (ts us new : List Token) → expression_head r ts ≡ Ok (h, us) →
+      r.body p us ≡ Ok (body, new) → branch_by spans r p ts ≡ Ok (placed (h.tree, body.tree) (parts_more h.places body.places), new)
+  branch_made h body ts us new first second = behind _ (branch_whole spans r p ts) h us first (then_goes _ second refl)
+
+  -- a `set`, behind its head
+  pub set_read : (s : PlacedStatement) (ts us : List Token) → set_head spans r start ts ≡ Ok (set_whole s, us) → set_by spans r p start ts ≡ Ok (s, us)
+  set_read s ts us h = behind (set_rest spans r p start) (set_whole_by spans r p start ts) (set_whole s) us h refl
+
+  pub set_opened : (h : Node × OptionalNode) (ts us : List Token) → set_head spans r start ts ≡ Ok (set_over h, us) →
+      set_by spans r p start ts ≡ set_rest spans r p start (set_over h) us
+  set_opened h ts us head = behind (set_rest spans r p start) (set_whole_by spans r p start ts) (set_over h) us head refl
 
   -- a set block, behind its head
   pub set_body_made : (h : Node × OptionalNode) (b : PlacedStatements) (ts new : List Token) (now : List Span) (stands : Span)

@@ -1,5 +1,5 @@
 -- What is read by what stands next.
-use Rattle.std.proofs.Common.{◌≡◌, ℕ, ◌≤◌, true, false, if◌then◌else◌, List, [], ◌∷◌, ◌++◌, length, None, Some, Ok, Err, codes, refl, sym, ap, ◌∙◌, arith}
+use Rattle.std.proofs.Common.{◌≡◌, ℕ, ◌≤◌, true, false, if◌then◌else◌, List, [], ◌∷◌, length, None, Some, Ok, Err, codes, refl, sym, ap, ◌∙◌, arith}
 use Rattle.template_tree.specs.Tree.{raw}
 use Rattle.template_tree.specs.NodePlaces.{no_parts}
 use Rattle.template_tree.specs.declared.span.Span.{Span}

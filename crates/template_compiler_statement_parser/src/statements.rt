@@ -84,8 +84,8 @@ fn put_statements<'source, R: ReadsExpressions>(
     statements: &mut Vec<Stmt<'source>>,
 ) -> Result<(), Refusal>
     ensures parsed { let table = tokens.old.spans in
-        ParsedInto (all (statement_step table (here table left) (around_of around)) (statement_nodes_in statements.old.items) tokens.old.left)
-        (statement_nodes_in statements.new.items) tokens.new.left result }
+        ParsedInto (all (statement_step table (here table left) (around_of around)) (statement_nodes_in statements.old.items)
+        tokens.old.left) (statement_nodes_in statements.new.items) tokens.new.left result }
     ensures spans { tokens.new.spans ≡ tokens.old.spans }
 {
     loop {
@@ -367,8 +367,8 @@ fn if_chain<'source, R: ReadsExpressions>(
     span: Span,
 ) -> Result<Box<Spanned<IfCond<'source>>>, Refusal>
     ensures parsed { let table = tokens.old.spans in
-        ParsedAs (λ n. statement_node_of (statements.IfCond n)) (if_rest table (here table left) (around_of around) span (branch_in first.entry)
-        tokens.old.left) tokens.new.left result }
+        ParsedAs (λ n. statement_node_of (statements.IfCond n)) (if_rest table (here table left) (around_of around) span
+        (branch_in first.entry) tokens.old.left) tokens.new.left result }
     ensures spans { tokens.new.spans ≡ tokens.old.spans }
 {
     let others = branches::<R>(alloc, tokens, left, around)?;

@@ -1,7 +1,7 @@
-use Rattle.std.proofs.Common.{rules, ◌≡◌, ◌-◌, [], Ok, codes, refl, sym, ap, ◌∙◌, subst, arith}
+use Rattle.std.proofs.Common.{rules, ◌≡◌, ◌-◌, [], codes, refl, sym, ap, ◌∙◌, subst, arith}
 use Rattle.template_compiler_tokens.specs.Steps.{all}
 use Rattle.template_compiler_tokens.proofs.Loops.{then_goes}
-use Rattle.template_tree_statements.specs.declared.statements.Stmt.TheVariants.{Block, ForLoop, IfCond}
+use Rattle.template_tree_statements.specs.declared.statements.Stmt.TheVariants.{Block, IfCond}
 use Rattle.template_compiler_grammar.specs.TemplateGrammar.{macro_around}
 use Rattle.template_compiler_placed_grammar.specs.TemplateNodes.{auto_escape_node, call_block_node, filter_block_node, macro_node, with_node}
 use Rattle.template_compiler_placed_grammar.specs.TemplateReader.{autoescape_by, block_by, branch_by, branch_step, call_by, else_by, filter_block_by, for_by, here, here_by, if_by, macro_by, opened_by, set_by, statement_step, statements_at, statements_by, with_by}
@@ -19,7 +19,7 @@ use Rattle.template_compiler_statement_loops.specs.Heads.{for_rest}
 use Rattle.template_compiler_statement_parser.specs.Bodies.{ParsedStatement, PutBehind, if_rest, put_behind}
 use Rattle.template_compiler_statement_parser.proofs.Falls.{branches_fall, statements_fall}
 use Rattle.template_compiler_statement_parser.proofs.Less.{body_less}
-use Rattle.template_compiler_statement_parser.proofs.Made.{alone_fails, alone_made, behind, behind_fails, body_fails, body_made, branches_fail, else_body_fails, else_ended, else_fails, else_read, else_tag_fails, for_body_fails, for_else_fails, for_made, head_fails, if_whole, rest_made, set_body_fails, set_body_made}
+use Rattle.template_compiler_statement_parser.proofs.Made.{alone_fails, behind, behind_fails, body_fails, body_made, branch_made, branches_fail, else_body_fails, else_ended, else_fails, else_read, else_tag_fails, for_body_fails, for_else_fails, for_made, head_fails, if_behind, if_made, if_whole, rest_made, set_body_fails, set_body_made, set_opened, set_read}
 use Rattle.template_compiler_statement_parser.proofs.Next.{tag_here, text_put}
 use Rattle.template_compiler_statement_parser.proofs.Put.{put_fails, put_node, put_statement}
 use Rattle.template_compiler_statement_parser.proofs.Wholes.{autoescape_whole, block_whole, branch_whole, call_whole, filter_whole, for_whole, macro_whole, set_whole_by, with_whole}
@@ -212,8 +212,7 @@ set-returns-in-Values-clause-parsed g t c =
     let spans = c.args.tokens.now.spans in
     let r = here spans c.args.left in
     let p = around_of c.args.around in
-    behind (set_rest spans r p c.args.span) (set_whole_by spans r p c.args.span c.args.tokens.now.left) _ _
-    (rw c.in-Values.is at c.in_ok-node.ensures.parsed) refl
+    set_read spans r p c.args.span _ _ _ (rw c.in-Values.is at c.in_ok-node.ensures.parsed)
 
 pub set-returns-in-Block-clause-parsed : goal.set-returns-in-Block-clause-parsed
 set-returns-in-Block-clause-parsed g t c =
@@ -223,7 +222,7 @@ set-returns-in-Block-clause-parsed g t c =
     let head = rw c.in-Block.is at c.in_ok-node.ensures.parsed in
     let rest = rw c.in_ok-node.ensures.spans at c.set_block.ensures.parsed in
     subst (λ m. ParsedStatement m c.set_block.new.tokens.left c.map.result)
-    (sym (behind (set_rest spans r p c.args.span) (set_whole_by spans r p c.args.span c.args.tokens.now.left) _ _ head refl)) (search rules)
+    (sym (set_opened spans r p c.args.span _ _ _ head)) (search rules)
 
 pub set_block-returns-clause-parsed : goal.set_block-returns-clause-parsed
 unfolding here here_by
@@ -332,7 +331,7 @@ if_condition-returns-then-begins_tag-clause-parsed g t c =
     let p = around_of c.args.around in
     let rest = rw c.in_ok-branch.ensures.spans at c.if_chain.ensures.parsed in
     subst (λ m. ParsedAs (λ n. statement_node_of (IfCond n)) m c.if_chain.new.tokens.left c.if_chain.result)
-    (sym (behind (if_rest spans r p c.args.span) (if_whole spans r p c.args.span c.args.tokens.now.left) _ _ c.in_ok-branch.ensures.parsed refl)) rest
+    (sym (if_behind spans r p c.args.span _ _ _ c.in_ok-branch.ensures.parsed)) rest
 
 pub if_condition-returns-clause-parsed : goal.if_condition-returns-clause-parsed
 if_condition-returns-clause-parsed g t c =
@@ -340,9 +339,9 @@ if_condition-returns-clause-parsed g t c =
     let r = here spans c.args.left in
     let p = around_of c.args.around in
     let other = rw c.in_ok-branch.ensures.spans at c.in_ok-otherwise.ensures.parsed in
-    behind (if_rest spans r p c.args.span) (if_whole spans r p c.args.span c.args.tokens.now.left) _ _ c.in_ok-branch.ensures.parsed
-    (alone_made spans r p c.args.span (branch_in c.in_ok-branch.branch) _ _ _ _ _ _ (sym c.begins_tag.ensures ∙ c.if-begins_tag.false) other
-    (c.in_ok-otherwise.ensures.spans ∙ c.in_ok-branch.ensures.spans) c.expand_span.ensures (rw c.deref_mut.ensures.value at c.condition.ensures))
+    if_made spans r p c.args.span (branch_in c.in_ok-branch.branch) _ _ _ _ _ _ _ c.in_ok-branch.ensures.parsed
+    (sym c.begins_tag.ensures ∙ c.if-begins_tag.false) other (c.in_ok-otherwise.ensures.spans ∙ c.in_ok-branch.ensures.spans)
+    c.expand_span.ensures (rw c.deref_mut.ensures.value at c.condition.ensures)
 
 pub if_condition-returns-in_err-branch-clause-parsed : goal.if_condition-returns-in_err-branch-clause-parsed
 if_condition-returns-in_err-branch-clause-parsed g t c =
@@ -400,7 +399,7 @@ read_branch-returns-clause-parsed g t c =
     let p = around_of c.args.around in
     let head = rw (sym c.deref_mut.ensures.value) at c.in_ok-head.ensures.parsed in
     let body = rw c.in_ok-head.ensures.spans at c.in_ok-read_body.ensures.parsed in
-    behind _ (branch_whole spans r p c.args.tokens.now.left) _ _ head (then_goes _ body refl)
+    branch_made spans r p c.args.span _ _ _ _ _ head body
 
 pub read_branch-returns-in_err-head-clause-parsed : goal.read_branch-returns-in_err-head-clause-parsed
 read_branch-returns-in_err-head-clause-parsed g t c =
