@@ -260,10 +260,12 @@ impl<'source> Expr<'source> {
 
 impl<'source> Drop for Expr<'source> {
     #[cycle(expr)]
+    #[inline(never)]
     fn drop(self) {
-        let mut next = self.into_left();
-        while let Some(expr) = next {
-            next = expr.into_left();
+        match self {
+            Expr::Var(_) => {}
+            Expr::Const(_) => {}
+            expr => expr.drop_parts(),
         }
     }
 }
@@ -271,6 +273,16 @@ impl<'source> Drop for Expr<'source> {
 impl<'source> Expr<'source> {
     ghost use Rattle.std.specs.Prelude.{◌<◌, IfSome};
     ghost use Rattle.template_tree.specs.declared.expressions.Expr.{size-Expr};
+
+    // Drops an expression that has parts, along its left ones.
+    #[cycle(expr)]
+    #[inline(never)]
+    fn drop_parts(self) {
+        let mut next = self.into_left();
+        while let Some(expr) = next {
+            next = expr.into_left();
+        }
+    }
 
     // The expression on the left of this one; its other parts are dropped. Most are names and literals, and have none.
     #[cycle(expr)]

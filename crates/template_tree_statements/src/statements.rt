@@ -236,10 +236,12 @@ impl<'source> Stmt<'source> {
 
 impl<'source> Drop for Stmt<'source> {
     #[cycle(stmt)]
+    #[inline(never)]
     fn drop(self) {
-        let mut next = self.into_condition();
-        while let Some(condition) = next {
-            next = Stmt::following(condition);
+        match self {
+            Stmt::EmitRaw(_) => {}
+            Stmt::EmitExpr(_) => {}
+            statement => statement.drop_bodies(),
         }
     }
 }
@@ -247,6 +249,16 @@ impl<'source> Drop for Stmt<'source> {
 impl<'source> Stmt<'source> {
     ghost use Rattle.std.specs.Prelude.{◌<◌, ◌≤◌, IfSome};
     ghost use Rattle.template_tree_statements.specs.declared.statements.Stmt.{IfCond as condition, size-Stmt};
+
+    // Drops a statement that is no text and no value that is printed.
+    #[cycle(stmt)]
+    #[inline(never)]
+    fn drop_bodies(self) {
+        let mut next = self.into_condition();
+        while let Some(condition) = next {
+            next = Stmt::following(condition);
+        }
+    }
 
     // The condition that this statement is; another one is dropped. Most are texts.
     #[cycle(stmt)]

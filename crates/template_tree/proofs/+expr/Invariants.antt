@@ -4,5 +4,5 @@ use Rattle.std.specs.Prelude.{IfSome}
 use Rattle.template_tree.specs.declared.expressions.Expr.{size-Expr}
 use Rattle.template_tree.proofs.+expr.Given as goal
 
-abbrev pub invariant-expressions::Expr::drop-loop-next : goal.invariant-expressions::Expr::drop-loop-next
-invariant-expressions::Expr::drop-loop-next l = IfSome l.next (λ e. size-Expr e < size-Expr l.fn.self)
+abbrev pub invariant-expressions::Expr::drop_parts-loop-next : goal.invariant-expressions::Expr::drop_parts-loop-next
+invariant-expressions::Expr::drop_parts-loop-next l = IfSome l.next (λ e. size-Expr e < size-Expr l.fn.self)

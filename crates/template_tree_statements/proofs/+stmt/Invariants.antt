@@ -11,8 +11,8 @@ abbrev pub left_size : Option (Box (Spanned IfCond) Global) → ℕ
 left_size None = 0
 left_size (Some n) = size-Stmt (condition n) + 1
 
-abbrev pub invariant-statements::Stmt::drop-loop-next : goal.invariant-statements::Stmt::drop-loop-next
-invariant-statements::Stmt::drop-loop-next l = IfSome l.next (λ n. size-Stmt (condition n) ≤ size-Stmt l.fn.self)
+abbrev pub invariant-statements::Stmt::drop_bodies-loop-next : goal.invariant-statements::Stmt::drop_bodies-loop-next
+invariant-statements::Stmt::drop_bodies-loop-next l = IfSome l.next (λ n. size-Stmt (condition n) ≤ size-Stmt l.fn.self)
 
-abbrev pub decreases-statements::Stmt::drop-loop-next : goal.decreases-statements::Stmt::drop-loop-next
-decreases-statements::Stmt::drop-loop-next l = left_size l.next
+abbrev pub decreases-statements::Stmt::drop_bodies-loop-next : goal.decreases-statements::Stmt::drop_bodies-loop-next
+decreases-statements::Stmt::drop_bodies-loop-next l = left_size l.next
