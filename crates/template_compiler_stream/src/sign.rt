@@ -1,5 +1,5 @@
 //! Signs and brackets.
-ghost use Rattle.std.specs.Prelude.{◌≡◌, ◌==◌, option_map};
+ghost use Rattle.std.specs.Prelude.{◌≡◌, ◌==◌, bytes_eq, option_map};
 ghost use Rattle.template_compiler_stream.specs.Signs.{number_of, symbol_of, symbol_in};
 ghost use Rattle.template_compiler_stream.specs.Signs.{level_of, word_in, is_end, is_plain};
 ghost use Rattle.template_compiler_grammar.specs.Words.{conjunction, disjunction, factors, terms, texts, operator, comparison_operator, is_bare, is_no_argument};
@@ -180,7 +180,7 @@ fn conjunction_of(token: &Token) -> Option<BinOpKind>
 {
     match token {
         Token::Ident(name) => {
-            if *name == "and" {
+            if is_word(*name, "and") {
                 Some(BinOpKind::ScAnd)
             } else {
                 None
@@ -195,7 +195,7 @@ fn disjunction_of(token: &Token) -> Option<BinOpKind>
 {
     match token {
         Token::Ident(name) => {
-            if *name == "or" {
+            if is_word(*name, "or") {
                 Some(BinOpKind::ScOr)
             } else {
                 None
@@ -217,7 +217,7 @@ pub fn comparison_of(token: &Token) -> Option<CompareOpKind>
         Token::Gt => Some(CompareOpKind::Gt),
         Token::Gte => Some(CompareOpKind::Gte),
         Token::Ident(name) => {
-            if *name == "in" {
+            if is_word(*name, "in") {
                 Some(CompareOpKind::In)
             } else {
                 None
@@ -225,6 +225,14 @@ pub fn comparison_of(token: &Token) -> Option<CompareOpKind>
         }
         _ => None,
     }
+}
+
+// Whether a name is the word. It stands in line where names are compared by their references out of line.
+#[inline(always)]
+fn is_word(name: &str, word: &str) -> bool
+    ensures { result ≡ bytes_eq word.now name.now }
+{
+    name == word
 }
 
 /// Whether the token closes a bracket.
@@ -281,7 +289,7 @@ pub fn is_plain(token: &Token) -> bool
     ensures { result ≡ is_plain (token_of token.now) }
 {
     match token {
-        Token::Ident(name) => *name != "not",
+        Token::Ident(name) => !is_word(*name, "not"),
         Token::Int(_) => true,
         Token::Int128(_) => true,
         _ => false,

@@ -306,6 +306,7 @@ impl<'source> TokenStream<'source> {
     }
 
     /// Passes the word, where it stands next.
+    #[inline(always)]
     pub fn skip_word(&mut self, word: &str) -> bool
         ensures passed { SkipsWord word.now self.old.left self.new.left result }
         ensures spans { self.new.spans ≡ self.old.spans }
