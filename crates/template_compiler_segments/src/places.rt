@@ -49,6 +49,7 @@ fn begins_with_text(rest: &[u8], text: &[u8]) -> bool
 }
 
 /// The first place from `from` on at which the text stands, which is not empty.
+#[inline(always)]
 pub fn find_text(bytes: &[u8], from: usize, text: &[u8]) -> Option<usize>
     requires within { from ≤ length bytes.now }
     requires some { 0 < length text.now }

@@ -381,6 +381,7 @@ fn if_chain<'source, R: ReadsExpressions>(
 
 // A condition with its body.
 #[cycle(statements)]
+#[inline(always)]
 fn read_branch<'source, R: ReadsExpressions>(
     alloc: Global,
     tokens: &mut TokenStream<'source>,

@@ -40,6 +40,7 @@ pub(crate) fn only_word(
 }
 
 // Whether the name is the token that the text begins with.
+#[inline(always)]
 fn begins_with_name(text: &str, name: &str) -> bool
     requires { IsName name.now }
     ensures { IsTrue result ↔ Begins text.now (identifier name.now) (length name.now) }
@@ -61,6 +62,7 @@ pub(crate) fn may_begin_with(text: &[u8], word: &[u8]) -> bool
 }
 
 // The end of a block behind white space.
+#[inline(always)]
 fn end_behind(source: &str, syntax: &SyntaxConfig, from: usize) -> Option<(Sign, usize)>
     requires { IsCharBoundary source.now from }
     ensures found { FindsEndBehind syntax.now source.now from result }

@@ -29,6 +29,7 @@ impl<'source> Expr<'source> {
     }
 
     /// A literal.
+    #[inline(always)]
     pub fn constant(alloc: Global, value: Value, span: Span) -> Result<Expr<'source>, AllocError>
         ensures tree { IfOk result (λ e. expression_of e ≡ constant value) }
         ensures span { IfOk result (λ e. expression_span e ≡ span) }
