@@ -168,7 +168,7 @@ fn fold_node<'source>(
     match expr {
         Expr::Var(n) => fold_name(code, n.node.id, from),
         Expr::Const(n) => {
-            let value = n.node.value.copy()?;
+            let value = n.node.value()?;
             Ok(Some(value))
         }
         Expr::UnaryOp(n) => fold_unary_operator(alloc, code, n.node.op, &n.node.expr, from),

@@ -11,16 +11,6 @@ use template_tree::Expr;
 use template_values_core::Value;
 use template_values_errors::Error;
 
-// The value of a literal.
-fn literal<'a, 'source>(expr: &'a Expr<'source>) -> Option<&'a Value>
-    ensures { option_map (λ value. value.now) result ≡ literal_of (expression_of expr.now) }
-{
-    match expr {
-        Expr::Const(n) => Some(&n.node.value),
-        _ => None,
-    }
-}
-
 /// The values of expressions, where each one is a literal. Linear in their number.
 ///
 /// # Errors
@@ -35,9 +25,9 @@ pub fn literals<'source>(
 {
     let mut values = Vec::new(alloc);
     for expr in exprs {
-        match literal(expr) {
-            Some(value) => values.push(value.copy()?)?,
-            None => return Ok(None),
+        match expr {
+            Expr::Const(n) => values.push(n.node.value()?)?,
+            _ => return Ok(None),
         }
     }
     Ok(Some(values))

@@ -6,6 +6,7 @@ use crate::operators::{BinOpKind, CompareOpKind, UnaryOpKind};
 use crate::span::{Span, Spanned};
 use std::borrow::CowStr;
 use template_values_core::Value;
+use template_values_errors::Error;
 
 /// An expression. Its left parts may nest as deep as the source is long, all others at most 150 deep:
 /// what goes over a tree goes along its left parts in a loop, and calls itself for the other parts alone.
@@ -14,7 +15,7 @@ pub enum Expr<'source> {
     /// A name: `user`.
     Var(Spanned<Var<'source>>),
     /// A literal: `42`, `"text"`, `true`, `none`.
-    Const(Box<Spanned<Const>>),
+    Const(Spanned<Const>),
     /// A part of a list or a text: `items[1:3]`.
     Slice(Box<Spanned<Slice<'source>>>),
     /// An operator with one operand: `not ready`, `-x`.
@@ -51,8 +52,20 @@ pub struct Var<'source> {
 
 /// A literal.
 #[derive(Drop)]
-pub struct Const {
-    pub value: Value,
+pub enum Const {
+    Int(u64),
+    Value(Box<Value>),
+}
+
+impl Const {
+    /// The value.
+    #[inline(always)]
+    pub fn value(&self) -> Result<Value, Error> {
+        match self {
+            Const::Int(n) => Ok(Value::from_int(i128::from(*n))),
+            Const::Value(value) => value.copy(),
+        }
+    }
 }
 
 /// `expr[start:stop:step]`.

@@ -34,7 +34,13 @@ impl<'source> Expr<'source> {
         ensures span { IfOk result (λ e. expression_span e ≡ span) }
         ensures places { IfOk result (λ e. places_of e ≡ at span no_parts) }
     {
-        Ok(Expr::Const(Spanned::boxed(alloc, Const { value }, span)?))
+        Ok(Expr::Const(Spanned::new(Const::Value(Box::new(alloc, value)?), span)))
+    }
+
+    /// A whole number.
+    #[inline(always)]
+    pub fn int(number: u64, span: Span) -> Expr<'source> {
+        Expr::Const(Spanned::new(Const::Int(number), span))
     }
 
     /// `expr[start:stop:step]`.
