@@ -18,7 +18,7 @@ ghost use Rattle.template_tree.specs.View.{expression_of};
 use std::alloc::Global;
 use std::borrow::CowStr;
 use template_compiler_expression_parts::{
-    Behind, Pairs, Written, attribute, before_colon, compared, deeper, in_braces, in_brackets,
+    Pairs, Written, attribute, before_colon, compared, deeper, in_braces, in_brackets,
     in_order, in_parens, literal, name, separated, tested,
 };
 use template_compiler_stream::{Level, Refusal, Sign, TokenStream};
@@ -529,35 +529,17 @@ fn filters<'source>(
 {
     let mut value = value;
     loop {
-        match next_filter(alloc, tokens, left, value, span) {
-            Ok(Behind::Goes(next)) => value = next,
-            Ok(Behind::Stops(end)) => return Ok(end),
+        let next = if tokens.skip(Sign::Pipe) {
+            piped(alloc, tokens, left, value, span)
+        } else if tokens.skip_word("is") {
+            asked(alloc, tokens, left, value, span)
+        } else {
+            return Ok(value);
+        };
+        match next {
+            Ok(next) => value = next,
             Err(refusal) => return Err(refusal),
         }
-    }
-}
-
-#[cycle(parser)]
-#[tactic(auto, using(template_compiler_expression_parts::proofs::Rounds::filter_none), unfolding(template_compiler_tokens::specs::Steps::under, template_compiler_placed_grammar::specs::Reader::filter_step))]
-#[inline(always)]
-fn next_filter<'source>(
-    alloc: Global,
-    tokens: &mut TokenStream<'source>,
-    left: u32,
-    value: Expr<'source>,
-    span: Span,
-) -> Result<Behind<'source>, Refusal>
-    ensures parsed { let table = tokens.old.spans in
-        Stepped (filter_step table (deeper table left) span (node_of value.entry) tokens.old.left) (node_of value.entry) tokens.old.left
-        tokens.new.left result }
-    ensures spans { tokens.new.spans ≡ tokens.old.spans }
-{
-    if tokens.skip(Sign::Pipe) {
-        piped(alloc, tokens, left, value, span).map(Behind::Goes)
-    } else if tokens.skip_word("is") {
-        asked(alloc, tokens, left, value, span).map(Behind::Goes)
-    } else {
-        Ok(Behind::Stops(value))
     }
 }
 
@@ -799,37 +781,19 @@ fn parts<'source>(
 {
     let mut value = value;
     loop {
-        match next_part(alloc, tokens, left, value, span) {
-            Ok(Behind::Goes(next)) => value = next,
-            Ok(Behind::Stops(end)) => return Ok(end),
+        let next = if tokens.skip(Sign::Dot) {
+            attribute(alloc, tokens, value, span)
+        } else if tokens.skip(Sign::BracketOpen) {
+            subscript(alloc, tokens, deeper(left)?, value, span)
+        } else if tokens.skip(Sign::ParenOpen) {
+            call(alloc, tokens, deeper(left)?, value, span)
+        } else {
+            return Ok(value);
+        };
+        match next {
+            Ok(next) => value = next,
             Err(refusal) => return Err(refusal),
         }
-    }
-}
-
-#[cycle(parser)]
-#[tactic(auto, using(template_compiler_expression_parts::proofs::Rounds::part_none), unfolding(template_compiler_tokens::specs::Steps::under, template_compiler_placed_grammar::specs::Reader::part_step, template_compiler_placed_grammar::specs::Reader::deeper))]
-#[inline(always)]
-fn next_part<'source>(
-    alloc: Global,
-    tokens: &mut TokenStream<'source>,
-    left: u32,
-    value: Expr<'source>,
-    span: Span,
-) -> Result<Behind<'source>, Refusal>
-    ensures parsed { let table = tokens.old.spans in
-        Stepped (part_step table (deeper table left) span (node_of value.entry) tokens.old.left) (node_of value.entry) tokens.old.left
-        tokens.new.left result }
-    ensures spans { tokens.new.spans ≡ tokens.old.spans }
-{
-    if tokens.skip(Sign::Dot) {
-        attribute(alloc, tokens, value, span).map(Behind::Goes)
-    } else if tokens.skip(Sign::BracketOpen) {
-        subscript(alloc, tokens, deeper(left)?, value, span).map(Behind::Goes)
-    } else if tokens.skip(Sign::ParenOpen) {
-        call(alloc, tokens, deeper(left)?, value, span).map(Behind::Goes)
-    } else {
-        Ok(Behind::Stops(value))
     }
 }
 
