@@ -7,7 +7,7 @@ use Rattle.template_process.specs.Fuel.{under}
 use Rattle.template_process.specs.Trace.{Run}
 use Rattle.template_code.specs.Code.{Code}
 use Rattle.template_compiler_codegen.specs.Statements.{standalone_code}
-use Rattle.template_machine_operations.specs.Outcomes.{TellsFailures}
+use Rattle.template_machine_renders.specs.Outcomes.{TellsFailures}
 use Rattle.template_machine_meaning.specs.World.{World, first_world}
 use Rattle.template_machine_meaning.specs.Surroundings.{Programs}
 use Rattle.template_machine_meaning.specs.Meaning.{evaluated}

@@ -11,5 +11,6 @@ pub mod Plain
 pub use Rattle.template_compiled.specs.Sources
 pub use Rattle.template_compiled.specs.Compiled
 pub use Rattle.template_machine_meaning.specs.Isolation
-pub use Rattle.template_machine_operations.specs.Outcomes
+pub use Rattle.template_machine_meaning.specs.Meaning
+pub use Rattle.template_machine_renders.specs.Outcomes
 pub use Rattle.template_machine_renders.specs.Renders

@@ -7,7 +7,7 @@ use Rattle.template_values_errors.specs.Memory.{NoMemory}
 use Rattle.template_process.specs.Drive.{ends}
 use Rattle.template_process.specs.Trace.{Run, paid, written, behind, ended}
 use Rattle.template_machine_going.specs.Paying.{IsSpent}
-use Rattle.template_machine_operations.specs.Outcomes.{IsWant}
+use Rattle.template_machine_renders.specs.Outcomes.{IsWant}
 use Rattle.template_machine_meaning.specs.World.{World}
 pub use Rattle.template_compiled.specs.Plain.{IsPlain, text_kept}
 

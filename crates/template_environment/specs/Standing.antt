@@ -9,7 +9,7 @@ use Rattle.template_machine_meaning.specs.Meaning.{Setting}
 use Rattle.template_machine_renders.specs.Programs as units
 use Rattle.template_compiled.specs.Compiled.{Compiled, code_for, standing_of}
 use Rattle.template_compiled.specs.Sources.{Source}
-use Rattle.template_compiled.specs.Standing.{compiled_at}
+pub use Rattle.template_compiled.specs.Standing.{compiled_at}
 use Rattle.template_environment.specs.declared.registry.Registry.{Registry}
 
 -- the source that stands under a name

@@ -3,7 +3,7 @@ ghost use Rattle.std.specs.Prelude.{◌≡◌, ◌≢◌, ◌+◌, ◌∷◌, []
 ghost use Rattle.std.specs.BTreeSet.{contains_text};
 ghost use Rattle.template_values_errors.specs.Memory.{NoMemory};
 ghost use Rattle.template_machine_meaning.specs.World.{known_at};
-ghost use Rattle.template_machine_frames.specs.Names.{is_exported};
+ghost use Rattle.template_machine_state.specs.Names.{is_exported};
 ghost use Rattle.template_environment.specs.Renderings.{left_of, set_of};
 
 use crate::environment::Environment;

@@ -5,7 +5,7 @@ ghost use Rattle.template_values_model.specs.Val.{Val};
 ghost use Rattle.template_process.specs.Approximants.{IsFinished};
 ghost use Rattle.template_process.specs.Fuel.{under};
 ghost use Rattle.template_machine_surroundings.specs.Rule.{IsEscapeOf};
-ghost use Rattle.template_machine_operations.specs.Outcomes.{TellsFailures};
+ghost use Rattle.template_machine_renders.specs.Outcomes.{TellsFailures};
 ghost use Rattle.template_machine_renders.specs.Renders.{Renders, leaves};
 ghost use Rattle.template_machine_meaning.specs.World.{first_world};
 ghost use Rattle.template_compiled.specs.Plain.{IsPlain, text_kept};

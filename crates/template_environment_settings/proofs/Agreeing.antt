@@ -1,5 +1,5 @@
 -- What agreeing histories come to.
-use Rattle.template_compiled.specs.Sources.{Source}
+use Rattle.template_environment.specs.Sources.{Source}
 use Rattle.template_environment_histories.proofs.Deciding.{agreeing_come_to_the_same}
 use Rattle.template_environment.specs.Reading.{registry_of}
 use Rattle.template_environment.specs.Standing.{source_at}

@@ -8,10 +8,10 @@ use Rattle.template_values_errors.specs.declared.modes.AutoEscape.TheVariants as
 use Rattle.template_machine_surroundings.specs.Rule.{IsEscapeOf}
 use Rattle.template_machine_surroundings.specs.declared.escape.EscapeRule.{EscapeRule}
 use Rattle.template_machine_surroundings.proofs.OneRule.{one_escape}
-use Rattle.template_machine_meaning.specs.Meaning.{rendered}
-use Rattle.template_compiled.specs.Compiled.{Compiled, standing_of}
-use Rattle.template_compiled.specs.Sources.{Source, tree_in}
-use Rattle.template_compiled.specs.Standing.{compiled_at}
+use Rattle.template_environment.specs.Meaning.{rendered}
+use Rattle.template_environment.specs.Compiled.{Compiled, standing_of}
+use Rattle.template_environment.specs.Sources.{Source, tree_in}
+use Rattle.template_environment.specs.Standing.{compiled_at}
 use Rattle.template_environment_settings.specs.Alike.{AlikeHaveOneSetting, AlikeRenderTheSame}
 
 none_some : {X : Type 0} {x : X} → None ≡ Some x → ⊥

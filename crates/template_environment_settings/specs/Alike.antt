@@ -2,7 +2,7 @@
 use Rattle.std.specs.Prelude.{◌≡◌, ℕ, List}
 use Rattle.template_values_model.specs.Val.{Val}
 use Rattle.template_machine_surroundings.specs.Rule.{IsEscapeOf}
-use Rattle.template_compiled.specs.Compiled.{Compiled}
+use Rattle.template_environment.specs.Compiled.{Compiled}
 use Rattle.template_environment.specs.Renderings.{rendering}
 use Rattle.template_environment.specs.Standing.{setting_of, settings_of, source_at}
 use Rattle.template_environment.specs.declared.registry.Registry.{Registry}

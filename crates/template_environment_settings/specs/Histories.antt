@@ -1,6 +1,6 @@
 -- Histories of environments that agree on each name.
 use Rattle.std.specs.Prelude.{◌≡◌, ℕ, List}
-use Rattle.template_compiled.specs.Sources.{Source}
+use Rattle.template_environment.specs.Sources.{Source}
 use Rattle.template_environment_histories.specs.Histories.{Change, LeadsThrough}
 use Rattle.template_environment_histories.specs.Laws.{AgreeOn}
 use Rattle.template_environment.specs.Reading.{registry_of}

@@ -1,2 +1,15 @@
 pub mod Alike
 pub mod Histories
+-- what is cited above of the environment itself
+pub use Rattle.template_environment.specs.Compiled
+pub use Rattle.template_environment.specs.Isolated
+pub use Rattle.template_environment.specs.Isolation
+pub use Rattle.template_environment.specs.Meaning
+pub use Rattle.template_environment.specs.Outcomes
+pub use Rattle.template_environment.specs.Plain
+pub use Rattle.template_environment.specs.Reading
+pub use Rattle.template_environment.specs.Renders
+pub use Rattle.template_environment.specs.Sources
+pub use Rattle.template_environment.specs.Standing
+pub use Rattle.template_environment.specs.Views
+pub use Rattle.template_environment.specs.declared.registry.Registry

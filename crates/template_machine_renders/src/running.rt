@@ -1,6 +1,6 @@
 //! The run of a template's code, and of an expression's.
 ghost use Rattle.template_code.specs.Listing.{code_in};
-ghost use Rattle.template_machine_operations.specs.Outcomes.{TellsFailures};
+ghost use Rattle.template_machine_loop.specs.Outcomes.{TellsFailures};
 ghost use Rattle.template_machine_loop.specs.Programs.{programs_of};
 ghost use Rattle.template_machine_loop.specs.Runs.{Evaluates, Runs};
 

@@ -11,10 +11,10 @@ use Rattle.template_process.specs.Fuel.{IsSameRun, under}
 use Rattle.template_process.specs.Trace.{Item, Run, text_of}
 use Rattle.template_machine_meaning.specs.Meaning.{Standing, rendered}
 use Rattle.template_machine_meaning.specs.World.{World}
-use Rattle.template_environment.specs.Isolation.{AgreesAt, IsolatesNames}
-use Rattle.template_environment.specs.Renders.{Renders}
-use Rattle.template_environment.specs.Standing.{setting_of}
-use Rattle.template_environment.specs.declared.registry.Registry.{Registry}
+use Rattle.template_environment_settings.specs.Isolation.{AgreesAt, IsolatesNames}
+use Rattle.template_environment_settings.specs.Renders.{Renders}
+use Rattle.template_environment_settings.specs.Standing.{setting_of}
+use Rattle.template_environment_settings.specs.Registry.{Registry}
 use Rattle.template_program_run.specs.Additions.{IsRefusedAddition, RefusesOne}
 use Rattle.template_program_run.specs.Answers.{HasNames, IsUntouched, Performed, Rendered, TellsNames, definitions_of}
 use Rattle.template_program_run.specs.Environments.{IsMade}

@@ -3,7 +3,7 @@ use Rattle.std.proofs.Common.{◌≡◌, ◌∙◌, ℕ, List, [], ◌∷◌, Op
 use Rattle.template_values_errors.specs.declared.ErrorKind.{ErrorKind}
 use Rattle.template_values_errors.specs.Memory.{NoMemory}
 use Rattle.template_values_model.specs.Val.{Val}
-use Rattle.template_environment.specs.Isolation.{AgreesAt}
+use Rattle.template_environment_settings.specs.Isolation.{AgreesAt}
 use Rattle.template_program_parts.specs.Context.{IsContextOf}
 use Rattle.template_program_parts.specs.Asked.{HasContext, IsRefusedContext}
 use Rattle.template_program_parts.specs.declared.command.Command.{Command}

@@ -5,9 +5,9 @@ use Rattle.template_tree.specs.Tree.{Statements, template}
 use Rattle.template_walk.specs.Runnable.{IsRunnableTemplate}
 use Rattle.template_compiler_syntax.specs.Syntax.{IsUsable, default_syntax}
 use Rattle.template_compiler_syntax.proofs.Apart.{all_apart}
-use Rattle.template_compiled.specs.Sources.{IsAccepted, IsRefusedWith}
+use Rattle.template_environment_settings.specs.Sources.{IsAccepted, IsRefusedWith}
 use Rattle.template_compiled.proofs.Trees.{one_tree}
-use Rattle.template_environment.specs.Plain.{IsRefusedForRoom}
+use Rattle.template_environment_settings.specs.Plain.{IsRefusedForRoom}
 use Rattle.template_program_run.specs.Additions.{AllAreAccepted, RefusesOne}
 use Rattle.template_program_run.specs.History.{source_for}
 use Rattle.template_program_answers.specs.Law.{RefuseTheSame}

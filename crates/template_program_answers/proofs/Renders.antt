@@ -5,8 +5,8 @@ use Rattle.template_values_errors.specs.declared.ErrorKind.{ErrorKind}
 use Rattle.template_process.specs.Drive.{faults}
 use Rattle.template_process.specs.Fuel.{IsSameRun}
 use Rattle.template_process.specs.Trace.{Run, text_of}
-use Rattle.template_environment.specs.Outcomes.{IsWant, TellsFailures}
-use Rattle.template_environment.specs.Renders.{IsOver, Renders, whole, broken}
+use Rattle.template_environment_settings.specs.Outcomes.{IsWant, TellsFailures}
+use Rattle.template_environment_settings.specs.Renders.{IsOver, Renders, whole, broken}
 use Rattle.template_program_run.specs.Answers.{IsOutcomeOf}
 use Rattle.template_program_parts.specs.declared.outcome.Outcome.{Outcome}
 use Rattle.template_program_parts.specs.declared.outcome.Outcome.TheVariants.{Done, Render, Context, Template}

@@ -3,9 +3,9 @@ use Rattle.std.specs.Prelude.{◌≡◌, ℕ, ◌+◌, ◌⊎◌, List, [], ◌�
 use Rattle.std.specs.Io.KnownBytes.{Appends}
 use Rattle.template_values_errors.specs.declared.ErrorKind.{ErrorKind}
 use Rattle.template_values_errors.specs.Memory.{NoMemory}
-use Rattle.template_environment.specs.Outcomes.{IsWant}
-use Rattle.template_environment.specs.Plain.{IsRefusedForRoom}
-use Rattle.template_environment.specs.Sources.{IsAccepted, IsRefusedWith}
+use Rattle.template_environment_settings.specs.Outcomes.{IsWant}
+use Rattle.template_environment_settings.specs.Plain.{IsRefusedForRoom}
+use Rattle.template_environment_settings.specs.Sources.{IsAccepted, IsRefusedWith}
 use Rattle.template_program_run.specs.Answers.{AnswersRequest}
 use Rattle.template_program_run.specs.History.{source_for}
 use Rattle.template_program_run.specs.Ids.{IsLastId}

@@ -2,8 +2,8 @@
 use Rattle.std.proofs.Common.{◌≡◌, ◌∙◌, ap, sym, refl, ℕ, ◌+◌, ◌⊎◌, inl, inr, List, Option, if◌then◌else◌}
 use Rattle.std.proofs.lemmas.Bool.Decides.{eqb_tells}
 use Rattle.template_values_model.specs.Val.{Val}
-use Rattle.template_machine_meaning.specs.Meaning.{Standing}
-use Rattle.template_environment.specs.declared.registry.Registry.{Registry}
+use Rattle.template_environment_settings.specs.Meaning.{Standing}
+use Rattle.template_environment_settings.specs.Registry.{Registry}
 use Rattle.template_program_run.specs.Answers.{Rendered, TellsNames}
 use Rattle.template_program_run.specs.Ids.{IsLastId, behind_one, behind_request, last_id}
 use Rattle.template_program_parts.specs.declared.outcome.Outcome.{Outcome}

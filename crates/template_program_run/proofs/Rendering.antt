@@ -2,7 +2,7 @@
 use Rattle.std.proofs.Common.{ℕ, List, Option, Ok, Err}
 use Rattle.template_values_errors.specs.declared.ErrorKind.{ErrorKind}
 use Rattle.template_process.specs.Trace.{Run}
-use Rattle.template_environment.specs.Renders.{Renders, whole, broken}
+use Rattle.template_environment_settings.specs.Renders.{Renders, whole, broken}
 
 pub renders_done : {X S : Type 0} (v : X) (before after : Option (List ℕ)) (r : Run S)
     → Renders {X = X} (Ok v) before after r → Renders {X = Unit {0}} (Ok tt) before after r

@@ -3,7 +3,7 @@ use Rattle.std.proofs.Common.{◌≡◌, ◌∙◌, ℕ, None, min, ap}
 use Rattle.template_values_errors.specs.declared.modes.UndefinedBehavior.TheVariants.{Lenient}
 use Rattle.template_compiler_syntax.specs.Syntax.{default_syntax}
 use Rattle.template_machine_surroundings.specs.declared.escape.EscapeRule.TheVariants.{ByName}
-use Rattle.template_environment.specs.Standing.{Settings, greatest_limit}
+use Rattle.template_environment_settings.specs.Standing.{Settings, greatest_limit}
 use Rattle.template_program_run.specs.Environments.{IsSetFor}
 use Rattle.template_program_run.specs.declared.request.Request.{Request}
 

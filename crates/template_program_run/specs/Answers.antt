@@ -12,14 +12,14 @@ use Rattle.template_process.specs.Approximants.{IsFinished}
 use Rattle.template_process.specs.Fuel.{IsSameRun, under}
 use Rattle.template_machine_surroundings.specs.Rule.{IsRuleOf}
 use Rattle.template_machine_output.specs.Writes.{AppendsBeginning}
-use Rattle.template_environment.specs.Outcomes.{IsWant, TellsFailures}
-use Rattle.template_machine_meaning.specs.Meaning.{Standing, rendered}
-use Rattle.template_environment.specs.Isolation.{IsContextName}
-use Rattle.template_environment.specs.Renders.{Renders}
-use Rattle.template_environment.specs.Sources.{tree_in}
-use Rattle.template_environment.specs.Isolated.{AgreeAmong}
-use Rattle.template_environment.specs.Standing.{setting_of}
-use Rattle.template_environment.specs.declared.registry.Registry.{Registry}
+use Rattle.template_environment_settings.specs.Outcomes.{IsWant, TellsFailures}
+use Rattle.template_environment_settings.specs.Meaning.{Standing, rendered}
+use Rattle.template_environment_settings.specs.Isolation.{IsContextName}
+use Rattle.template_environment_settings.specs.Renders.{Renders}
+use Rattle.template_environment_settings.specs.Sources.{tree_in}
+use Rattle.template_environment_settings.specs.Isolated.{AgreeAmong}
+use Rattle.template_environment_settings.specs.Standing.{setting_of}
+use Rattle.template_environment_settings.specs.Registry.{Registry}
 use Rattle.template_program_parts.specs.Asked.{HasContext, IsRefusedContext}
 use Rattle.template_program_parts.specs.Context.{IsContextOf, text_pairs}
 use Rattle.template_program_run.specs.Additions.{AllAreAccepted, IsRefusedAddition}

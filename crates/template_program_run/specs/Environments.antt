@@ -2,8 +2,8 @@
 use Rattle.std.specs.Prelude.{◌≡◌, ℕ, List, min}
 use Rattle.template_compiler_syntax.specs.Syntax.{default_syntax}
 use Rattle.template_machine_surroundings.specs.declared.escape.EscapeRule.TheVariants.{ByName}
-use Rattle.template_environment.specs.Standing.{Settings, greatest_limit, settings_of, source_at}
-use Rattle.template_environment.specs.declared.registry.Registry.{Registry}
+use Rattle.template_environment_settings.specs.Standing.{Settings, greatest_limit, settings_of, source_at}
+use Rattle.template_environment_settings.specs.Registry.{Registry}
 use Rattle.template_program_run.specs.History.{source_standing}
 use Rattle.template_program_run.specs.declared.request.Request.{Request}
 

@@ -4,7 +4,7 @@ use Rattle.std.specs.Option.{option_map}
 use Rattle.std.specs.Str.{bytes_eq}
 use Rattle.template_compiler_syntax.specs.Syntax.{default_syntax}
 use Rattle.template_machine_surroundings.specs.declared.escape.EscapeRule.TheVariants.{ByName}
-use Rattle.template_environment.specs.Sources.{Source}
+use Rattle.template_environment_settings.specs.Sources.{Source}
 
 -- the one given last under the name
 abbrev pub text_under : List ℕ → Option (List ℕ) → List (List ℕ × List ℕ) → Option (List ℕ)

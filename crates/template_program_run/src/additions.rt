@@ -1,7 +1,7 @@
 //! The templates, added in order.
 ghost use Rattle.std.specs.Prelude.{◌≡◌, ◌+◌, ℕ, List, [], ◌∷◌, None, IfOk, IfErr, OnOk};
-ghost use Rattle.template_environment.specs.Reading.{callback_of, registry_of};
-ghost use Rattle.template_environment.specs.Standing.{settings_of, source_at};
+ghost use Rattle.template_environment_settings.specs.Reading.{callback_of, registry_of};
+ghost use Rattle.template_environment_settings.specs.Standing.{settings_of, source_at};
 ghost use Rattle.template_program_parts.specs.Context.{text_pairs};
 ghost use Rattle.template_program_run.specs.Additions.{AllAreAccepted, IsRefusedAddition};
 ghost use Rattle.template_program_run.specs.Environments.{IsSetFor, IsMade};
@@ -9,8 +9,7 @@ ghost use Rattle.template_program_run.specs.Ids.{IsLastId, behind_one};
 
 use crate::request::Request;
 use std::alloc::Global;
-use template_environment::Environment;
-use template_environment_settings::set_bounds;
+use template_environment_settings::{Environment, set_bounds};
 use template_machine_surroundings::StateIds;
 use template_values_errors::{Error, ErrorKind};
 

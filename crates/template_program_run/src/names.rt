@@ -2,7 +2,7 @@
 ghost use Rattle.std.specs.Prelude.{◌≡◌, IfErr, OnOk, OnErr};
 ghost use Rattle.std.specs.Io.KnownBytes.{Appends};
 ghost use Rattle.template_machine_output.specs.Writes.{AppendsBeginning};
-ghost use Rattle.template_environment.specs.Outcomes.{IsWant, TellsFailures};
+ghost use Rattle.template_environment_settings.specs.Outcomes.{IsWant, TellsFailures};
 ghost use Rattle.template_program_run.specs.Lines.{line_of, lines_of};
 
 use std::collections::BTreeSet;

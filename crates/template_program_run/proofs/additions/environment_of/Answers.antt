@@ -4,9 +4,9 @@ use Rattle.template_values_errors.specs.declared.modes.AutoEscape.{AutoEscape}
 use Rattle.template_compiler_syntax.specs.Syntax.{Syntax, default_syntax}
 use Rattle.template_machine_surroundings.specs.declared.escape.EscapeRule.{EscapeRule}
 use Rattle.template_machine_surroundings.specs.declared.escape.EscapeRule.TheVariants.{ByName}
-use Rattle.template_environment.specs.Sources.{IsAccepted, IsRefusedWith, Source}
-use Rattle.template_environment.specs.Reading.{registry_of, rule_for}
-use Rattle.template_environment.specs.Standing.{Settings, source_at}
+use Rattle.template_environment_settings.specs.Sources.{IsAccepted, IsRefusedWith, Source}
+use Rattle.template_environment_settings.specs.Reading.{registry_of, rule_for}
+use Rattle.template_environment_settings.specs.Standing.{Settings, source_at}
 use Rattle.template_program_run.specs.Environments.{IsSetFor}
 use Rattle.template_program_run.specs.History.{source_for}
 use Rattle.template_program_run.proofs.Histories.{accepted-next, refuses-at, source-next}

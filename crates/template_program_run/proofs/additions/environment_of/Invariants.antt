@@ -1,6 +1,6 @@
 use Rattle.std.proofs.Common.{◌≡◌, ℕ, List, None, take}
-use Rattle.template_environment.specs.Reading.{callback_of, registry_of}
-use Rattle.template_environment.specs.Standing.{settings_of, source_at}
+use Rattle.template_environment_settings.specs.Reading.{callback_of, registry_of}
+use Rattle.template_environment_settings.specs.Standing.{settings_of, source_at}
 use Rattle.template_program_parts.specs.Context.{text_pairs}
 use Rattle.template_program_run.specs.Additions.{AllAreAccepted}
 use Rattle.template_program_run.specs.Environments.{IsSetFor}

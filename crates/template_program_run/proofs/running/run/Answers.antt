@@ -1,8 +1,8 @@
 use Rattle.std.proofs.Common.{◌∙◌, sym, subst, rules, List, ℕ, option_copied}
 use Rattle.template_machine_surroundings.specs.Rule.{IsEscapeOf}
-use Rattle.template_environment.specs.Compiled.{standing_of}
-use Rattle.template_environment.specs.Reading.{registry_of}
-use Rattle.template_environment.specs.Views.{compiled_in, environment_of, source_of}
+use Rattle.template_environment_settings.specs.Compiled.{standing_of}
+use Rattle.template_environment_settings.specs.Reading.{registry_of}
+use Rattle.template_environment_settings.specs.Views.{compiled_in, environment_of, source_of}
 use Rattle.template_program_parts.specs.Context.{text_pairs}
 use Rattle.template_program_run.specs.Environments.{IsMade}
 use Rattle.template_program_parts.specs.declared.command.Command.TheVariants as asked
