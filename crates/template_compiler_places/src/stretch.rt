@@ -51,9 +51,28 @@ impl Stretch {
         }
     }
 
-    // The stretch that begins at a place behind this one.
+    // The stretch that reaches a place behind this one: the one that begins behind the byte that ends this one, most often a
+    // newline, if it reaches so far, else the one that begins at the place.
     #[inline(always)]
     fn next(self, bytes: &[u8], at: usize) -> Stretch
+        requires stretch { IsStretch bytes.now self }
+        requires behind { self.end < at }
+        requires within { at ≤ length bytes.now }
+        ensures stretch { IsStretch bytes.now result }
+        ensures begin { result.begin ≤ at }
+        ensures end { at ≤ result.end }
+    {
+        let line = self.begun(bytes, self.end + 1);
+        if at <= line.end {
+            line
+        } else {
+            self.begun(bytes, at)
+        }
+    }
+
+    // The stretch that begins at a place behind this one.
+    #[inline(always)]
+    fn begun(self, bytes: &[u8], at: usize) -> Stretch
         requires stretch { IsStretch bytes.now self }
         requires behind { self.end ≤ at }
         requires within { at ≤ length bytes.now }

@@ -8,4 +8,4 @@ mod scan;
 mod signs;
 mod texts;
 
-pub use scan::{leading_name, scan_mark, scan_name, scan_token};
+pub use scan::{leading_name, scan_digit, scan_mark, scan_name, scan_token};

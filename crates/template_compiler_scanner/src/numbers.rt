@@ -1,5 +1,6 @@
 //! Whole numbers.
-ghost use Rattle.std.specs.Prelude.{◌≡◌, ◌^◌, ◌<◌, ◌≤◌, ◌+◌, length, take, drop, slice_index, Some, None, IfSome, IsTrue, ◌==◌, ◌&&◌};
+ghost use Rattle.std.specs.Prelude.{◌≡◌, ◌^◌, ◌<◌, ◌≤◌, ◌+◌, length, take, drop, slice_index, Some, None, IfSome, IsTrue, ◌==◌, ◌&&◌, true};
+ghost use Rattle.std.specs.Char.{is_ascii_digit as ascii_digit};
 ghost use Rattle.std.specs.Option.{SomeIff};
 ghost use Rattle.template_compiler_tokens.specs.Numbers as number;
 ghost use Rattle.template_compiler_tokens.specs.Token as token;
@@ -166,11 +167,12 @@ pub fn scan_number<'source>(text: &[u8]) -> Result<(Token<'source>, usize), Erro
     }
 }
 
-// The value of the number that the text begins with, where that is a digit alone, as most are.
+/// The value of the number that the text begins with, where that is a digit alone, as most are.
 #[inline(always)]
-fn lone_digit(text: &[u8]) -> Option<u64>
+pub fn lone_digit(text: &[u8]) -> Option<u64>
     ensures value { IfSome result (λ digit. number.number_at text.now ≡ token.number digit) }
     ensures width { IfSome result (λ digit. number.number_width text.now ≡ 1) }
+    ensures digit { IfSome result (λ _. ascii_digit (slice_index text.now 0) ≡ true) }
 {
     let first = byte_at(text, 0);
     let next = byte_at(text, 1);

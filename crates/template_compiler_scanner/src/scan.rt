@@ -3,11 +3,11 @@ ghost use Rattle.std.specs.Prelude.{◌≡◌, ◌<◌, IfNone, IfOk, IfSome, Ok
 ghost use Rattle.template_compiler_tokens.specs.Lexical.{IsSign, is_name_part, is_name_start as name_start};
 ghost use Rattle.template_compiler_tokens.specs.Token.{bad, bad_syntax};
 ghost use Rattle.std.specs.Str.{IsCharBoundary};
-ghost use Rattle.template_compiler_tokens.specs.declared.token.Token.TheVariants.{Ident};
+ghost use Rattle.template_compiler_tokens.specs.declared.token.Token.TheVariants.{Ident, Int};
 ghost use Rattle.template_compiler_scanner.specs.Scans.{Scans};
 
 use crate::bytes::{begun_name_len, byte_at, is_name_start, name_len};
-use crate::numbers::scan_number;
+use crate::numbers::{lone_digit, scan_number};
 use crate::signs::scan_sign;
 use crate::texts::scan_text;
 use std::alloc::Global;
@@ -71,6 +71,18 @@ pub fn scan_mark<'source>(text: &str) -> Option<(Token<'source>, usize)>
     match scan_sign(text.as_bytes()) {
         Ok(found) => Some(found),
         Err(_) => None,
+    }
+}
+
+/// The value of the number that the text begins with, if that is a digit alone.
+#[inline(always)]
+pub fn scan_digit(text: &str) -> Option<u64>
+    ensures token { IfSome result (λ digit. Scans text.now (Ok (Int digit, 1))) }
+    ensures cut { IfSome result (λ _. IsCharBoundary text.now 1) }
+{
+    match lone_digit(text.as_bytes()) {
+        Some(digit) => Some(digit),
+        None => None,
     }
 }
 

@@ -289,34 +289,13 @@ fn find_braces(bytes: &[u8], from: usize) -> Option<(usize, StartMarker)>
     requires { from ≤ length bytes.now }
     ensures { (x : Syntax) → HasDefaultStarts x → IsNextOrNone x bytes.now from result }
 {
-    match find_braces_place(bytes, from) {
-        Some(place) => Some((place, braces_at(bytes, place))),
-        None => None,
-    }
-}
-
-fn braces_at(bytes: &[u8], place: usize) -> StartMarker
-    requires { place < length bytes.now }
-    ensures { IsBracesOf bytes.now place result }
-{
-    match bytes.get(place + 1) {
-        Some(b'{') => StartMarker::Variable,
-        Some(b'%') => StartMarker::Block,
-        _ => StartMarker::Comment,
-    }
-}
-
-fn find_braces_place(bytes: &[u8], from: usize) -> Option<usize>
-    requires { from ≤ length bytes.now }
-    ensures { MatchOption result (IsNowhere (λ i. IsBraces bytes.now i) from) (λ i. IsFirst (λ j. IsBraces bytes.now j) from i) }
-{
     let mut at = from;
     while let Some(skipped) = find_brace(rest_from(bytes, at)) {
         let brace = at + skipped;
-        if follows_brace(bytes, brace) {
-            return Some(brace);
+        match marker_at(bytes, brace) {
+            Some(kind) => return Some((brace, kind)),
+            None => at = brace + 1,
         }
-        at = brace + 1;
     }
     None
 }
@@ -332,11 +311,16 @@ fn find_brace(rest: &[u8]) -> Option<usize>
     }
 }
 
-// A start marker stands where its `{` does.
-fn follows_brace(bytes: &[u8], brace: usize) -> bool
+// The start marker of the default syntax whose `{` stands at the place.
+fn marker_at(bytes: &[u8], brace: usize) -> Option<StartMarker>
     requires within { brace < length bytes.now }
     requires opens { slice_index bytes.now brace ≡ 123 }
-    ensures { IsTrue result ↔ IsBraces bytes.now brace }
+    ensures { MatchOption result (IsBraces bytes.now brace → ⊥) (λ kind. IsBraces bytes.now brace × IsBracesOf bytes.now brace kind) }
 {
-    matches!(bytes.get(brace + 1), Some(b'{' | b'%' | b'#'))
+    match bytes.get(brace + 1) {
+        Some(b'{') => Some(StartMarker::Variable),
+        Some(b'%') => Some(StartMarker::Block),
+        Some(b'#') => Some(StartMarker::Comment),
+        _ => None,
+    }
 }

@@ -17,4 +17,5 @@ returns-then-not-is_name_part c =
     record {
       value = lone_number s digit apart small ∙ ap number (ap (λ b. b - 48) (sym first) ∙ sym c.from.ensures);
       width = lone_width s digit apart;
+      digit = digit;
     }

@@ -2,7 +2,7 @@ use Rattle.std.proofs.Common.{◌≡◌, ◌+◌, ◌-◌, ◌≤◌, length, ta
 use Rattle.template_compiler_places.specs.Bytes.{ArePlain}
 use Rattle.template_compiler_places.specs.Places.{IsBehind}
 use Rattle.template_compiler_places.proofs.Stretches.{parted}
-use Rattle.template_compiler_places.proofs.stretch.Stretch.next.Goals as goal
+use Rattle.template_compiler_places.proofs.stretch.Stretch.begun.Goals as goal
 
 pub returns-clause-stretch : goal.returns-clause-stretch
 returns-clause-stretch c =

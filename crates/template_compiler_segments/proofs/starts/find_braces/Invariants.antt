@@ -1,6 +1,6 @@
 use Rattle.std.proofs.Common.{ℕ, ◌-◌, ◌<◌, ◌≤◌, length}
 use Rattle.template_compiler_segments.specs.Known.{IsBraces}
-use Rattle.template_compiler_segments.proofs.starts.find_braces_place.Given as goal
+use Rattle.template_compiler_segments.proofs.starts.find_braces.Given as goal
 
 -- no start marker stands below `at`
 abbrev pub invariant-loop-skipped : goal.invariant-loop-skipped
