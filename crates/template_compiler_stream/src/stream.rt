@@ -1,14 +1,14 @@
 //! The tokens that are left.
-ghost use Rattle.std.specs.Prelude.{◌≡◌, ◌≤◌, [], ◌∷◌, ◌++◌, length, map, option_map, is_some, if◌then◌else◌, string_bytes};
+ghost use Rattle.std.specs.Prelude.{◌≡◌, ◌≤◌, IfSome, [], ◌∷◌, ◌++◌, length, map, option_map, is_some, if◌then◌else◌, string_bytes};
 ghost use Rattle.template_compiler_tokens.specs.Steps.{fault};
-ghost use Rattle.template_compiler_tokens.specs.Token.{assign, bad_syntax};
+ghost use Rattle.template_compiler_tokens.specs.Token.{assign, bad_syntax, number};
 ghost use Rattle.template_compiler_grammar.specs.Words.{begins_bare};
 ghost use Rattle.template_compiler_grammar.specs.Reader.{begins_closing, begins_bound_end};
 ghost use Rattle.template_compiler_stream.specs.Refusals.{fault_of};
 ghost use Rattle.template_compiler_stream.specs.Left.{Peeks, Shows, ahead, behind, ended, passed};
 ghost use Rattle.template_compiler_stream.specs.Spans.{ShownAt, TakenAt};
 ghost use Rattle.template_compiler_tokens.specs.Places.{last_span, next_span, no_span, token_count, until};
-ghost use Rattle.template_compiler_stream.specs.Signs.{assigned_behind, begins_alone, begins_symbol, is_symbol, level_of, second_word, next_operator, next_comparison, next_symbol, next_word, symbol_of, word_in};
+ghost use Rattle.template_compiler_stream.specs.Signs.{assigned_behind, begins_alone, begins_operand, begins_symbol, is_symbol, level_of, second_word, next_operator, next_comparison, next_symbol, next_word, symbol_of, word_in};
 ghost use Rattle.template_compiler_tokens.specs.View.{token_of};
 ghost use Rattle.template_compiler_stream.specs.Skips.{PutsText, SkipsDotted, SkipsKeyword, SkipsSign, SkipsText, SkipsWord};
 
@@ -16,8 +16,8 @@ mod tags;
 
 use crate::refusal::Fault;
 use crate::sign::{
-    Level, Sign, begins_argument, closes, comparison_of, ends_bound, is_end, is_plain, operator_of,
-    sign_of,
+    Level, Sign, begins_argument, closes, comparison_of, ends_bound, is_end, is_operand_end,
+    is_plain, operator_of, sign_of,
 };
 use std::alloc::AllocError;
 use std::marker::Model;
@@ -132,6 +132,18 @@ impl<'source> TokenStream<'source> {
         }
     }
 
+    /// The number that stands next, where it is no larger than a `u64`.
+    #[inline(always)]
+    pub fn number(&self) -> Option<u64>
+        ensures { IfSome result (λ n. self.now.left ≡ number n ∷ passed self.now.left) }
+    {
+        match self.peek() {
+            Next::Token(token, _) => number_of(token),
+            Next::End => None,
+            Next::Bad(_) => None,
+        }
+    }
+
     /// Where the next token stands, or where the last one stood.
     #[tactic(auto, using(crate::proofs::Spans::span_at_end, crate::proofs::Spans::span_at_fault))]
     pub fn span(&self) -> Span
@@ -218,6 +230,20 @@ impl<'source> TokenStream<'source> {
         match self.peek() {
             Next::Token(first, _) => match self.peek_second() {
                 Some(second) => is_end(second) && is_plain(first),
+                None => false,
+            },
+            Next::End => false,
+            Next::Bad(_) => false,
+        }
+    }
+
+    /// Whether what is compared is alone and stands next: a name or a number, with no operator behind it but `and` and `or`.
+    pub fn begins_operand(&self) -> bool
+        ensures { result ≡ begins_operand self.now.left }
+    {
+        match self.peek() {
+            Next::Token(first, _) => match self.peek_second() {
+                Some(second) => is_operand_end(second) && is_plain(first),
                 None => false,
             },
             Next::End => false,
@@ -497,6 +523,16 @@ fn word_of<'source>(token: &Token<'source>) -> Option<&'source str>
 {
     match token {
         Token::Ident(name) => Some(name),
+        _ => None,
+    }
+}
+
+// The number that a token is, where it is no larger than a `u64`.
+fn number_of(token: &Token) -> Option<u64>
+    ensures { IfSome result (λ n. token_of token.now ≡ number n) }
+{
+    match token {
+        Token::Int(n) => Some(*n),
         _ => None,
     }
 }
