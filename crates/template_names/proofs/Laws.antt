@@ -1,13 +1,14 @@
 -- How walks go one behind the other, and in regions.
-use Rattle.std.proofs.Common.{Result, Ok, Err, OnOk, bytes_eq, ◌≡◌, ℕ, zero, suc, ◌+◌, ◌<◌, ◌≤◌, arith, Bool, true, false, not, ◌&&◌, ◌||◌, List, [], ◌∷◌, ◌++◌, length, drop, get_or, Bor, IsTrue, inl, inr, ◌⊎◌, refl, sym, ap, subst, ◌∙◌}
+use Rattle.std.proofs.Common.{Result, Ok, Err, OnOk, bytes_eq, ◌≡◌, ℕ, zero, suc, ◌+◌, ◌<◌, ◌≤◌, arith, Bool, true, false, not, ◌&&◌, ◌||◌, List, [], ◌∷◌, ◌++◌, append_assoc, append-nil, length, drop, take, get_or, Bor, IsTrue, inl, inr, ◌⊎◌, refl, sym, ap, subst, ◌∙◌}
 use Rattle.std.specs.List.{list_any}
 use Rattle.std.proofs.Math.Seq.{drop-cons}
 use Rattle.std.specs.BTreeSet.{BTreeSet}
 use Rattle.std.proofs.lemmas.Slice.Eq.{bytes_eq-Decides}
-use Rattle.template_names.specs.Names.{IsToldFor, Places}
+use Rattle.template_names.specs.Names.{IsToldFor, Places, anywhere}
+use Rattle.template_names.specs.declared.state.Around.{Around}
 use Rattle.template_names.specs.declared.state.Names.{Names}
-use Rattle.template_names.specs.Among.{Among, nothing}
-use Rattle.template_names.specs.Goes.{Closes, Goes, IsFound, Opens, has, knows, no_place}
+use Rattle.template_names.specs.Among.{Among, is_among, nothing}
+use Rattle.template_names.specs.Goes.{Closes, Goes, IsAside, IsBack, IsFound, Opens, has, knows, knows_further, no_place}
 
 pub or_false : (b : Bool) → (b || false) ≡ b
 or_false true = refl
@@ -52,17 +53,11 @@ found_as {u} {v} a b nested known same q f = (
   ap (λ k. not k && v f.0) (sym (known f.0.name)) ∙ ap (λ x. not (knows b f.0.name) && x) (sym (same f.0)) ∙ f.2,
 )
 
--- what is known behind a walk
-pub knows_more : {u : Places → Bool} {s : Among} (a b : Names) → Goes u s a b → (q : List ℕ) → knows b q ≡ (knows a q || s q)
-knows_more {u} {s} a b goes q =
-    ap (λ (regions : List (BTreeSet (Bor (List ℕ)))). list_any (λ region. has region q) regions || has b.here q) goes.outer ∙
-    ap (λ h. list_any (λ region. has region q) a.outer.items || h) (goes.here q) ∙
-    or_assoc (list_any (λ region. has region q) a.outer.items) (has a.here q) (s q)
-
 pub goes_nowhere : (a : Names) → Goes no_place nothing a a
 goes_nowhere a = record {
   found = λ q. (λ i. inl i, λ h. elim h [ inl i ↦ i | inr f ↦ absurd (none_found a q f) ]);
-  here = λ q. sym (or_false (has a.here q));
+  knows = λ q. sym (or_false (knows a q));
+  few = ([], sym (append-nil a.few.items));
   outer = refl;
   nested = refl;
 }
@@ -79,7 +74,7 @@ goes_then {u} {s} {v} {t} a b c first second = record {
       | inr f ↦ inr (
         f.0,
         subst (λ n. IsToldFor n q f.0) first.nested f.1,
-        used_second (knows a f.0.name) (s f.0.name) (u f.0) (v f.0) (ap (λ k. not k && v f.0) (sym (knows_more a b first f.0.name)) ∙ f.2),
+        used_second (knows a f.0.name) (s f.0.name) (u f.0) (v f.0) (ap (λ k. not k && v f.0) (sym (first.knows f.0.name)) ∙ f.2),
       )
     ],
     λ h. elim h [
@@ -89,12 +84,16 @@ goes_then {u} {s} {v} {t} a b c first second = record {
         | inr i ↦ (second.found q).1 (inr (
           f.0,
           subst (λ n. IsToldFor n q f.0) (sym first.nested) f.1,
-          ap (λ k. not k && v f.0) (knows_more a b first f.0.name) ∙ i,
+          ap (λ k. not k && v f.0) (first.knows f.0.name) ∙ i,
         ))
       ]
     ],
   );
-  here = λ q. second.here q ∙ ap (λ h. h || t q) (first.here q) ∙ sym (or_assoc (has a.here q) (s q) (t q));
+  knows = λ q. second.knows q ∙ ap (λ h. h || t q) (first.knows q) ∙ sym (or_assoc (knows a q) (s q) (t q));
+  few = (
+    first.few.0 ++ second.few.0,
+    second.few.1 ∙ ap (λ (names : List (Bor (List ℕ))). names ++ second.few.0) first.few.1 ∙ append_assoc a.few.items first.few.0 second.few.0,
+  );
   outer = second.outer ∙ first.outer;
   nested = second.nested ∙ first.nested;
 }
@@ -106,7 +105,8 @@ goes_as {u} {s} {v} {t} {a} {b} uses stores goes = record {
     λ h. elim ((goes.found q).0 h) [ inl i ↦ inl i | inr f ↦ inr (found_as a a refl (λ n. refl) uses q f) ],
     λ h. (goes.found q).1 (elim h [ inl i ↦ inl i | inr f ↦ inr (found_as a a refl (λ n. refl) (λ p. sym (uses p)) q f) ]),
   );
-  here = λ q. goes.here q ∙ ap (λ x. has a.here q || x) (stores q);
+  knows = λ q. goes.knows q ∙ ap (λ x. knows a q || x) (stores q);
+  few = goes.few;
   outer = goes.outer;
   nested = goes.nested;
 }
@@ -118,6 +118,31 @@ uses_then a b c first second = goes_as (λ p. refl) (λ q. refl) (goes_then a b 
 pub uses_as : {u v : Places → Bool} {a b : Names} → ((p : Places) → u p ≡ v p) → Goes u nothing a b → Goes v nothing a b
 uses_as uses goes = goes_as uses (λ q. refl) goes
 
+take_front : (xs more : List (Bor (List ℕ))) → take (length xs) (xs ++ more) ≡ xs
+take_front [] more = refl
+take_front (x ∷ xs) more = ap (λ (ys : List (Bor (List ℕ))). x ∷ ys) (take_front xs more)
+
+-- where names alone are told, it does not matter what stands behind them
+plain_found : (u v : Places → Bool) (a : Names) → a.nested ≡ false → ((id : List ℕ) → u (anywhere id) ≡ v (anywhere id)) →
+    (q : List ℕ) → IsFound a u q → IsFound a v q
+plain_found u v a flat same q f =
+    let told : f.0 ≡ anywhere q = subst (λ n. IsToldFor n q f.0) flat f.1 in
+    let uses : u f.0 ≡ v f.0 = ap u told ∙ same q ∙ sym (ap v told) in
+    (f.0, f.1, ap (λ b. not (knows a f.0.name) && b) (sym uses) ∙ f.2)
+
+pub uses_plain : {u v : Places → Bool} (a b : Names) → a.nested ≡ false → ((id : List ℕ) → u (anywhere id) ≡ v (anywhere id)) →
+    Goes u nothing a b → Goes v nothing a b
+uses_plain {u} {v} a b flat same goes = record {
+  found = λ q. (
+    λ h. elim ((goes.found q).0 h) [ inl i ↦ inl i | inr f ↦ inr (plain_found u v a flat same q f) ],
+    λ h. (goes.found q).1 (elim h [ inl i ↦ inl i | inr f ↦ inr (plain_found v u a flat (λ id. sym (same id)) q f) ]),
+  );
+  knows = goes.knows;
+  few = goes.few;
+  outer = goes.outer;
+  nested = goes.nested;
+}
+
 -- what is stored in a region is forgotten
 any_push : (q : List ℕ) (xs : List (BTreeSet (Bor (List ℕ)))) (x : BTreeSet (Bor (List ℕ))) →
     list_any (λ region. has region q) (xs ++ x ∷ []) ≡ (list_any (λ region. has region q) xs || has x q)
@@ -125,29 +150,59 @@ any_push q [] x = or_false (has x q)
 any_push q (y ∷ xs) x =
     ap (λ b. has y q || b) (any_push q xs x) ∙ or_assoc (has y q) (list_any (λ region. has region q) xs) (has x q)
 
-knows_inside : (a b : Names) → Opens a b → (q : List ℕ) → knows b q ≡ knows a q
-knows_inside a b opens q =
-    ap (λ (regions : List (BTreeSet (Bor (List ℕ)))). list_any (λ region. has region q) regions || has b.here q) opens.outer ∙
-    ap (λ h. list_any (λ region. has region q) (a.outer.items ++ a.here ∷ []) || h) (opens.here q) ∙
+regions_inside : (aside : Bool) (a b : Names) → IsAside aside a b → ((q : List ℕ) → has b.here q ≡ false) →
+    (q : List ℕ) → knows_further b q ≡ knows_further a q
+regions_inside true a b opens here q =
+    ap (λ (regions : List (BTreeSet (Bor (List ℕ)))). list_any (λ region. has region q) regions || has b.here q) opens ∙
+    ap (λ h. list_any (λ region. has region q) (a.outer.items ++ a.here ∷ []) || h) (here q) ∙
     or_false (list_any (λ region. has region q) (a.outer.items ++ a.here ∷ [])) ∙ any_push q a.outer.items a.here
+regions_inside false a b opens here q =
+    ap (λ (regions : List (BTreeSet (Bor (List ℕ)))). list_any (λ region. has region q) regions || has b.here q) opens.0 ∙
+    ap (λ h. list_any (λ region. has region q) a.outer.items || h) (here q ∙ sym (opens.1 q))
 
-pub goes_inside : {u : Places → Bool} {s : Among} (a b c d : Names) → Opens a b → Goes u s b c → Closes c d → Goes u nothing a d
-goes_inside {u} {s} a b c d opens goes closes =
-    let around = closes.around a.outer.items a.here (goes.outer ∙ opens.outer) in
+knows_inside : (a b : Names) (m : Around) → Opens a b m → (q : List ℕ) → knows b q ≡ knows a q
+knows_inside a b m opens q =
+    ap (λ (names : List (Bor (List ℕ))). is_among names q || knows_further b q) opens.few ∙
+    ap (λ k. is_among a.few.items q || k) (regions_inside m.aside a b opens.aside opens.here q)
+
+-- the regions around are as they were
+outer_after : (aside : Bool) (a b c d : Names) → IsAside aside a b → c.outer.items ≡ b.outer.items → IsBack aside c d → d.outer.items ≡ a.outer.items
+outer_after true a b c d opens same closes = (closes a.outer.items a.here (same ∙ opens)).0
+outer_after false a b c d opens same closes = closes.0 ∙ same ∙ opens.0
+
+here_after : (aside : Bool) (a b c d : Names) → IsAside aside a b → c.outer.items ≡ b.outer.items → IsBack aside c d → (q : List ℕ) → has d.here q ≡ has a.here q
+here_after true a b c d opens same closes q =
+    ap (λ (region : BTreeSet (Bor (List ℕ))). has region q) (closes a.outer.items a.here (same ∙ opens)).1
+here_after false a b c d opens same closes q = closes.1 q ∙ sym (opens.1 q)
+
+few_after : (xs ys more zs : List (Bor (List ℕ))) (n : ℕ) → n ≡ length xs → ys ≡ xs ++ more → zs ≡ take n ys → zs ≡ xs
+few_after xs ys more zs n count more_is taken =
+    taken ∙ ap (λ (names : List (Bor (List ℕ))). take n names) more_is ∙ ap (λ (k : ℕ). take k (xs ++ more)) count ∙ take_front xs more
+
+pub goes_inside : {u : Places → Bool} {s : Among} (a b c d : Names) (m : Around) → Opens a b m → Goes u s b c → Closes m c d → Goes u nothing a d
+goes_inside {u} {s} a b c d m opens goes closes =
+    let few : d.few.items ≡ a.few.items = few_after a.few.items c.few.items goes.few.0 d.few.items m.few opens.count
+    (goes.few.1 ∙ ap (λ (names : List (Bor (List ℕ))). names ++ goes.few.0) opens.few) closes.few in
+    let outer = outer_after m.aside a b c d opens.aside goes.outer closes.back in
+    let here = here_after m.aside a b c d opens.aside goes.outer closes.back in
     record {
       found = λ q. (
-        λ h. elim ((goes.found q).0 (sym (closes.found q) ∙ h)) [
-          | inl i ↦ inl (sym (opens.found q) ∙ i)
-          | inr f ↦ inr (found_as a b opens.nested (knows_inside a b opens) (λ p. refl) q f)
+        λ h. elim ((goes.found q).0 (sym (closes.keeps.found q) ∙ h)) [
+          | inl i ↦ inl (sym (opens.keeps.found q) ∙ i)
+          | inr f ↦ inr (found_as a b opens.keeps.nested (knows_inside a b m opens) (λ p. refl) q f)
         ],
-        λ h. closes.found q ∙ (goes.found q).1 (elim h [
-          | inl i ↦ inl (opens.found q ∙ i)
-          | inr f ↦ inr (found_as b a (sym opens.nested) (λ n. sym (knows_inside a b opens n)) (λ p. refl) q f)
+        λ h. closes.keeps.found q ∙ (goes.found q).1 (elim h [
+          | inl i ↦ inl (opens.keeps.found q ∙ i)
+          | inr f ↦ inr (found_as b a (sym opens.keeps.nested) (λ n. sym (knows_inside a b m opens n)) (λ p. refl) q f)
         ]),
       );
-      here = λ q. ap (λ (region : BTreeSet (Bor (List ℕ))). has region q) around.1 ∙ sym (or_false (has a.here q));
-      outer = around.0;
-      nested = closes.nested ∙ goes.nested ∙ opens.nested;
+      knows = λ q.
+          ap (λ (names : List (Bor (List ℕ))). is_among names q || knows_further d q) few ∙
+          ap (λ (regions : List (BTreeSet (Bor (List ℕ)))). is_among a.few.items q || (list_any (λ region. has region q) regions || has d.here q)) outer ∙
+          ap (λ h. is_among a.few.items q || (list_any (λ region. has region q) a.outer.items || h)) (here q) ∙ sym (or_false (knows a q));
+      few = ([], few ∙ sym (append-nil a.few.items));
+      outer = outer;
+      nested = closes.keeps.nested ∙ goes.nested ∙ opens.keeps.nested;
     }
 
 -- a list from an item on
@@ -215,6 +270,10 @@ pub goes_then_on : {T E : Type 0} {u : Places → Bool} {s : Among} {w : Places 
     OnOk r (Goes w y a c)
 goes_then_on v t a b c (Ok value) first second uses stores = goes_as uses stores (goes_then a b c first second)
 goes_then_on v t a b c (Err error) first second uses stores = tt
+
+pub on_ok : {T E P Q : Type 0} (r : Result T E) → (P → Q) → OnOk r P → OnOk r Q
+on_ok (Ok value) f h = f h
+on_ok (Err error) f h = tt
 
 -- names are equal from either side
 by_cases : (a b : Bool) → (a ≡ true → b ≡ true) → (b ≡ true → a ≡ true) → a ≡ b

@@ -3,7 +3,7 @@ use Rattle.std.proofs.Common.{◌≡◌, ℕ, List, [], ◌∷◌, refl, sym, �
 use Rattle.template_tree.specs.Tree.{Expression, variable, constant, slice, unary, binary, chain, conditional, filtered, tested, attribute, item, call, list_literal, tuple_literal, map_literal}
 use Rattle.template_names.specs.Names.{anywhere, place_before, stands_in}
 
-before_any : (name : List ℕ) (fields : List (List ℕ)) (e : Expression) → place_before (anywhere name) fields e ≡ stands_in name e
+pub before_any : (name : List ℕ) (fields : List (List ℕ)) (e : Expression) → place_before (anywhere name) fields e ≡ stands_in name e
 before_any name fields (variable id) = refl
 before_any name fields (constant v) = refl
 before_any name fields (slice e start stop by) = refl

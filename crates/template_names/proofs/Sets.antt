@@ -1,16 +1,30 @@
 -- A set with one name more.
-use Rattle.std.proofs.Common.{◌≡◌, ℕ, Bool, true, false, cond, ◌||◌, ◌+◌, ◌<◌, List, [], ◌∷◌, ◌++◌, length, take, get_or, codes, bytes_eq, Bor, not, ◌&&◌, IsTrue, inl, inr, ◌⊎◌, ◌↔◌, refl, sym, ap, subst, ◌∙◌}
+use Rattle.std.proofs.Common.{◌≡◌, ℕ, Bool, true, false, cond, ◌||◌, ◌+◌, ◌<◌, List, [], ◌∷◌, ◌++◌, suc, arith, length, drop, take, get_or, codes, bytes_eq, Bor, not, ◌&&◌, IsTrue, inl, inr, ◌⊎◌, ◌↔◌, refl, sym, ap, subst, ◌∙◌}
 use Rattle.std.specs.Ordering.{is_eq, nat_cmp}
 use Rattle.std.specs.Cmp.Lexicographic.{slice_cmp}
 use Rattle.std.specs.BTreeSet.{BTreeSet}
+use Rattle.std.proofs.lemmas.List.Folds.{list_any-append}
 use Rattle.std.proofs.lemmas.Map.Text.{is_eq-slice_cmp}
 use Rattle.template_names.specs.Names.{IsToldFor, Places, along, anywhere, are_fields, joined}
 use Rattle.template_names.proofs.Segments.{fields_are}
 use Rattle.template_names.specs.Dotted.{fields_of, gathered}
-use Rattle.template_names.specs.Goes.{IsFound, has, knows, place}
+use Rattle.template_names.specs.Among.{is_among}
+use Rattle.template_names.specs.Goes.{IsFound, has, knows, place, tells}
 use Rattle.template_names.specs.declared.state.Names.{Names}
+use Rattle.std.proofs.Math.Seq.{drop-cons}
 use Rattle.std.proofs.lemmas.List.{append_assoc, get_or_default, take_more}
 use Rattle.std.proofs.lemmas.Slice.Eq.{bytes_eq-Decides}
+
+one_first : (a x b : Bool) → ((a || (x || false)) || b) ≡ ((a || b) || x)
+one_first true x b = refl
+one_first false true true = refl
+one_first false true false = refl
+one_first false false true = refl
+one_first false false false = refl
+
+or_all : (a b c : Bool) → (a || (b || c)) ≡ ((a || b) || c)
+or_all true b c = refl
+or_all false b c = refl
 
 pub cond_or : (test before : Bool) → cond test true before ≡ (before || test)
 cond_or true true = refl
@@ -46,6 +60,20 @@ fresh_place names id fields p fresh is counts =
     ap (λ n. not (knows names n) && place id fields p) is ∙ ap (λ k. not k && place id fields p) fresh ∙
     ap (λ b. b && bytes_eq id p.name) counts ∙ (bytes_eq-Decides id p.name).1 (sym is)
 
+-- the name of a place that is found alone
+pub found_alone : (names : Names) (id : List ℕ) (fields : List (List ℕ)) → names.nested ≡ false → (q : List ℕ) → IsFound names (place id fields) q → IsTrue (bytes_eq id q)
+found_alone names id fields flat q f =
+    let told : f.0 ≡ anywhere q = subst (λ n. IsToldFor n q f.0) flat f.1 in
+    let named : IsTrue (bytes_eq id f.0.name) =
+    right_of (f.0.counts fields) (bytes_eq id f.0.name) (right_of (not (knows names f.0.name)) (place id fields f.0) f.2) in
+    ap (λ (p : Places). bytes_eq id p.name) (sym told) ∙ named
+
+-- a name that was found stays found
+pub found_before : (names : Names) (id : List ℕ) (fields : List (List ℕ)) → names.nested ≡ false → tells names id ≡ true →
+    (q : List ℕ) → IsFound names (place id fields) q → IsTrue (tells names q)
+found_before names id fields flat told q f =
+    ap (λ n. tells names n) (sym ((bytes_eq-Decides id q).0 (found_alone names id fields flat q f))) ∙ told
+
 -- a name that is told alone
 pub alone : (names : Names) (id : List ℕ) (fields : List (List ℕ)) → names.nested ≡ false → knows names id ≡ false →
     (q : List ℕ) → IsTrue (bytes_eq id q) ↔ IsFound names (place id fields) q
@@ -56,11 +84,7 @@ alone names id fields flat fresh q = (
         subst (λ n. IsToldFor n q (anywhere q)) (sym flat) refl,
         fresh_place names id fields (anywhere q) fresh (sym is) refl,
       ),
-  λ f.
-      let told : f.0 ≡ anywhere q = subst (λ n. IsToldFor n q f.0) flat f.1 in
-      let named : IsTrue (bytes_eq id f.0.name) =
-      right_of (f.0.counts fields) (bytes_eq id f.0.name) (right_of (not (knows names f.0.name)) (place id fields f.0) f.2) in
-      ap (λ (p : Places). bytes_eq id p.name) (sym told) ∙ named,
+  λ f. found_alone names id fields flat q f,
 )
 
 -- a name with what stands behind it
@@ -90,6 +114,32 @@ known_place names id fields known q f =
     let named : id ≡ f.0.name = (bytes_eq-Decides id f.0.name).0 (right_of (f.0.counts fields) (bytes_eq id f.0.name) here) in
     let none : false ≡ true = sym (ap (λ k. not k) (sym (ap (λ n. knows names n) named) ∙ known)) ∙ left_of (not (knows names f.0.name)) (place id fields f.0) f.2 in
     cc
+
+-- with one name more in a list
+pub one_more : (xs ys : List (Bor (List ℕ))) (x : Bor (List ℕ)) (k : Bool) (q : List ℕ) → ys ≡ xs ++ x ∷ [] →
+    (is_among ys q || k) ≡ ((is_among xs q || k) || bytes_eq x.now q)
+one_more xs ys x k q pushed =
+    ap (λ (names : List (Bor (List ℕ))). is_among names q || k) pushed ∙
+    ap (λ b. b || k) (list_any-append (λ (other : Bor (List ℕ)). bytes_eq other.now q) xs (x ∷ [])) ∙
+    one_first (is_among xs q) (bytes_eq x.now q) k
+
+-- with one more in a set beside it
+pub one_beside : (a old new b : Bool) → new ≡ (old || b) → (a || new) ≡ ((a || old) || b)
+one_beside a old new b more = ap (λ x. a || x) more ∙ or_all a old b
+
+pub stored_here : (a o h b : Bool) → (a || (o || (h || b))) ≡ ((a || (o || h)) || b)
+stored_here true o h b = refl
+stored_here false true h b = refl
+stored_here false false h b = refl
+
+-- the names that are left to be added
+pub one_added : (xs : List (Bor (List ℕ))) (i : ℕ) (d : Bor (List ℕ)) (old new all : Bool) (q : List ℕ) → i < length xs →
+    new ≡ (old || bytes_eq (get_or xs i d).now q) → (old || is_among (drop i xs) q) ≡ all → (new || is_among (drop (i + 1) xs) q) ≡ all
+one_added xs i d old new all q within is so_far =
+    let next : suc i ≡ i + 1 = omega arith in
+    let rest = is_among (drop (i + 1) xs) q in
+    ap (λ n. n || rest) is ∙ sym (or_all old (bytes_eq (get_or xs i d).now q) rest) ∙
+    ap (λ (ys : List (Bor (List ℕ))). old || is_among ys q) (sym (drop-cons xs i d within ∙ ap (λ (n : ℕ). get_or xs i d ∷ drop n xs) next)) ∙ so_far
 
 -- the set with one text more
 pub more : (old new among : Bool) (F : Type 0) → new ≡ (old || among) → IsTrue among ↔ F → IsTrue new ↔ (IsTrue old ⊎ F)

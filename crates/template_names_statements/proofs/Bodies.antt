@@ -1,5 +1,6 @@
 -- The trees of statements, from the parts that a node holds, and walks of statements seen by their trees.
-use Rattle.std.proofs.Common.{◌≡◌, ◌<◌, ℕ, Bool, false, Result, OnOk, List as Items, Box, Global, rules, sym, ap, ◌∙◌}
+use Rattle.std.proofs.Common.{◌≡◌, ◌<◌, ◌==◌, ℕ, Bool, true, false, Result, OnOk, List as Items, [], ◌∷◌, length, Box, Global, rules, arith, refl, sym, ap, ◌∙◌}
+use Rattle.std.proofs.lemmas.Bool.Decides.{nat_tests}
 use Rattle.template_tree.specs.Tree.{Statement, set_block, filter_block, block, macro, call_block}
 use Rattle.template_tree.specs.View.{expression_of, expressions_in, arguments_in, optional_in}
 use Rattle.template_tree_statements.specs.View.{statement_of}
@@ -18,7 +19,7 @@ use Rattle.template_names.specs.declared.state.Names.{Names}
 use Rattle.template_names.specs.Among.{Among, nothing}
 use Rattle.template_names.specs.Goes.{Goes}
 use Rattle.template_names_statements.proofs.Deep.{all_below, body_deep}
-use Rattle.template_names.proofs.Laws.{goes_as, goes_nowhere, goes_on}
+use Rattle.template_names.proofs.Laws.{goes_as, goes_nowhere, goes_on, uses_as}
 
 -- a walk of a node is one of the statement that it stands in
 pub at_node : {T E : Type 0} {s x : Stmt} (a b : Names) (r : Result T E) → s ≡ x → ((q : Items ℕ) → false ≡ is_stored_by q (statement_of x)) →
@@ -103,3 +104,11 @@ macro_reads q {body} {body'} {arguments} {arguments'} {defaults} {defaults'} bod
     ap (λ (ss : Items Stmt). place_of_macro q (expressions_in arguments) (expressions_in defaults) (place_within q (statements_in ss))) bodies ∙
     ap (λ (es : Items Expr). place_of_macro q (expressions_in es) (expressions_in defaults) (place_within q (statements_in body'))) xs ∙
     ap (λ (es : Items Expr). place_of_macro q (expressions_in arguments') (expressions_in es) (place_within q (statements_in body'))) ds
+
+-- a region without statements
+no_body : (q : Places) (body : Items Stmt) → (length body == 0) ≡ true → false ≡ place_within q (statements_in body)
+no_body q [] none = refl
+no_body q (s ∷ ss) none = let zero : length (s ∷ ss) ≡ 0 = grind (arith, nat_tests) in absurd (omega (arith, zero))
+
+pub empty_region : (a : Names) (body : Items Stmt) → (length body == 0) ≡ true → Goes (λ q. place_within q (statements_in body)) nothing a a
+empty_region a body none = uses_as (λ q. no_body q body none) (goes_nowhere a)

@@ -40,25 +40,28 @@ all_below deep (x ∷ xs) m h all =
     omega (arith, first, rest)
 
 -- measures of the walk of statements: a body, a node, and the statements of a body
-pub body_falls : (d s t : ℕ) → d < s → 6 * s + 5 ≡ t → 6 * d + 7 < t
+pub body_falls : (d s t : ℕ) → d < s → 8 * s + 5 ≡ t → 8 * d + 8 < t
 body_falls d s t less is = omega (arith, less, is)
 
-pub part_falls : (d s t : ℕ) → d < s → 6 * s + 4 ≡ t → 6 * d + 7 < t
+pub part_falls : (d s t : ℕ) → d < s → 8 * s + 4 ≡ t → 8 * d + 8 < t
 part_falls d s t less is = omega (arith, less, is)
 
-pub part_falls_within : (d s r t : ℕ) → d < s → s ≤ r → 6 * r + 4 ≡ t → 6 * d + 7 < t
+pub part_falls_within : (d s r t : ℕ) → d < s → s ≤ r → 8 * r + 4 ≡ t → 8 * d + 8 < t
 part_falls_within d s r t less within is = omega (arith, less, within, is)
 
-pub region_falls : (d s t : ℕ) → d < s → 6 * s + 4 ≡ t → 6 * d + 6 < t
+pub region_falls : (d s t : ℕ) → d < s → 8 * s + 4 ≡ t → 8 * d + 7 < t
 region_falls d s t less is = omega (arith, less, is)
 
-pub node_falls : (m s t : ℕ) → s ≡ m → 6 * s + 5 ≡ t → 6 * m + 4 < t
+pub node_falls : (m s t : ℕ) → s ≡ m → 8 * s + 5 ≡ t → 8 * m + 4 < t
 node_falls m s t same is = omega (arith, same, is)
 
-pub item_falls : (m d t : ℕ) → m ≤ d → 6 * d + 6 ≡ t → 6 * m + 5 < t
+pub known_node_falls : (m s t : ℕ) → s ≡ m → 8 * s + 6 ≡ t → 8 * m + 4 < t
+known_node_falls m s t same is = omega (arith, same, is)
+
+pub item_falls : (m d t : ℕ) → m ≤ d → 8 * d + 7 ≡ t → 8 * m + 6 < t
 item_falls m d t within is = omega (arith, within, is)
 
-pub inside_falls : (d t : ℕ) → 6 * d + 7 ≡ t → 6 * d + 6 < t
+pub inside_falls : (d t : ℕ) → 8 * d + 8 ≡ t → 8 * d + 7 < t
 inside_falls d t is = omega (arith, is)
 
 abbrev pub body_deep : Items Stmt → ℕ
@@ -137,14 +140,18 @@ abbrev pub links_deep : Items CompareOp → ℕ
 links_deep links = deepest (λ (link : CompareOp). size-Expr link.expr) links
 
 -- measures of the walk of expressions: an item, a list of them, and a part of a node
-pub expression_falls : (m d t : ℕ) → m ≤ d → 3 * d + 2 ≡ t → 3 * m + 1 < t
+pub expression_falls : (m d t : ℕ) → m ≤ d → 6 * d + 4 ≡ t → 6 * m + 3 < t
 expression_falls m d t within is = omega (arith, within, is)
 
-pub list_falls : (d s t : ℕ) → d < s → 3 * s ≡ t → 3 * d + 2 < t
+pub list_falls : (d s t : ℕ) → d < s → 6 * s ≡ t → 6 * d + 4 < t
 list_falls d s t less is = omega (arith, less, is)
 
-pub operand_falls : (m s t : ℕ) → m < s → 3 * s ≡ t → 3 * m + 1 < t
+pub operand_falls : (m s t : ℕ) → m < s → 6 * s ≡ t → 6 * m + 3 < t
 operand_falls m s t less is = omega (arith, less, is)
+
+-- and an operand of one of its left parts
+pub part_operand_falls : (m s t : ℕ) → m < s → 6 * s + 1 ≡ t → 6 * m + 3 < t
+part_operand_falls m s t less is = omega (arith, less, is)
 
 list_below : (n : Box (Spanned ListNode) Global) → items_deep n.value.node.items.items < size-Expr (List n)
 list_below n = all_below size-Expr n.value.node.items.items (size-Expr (List n)) (search (rules, expressions)) (λ i d h. search (rules, expressions))

@@ -1,12 +1,12 @@
 -- What stands beside the left parts of nodes.
-use Rattle.std.proofs.Common.{◌≡◌, ℕ, ◌≤◌, ◌<◌, ◌+◌, Bool, true, false, ◌&&◌, ◌||◌, List as Items, bytes_eq, Option, None, Some, Bor, Box, Global, rules, arith, refl, sym, ap, ◌∙◌}
+use Rattle.std.proofs.Common.{◌≡◌, ℕ, ◌≤◌, ◌<◌, ◌+◌, Bool, true, false, ◌&&◌, ◌||◌, List as Items, [], bytes_eq, Option, None, Some, Bor, Box, Global, rules, arith, refl, sym, ap, ◌∙◌}
 use Rattle.std.specs.Prelude.{option_map, IfSome}
 use Rattle.template_tree.specs.Tree.{Expression, variable, constant, slice, unary, binary, chain, conditional, filtered, tested, attribute, item, call, list_literal, tuple_literal, map_literal, absent, given}
 use Rattle.template_tree_parts.specs.Spine.{left_of, before}
 use Rattle.template_names.specs.declared.state.Names.{Names}
 use Rattle.template_names.specs.Among.{nothing}
 use Rattle.template_names.specs.Goes.{Goes}
-use Rattle.template_names.proofs.Laws.{uses_as, uses_then}
+use Rattle.template_names.proofs.Laws.{uses_as, uses_plain, uses_then}
 use Rattle.template_tree.specs.View.{expression_of, expressions_in, links_in, arguments_in, optional_in}
 use Rattle.template_tree.specs.declared.span.Spanned.{Spanned}
 use Rattle.template_tree.specs.declared.calls.Call.{Call as CallNode}
@@ -21,7 +21,8 @@ use Rattle.template_tree.specs.declared.expressions.Tuple.{Tuple as TupleNode}
 use Rattle.template_tree.specs.declared.expressions.Expr.{Expr, size-Expr, Compare as CompareNode, Call, Filter, IfExpr, List, Map, Slice, Test, Tuple, the_lemmas}
 use Rattle.template_tree.proofs.Rows.{arguments_row}
 use Rattle.template_tree_parts.proofs.Trees.{chain_tree, choice_tree, list_tree, map_tree, slice_tree, tuple_tree}
-use Rattle.template_names.specs.Names.{Places, place_before, place_in, place_if_given, place_in_one, place_in_links, place_in_arguments}
+use Rattle.template_names.proofs.Plain.{before_any}
+use Rattle.template_names.specs.Names.{Places, anywhere, place_before, place_in, place_if_given, place_in_one, place_in_links, place_in_arguments}
 use Rattle.template_names.specs.Dotted.{fields_left}
 use Rattle.template_names_statements.specs.Parts.{left_deep, left_place, place_beside}
 
@@ -136,3 +137,23 @@ left_ends e old part new fields next a b at is left behind ends step c rest =
     parted q fields (expression_of e) ∙ ap (λ (x : Expr). place_before q fields (expression_of x)) (sym is) ∙
     ap (λ (o : Option (Bor Expr)). left_place fields o q) (sym at) in
     ends c (uses_as all (uses_then a b c step rest))
+
+-- the same where names alone are told
+before_plain : (id : Items ℕ) (fields next : Items (Items ℕ)) (o : Option Expression) →
+    before (place_before (anywhere id) fields) false o ≡ before (place_before (anywhere id) next) false o
+before_plain id fields next None = refl
+before_plain id fields next (Some e) = before_any id fields e ∙ sym (before_any id next e)
+
+pub plain_ends : {G : Names → Type 0} (e : Expr) (old : Option (Bor Expr)) (part : Bor Expr) (new : Option (Bor Expr)) (a b : Names) → a.nested ≡ false →
+    old ≡ Some part → part.now ≡ e → option_map (λ p. expression_of p.now) new ≡ left_of (expression_of e) →
+    ((c : Names) → Goes (left_place [] old) nothing a c → G c) → Goes (λ q. place_beside q [] (expression_of e)) nothing a b →
+    (c : Names) → Goes (left_place [] new) nothing b c → G c
+plain_ends e old part new a b flat at is left ends step c rest =
+    let all : (id : Items ℕ) → (place_beside (anywhere id) [] (expression_of e) || left_place [] new (anywhere id)) ≡ left_place [] old (anywhere id) = λ id.
+    let q = anywhere id in
+    ap (λ x. place_beside q [] (expression_of e) || x)
+    (left_is q [] new ∙ ap (λ (o : Option Expression). before (place_before q []) false o) left ∙
+    before_plain id [] (fields_left (expression_of e) []) (left_of (expression_of e))) ∙
+    parted q [] (expression_of e) ∙ ap (λ (x : Expr). place_before q [] (expression_of x)) (sym is) ∙
+    ap (λ (o : Option (Bor Expr)). left_place [] o q) (sym at) in
+    ends c (uses_plain a c flat all (uses_then a b c step rest))

@@ -1,6 +1,8 @@
 //! The names in expressions. A tree is gone along its left parts in a loop; its other parts nest at most 150 deep.
-ghost use Rattle.std.specs.Prelude.{◌≡◌, ◌≤◌, ℕ, List, OnOk};
+ghost use Rattle.std.specs.Prelude.{◌≡◌, ◌<◌, ◌≤◌, ℕ, false, List, [], IfOk, IfSome, OnOk, option_map};
 ghost use Rattle.template_tree.specs.View.{expression_of, expressions_in, links_in, optional_in, argument_of, arguments_in};
+ghost use Rattle.template_tree.specs.declared.expressions.Expr.{size-Expr};
+ghost use Rattle.template_tree_parts.specs.Spine.{left_of};
 ghost use Rattle.template_names.specs.Names.{place_in, place_if_given, place_in_one, place_in_links, place_in_arguments, place_in_argument};
 ghost use Rattle.template_names.specs.Among.{nothing};
 ghost use Rattle.template_names.specs.Dotted.{fields_of};
@@ -24,6 +26,25 @@ pub fn use_expression<'source>(
 ) -> Result<(), AllocError>
     ensures { OnOk result (Goes (λ places. place_in places (expression_of expr.now)) nothing names.old names.new) }
 {
+    match expr {
+        Expr::Var(n) => names.find_alone(n.node.id),
+        Expr::Const(_) => Ok(()),
+        _ => {
+            if names.nested {
+                use_dotted(names, expr)
+            } else {
+                use_plain(names, expr)
+            }
+        }
+    }
+}
+
+// The same where the dotted names behind a name are told too.
+#[cycle(expression)]
+#[inline(never)]
+fn use_dotted<'source>(names: &mut Names<'source>, expr: &Expr<'source>) -> Result<(), AllocError>
+    ensures { OnOk result (Goes (λ places. place_in places (expression_of expr.now)) nothing names.old names.new) }
+{
     let mut behind = Vec::new(names.alloc);
     let mut left_part = Some(expr);
     while let Some(part) = left_part {
@@ -34,8 +55,60 @@ pub fn use_expression<'source>(
     Ok(())
 }
 
+// The same where names alone are told.
+#[cycle(expression)]
+#[inline(never)]
+fn use_plain<'source>(names: &mut Names<'source>, expr: &Expr<'source>) -> Result<(), AllocError>
+    requires { names.old.nested ≡ false }
+    ensures { OnOk result (Goes (λ places. place_in places (expression_of expr.now)) nothing names.old names.new) }
+{
+    let mut left_part = Some(expr);
+    while let Some(part) = left_part {
+        left_part = use_part(names, part)?;
+    }
+    Ok(())
+}
+
+// Uses the names in an expression beside its left part, which it gives.
+#[cycle(expression)]
+#[inline(always)]
+fn use_part<'a, 'source>(
+    names: &mut Names<'source>,
+    expr: &'a Expr<'source>,
+) -> Result<Option<&'a Expr<'source>>, AllocError>
+    ensures uses { OnOk result (Goes (λ places. place_beside places [] (expression_of expr.now)) nothing names.old names.new) }
+    ensures left { IfOk result (λ part. option_map (λ left. expression_of left.now) part ≡ left_of (expression_of expr.now)) }
+    ensures smaller { IfOk result (λ part. IfSome part (λ left. size-Expr left.now < size-Expr expr.now)) }
+{
+    match expr {
+        Expr::Var(n) => {
+            names.find_alone(n.node.id)?;
+            Ok(None)
+        }
+        Expr::Const(_) => Ok(None),
+        Expr::GetAttr(n) => Ok(Some(&n.node.expr)),
+        Expr::UnaryOp(n) => {
+            use_expression(names, &n.node.expr)?;
+            Ok(None)
+        }
+        Expr::BinOp(n) => {
+            use_expression(names, &n.node.right)?;
+            Ok(Some(&n.node.left))
+        }
+        Expr::GetItem(n) => {
+            use_expression(names, &n.node.subscript_expr)?;
+            Ok(Some(&n.node.expr))
+        }
+        _ => {
+            use_others(names, expr, &[])?;
+            Ok(left(expr))
+        }
+    }
+}
+
 // Uses the names in an expression beside its left part, where it has these dotted names behind it.
 #[cycle(expression)]
+#[inline(never)]
 fn use_others<'source>(
     names: &mut Names<'source>,
     expr: &Expr<'source>,

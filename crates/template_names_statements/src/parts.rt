@@ -12,6 +12,7 @@ use template_tree::Call;
 use template_tree_statements::{ForLoop, SetBlock};
 
 // A loop's target, its filter, and the name that is stored in its body.
+#[inline(always)]
 pub(crate) fn begin_loop<'source>(
     names: &mut Names<'source>,
     node: &ForLoop<'source>,

@@ -18,6 +18,7 @@ use template_tree_statements::{ForLoop, IfCond, Stmt, WithBlock};
 
 // The statements of a region, one behind the other.
 #[cycle(statement)]
+#[inline(always)]
 fn use_statements<'source>(
     names: &mut Names<'source>,
     body: &[Stmt<'source>],
@@ -33,17 +34,22 @@ fn use_statements<'source>(
 
 // A region of its own.
 #[cycle(statement)]
+#[inline(never)]
 fn use_region<'source>(names: &mut Names<'source>, body: &[Stmt<'source>]) -> Result<(), AllocError>
     ensures { OnOk result (Goes (λ places. place_within places (statements_in body.now)) nothing names.old names.new) }
 {
-    names.open()?;
+    if body.is_empty() {
+        return Ok(());
+    }
+    let around = names.open()?;
     use_statements(names, body)?;
-    names.close();
+    names.close(around);
     Ok(())
 }
 
 // A loop: its body is a region, in which its target is stored.
 #[cycle(statement)]
+#[inline(never)]
 fn use_loop<'source>(
     names: &mut Names<'source>,
     node: &Box<Spanned<ForLoop<'source>>>,
@@ -51,15 +57,16 @@ fn use_loop<'source>(
     ensures { OnOk result (Goes (λ places. place_by places (loop_of node.now)) nothing names.old names.new) }
 {
     use_expression(names, &node.node.iter)?;
-    names.open()?;
+    let around = names.open()?;
     begin_loop(names, &node.node)?;
     use_statements(names, &node.node.body)?;
-    names.close();
+    names.close(around);
     use_region(names, &node.node.else_body)
 }
 
 // An `if`, and those that are alone in its else part.
 #[cycle(statement)]
+#[inline(never)]
 fn use_chain<'source>(
     names: &mut Names<'source>,
     first: &Box<Spanned<IfCond<'source>>>,
@@ -84,21 +91,23 @@ fn use_chain<'source>(
 
 // A region that begins with assignments.
 #[cycle(statement)]
+#[inline(never)]
 fn use_with<'source>(
     names: &mut Names<'source>,
     node: &Box<Spanned<WithBlock<'source>>>,
 ) -> Result<(), AllocError>
     ensures { OnOk result (Goes (λ places. place_by places (with_of node.now)) nothing names.old names.new) }
 {
-    names.open()?;
+    let around = names.open()?;
     use_assignments(names, &node.node.assignments)?;
     use_statements(names, &node.node.body)?;
-    names.close();
+    names.close(around);
     Ok(())
 }
 
 // The body of a macro behind its arguments, in a region of its own.
 #[cycle(statement)]
+#[inline(never)]
 fn use_macro<'source>(
     names: &mut Names<'source>,
     body: &[Stmt<'source>],
@@ -108,11 +117,11 @@ fn use_macro<'source>(
     ensures { OnOk result (Goes (λ places. place_of_macro places (expressions_in arguments.now) (expressions_in defaults.now)
         (place_within places (statements_in body.now))) nothing names.old names.new) }
 {
-    names.open()?;
+    let around = names.open()?;
     bind_arguments(names, arguments, defaults)?;
     names.store("caller")?;
     use_statements(names, body)?;
-    names.close();
+    names.close(around);
     Ok(())
 }
 
@@ -122,7 +131,27 @@ fn use_macro<'source>(
 ///
 /// Want of memory.
 #[cycle(statement)]
+#[inline(always)]
 pub fn use_statement<'source>(
+    names: &mut Names<'source>,
+    statement: &Stmt<'source>,
+) -> Result<(), AllocError>
+    ensures { OnOk result (Goes (λ places. place_by places (statement_of statement.now))
+        (λ name. is_stored_by name (statement_of statement.now)) names.old names.new) }
+{
+    match statement {
+        Stmt::EmitRaw(_) => Ok(()),
+        Stmt::EmitExpr(n) => use_expression(names, &n.node.expr),
+        Stmt::IfCond(n) => use_chain(names, n),
+        Stmt::ForLoop(n) => use_loop(names, n),
+        _ => use_other(names, statement),
+    }
+}
+
+// The same of any statement.
+#[cycle(statement)]
+#[inline(never)]
+fn use_other<'source>(
     names: &mut Names<'source>,
     statement: &Stmt<'source>,
 ) -> Result<(), AllocError>

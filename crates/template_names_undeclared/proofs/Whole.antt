@@ -1,12 +1,13 @@
 -- The names that a whole tree uses.
-use Rattle.std.proofs.Common.{◌≡◌, ℕ, Bool, true, false, not, ◌&&◌, ◌||◌, List, String, codes, bytes_eq, IsTrue, inl, inr, ◌↔◌, refl, sym, ap, subst, ◌∙◌}
+use Rattle.std.proofs.Common.{Global, Result, Ok, Err, ◌≡◌, ℕ, Bool, true, false, not, ◌&&◌, ◌||◌, List, String, codes, bytes_eq, IsTrue, inl, inr, ◌↔◌, refl, sym, ap, subst, ◌∙◌}
+use Rattle.std.specs.Prelude.{IfOk}
 use Rattle.std.specs.BTreeSet.{BTreeSet, contains_text}
 use Rattle.template_tree.specs.Tree.{Statement, template, raw, print, for_loop, if_condition, with_block, set, set_block, auto_escape, filter_block, block, import, from_import, extends, include, macro, call_block, continue_loop, break_loop, do_call}
 use Rattle.template_names.specs.Names.{IsToldFor, Places, anywhere, is_stored_by, is_stored_everywhere, place_by}
 use Rattle.template_names.specs.declared.state.Names.{Names}
 use Rattle.template_names_undeclared.specs.Found.{HasJust, has_place, uses}
 use Rattle.template_names.specs.Among.{just}
-use Rattle.template_names.specs.Goes.{Goes, knows, no_place}
+use Rattle.template_names.specs.Goes.{Goes, knows, no_place, tells}
 use Rattle.template_names.proofs.Laws.{goes_then, turned}
 
 -- nothing was found or known before
@@ -37,9 +38,10 @@ has_place_is continue_loop p = refl
 has_place_is break_loop p = refl
 has_place_is (do_call callee passed) p = refl
 
-pub whole_names : (t : Statement) (nested : Bool) (a b c d : Names) → a.nested ≡ nested → ((q : List ℕ) → contains_text a.found q ≡ false) →
+pub whole_names : (t : Statement) (nested : Bool) (a b c d : Names) → a.nested ≡ nested → ((q : List ℕ) → tells a q ≡ false) →
     ((q : List ℕ) → knows a q ≡ false) → Goes no_place (just (codes "self")) a b → Goes no_place (just (codes "super")) b c →
-    Goes (λ p. place_by p t) (λ q. is_stored_by q t) c d → HasJust nested t d.found
+    Goes (λ p. place_by p t) (λ q. is_stored_by q t) c d →
+    (q : List ℕ) → IsTrue (tells d q) ↔ ((p : Places) × IsToldFor nested q p × IsTrue (has_place t p))
 whole_names t nested a b c d mode fresh unknown self super goes q =
     let all = (goes_then a c d (goes_then a b c self super) goes).found q in
     let s = λ (p : Places). just (codes "self") p.name in
@@ -61,6 +63,13 @@ whole_names t nested a b c d mode fresh unknown self super goes q =
         (from_nothing (knows a f.0.name) (s f.0) (e f.0) (place_by f.0 t) (unknown f.0.name)).1 (named f.0 ∙ f.2),
       )),
     )
+
+-- the texts that are found, in a set
+pub in_set : {E : Type 0} (t : Statement) (nested : Bool) (d : Names) (r : Result (BTreeSet (String Global)) E) →
+    ((q : List ℕ) → IsTrue (tells d q) ↔ ((p : Places) × IsToldFor nested q p × IsTrue (has_place t p))) →
+    IfOk r (λ names. (q : List ℕ) → contains_text names q ≡ tells d q) → IfOk r (HasJust nested t)
+in_set t nested d (Ok names) whole same = λ q. (λ h. (whole q).0 (sym (same q) ∙ h), λ f. same q ∙ (whole q).1 f)
+in_set t nested d (Err error) whole same = tt
 
 -- of names alone
 told_plain : (t : Statement) (q : List ℕ) (f : (p : Places) × IsToldFor false q p × IsTrue (has_place t p)) → IsTrue (uses t q)

@@ -29,7 +29,7 @@ pub fn find_undeclared(
     names.store("self")?;
     names.store("super")?;
     use_statement(&mut names, tree)?;
-    Ok(names.into_found())
+    names.into_found()
 }
 
 /// A law: the names that a template is told to use are the first ones of those with dotted names behind them.

@@ -1,4 +1,4 @@
-use Rattle.std.proofs.Common.{◌≡◌, ℕ, ◌≤◌, ◌+◌, ◌||◌, List as Items, Option, Bor, arith, refl, sym, ap, ◌∙◌}
+use Rattle.std.proofs.Common.{◌≡◌, ℕ, ◌≤◌, ◌+◌, ◌||◌, List as Items, [], Option, Bor, arith, refl, sym, ap, ◌∙◌}
 use Rattle.template_tree.specs.View.{expression_of, expressions_in, links_in, arguments_in, argument_of, optional_in}
 use Rattle.template_tree.specs.declared.calls.Call.{Call as CallNode}
 use Rattle.template_tree.specs.declared.calls.CallArg.{CallArg}
@@ -21,17 +21,17 @@ use Rattle.template_names.specs.Dotted.{fields_of}
 use Rattle.template_names_statements.specs.Parts.{left_deep, left_place, place_beside}
 use Rattle.template_names.proofs.Laws.{goes_nowhere, uses_as, uses_end, uses_item, uses_on, uses_then, uses_then_on}
 use Rattle.template_names_statements.proofs.Deep.{items_deep, links_deep, deep_at, expression_falls, list_falls, operand_falls, list_deep, tuple_deep, keys_deep, values_deep, chain_deep, operand_deep, right_deep, test_deep, branch_deep, subscript_deep}
-use Rattle.template_names_statements.proofs.Nodes.{in_filter, in_test, in_call, in_list, in_tuple, in_map, in_chain, in_condition, in_slice, left_within, left_ends}
+use Rattle.template_names_statements.proofs.Nodes.{in_filter, in_test, in_call, in_list, in_tuple, in_map, in_chain, in_condition, in_slice, left_within, left_ends, plain_ends}
 use Rattle.template_names_statements.proofs.expressions.+expression.Goals as goal
 
-pub use_expression-use_others-requires : goal.use_expression-use_others-requires
-use_expression-use_others-requires t c =
+pub use_dotted-use_others-requires : goal.use_dotted-use_others-requires
+use_dotted-use_others-requires t c =
     let deep : left_deep c.loop-left_part.left_part ≡ size-Expr c.in-Some.part.now + 1 = ap (λ (o : Option (Bor Expr)). left_deep o) c.in-Some.is in
     let inside : left_deep c.loop-left_part.left_part ≤ size-Expr c.args.expr.now + 1 = c.loop-left_part.invariant.deep in
     (omega (arith, inside, deep, c.decreases), tt)
 
-pub use_expression-loop-left_part-preserved : goal.use_expression-loop-left_part-preserved
-use_expression-loop-left_part-preserved t c =
+pub use_dotted-loop-left_part-preserved : goal.use_dotted-loop-left_part-preserved
+use_dotted-loop-left_part-preserved t c =
     let deep : left_deep c.loop-left_part.left_part ≡ size-Expr c.in-Some.part.now + 1 = ap (λ (o : Option (Bor Expr)). left_deep o) c.in-Some.is in
     let inside : left_deep c.loop-left_part.left_part ≤ size-Expr c.args.expr.now + 1 = c.loop-left_part.invariant.deep in
     record {
@@ -42,10 +42,41 @@ use_expression-loop-left_part-preserved t c =
       deep = left_within c.left-left_part.result (size-Expr c.in-Some.part.now) (size-Expr c.args.expr.now) c.left-left_part.ensures.smaller (omega (arith, inside, deep));
     }
 
-pub use_expression-returns : goal.use_expression-returns
-use_expression-returns t c =
+pub use_dotted-returns : goal.use_dotted-returns
+use_dotted-returns t c =
     c.loop-left_part.invariant.ends c.loop-left_part.names
     (uses_as (λ q. ap (λ (o : Option (Bor Expr)). left_place (fields_of c.loop-left_part.behind.items) o q) (sym c.in_default.is)) (goes_nowhere c.loop-left_part.names))
+
+pub use_expression-returns-in-Var : goal.use_expression-returns-in-Var
+use_expression-returns-in-Var t c =
+    uses_on c.args.names.now c.find_alone.new.self c.find_alone.result (λ q. ap (λ (x : Expr). place_in q (expression_of x)) (sym c.in-Var.is)) c.find_alone.ensures
+
+pub use_expression-returns-in-Const : goal.use_expression-returns-in-Const
+use_expression-returns-in-Const t c =
+    uses_as (λ q. ap (λ (x : Expr). place_in q (expression_of x)) (sym c.in-Const.is)) (goes_nowhere c.args.names.now)
+
+pub use_plain-loop-left_part-preserved : goal.use_plain-loop-left_part-preserved
+use_plain-loop-left_part-preserved t c =
+    let deep : left_deep c.loop-left_part.left_part ≡ size-Expr c.in-Some.part.now + 1 = ap (λ (o : Option (Bor Expr)). left_deep o) c.in-Some.is in
+    let inside : left_deep c.loop-left_part.left_part ≤ size-Expr c.args.expr.now + 1 = c.loop-left_part.invariant.deep in
+    record {
+      plain = c.in_ok-left_part.ensures.uses.nested ∙ c.loop-left_part.invariant.plain;
+      ends = plain_ends c.in-Some.part.now c.loop-left_part.left_part c.in-Some.part c.in_ok-left_part.left_part
+          c.loop-left_part.names c.use_part.new.names c.loop-left_part.invariant.plain c.in-Some.is refl c.in_ok-left_part.ensures.left
+          c.loop-left_part.invariant.ends c.in_ok-left_part.ensures.uses;
+      deep = left_within c.in_ok-left_part.left_part (size-Expr c.in-Some.part.now) (size-Expr c.args.expr.now) c.in_ok-left_part.ensures.smaller (omega (arith, inside, deep));
+    }
+
+pub use_plain-use_part-requires : goal.use_plain-use_part-requires
+use_plain-use_part-requires t c =
+    let deep : left_deep c.loop-left_part.left_part ≡ size-Expr c.in-Some.part.now + 1 = ap (λ (o : Option (Bor Expr)). left_deep o) c.in-Some.is in
+    let inside : left_deep c.loop-left_part.left_part ≤ size-Expr c.args.expr.now + 1 = c.loop-left_part.invariant.deep in
+    (omega (arith, inside, deep, c.decreases), tt)
+
+pub use_plain-returns : goal.use_plain-returns
+use_plain-returns t c =
+    c.loop-left_part.invariant.ends c.loop-left_part.names
+    (uses_as (λ q. ap (λ (o : Option (Bor Expr)). left_place [] o q) (sym c.in_default.is)) (goes_nowhere c.loop-left_part.names))
 
 pub use_items-returns : goal.use_items-returns
 use_items-returns t c =

@@ -1,5 +1,6 @@
 -- What is left ends as all does.
-use Rattle.std.proofs.Common.{◌+◌, ◌*◌, ◌≤◌, drop}
+use Rattle.std.proofs.Common.{◌≡◌, ◌+◌, ◌*◌, ◌≤◌, [], drop}
+use Rattle.std.specs.Prelude.{false}
 use Rattle.template_tree.specs.View.{expression_of, expressions_in, links_in, arguments_in}
 use Rattle.template_tree.specs.declared.expressions.Expr.{size-Expr}
 use Rattle.template_names.specs.Names.{place_in, place_in_one, place_in_links, place_in_arguments}
@@ -12,32 +13,51 @@ use Rattle.template_names_statements.proofs.Deep.{items_deep, links_deep}
 use Rattle.template_names_statements.proofs.expressions.+expression.Given as goal
 
 abbrev pub decreases-use_expression : goal.decreases-use_expression
-decreases-use_expression l = 3 * size-Expr l.expr.now + 1
+decreases-use_expression l = 6 * size-Expr l.expr.now + 3
 
 abbrev pub decreases-use_others : goal.decreases-use_others
-decreases-use_others l = 3 * size-Expr l.expr.now
+decreases-use_others l = 6 * size-Expr l.expr.now
+
+abbrev pub decreases-use_part : goal.decreases-use_part
+decreases-use_part l = 6 * size-Expr l.expr.now + 1
+
+abbrev pub decreases-use_dotted : goal.decreases-use_dotted
+decreases-use_dotted l = 6 * size-Expr l.expr.now + 2
+
+abbrev pub decreases-use_plain : goal.decreases-use_plain
+decreases-use_plain l = 6 * size-Expr l.expr.now + 2
 
 abbrev pub decreases-use_optional : goal.decreases-use_optional
-decreases-use_optional l = 3 * goal.size-use_optional l + 2
+decreases-use_optional l = 6 * goal.size-use_optional l + 4
 
 abbrev pub decreases-use_items : goal.decreases-use_items
-decreases-use_items l = 3 * items_deep l.items.now + 2
+decreases-use_items l = 6 * items_deep l.items.now + 4
 
 abbrev pub decreases-use_links : goal.decreases-use_links
-decreases-use_links l = 3 * links_deep l.links.now + 2
+decreases-use_links l = 6 * links_deep l.links.now + 4
 
 abbrev pub decreases-use_argument : goal.decreases-use_argument
-decreases-use_argument l = 3 * goal.size-use_argument l + 2
+decreases-use_argument l = 6 * goal.size-use_argument l + 4
 
 abbrev pub decreases-use_arguments : goal.decreases-use_arguments
-decreases-use_arguments l = 3 * goal.size-use_arguments l + 3
+decreases-use_arguments l = 6 * goal.size-use_arguments l + 5
 
-abbrev pub decreases-use_expression-loop-left_part : goal.decreases-use_expression-loop-left_part
-decreases-use_expression-loop-left_part l = left_deep l.left_part
+abbrev pub decreases-use_dotted-loop-left_part : goal.decreases-use_dotted-loop-left_part
+decreases-use_dotted-loop-left_part l = left_deep l.left_part
 
-abbrev pub invariant-use_expression-loop-left_part : goal.invariant-use_expression-loop-left_part
-invariant-use_expression-loop-left_part l = record {
+abbrev pub invariant-use_dotted-loop-left_part : goal.invariant-use_dotted-loop-left_part
+invariant-use_dotted-loop-left_part l = record {
   ends : (c : Names) → Goes (left_place (fields_of l.behind.items) l.left_part) nothing l.names c → Goes (λ places. place_in places (expression_of l.fn.expr)) nothing l.initial.names c;
+  deep : left_deep l.left_part ≤ size-Expr l.fn.expr + 1;
+}
+
+abbrev pub decreases-use_plain-loop-left_part : goal.decreases-use_plain-loop-left_part
+decreases-use_plain-loop-left_part l = left_deep l.left_part
+
+abbrev pub invariant-use_plain-loop-left_part : goal.invariant-use_plain-loop-left_part
+invariant-use_plain-loop-left_part l = record {
+  plain : l.names.nested ≡ false;
+  ends : (c : Names) → Goes (left_place [] l.left_part) nothing l.names c → Goes (λ places. place_in places (expression_of l.fn.expr)) nothing l.initial.names c;
   deep : left_deep l.left_part ≤ size-Expr l.fn.expr + 1;
 }
 

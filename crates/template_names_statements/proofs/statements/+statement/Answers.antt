@@ -23,12 +23,12 @@ use Rattle.template_tree_statements.specs.declared.statements.Macro.{Macro as Ma
 use Rattle.template_tree_statements.specs.declared.statements.SetBlock.{SetBlock as SetBlockNode}
 use Rattle.template_tree.specs.declared.span.Spanned.{Spanned}
 use Rattle.template_tree_statements.specs.declared.statements.WithBlock.{WithBlock as WithBlockNode}
-use Rattle.template_names_statements.proofs.Bodies.{at_arm, at_node, at_none, at_tree, call_deep, macro_reads, set_block_tree, filter_block_tree, block_tree, macro_tree, call_tree}
+use Rattle.template_names_statements.proofs.Bodies.{at_arm, at_node, at_none, at_tree, call_deep, empty_region, macro_reads, set_block_tree, filter_block_tree, block_tree, macro_tree, call_tree}
 use Rattle.template_names.specs.Names.{is_imported, is_stored_by, is_stored_in, place_by, place_of_macro, place_in_target, place_from, place_within, place_if_given, place_in, place_in_arguments}
 use Rattle.template_names_statements.specs.Stores.{is_assigned, is_stored_among}
 use Rattle.template_names.specs.Among.{just}
 use Rattle.template_names.proofs.Laws.{goes_as, goes_end, goes_inside, goes_item, goes_then, goes_then_on, or_assoc, or_false, uses_as, uses_then, uses_then_on}
-use Rattle.template_names_statements.proofs.Deep.{body_deep, deep_at, body_falls, part_falls, part_falls_within, region_falls, node_falls, item_falls, inside_falls, template_deep, loop_deep, loop_other_deep, choice_deep, choice_other_deep, with_deep, set_block_deep, escape_deep, filter_block_deep, block_deep, macro_deep}
+use Rattle.template_names_statements.proofs.Deep.{body_deep, deep_at, body_falls, part_falls, part_falls_within, region_falls, node_falls, known_node_falls, item_falls, inside_falls, template_deep, loop_deep, loop_other_deep, choice_deep, choice_other_deep, with_deep, set_block_deep, escape_deep, filter_block_deep, block_deep, macro_deep}
 use Rattle.template_names_statements.proofs.Storing.{used_from}
 use Rattle.template_names_statements.proofs.Walking.{loop_uses, chain_end, chain_goes, else_below, macro_uses}
 use Rattle.template_names_statements.proofs.statements.+statement.Goals as goal
@@ -46,14 +46,17 @@ use_statements-returns t c =
     goes_end (λ (ss : Items Stmt) places. place_within places (statements_in ss)) (λ (ss : Items Stmt) name. is_stored_among name (statements_in ss))
     (λ q. refl) (λ q. refl) c.args.body.now c.loop-statement.statement-index c.loop-statement.names c.loop-statement-test.false c.loop-statement.invariant
 
+pub use_region-returns-then-is_empty : goal.use_region-returns-then-is_empty
+use_region-returns-then-is_empty t c = empty_region c.args.names.now c.args.body.now (sym c.is_empty.ensures ∙ c.if-is_empty.true)
+
 pub use_region-returns : goal.use_region-returns
 use_region-returns t c =
-    goes_inside c.args.names.now c.open.new.self c.use_statements.new.names c.close.new.self c.in_ok-open.ensures c.in_ok-use_statements.ensures c.close.ensures
+    goes_inside c.args.names.now c.open.new.self c.use_statements.new.names c.close.new.self c.in_ok-around.around c.in_ok-around.ensures c.in_ok-use_statements.ensures c.close.ensures
 
 pub use_macro-returns : goal.use_macro-returns
 use_macro-returns t c =
     uses_as (λ q. macro_uses q c.args.arguments.now c.args.defaults.now (place_within q (statements_in c.args.body.now)))
-    (goes_inside c.args.names.now c.open.new.self c.use_statements.new.names c.close.new.self c.in_ok-open.ensures
+    (goes_inside c.args.names.now c.open.new.self c.use_statements.new.names c.close.new.self c.in_ok-around.around c.in_ok-around.ensures
     (goes_then c.open.new.self c.store.new.self c.use_statements.new.names
     (goes_then c.open.new.self c.bind_arguments.new.names c.store.new.self c.in_ok-bind_arguments.ensures c.in_ok-store.ensures)
     c.in_ok-use_statements.ensures) c.close.ensures)
@@ -117,24 +120,24 @@ use_chain-loop-names-smaller t c =
     c.index.ensures ∙ ap (λ (x : Spanned IfCondNode). get_or x.node.false_body.items 0 c.index.result.now) c.deref.ensures in
     else_below n c.in-IfCond.n c.index.result.now one at c.in-IfCond.is
 
-pub use_statement-returns-in-Template : goal.use_statement-returns-in-Template
-use_statement-returns-in-Template t c =
+pub use_other-returns-in-Template : goal.use_other-returns-in-Template
+use_other-returns-in-Template t c =
     let tree = ap (λ (x : Stmt). statement_of x) c.in-Template.is ∙ whole_tree c.in-Template.n in
     at_tree c.args.statement.now (template (statements_in c.in-Template.n.node.children.items)) c.args.names.now c.use_region.new.names c.use_region.result tree
     (λ q. ap (λ (ss : Items Stmt). place_within q (statements_in ss)) c.deref.ensures.value) (λ q. refl) c.use_region.ensures
 
-pub use_statement-returns-in-ForLoop : goal.use_statement-returns-in-ForLoop
-use_statement-returns-in-ForLoop t c =
+pub use_other-returns-in-ForLoop : goal.use_other-returns-in-ForLoop
+use_other-returns-in-ForLoop t c =
     at_node c.args.names.now c.use_loop.new.names c.use_loop.result c.in-ForLoop.is (λ q. sym (ap (λ (x : Statement). is_stored_by q x) (for_tree c.in-ForLoop.n)))
     c.use_loop.ensures
 
-pub use_statement-returns-in-IfCond : goal.use_statement-returns-in-IfCond
-use_statement-returns-in-IfCond t c =
+pub use_other-returns-in-IfCond : goal.use_other-returns-in-IfCond
+use_other-returns-in-IfCond t c =
     at_node c.args.names.now c.use_chain.new.names c.use_chain.result c.in-IfCond.is (λ q. sym (ap (λ (x : Statement). is_stored_by q x) (if_tree c.in-IfCond.n)))
     c.use_chain.ensures
 
-pub use_statement-returns-in-WithBlock : goal.use_statement-returns-in-WithBlock
-use_statement-returns-in-WithBlock t c =
+pub use_other-returns-in-WithBlock : goal.use_other-returns-in-WithBlock
+use_other-returns-in-WithBlock t c =
     at_node c.args.names.now c.use_with.new.names c.use_with.result c.in-WithBlock.is (λ q. sym (ap (λ (x : Statement). is_stored_by q x) (with_tree c.in-WithBlock.n)))
     c.use_with.ensures
 
@@ -153,7 +156,7 @@ use_loop-returns t c =
     c.in_ok-use_statements.ensures in
     let other = c.deref-6.ensures.value ∙ ap (λ (x : Spanned ForLoopNode). x.node.else_body.items) c.deref-5.ensures in
     let inside = goes_then c.open.new.self c.begin_loop.new.names c.use_statements.new.names head body in
-    let region = goes_inside c.use_expression.new.names c.open.new.self c.use_statements.new.names c.close.new.self c.in_ok-open.ensures inside c.close.ensures in
+    let region = goes_inside c.use_expression.new.names c.open.new.self c.use_statements.new.names c.close.new.self c.in_ok-around.around c.in_ok-around.ensures inside c.close.ensures in
     uses_then_on _ c.args.names.now c.close.new.self c.use_region.new.names c.use_region.result
     (uses_then c.args.names.now c.use_expression.new.names c.close.new.self iter region) c.use_region.ensures
     (λ q.
@@ -178,10 +181,10 @@ use_with-returns t c =
     c.in_ok-use_statements.ensures in
     let inside = goes_then c.open.new.self c.use_assignments.new.names c.use_statements.new.names first behind in
     uses_as (λ q. sym (used_from q assignments (place_within q body)) ∙ ap (λ (x : Statement). place_by q x) (sym (with_tree n)))
-    (goes_inside c.args.names.now c.open.new.self c.use_statements.new.names c.close.new.self c.in_ok-open.ensures inside c.close.ensures)
+    (goes_inside c.args.names.now c.open.new.self c.use_statements.new.names c.close.new.self c.in_ok-around.around c.in_ok-around.ensures inside c.close.ensures)
 
-pub use_statement-returns-in_ok-use_region-in-SetBlock : goal.use_statement-returns-in_ok-use_region-in-SetBlock
-use_statement-returns-in_ok-use_region-in-SetBlock t c =
+pub use_other-returns-in_ok-use_region-in-SetBlock : goal.use_other-returns-in_ok-use_region-in-SetBlock
+use_other-returns-in_ok-use_region-in-SetBlock t c =
     let n = c.in-SetBlock.n in
     let v = n.value.node in
     let tree = ap (λ (x : Stmt). statement_of x) c.in-SetBlock.is ∙ set_block_tree n in
@@ -196,8 +199,8 @@ use_statement-returns-in_ok-use_region-in-SetBlock t c =
     or_assoc within (place_if_given q (optional_in v.filter)) (place_in_target q (expression_of v.target)))
     (λ q. ap (λ (x : Spanned SetBlockNode). is_stored_in q (expression_of x.node.target)) c.deref-in-SetBlock-3.ensures))
 
-pub use_statement-returns-in_ok-use_expression-in-AutoEscape : goal.use_statement-returns-in_ok-use_expression-in-AutoEscape
-use_statement-returns-in_ok-use_expression-in-AutoEscape t c =
+pub use_other-returns-in_ok-use_expression-in-AutoEscape : goal.use_other-returns-in_ok-use_expression-in-AutoEscape
+use_other-returns-in_ok-use_expression-in-AutoEscape t c =
     let n = c.in-AutoEscape.n in
     let v = n.value.node in
     let tree = ap (λ (x : Stmt). statement_of x) c.in-AutoEscape.is ∙ escape_tree n in
@@ -210,8 +213,8 @@ use_statement-returns-in_ok-use_expression-in-AutoEscape t c =
     c.use_region-in-AutoEscape.ensures
     (λ q. ap (λ (ss : Items Stmt). place_in q (expression_of v.enabled) || place_within q (statements_in ss)) read))
 
-pub use_statement-returns-in_ok-use_region-in-FilterBlock : goal.use_statement-returns-in_ok-use_region-in-FilterBlock
-use_statement-returns-in_ok-use_region-in-FilterBlock t c =
+pub use_other-returns-in_ok-use_region-in-FilterBlock : goal.use_other-returns-in_ok-use_region-in-FilterBlock
+use_other-returns-in_ok-use_region-in-FilterBlock t c =
     let n = c.in-FilterBlock.n in
     let v = n.value.node in
     let tree = ap (λ (x : Stmt). statement_of x) c.in-FilterBlock.is ∙ filter_block_tree n in
@@ -223,8 +226,8 @@ use_statement-returns-in_ok-use_region-in-FilterBlock t c =
     c.use_expression-in-FilterBlock.ensures
     (λ q. ap (λ (x : Spanned FilterBlockNode). place_within q (statements_in v.body.items) || place_in q (expression_of x.node.filter)) c.deref-in-FilterBlock-3.ensures))
 
-pub use_statement-returns-in-Block : goal.use_statement-returns-in-Block
-use_statement-returns-in-Block t c =
+pub use_other-returns-in-Block : goal.use_other-returns-in-Block
+use_other-returns-in-Block t c =
     let n = c.in-Block.n in
     let v = n.value.node in
     let tree = ap (λ (x : Stmt). statement_of x) c.in-Block.is ∙ block_tree n in
@@ -232,8 +235,8 @@ use_statement-returns-in-Block t c =
     at_tree c.args.statement.now (block v.name.now v.required (statements_in v.body.items)) c.args.names.now c.use_region-in-Block.new.names
     c.use_region-in-Block.result tree (λ q. ap (λ (ss : Items Stmt). place_within q (statements_in ss)) read) (λ q. refl) c.use_region-in-Block.ensures
 
-pub use_statement-returns-in_ok-use_macro-in-Macro : goal.use_statement-returns-in_ok-use_macro-in-Macro
-use_statement-returns-in_ok-use_macro-in-Macro t c =
+pub use_other-returns-in_ok-use_macro-in-Macro : goal.use_other-returns-in_ok-use_macro-in-Macro
+use_other-returns-in_ok-use_macro-in-Macro t c =
     let n = c.in-Macro.n in
     let v = n.value.node in
     let tree = ap (λ (x : Stmt). statement_of x) c.in-Macro.is ∙ macro_tree n in
@@ -248,8 +251,8 @@ use_statement-returns-in_ok-use_macro-in-Macro t c =
     (λ q. or_false (place_of_macro q (expressions_in v.args.items) (expressions_in v.defaults.items) (place_within q (statements_in v.body.items))))
     (λ q. ap (λ (x : Spanned MacroNode). just x.node.name.now q) c.deref-in-Macro.ensures))
 
-pub use_statement-returns-in_ok-use_call-in-CallBlock : goal.use_statement-returns-in_ok-use_call-in-CallBlock
-use_statement-returns-in_ok-use_call-in-CallBlock t c =
+pub use_other-returns-in_ok-use_call-in-CallBlock : goal.use_other-returns-in_ok-use_call-in-CallBlock
+use_other-returns-in_ok-use_call-in-CallBlock t c =
     let n = c.in-CallBlock.n in
     let v = out-CallBlock n.value.node in
     let called = v.call.value.node in
@@ -300,55 +303,55 @@ use_macro-use_statements-requires t c = (inside_falls (body_deep c.args.body.now
 pub use_region-use_statements-requires : goal.use_region-use_statements-requires
 use_region-use_statements-requires t c = (inside_falls (body_deep c.args.body.now) t c.decreases, tt)
 
-pub use_statement-use_region-requires : goal.use_statement-use_region-requires
-use_statement-use_region-requires t c = (body_falls _ _ t (template_deep c.args.statement.now c.in-Template.n c.deref.result.now c.in-Template.is c.deref.ensures.value) c.decreases, tt)
+pub use_other-use_region-requires : goal.use_other-use_region-requires
+use_other-use_region-requires t c = (body_falls _ _ t (template_deep c.args.statement.now c.in-Template.n c.deref.result.now c.in-Template.is c.deref.ensures.value) c.decreases, tt)
 
-pub use_statement-use_loop-requires : goal.use_statement-use_loop-requires
-use_statement-use_loop-requires t c =
+pub use_other-use_loop-requires : goal.use_other-use_loop-requires
+use_other-use_loop-requires t c =
     (node_falls _ (size-Stmt c.args.statement.now) t (ap (λ (x : Stmt). size-Stmt x) c.in-ForLoop.is) c.decreases, tt)
 
-pub use_statement-use_chain-requires : goal.use_statement-use_chain-requires
-use_statement-use_chain-requires t c =
+pub use_other-use_chain-requires : goal.use_other-use_chain-requires
+use_other-use_chain-requires t c =
     (node_falls _ (size-Stmt c.args.statement.now) t (ap (λ (x : Stmt). size-Stmt x) c.in-IfCond.is) c.decreases, tt)
 
-pub use_statement-use_with-requires : goal.use_statement-use_with-requires
-use_statement-use_with-requires t c =
+pub use_other-use_with-requires : goal.use_other-use_with-requires
+use_other-use_with-requires t c =
     (node_falls _ (size-Stmt c.args.statement.now) t (ap (λ (x : Stmt). size-Stmt x) c.in-WithBlock.is) c.decreases, tt)
 
-pub use_statement-use_region-requires-in-SetBlock : goal.use_statement-use_region-requires-in-SetBlock
-use_statement-use_region-requires-in-SetBlock t c =
+pub use_other-use_region-requires-in-SetBlock : goal.use_other-use_region-requires-in-SetBlock
+use_other-use_region-requires-in-SetBlock t c =
     let read = c.deref-in-SetBlock-2.ensures.value ∙ ap (λ (x : Spanned SetBlockNode). x.node.body.items) c.deref-in-SetBlock.ensures in
     (body_falls _ _ t (set_block_deep c.args.statement.now c.in-SetBlock.n c.deref-in-SetBlock-2.result.now c.in-SetBlock.is read) c.decreases, tt)
 
-pub use_statement-use_region-requires-in-AutoEscape : goal.use_statement-use_region-requires-in-AutoEscape
-use_statement-use_region-requires-in-AutoEscape t c =
+pub use_other-use_region-requires-in-AutoEscape : goal.use_other-use_region-requires-in-AutoEscape
+use_other-use_region-requires-in-AutoEscape t c =
     let read = c.deref-in-AutoEscape-3.ensures.value ∙ ap (λ (x : Spanned AutoEscapeNode). x.node.body.items) c.deref-in-AutoEscape-2.ensures in
     (body_falls _ _ t (escape_deep c.args.statement.now c.in-AutoEscape.n c.deref-in-AutoEscape-3.result.now c.in-AutoEscape.is read) c.decreases, tt)
 
-pub use_statement-use_region-requires-in-FilterBlock : goal.use_statement-use_region-requires-in-FilterBlock
-use_statement-use_region-requires-in-FilterBlock t c =
+pub use_other-use_region-requires-in-FilterBlock : goal.use_other-use_region-requires-in-FilterBlock
+use_other-use_region-requires-in-FilterBlock t c =
     let read = c.deref-in-FilterBlock-2.ensures.value ∙ ap (λ (x : Spanned FilterBlockNode). x.node.body.items) c.deref-in-FilterBlock.ensures in
     (body_falls _ _ t (filter_block_deep c.args.statement.now c.in-FilterBlock.n c.deref-in-FilterBlock-2.result.now c.in-FilterBlock.is read) c.decreases, tt)
 
-pub use_statement-use_region-requires-in-Block : goal.use_statement-use_region-requires-in-Block
-use_statement-use_region-requires-in-Block t c =
+pub use_other-use_region-requires-in-Block : goal.use_other-use_region-requires-in-Block
+use_other-use_region-requires-in-Block t c =
     let read = c.deref-in-Block-2.ensures.value ∙ ap (λ (x : Spanned BlockNode). x.node.body.items) c.deref-in-Block.ensures in
     (body_falls _ _ t (block_deep c.args.statement.now c.in-Block.n c.deref-in-Block-2.result.now c.in-Block.is read) c.decreases, tt)
 
-pub use_statement-use_macro-requires : goal.use_statement-use_macro-requires
-use_statement-use_macro-requires t c =
+pub use_other-use_macro-requires : goal.use_other-use_macro-requires
+use_other-use_macro-requires t c =
     let read = c.deref-in-Macro-2.ensures.value ∙ ap (λ (x : Spanned MacroNode). x.node.body.items) c.deref-in-Macro.ensures in
     (body_falls _ _ t (macro_deep c.args.statement.now c.in-Macro.n c.deref-in-Macro-2.result.now c.in-Macro.is read) c.decreases, tt)
 
-pub use_statement-returns-in-EmitExpr : goal.use_statement-returns-in-EmitExpr
-use_statement-returns-in-EmitExpr t c =
+pub use_other-returns-in-EmitExpr : goal.use_other-returns-in-EmitExpr
+use_other-returns-in-EmitExpr t c =
     at_arm c.args.names.now c.use_expression.new.names c.use_expression.result c.in-EmitExpr.is (λ q. refl) (λ q. refl) c.use_expression.ensures
 
-pub use_statement-returns-in-EmitRaw : goal.use_statement-returns-in-EmitRaw
-use_statement-returns-in-EmitRaw t c = at_none c.args.names.now c.in-EmitRaw.is (λ q. refl) (λ q. refl)
+pub use_other-returns-in-EmitRaw : goal.use_other-returns-in-EmitRaw
+use_other-returns-in-EmitRaw t c = at_none c.args.names.now c.in-EmitRaw.is (λ q. refl) (λ q. refl)
 
-pub use_statement-returns-in-Set : goal.use_statement-returns-in-Set
-use_statement-returns-in-Set t c =
+pub use_other-returns-in-Set : goal.use_other-returns-in-Set
+use_other-returns-in-Set t c =
     let first = c.deref-in-Set.ensures in
     let second = c.deref-in-Set-2.ensures in
     at_arm c.args.names.now c.assign.new.names c.assign.result c.in-Set.is
@@ -356,8 +359,8 @@ use_statement-returns-in-Set t c =
     ap (λ (x : Spanned SetNode). place_in q (expression_of c.in-Set.n.value.node.expr) || place_in_target q (expression_of x.node.target)) first)
     (λ q. ap (λ (x : Spanned SetNode). is_stored_in q (expression_of x.node.target)) first) c.assign.ensures
 
-pub use_statement-returns-in-Import : goal.use_statement-returns-in-Import
-use_statement-returns-in-Import t c =
+pub use_other-returns-in-Import : goal.use_other-returns-in-Import
+use_other-returns-in-Import t c =
     let first = c.deref-in-Import.ensures in
     let second = c.deref-in-Import-2.ensures in
     at_arm c.args.names.now c.assign-in-Import.new.names c.assign-in-Import.result c.in-Import.is
@@ -365,8 +368,8 @@ use_statement-returns-in-Import t c =
     ap (λ (x : Spanned ImportNode). place_in q (expression_of c.in-Import.n.value.node.expr) || place_in_target q (expression_of x.node.name)) first)
     (λ q. ap (λ (x : Spanned ImportNode). is_stored_in q (expression_of x.node.name)) first) c.assign-in-Import.ensures
 
-pub use_statement-returns-in_ok-use_expression-in-FromImport : goal.use_statement-returns-in_ok-use_expression-in-FromImport
-use_statement-returns-in_ok-use_expression-in-FromImport t c =
+pub use_other-returns-in_ok-use_expression-in-FromImport : goal.use_other-returns-in_ok-use_expression-in-FromImport
+use_other-returns-in_ok-use_expression-in-FromImport t c =
     let v = c.in-FromImport.n.value.node in
     let read = c.deref-in-FromImport-3.ensures.value ∙ ap (λ (x : Spanned FromImportNode). x.node.names.items) c.deref-in-FromImport-2.ensures in
     let first = uses_as (λ q. ap (λ (x : Spanned FromImportNode). place_in q (expression_of x.node.expr)) c.deref-in-FromImport.ensures)
@@ -376,22 +379,22 @@ use_statement-returns-in_ok-use_expression-in-FromImport t c =
     (λ q. or_false (place_in q (expression_of v.expr)))
     (λ q. ap (λ (xs : Items (Expr × Option Expr)). is_imported q (imports_in xs)) read))
 
-pub use_statement-returns-in-Extends : goal.use_statement-returns-in-Extends
-use_statement-returns-in-Extends t c =
+pub use_other-returns-in-Extends : goal.use_other-returns-in-Extends
+use_other-returns-in-Extends t c =
     at_arm c.args.names.now c.use_expression-in-Extends.new.names c.use_expression-in-Extends.result c.in-Extends.is (λ q. ap (λ (x : Spanned ExtendsNode). place_in q (expression_of x.node.name)) c.deref-in-Extends.ensures) (λ q. refl) c.use_expression-in-Extends.ensures
 
-pub use_statement-returns-in-Include : goal.use_statement-returns-in-Include
-use_statement-returns-in-Include t c =
+pub use_other-returns-in-Include : goal.use_other-returns-in-Include
+use_other-returns-in-Include t c =
     at_arm c.args.names.now c.use_expression-in-Include.new.names c.use_expression-in-Include.result c.in-Include.is (λ q. ap (λ (x : Spanned IncludeNode). place_in q (expression_of x.node.name)) c.deref-in-Include.ensures) (λ q. refl) c.use_expression-in-Include.ensures
 
-pub use_statement-returns-in-Continue : goal.use_statement-returns-in-Continue
-use_statement-returns-in-Continue t c = at_none c.args.names.now c.in-Continue.is (λ q. refl) (λ q. refl)
+pub use_other-returns-in-Continue : goal.use_other-returns-in-Continue
+use_other-returns-in-Continue t c = at_none c.args.names.now c.in-Continue.is (λ q. refl) (λ q. refl)
 
-pub use_statement-returns-in-Break : goal.use_statement-returns-in-Break
-use_statement-returns-in-Break t c = at_none c.args.names.now c.in-Break.is (λ q. refl) (λ q. refl)
+pub use_other-returns-in-Break : goal.use_other-returns-in-Break
+use_other-returns-in-Break t c = at_none c.args.names.now c.in-Break.is (λ q. refl) (λ q. refl)
 
-pub use_statement-returns-in-Do : goal.use_statement-returns-in-Do
-use_statement-returns-in-Do t c =
+pub use_other-returns-in-Do : goal.use_other-returns-in-Do
+use_other-returns-in-Do t c =
     at_arm c.args.names.now c.use_call-in-Do.new.names c.use_call-in-Do.result c.in-Do.is
     (λ q. ap (λ (x : Spanned CallNode). place_in q (expression_of x.node.expr) || place_in_arguments q (arguments_in x.node.args.items)) c.deref-in-Do.ensures) (λ q. refl) c.use_call-in-Do.ensures
 
@@ -407,8 +410,33 @@ use_with-use_statements-requires t c =
     let read = c.deref-4.ensures.value ∙ ap (λ (x : Spanned WithBlockNode). x.node.body.items) c.deref-3.ensures in
     (region_falls _ _ t (with_deep (WithBlock c.args.node.now) c.args.node.now c.deref-4.result.now refl read) c.decreases, tt)
 
-pub use_statement-use_macro-requires-in-CallBlock : goal.use_statement-use_macro-requires-in-CallBlock
-use_statement-use_macro-requires-in-CallBlock t c =
+pub use_other-use_macro-requires-in-CallBlock : goal.use_other-use_macro-requires-in-CallBlock
+use_other-use_macro-requires-in-CallBlock t c =
     let declared = ap (λ (x : Spanned CallBlockNode). (out-CallBlock x.node).macro_decl.value) c.deref-in-CallBlock-3.ensures in
     let read = c.deref-in-CallBlock-5.ensures.value ∙ ap (λ (x : Spanned MacroNode). x.node.body.items) (c.deref-in-CallBlock-4.ensures ∙ declared) in
     (body_falls _ _ t (call_deep c.args.statement.now c.in-CallBlock.n c.deref-in-CallBlock-5.result.now c.in-CallBlock.is read) c.decreases, tt)
+
+pub use_statement-returns-in-ForLoop : goal.use_statement-returns-in-ForLoop
+use_statement-returns-in-ForLoop t c =
+    at_node c.args.names.now c.use_loop.new.names c.use_loop.result c.in-ForLoop.is (λ q. sym (ap (λ (x : Statement). is_stored_by q x) (for_tree c.in-ForLoop.n)))
+    c.use_loop.ensures
+
+pub use_statement-returns-in-IfCond : goal.use_statement-returns-in-IfCond
+use_statement-returns-in-IfCond t c =
+    at_node c.args.names.now c.use_chain.new.names c.use_chain.result c.in-IfCond.is (λ q. sym (ap (λ (x : Statement). is_stored_by q x) (if_tree c.in-IfCond.n)))
+    c.use_chain.ensures
+
+pub use_statement-returns-in-EmitExpr : goal.use_statement-returns-in-EmitExpr
+use_statement-returns-in-EmitExpr t c =
+    at_arm c.args.names.now c.use_expression.new.names c.use_expression.result c.in-EmitExpr.is (λ q. refl) (λ q. refl) c.use_expression.ensures
+
+pub use_statement-returns-in-EmitRaw : goal.use_statement-returns-in-EmitRaw
+use_statement-returns-in-EmitRaw t c = at_none c.args.names.now c.in-EmitRaw.is (λ q. refl) (λ q. refl)
+
+pub use_statement-use_loop-requires : goal.use_statement-use_loop-requires
+use_statement-use_loop-requires t c =
+    (known_node_falls _ (size-Stmt c.args.statement.now) t (ap (λ (x : Stmt). size-Stmt x) c.in-ForLoop.is) c.decreases, tt)
+
+pub use_statement-use_chain-requires : goal.use_statement-use_chain-requires
+use_statement-use_chain-requires t c =
+    (known_node_falls _ (size-Stmt c.args.statement.now) t (ap (λ (x : Stmt). size-Stmt x) c.in-IfCond.is) c.decreases, tt)

@@ -12,25 +12,28 @@ use Rattle.template_names_statements.proofs.Deep.{body_deep}
 use Rattle.template_names_statements.proofs.statements.+statement.Given as goal
 
 abbrev pub decreases-use_statement : goal.decreases-use_statement
-decreases-use_statement l = 6 * size-Stmt l.statement.now + 5
+decreases-use_statement l = 8 * size-Stmt l.statement.now + 6
+
+abbrev pub decreases-use_other : goal.decreases-use_other
+decreases-use_other l = 8 * size-Stmt l.statement.now + 5
 
 abbrev pub decreases-use_chain : goal.decreases-use_chain
-decreases-use_chain l = 6 * size-Stmt (IfCond l.first.now) + 4
+decreases-use_chain l = 8 * size-Stmt (IfCond l.first.now) + 4
 
 abbrev pub decreases-use_loop : goal.decreases-use_loop
-decreases-use_loop l = 6 * size-Stmt (ForLoop l.node.now) + 4
+decreases-use_loop l = 8 * size-Stmt (ForLoop l.node.now) + 4
 
 abbrev pub decreases-use_with : goal.decreases-use_with
-decreases-use_with l = 6 * size-Stmt (WithBlock l.node.now) + 4
+decreases-use_with l = 8 * size-Stmt (WithBlock l.node.now) + 4
 
 abbrev pub decreases-use_statements : goal.decreases-use_statements
-decreases-use_statements l = 6 * body_deep l.body.now + 6
+decreases-use_statements l = 8 * body_deep l.body.now + 7
 
 abbrev pub decreases-use_region : goal.decreases-use_region
-decreases-use_region l = 6 * body_deep l.body.now + 7
+decreases-use_region l = 8 * body_deep l.body.now + 8
 
 abbrev pub decreases-use_macro : goal.decreases-use_macro
-decreases-use_macro l = 6 * body_deep l.body.now + 7
+decreases-use_macro l = 8 * body_deep l.body.now + 8
 
 abbrev pub invariant-use_statements-loop-statement : goal.invariant-use_statements-loop-statement
 invariant-use_statements-loop-statement l = (c : Names) →
