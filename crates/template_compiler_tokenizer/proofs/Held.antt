@@ -1,5 +1,5 @@
 -- Tokens that are put behind others.
-use Rattle.std.proofs.Common.{◌≡◌, ℕ, ◌<◌, inl, inr, List, [], ◌∷◌, ◌++◌, length, take, refl, sym, ◌∙◌, ap, subst, arith, append_assoc}
+use Rattle.std.proofs.Common.{◌≡◌, ℕ, ◌<◌, ◌≤◌, inl, inr, List, [], ◌∷◌, ◌++◌, length, take, refl, sym, ◌∙◌, ap, subst, arith, append_assoc}
 use Rattle.std.proofs.lemmas.List.{map-append}
 use Rattle.template_values_errors.specs.declared.ErrorKind.{ErrorKind}
 use Rattle.template_tree.specs.declared.span.Span.{Span}
@@ -10,7 +10,7 @@ use Rattle.template_compiler_tokens.specs.Left.{IsRefused}
 use Rattle.template_compiler_tokens.specs.View.{token_of}
 use Rattle.template_compiler_tokens.specs.declared.token.Token.{Token}
 use Rattle.template_compiler_tokenizer.specs.Held.{spanned_of, StandsIn, left_of, HoldsRead, IsFurther}
-use Rattle.template_compiler_tokenizer.specs.Left.{Placed, placed, left_at, tokens_in}
+use Rattle.template_compiler_tokenizer.specs.Left.{Placed, placed, left_at, data_tokens, tokens_in}
 use Rattle.template_compiler_tokenizer.specs.Reads.{IsStage, IsRefusedKind, ReadsPiece}
 use Rattle.template_compiler_tokenizer.specs.Spans.{Spanned, spanned, spans_in, words_in}
 use Rattle.template_compiler_tokenizer.specs.Tokenizer.{TokenizerView, placed_at, view_of, IsStanding}
@@ -20,7 +20,9 @@ use Rattle.template_compiler_tokenizer.specs.declared.tokenizer.State.{State}
 use Rattle.template_compiler_tokenizer.specs.declared.tokenizer.State.TheVariants.{Refused}
 use Rattle.template_compiler_tokenizer.specs.declared.all.Standing.{Standing}
 use Rattle.template_compiler_tokenizer.specs.declared.inside.Piece.{Piece}
+use Rattle.template_compiler_segments.specs.declared.edges.Edge.{Edge}
 use Rattle.template_compiler_tokenizer.specs.declared.stage.Stage.{Stage}
+use Rattle.template_compiler_tokenizer.specs.declared.stage.Stage.TheVariants.{Data}
 
 pub pushed : (old held : List (Token × Span)) (t : Token × Span) (span : Span) → held ≡ old ++ t ∷ [] → t.1 ≡ span →
     spanned_of held ≡ spanned_of old ++ spanned (token_of t.0) span ∷ []
@@ -64,6 +66,17 @@ module _ (x : Syntax) (s : List ℕ) (at next : Standing) (piece : Piece) (stage
       let a = further.0 in
       let b = further.1 in
       (omega arith, omega arith)
+
+-- behind data that was read
+pub still_held : (x : Syntax) (s : List ℕ) (old mid held : List (Token × Span)) (first rest : List Placed) (g : Stage) (left : Edge) (from : ℕ) →
+    g ≡ Data left → HoldsRead s old first mid (left_at x s g from) → HoldsRead s mid (data_tokens x s left from) held rest →
+    HoldsRead s old first held rest
+still_held x s old mid held first rest g left from e before then =
+    subst (λ (h : Stage). HoldsRead s old first mid (left_at x s h from)) e before ∙ then
+
+pub still_fewer : (x : Syntax) (s : List ℕ) (rest : List Placed) (g : Stage) (left : Edge) (from : ℕ) → g ≡ Data left →
+    length rest ≤ length (data_tokens x s left from) → length rest ≤ length (left_at x s g from)
+still_fewer x s rest g left from e fewer = subst (λ (h : Stage). length rest ≤ length (left_at x s h from)) (sym e) fewer
 
 pub words_spans : (s : List ℕ) (ps : List Placed) → words_in (spans_in s ps) ≡ tokens_in ps
 words_spans s [] = refl

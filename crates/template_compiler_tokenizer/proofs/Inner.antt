@@ -12,8 +12,15 @@ use Rattle.template_compiler_scanner.specs.Scans.{Scans}
 use Rattle.template_compiler_segments.specs.declared.edges.Sign.{Sign}
 use Rattle.template_compiler_segments.specs.declared.edges.Edge.TheVariants.{Beside}
 use Rattle.template_compiler_tokenizer.specs.Finds.{FindsPlace}
-use Rattle.template_compiler_tokenizer.specs.Held.{StandsIn, left_of, HoldsRead, HoldsRefused, IsFurther, Holds, ReadsSome}
-use Rattle.template_compiler_tokenizer.specs.Inner.{standing_in, IsPut, IsRead, Puts, ReadsToken}
+use Rattle.template_compiler_tokenizer.specs.Held.{StandsIn, left_of, HoldsRead, HoldsRefused, IsFurther}
+use Rattle.template_compiler_tokenizer.specs.Held.{spanned_of}
+use Rattle.template_compiler_tokenizer.specs.Spans.{spanned}
+use Rattle.template_compiler_places.specs.Places.{span_between}
+use Rattle.template_compiler_places.specs.Stretches.{BeginsBy}
+use Rattle.std.specs.Prelude.{◌≤◌, [], ◌++◌, take}
+use Rattle.template_compiler_tokens.specs.declared.token.Token.TheVariants.{VariableEnd, BlockEnd}
+use Rattle.template_compiler_syntax.specs.declared.StartMarker.TheVariants as marker
+use Rattle.template_compiler_tokenizer.specs.Inner.{standing_in, standing_behind, IsPut, IsRead, Puts, ReadsToken}
 use Rattle.template_compiler_tokenizer.specs.Left.{placed, end_token, data_tokens, inside_tokens}
 use Rattle.template_compiler_tokenizer.specs.Reads.{ReadsPiece}
 use Rattle.template_compiler_tokenizer.specs.declared.all.Standing.{Standing}
@@ -52,19 +59,45 @@ reads_end x s k d from place next last t e found =
       };
     }
 
-pub ends_some : (x : Syntax) (s : List ℕ) (f at : Standing) (piece : Piece) (old mid held : List (Token × Span)) (r : Result Standing ErrorKind) →
-    ReadsPiece x s at.from (left_of x s at) piece → HoldsRead s old (left_of x s f) mid (left_of x s at) → IsFurther x s f at →
-    Holds s piece mid held r → ReadsSome x s old f held r
-ends_some x s f at piece old mid held (Ok next) read before further holds = (
-  holds_next x s at next piece (holds.1) (holds.2) old mid held (left_of x s f) read before (holds.0),
-  stands_next x s at next piece (holds.1) (holds.2) read (holds.3),
-  further_next x s at next piece (holds.1) (holds.2) f read further,
+-- the token of the segment's end
+token_of_end : (k : StartMarker) → (t : Token) × (token_of t ≡ end_token k)
+token_of_end marker.Variable = (VariableEnd, refl)
+token_of_end marker.Block = (BlockEnd, refl)
+token_of_end marker.Comment = (BlockEnd, refl)
+token_of_end marker.LineStatement = (BlockEnd, refl)
+token_of_end marker.LineComment = (BlockEnd, refl)
+
+-- where its end found no room
+pub refused_end : (x : Syntax) (s : List ℕ) (k : StartMarker) (first : Inner) (old mid held : List (Token × Span)) (f : Standing) →
+    HoldsRead s old (left_of x s f) mid (left_of x s (standing_in k first)) → (kind : ErrorKind) → (held ≡ mid) × (kind ≡ OutOfMemory) →
+    HoldsRefused s old (left_of x s f) held kind
+refused_end x s k first old mid held f before kind h = (
+  left_of x s (standing_in k first),
+  subst (λ g. HoldsRead s old (left_of x s f) g (left_of x s (standing_in k first))) (sym (h.0)) before,
+  inl (h.1),
 )
-ends_some x s f at piece old mid held (Err kind) read before further holds = (
-  left_of x s at,
-  subst (λ h. HoldsRead s old (left_of x s f) h (left_of x s at)) (sym (holds.0)) before,
-  inl (holds.1),
-)
+
+-- behind the segment's end
+pub ends_behind : (x : Syntax) (s : List ℕ) (k : StartMarker) (first : Inner) (place next : ℕ) (last : Sign) → StandsIn x s (standing_in k first) →
+    FindsPlace x s k first.depth first.from (End place last next) → (old mid held : List (Token × Span)) (f : Standing) →
+    HoldsRead s old (left_of x s f) mid (left_of x s (standing_in k first)) → IsFurther x s f (standing_in k first) → (at : Inner) →
+    (spanned_of held ≡ spanned_of mid ++ spanned (end_token k) (span_between (take place s) (take next s)) ∷ []) × (at.from ≡ next) ×
+    BeginsBy s next at.stretch →
+    HoldsRead s old (left_of x s f) held (left_of x s (standing_behind k last at)) × StandsIn x s (standing_behind k last at) ×
+    (f.from ≤ at.from) × (length (left_of x s (standing_behind k last at)) < length (left_of x s f))
+ends_behind x s k first place next last stands found old mid held f before further at put =
+    let t = token_of_end k in
+    let piece = end_piece t.0 k last place next in
+    let read = reads_end x s k first.depth first.from place next last t.0 t.1 found in
+    let behind = standing_behind k last at in
+    let fewer = fewer_left x s (standing_in k first) behind piece refl put.1 read in
+    let most = further.1 in (
+      holds_next x s (standing_in k first) behind piece refl put.1 old mid held (left_of x s f) read before
+          (put.0 ∙ ap (λ u. spanned_of mid ++ spanned u (span_between (take place s) (take next s)) ∷ []) (sym t.1)),
+      stands_next x s (standing_in k first) behind piece refl put.1 read put.2,
+      (further_next x s (standing_in k first) behind piece refl put.1 f read further).0,
+      omega arith,
+    )
 
 module _ (x : Syntax) (s : List ℕ) (k : StartMarker) (first : Inner) (place : ℕ) (stands : StandsIn x s (standing_in k first))
     (found : FindsPlace x s k first.depth first.from (Other place)) (old mid held : List (Token × Span)) (f : Standing)

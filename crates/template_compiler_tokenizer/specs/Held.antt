@@ -1,5 +1,5 @@
 -- What a tokenizer reads in one go.
-use Rattle.std.specs.Prelude.{◌≡◌, ℕ, ◌≤◌, List, [], ◌∷◌, ◌++◌, length, take, map, Result, Ok, Err}
+use Rattle.std.specs.Prelude.{◌≡◌, ℕ, ◌≤◌, ◌<◌, Option, Some, None, List, [], ◌∷◌, ◌++◌, length, take, map, Result, Ok, Err}
 use Rattle.template_values_errors.specs.declared.ErrorKind.{ErrorKind}
 use Rattle.template_values_errors.specs.declared.ErrorKind.TheVariants.{OutOfMemory}
 use Rattle.template_tree.specs.declared.span.Span.{Span}
@@ -46,10 +46,13 @@ Holds s piece old held (Err kind) = (held ≡ old) × (kind ≡ OutOfMemory)
 abbrev pub HoldsRefused : List ℕ → List (Token × Span) → List Placed → List (Token × Span) → ErrorKind → Type 0
 HoldsRefused s old left held kind = (rest : List Placed) × HoldsRead s old left held rest × IsRefusedKind rest kind
 
--- some of the tokens that are left, perhaps none
-abbrev pub ReadsSome : Syntax → List ℕ → List (Token × Span) → Standing → List (Token × Span) → Result Standing ErrorKind → Type 0
-ReadsSome x s old first held (Ok at) = HoldsRead s old (left_of x s first) held (left_of x s at) × StandsIn x s at × IsFurther x s first at
-ReadsSome x s old first held (Err kind) = HoldsRefused s old (left_of x s first) held kind
+-- the next token, if there is one
+abbrev pub ReadsNext : Syntax → List ℕ → List (Token × Span) → Standing → List (Token × Span) → Result (Option Standing) ErrorKind → Type 0
+ReadsNext x s old first held (Ok (Some at)) =
+    HoldsRead s old (left_of x s first) held (left_of x s at) × StandsIn x s at × (first.from ≤ at.from) ×
+    (length (left_of x s at) < length (left_of x s first))
+ReadsNext x s old first held (Ok None) = HoldsRead s old (left_of x s first) held []
+ReadsNext x s old first held (Err kind) = HoldsRefused s old (left_of x s first) held kind
 
 -- all of them
 abbrev pub ReadsAll : {A : Type 0} → List ℕ → List (Token × Span) → List Placed → List (Token × Span) → Result A ErrorKind → Type 0

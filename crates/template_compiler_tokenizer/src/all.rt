@@ -1,8 +1,8 @@
 // All tokens that are left, in one go.
-ghost use Rattle.std.specs.Prelude.{◌≡◌, ◌∷◌, [], ◌++◌, MatchResult};
+ghost use Rattle.std.specs.Prelude.{◌≡◌, ◌∷◌, [], ◌++◌, IfOk, IfSome, MatchResult};
 ghost use Rattle.template_compiler_places.specs.Stretches.{BeginsBy};
 ghost use Rattle.template_compiler_segments.specs.Known.{Knows};
-ghost use Rattle.template_compiler_tokenizer.specs.Held.{Holds, ReadsAll, ReadsSome, StandsIn, left_of};
+ghost use Rattle.template_compiler_tokenizer.specs.Held.{Holds, ReadsAll, ReadsNext, StandsIn, left_of};
 ghost use Rattle.template_compiler_tokenizer.specs.Reads.{IsCut};
 
 use crate::ends::SegmentEnd;
@@ -40,78 +40,81 @@ pub(crate) fn read_all<'source>(
     requires knows { Knows syntax.now source.now first.from finder.old }
     ensures { ReadsAll source.now tokens.old.items (left_of syntax.now source.now first) tokens.new.items result }
 {
-    let mut at = first;
-    loop {
-        at = read_segment(alloc, source, syntax, at, tokens)?;
-        if let Stage::Data(left) = at.stage {
-            let mut from = at.from;
-            let mut stretch = at.stretch;
+    let mut stage = first.stage;
+    let mut at = Inner {
+        depth: 0,
+        from: first.from,
+        stretch: first.stretch,
+    };
+    'parts: loop {
+        if let Stage::Data(left) = stage {
             match read_data(
                 source,
                 syntax,
                 finder,
                 left,
-                &mut from,
-                &mut stretch,
+                &mut at.from,
+                &mut at.stretch,
                 tokens,
             ) {
-                Reached::Inside(kind) => {
-                    at = Standing {
-                        stage: Stage::Inside(kind, 0),
-                        from,
-                        stretch,
-                    };
-                    continue;
-                }
+                Reached::Inside(kind) => stage = Stage::Inside(kind, 0),
                 Reached::Data(kind, sign) => {
-                    at = Standing {
-                        stage: Stage::Data(Edge::Beside(kind, sign)),
-                        from,
-                        stretch,
-                    };
-                    continue;
+                    stage = Stage::Data(Edge::Beside(kind, sign));
+                    continue 'parts;
                 }
-                Reached::Start(kind) => {
-                    at = Standing {
-                        stage: Stage::Start(kind),
-                        from,
-                        stretch,
-                    };
-                }
+                Reached::Start(kind) => stage = Stage::Start(kind),
                 Reached::End => return Ok(()),
                 Reached::Refused(kind) => return Err(kind),
             }
         }
-        match next_piece(alloc, source, syntax, finder, at.stage, at.from) {
-            Ok(Some(piece)) => at = hold(source, at, piece, tokens)?,
-            Ok(None) => return Ok(()),
-            Err(refused) => return Err(refused),
+        if let Stage::Inside(kind, depth) = stage {
+            at.depth = depth;
+            let end = SegmentEnd::of(syntax, kind);
+            match read_inside(alloc, source, end, &mut at, tokens) {
+                Ok(last) => stage = Stage::Data(Edge::Beside(kind, last)),
+                Err(refused) => return Err(refused),
+            }
+        } else {
+            let start = Standing {
+                stage,
+                from: at.from,
+                stretch: at.stretch,
+            };
+            match read_piece(alloc, source, syntax, finder, start, tokens) {
+                Ok(Some(next)) => {
+                    stage = next.stage;
+                    at.from = next.from;
+                    at.stretch = next.stretch;
+                }
+                Ok(None) => return Ok(()),
+                Err(refused) => return Err(refused),
+            }
         }
     }
 }
 
-// Reads the tokens of the segment that the reader stands in, if it does, with its end.
-#[inline(always)]
-fn read_segment<'source>(
+// Reads the next token from a start marker on; none at the end. Few starts are not entered at once.
+#[inline(never)]
+fn read_piece<'source>(
     alloc: Global,
     source: &'source str,
     syntax: &SyntaxConfig,
-    first: Standing,
+    finder: &mut StartFinder,
+    start: Standing,
     tokens: &mut Vec<(Token<'source>, Span)>,
-) -> Result<Standing, ErrorKind>
-    requires { StandsIn syntax.now source.now first }
-    ensures { ReadsSome syntax.now source.now tokens.old.items first tokens.new.items result }
+) -> Result<Option<Standing>, ErrorKind>
+    requires stands { StandsIn syntax.now source.now start }
+    requires knows { Knows syntax.now source.now start.from finder.old }
+    ensures read { ReadsNext syntax.now source.now tokens.old.items start tokens.new.items result }
+    ensures knows { IfOk result (λ read. IfSome read (λ next. Knows syntax.now source.now next.from finder.new)) }
 {
-    match first.stage {
-        Stage::Inside(kind, depth) => {
-            let at = Inner {
-                depth,
-                from: first.from,
-                stretch: first.stretch,
-            };
-            read_inside(alloc, source, SegmentEnd::of(syntax, kind), at, tokens)
-        }
-        _ => Ok(first),
+    match next_piece(alloc, source, syntax, finder, start.stage, start.from) {
+        Ok(Some(piece)) => match hold(source, start, piece, tokens) {
+            Ok(next) => Ok(Some(next)),
+            Err(refused) => Err(refused),
+        },
+        Ok(None) => Ok(None),
+        Err(refused) => Err(refused),
     }
 }
 

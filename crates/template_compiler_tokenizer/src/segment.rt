@@ -5,17 +5,17 @@ ghost use Rattle.template_compiler_places.specs.Stretches.{BeginsBy};
 ghost use Rattle.template_compiler_scanner.specs.Scans.{Scans};
 ghost use Rattle.template_compiler_tokens.specs.declared.token.Token.TheVariants.{Ident};
 ghost use Rattle.template_compiler_tokenizer.specs.Ends.{IsSegmentEnd};
-ghost use Rattle.template_compiler_tokenizer.specs.Held.{ReadsSome, StandsIn};
-ghost use Rattle.template_compiler_tokenizer.specs.Inner.{Puts, ReadsToken, standing_in};
+ghost use Rattle.template_compiler_tokenizer.specs.Held.{StandsIn};
+ghost use Rattle.template_compiler_tokenizer.specs.Inner.{Puts, PutsEnd, ReadsSegment, ReadsToken, standing_in};
 
-use crate::all::{Standing, hold, push};
+use crate::all::push;
 use crate::ends::SegmentEnd;
-use crate::inside::{Found, Piece, brackets_behind, end_token, next_place_of};
-use crate::stage::Stage;
+use crate::inside::{Found, brackets_behind, end_token, next_place_of};
 use std::alloc::Global;
 use template_compiler_places::{Stretch, next_span};
-use template_compiler_scanner::{scan_mark, scan_name, scan_token};
-use template_compiler_segments::Edge;
+use template_compiler_scanner::{scan_digit, scan_mark, scan_name, scan_token};
+use template_compiler_segments::Sign;
+use template_compiler_syntax::StartMarker;
 use template_compiler_tokens::Token;
 use template_tree::Span;
 use template_values_errors::ErrorKind;
@@ -28,49 +28,59 @@ pub struct Inner {
     pub stretch: Stretch,
 }
 
-/// Reads the tokens of the segment that a reader stands in and that ends so, with its end.
+/// Reads the tokens of the segment that a reader stands in and that ends so, with its end, whose sign it answers.
 #[inline(always)]
 pub(crate) fn read_inside<'source>(
     alloc: Global,
     source: &'source str,
     end: SegmentEnd,
-    first: Inner,
+    at: &mut Inner,
     tokens: &mut Vec<(Token<'source>, Span)>,
-) -> Result<Standing, ErrorKind>
+) -> Result<Sign, ErrorKind>
     requires end { IsSegmentEnd end }
-    requires stands { StandsIn end.syntax.now source.now (standing_in end.kind first) }
-    ensures { ReadsSome end.entry.syntax.now source.now tokens.old.items (standing_in end.entry.kind first) tokens.new.items result }
+    requires stands { StandsIn end.syntax.now source.now (standing_in end.kind at.old) }
+    ensures { ReadsSegment end.entry.syntax.now source.now end.entry.kind at.old at.new tokens.old.items tokens.new.items result }
 {
-    let mut at = first;
     'tokens: loop {
         match next_place_of(source, end, at.depth, at.from) {
             Found::End(place, last, next) => {
-                let standing = Standing {
-                    stage: Stage::Inside(end.kind, at.depth),
-                    from: at.from,
-                    stretch: at.stretch,
+                return match put_end(source, end.kind, place, next, at, tokens) {
+                    Ok(()) => Ok(last),
+                    Err(refused) => Err(refused),
                 };
-                let piece = Piece {
-                    token: end_token(end.kind),
-                    stage: Stage::Data(Edge::Beside(end.kind, last)),
-                    begin: place,
-                    end: next,
-                    next,
-                };
-                return hold(source, standing, piece, tokens);
             }
             Found::Token(place) => match scan_name(source.split_at(place).1) {
-                Some(name) => match read_name(source, place, name, &mut at, tokens) {
+                Some(name) => match read_name(source, place, name, at, tokens) {
                     Ok(()) => {}
                     Err(refused) => return Err(refused),
                 },
-                None => match read_token(alloc, source, place, &mut at, tokens) {
+                None => match read_token(alloc, source, place, at, tokens) {
                     Ok(()) => {}
                     Err(refused) => return Err(refused),
                 },
             },
         }
     }
+}
+
+// Puts the end of a segment behind the tokens that are held, and passes it.
+#[inline(always)]
+fn put_end<'source>(
+    source: &str,
+    kind: StartMarker,
+    place: usize,
+    next: usize,
+    at: &mut Inner,
+    tokens: &mut Vec<(Token<'source>, Span)>,
+) -> Result<(), ErrorKind>
+    requires begins { BeginsBy source.now place at.old.stretch }
+    requires ordered { place ≤ next }
+    requires within { next ≤ length source.now }
+    ensures { PutsEnd source.now kind place next at.new tokens.old.items tokens.new.items result }
+{
+    let span = next_span(source, &mut at.stretch, place, next);
+    at.from = next;
+    push(tokens, end_token(kind), span)
 }
 
 // Reads the name at a place.
@@ -109,7 +119,10 @@ fn read_token<'source>(
 {
     match scan_mark(source.split_at(place).1) {
         Some((mark, width)) => put(source, at, place, mark, width, tokens),
-        None => read_other(alloc, source, place, at, tokens),
+        None => match scan_digit(source.split_at(place).1) {
+            Some(digit) => put(source, at, place, Token::Int(digit), 1, tokens),
+            None => read_other(alloc, source, place, at, tokens),
+        },
     }
 }
 

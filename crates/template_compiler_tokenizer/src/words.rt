@@ -81,6 +81,7 @@ fn is_same(first: &str, second: &str) -> bool
 }
 
 /// Where the block stands that ends raw data from a place on, the sign of its end, and the place behind it.
+#[inline(always)]
 pub(crate) fn find_raw_end(
     source: &str,
     syntax: &SyntaxConfig,
@@ -101,6 +102,7 @@ pub(crate) fn find_raw_end(
     None
 }
 
+#[inline(always)]
 fn raw_end_at(source: &str, syntax: &SyntaxConfig, place: usize) -> Option<(Sign, usize)>
     requires stands { StandsAt source.now place syntax.now.block_start }
     requires set { IsSet syntax.now.block_start }

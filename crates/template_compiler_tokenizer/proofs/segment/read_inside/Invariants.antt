@@ -7,9 +7,9 @@ use Rattle.template_compiler_tokenizer.proofs.segment.read_inside.Given as goal
 abbrev pub invariant-tokens : goal.invariant-tokens
 invariant-tokens l = record {
   stands : StandsIn l.end.syntax.now l.source (standing_in l.end.kind l.at);
-  held : HoldsRead l.source l.fn.tokens.items (left_of l.end.syntax.now l.source (standing_in l.end.kind l.fn.first)) l.tokens.items
+  held : HoldsRead l.source l.fn.tokens.items (left_of l.end.syntax.now l.source (standing_in l.end.kind l.fn.at)) l.tokens.items
       (left_of l.end.syntax.now l.source (standing_in l.end.kind l.at));
-  further : IsFurther l.end.syntax.now l.source (standing_in l.end.kind l.fn.first) (standing_in l.end.kind l.at);
+  further : IsFurther l.end.syntax.now l.source (standing_in l.end.kind l.fn.at) (standing_in l.end.kind l.at);
 }
 
 abbrev pub decreases-tokens : goal.decreases-tokens
