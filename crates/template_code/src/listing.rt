@@ -154,6 +154,27 @@ impl<'source> Instructions<'source> {
         ensures full { IsFull (code_in self.old) → IsErrAnd result (λ kinds. kinds ≡ ErrorKind.TooLarge ∷ []) }
         ensures unchanged { OnErr result (code_in self.new ≡ code_in self.old) }
     {
+        match self.push(instruction) {
+            Ok(place) => Ok(place),
+            Err(kind) => Err(Error::new(kind)),
+        }
+    }
+
+    /// The same, where the kind alone is told of what refuses it.
+    ///
+    /// # Errors
+    ///
+    /// As [`Instructions::add`].
+    #[inline(always)]
+    pub fn push(&mut self, instruction: Instruction<'source>) -> Result<u32, ErrorKind>
+        ensures place { IfOk result (λ place. place ≡ length (code_in self.old)) }
+        ensures added { OnOk result (code_in self.new ≡ code_in self.old ++ code_of instruction.entry ∷ []) }
+        ensures same { IsSameTemplate self.old self.new }
+        ensures places { places_in self.new ≡ places_in self.old }
+        ensures refused { IfErr result (λ kind. TakesNoMore (code_in self.old) (kind ∷ [])) }
+        ensures full { IsFull (code_in self.old) → IsErrAnd result (λ kind. kind ≡ ErrorKind.TooLarge) }
+        ensures unchanged { OnErr result (code_in self.new ≡ code_in self.old) }
+    {
         put_last(&mut self.code, instruction)
     }
 
@@ -183,7 +204,7 @@ impl<'source> Instructions<'source> {
             span: None,
         }) {
             Ok(()) => Ok(start),
-            Err(_refused) => Err(taken_back(&mut self.code, start)),
+            Err(_refused) => Err(Error::new(taken_back(&mut self.code, start))),
         }
     }
 
@@ -208,7 +229,33 @@ impl<'source> Instructions<'source> {
         ensures unchanged { OnErr result (code_in self.new ≡ code_in self.old) }
         ensures unmarked { OnErr result (places_in self.new ≡ places_in self.old) }
     {
-        let start = self.add(instruction)?;
+        match self.push_with_span(instruction, span) {
+            Ok(place) => Ok(place),
+            Err(kind) => Err(Error::new(kind)),
+        }
+    }
+
+    /// The same, where the kind alone is told of what refuses it.
+    ///
+    /// # Errors
+    ///
+    /// As [`Instructions::add`].
+    #[inline(always)]
+    pub fn push_with_span(
+        &mut self,
+        instruction: Instruction<'source>,
+        span: Span,
+    ) -> Result<u32, ErrorKind>
+        ensures place { IfOk result (λ place. place ≡ length (code_in self.old)) }
+        ensures added { OnOk result (code_in self.new ≡ code_in self.old ++ code_of instruction.entry ∷ []) }
+        ensures marked { OnOk result (places_in self.new ≡ places_in self.old ++ span_mark (length (code_in self.old)) span ∷ []) }
+        ensures same { IsSameTemplate self.old self.new }
+        ensures refused { IfErr result (λ kind. TakesNoMore (code_in self.old) (kind ∷ [])) }
+        ensures full { IsFull (code_in self.old) → IsErrAnd result (λ kind. kind ≡ ErrorKind.TooLarge) }
+        ensures unchanged { OnErr result (code_in self.new ≡ code_in self.old) }
+        ensures unmarked { OnErr result (places_in self.new ≡ places_in self.old) }
+    {
+        let start = self.push(instruction)?;
         match mark_from(&mut self.marks, start, span) {
             Ok(()) => Ok(start),
             Err(_refused) => Err(taken_back(&mut self.code, start)),
@@ -216,6 +263,7 @@ impl<'source> Instructions<'source> {
     }
 
     /// Puts an instruction in the place of the one that stands there. Where none stands, nothing changes.
+    #[inline(always)]
     pub fn replace(&mut self, index: u32, instruction: Instruction<'source>)
         ensures replaced { code_in self.new ≡ set (code_in self.old) index (code_of instruction.entry) }
         ensures same { IsSameTemplate self.old self.new }
@@ -237,19 +285,19 @@ impl<'source> Instructions<'source> {
 
 // Puts an item behind the others, of which there are fewer than 2^32 then too, and answers its place.
 #[inline(always)]
-fn put_last<T: Drop>(items: &mut Vec<T>, item: T) -> Result<u32, Error>
+fn put_last<T: Drop>(items: &mut Vec<T>, item: T) -> Result<u32, ErrorKind>
     requires { length items.old.items < 2 ^ 32 }
     ensures place { IfOk result (λ place. place ≡ length items.old.items) }
     ensures room { OnOk result (length items.old.items + 1 < 2 ^ 32) }
     ensures added { OnOk result (items.new.items ≡ items.old.items ++ item ∷ []) }
-    ensures refused { IfErr result (λ kinds.
-        ((length items.old.items + 1 ≡ 2 ^ 32) × (kinds ≡ ErrorKind.TooLarge ∷ [])) ⊎ (kinds ≡ ErrorKind.OutOfMemory ∷ [])) }
-    ensures full { length items.old.items + 1 ≡ 2 ^ 32 → IsErrAnd result (λ kinds. kinds ≡ ErrorKind.TooLarge ∷ []) }
+    ensures refused { IfErr result (λ kind.
+        ((length items.old.items + 1 ≡ 2 ^ 32) × (kind ∷ [] ≡ ErrorKind.TooLarge ∷ [])) ⊎ (kind ∷ [] ≡ ErrorKind.OutOfMemory ∷ [])) }
+    ensures full { length items.old.items + 1 ≡ 2 ^ 32 → IsErrAnd result (λ kind. kind ≡ ErrorKind.TooLarge) }
     ensures unchanged { OnErr result (items.new.items ≡ items.old.items) }
 {
     let place = items.len();
     if place >= u32::MAX as usize {
-        return Err(Error::new(ErrorKind::TooLarge));
+        return Err(ErrorKind::TooLarge);
     }
     if place < items.capacity() {
         items.push_reserved(item);
@@ -258,7 +306,7 @@ fn put_last<T: Drop>(items: &mut Vec<T>, item: T) -> Result<u32, Error>
     if put_growing(items, item) {
         Ok(place as u32)
     } else {
-        Err(Error::new(ErrorKind::OutOfMemory))
+        Err(ErrorKind::OutOfMemory)
     }
 }
 
@@ -272,15 +320,79 @@ fn put_growing<T: Drop>(items: &mut Vec<T>, item: T) -> bool
     items.push(item).is_ok()
 }
 
-// Puts an item in the place of the one that stands there. Where none stands, nothing changes.
-#[inline]
-fn put_at<T: Drop>(items: &mut Vec<T>, index: usize, item: T)
-    ensures replaced { items.new.items ≡ set items.old.items index item }
-    ensures len { length items.new.items ≡ length items.old.items }
+// Puts an instruction in the place of the one that stands there. Where none stands, nothing changes.
+#[inline(always)]
+fn put_at<'source>(
+    code: &mut Vec<Instruction<'source>>,
+    index: usize,
+    instruction: Instruction<'source>,
+)
+    ensures replaced { code.new.items ≡ set code.old.items index instruction.entry }
+    ensures len { length code.new.items ≡ length code.old.items }
 {
-    if index < items.len() {
-        items[index] = item;
+    if index < code.len() {
+        put_over(&mut code[index], instruction);
     }
+}
+
+// Puts an instruction in the place of another one. A jump of the same kind is told its target alone.
+#[inline(always)]
+fn put_over<'source>(place: &mut Instruction<'source>, instruction: Instruction<'source>)
+    ensures { place.new ≡ instruction.entry }
+{
+    if !leads_there(place, &instruction) {
+        put_whole(place, instruction);
+    }
+}
+
+// Leads a jump where another one of its kind leads; tells whether both are such jumps. Else nothing changes.
+#[inline(always)]
+fn leads_there<'source>(place: &mut Instruction<'source>, other: &Instruction<'source>) -> bool
+    ensures led { IsTrue result → place.new ≡ other.now }
+    ensures stays { IsTrue (not result) → place.new ≡ place.old }
+{
+    match place {
+        Instruction::Jump(to) => match other {
+            Instruction::Jump(target) => told_target(to, *target),
+            _ => false,
+        },
+        Instruction::JumpIfFalse(to) => match other {
+            Instruction::JumpIfFalse(target) => told_target(to, *target),
+            _ => false,
+        },
+        Instruction::JumpIfFalseOrPop(to) => match other {
+            Instruction::JumpIfFalseOrPop(target) => told_target(to, *target),
+            _ => false,
+        },
+        Instruction::JumpIfTrueOrPop(to) => match other {
+            Instruction::JumpIfTrueOrPop(target) => told_target(to, *target),
+            _ => false,
+        },
+        Instruction::Iterate(to) => match other {
+            Instruction::Iterate(target) => told_target(to, *target),
+            _ => false,
+        },
+        _ => false,
+    }
+}
+
+// Tells a jump its target.
+#[inline(always)]
+fn told_target(to: &mut u32, target: u32) -> bool
+    ensures told { to.new ≡ target }
+    ensures tells { IsTrue result }
+{
+    *to = target;
+    true
+}
+
+// Puts an instruction in the place of any other one, which is dropped.
+#[cold]
+#[inline(never)]
+fn put_whole<'source>(place: &mut Instruction<'source>, instruction: Instruction<'source>)
+    ensures { place.new ≡ instruction.entry }
+{
+    *place = instruction;
 }
 
 // A list with room for so many instructions where it can be had. Where it cannot, it grows as it needs.
@@ -329,12 +441,12 @@ fn mark_early(marks: &mut Marks, start: u32, span: Span) -> Result<(), AllocErro
 // Takes back the instruction at a place, whose mark was refused, with those behind it.
 #[cold]
 #[inline(never)]
-fn taken_back<'source>(code: &mut Vec<Instruction<'source>>, place: u32) -> Error
+fn taken_back<'source>(code: &mut Vec<Instruction<'source>>, place: u32) -> ErrorKind
     ensures kept { code.new.items ≡ take place code.old.items }
-    ensures refused { NoMemory result }
+    ensures refused { result ≡ ErrorKind.OutOfMemory }
 {
     code.truncate(place as usize);
-    Error::new(ErrorKind::OutOfMemory)
+    ErrorKind::OutOfMemory
 }
 
 // The span, unless it is the default one.

@@ -1,5 +1,5 @@
 //! The table of marks.
-ghost use Rattle.std.specs.Prelude.{◌≡◌, ◌≤◌, [], ◌∷◌, ◌++◌, All, OnOk, OnErr, filter, ltb};
+ghost use Rattle.std.specs.Prelude.{◌≡◌, ◌<◌, ◌≤◌, [], ◌∷◌, ◌++◌, All, OnOk, OnErr, filter, ltb, vec_len, vec_capacity};
 ghost use Rattle.std.specs.List.Sorted.{IsNonDecreasingBy};
 
 use std::alloc::{AllocError, Global};
@@ -96,13 +96,13 @@ impl Marks {
     /// # Errors
     ///
     /// The table's growth is refused; it is then as it was.
+    #[inline(always)]
     pub fn push(&mut self, mark: Mark) -> Result<(), AllocError>
         requires { All (λ m. m.start ≤ mark.start) (marks_in self.now) }
         ensures marked { OnOk result (marks_in self.new ≡ marks_in self.old ++ mark ∷ []) }
         ensures unchanged { OnErr result (marks_in self.new ≡ marks_in self.old) }
     {
-        self.entries.push(mark)?;
-        Ok(())
+        put_last(&mut self.entries, mark)
     }
 
     /// Drops the marks that begin at a place or behind it. Takes a search by halving.
@@ -115,4 +115,27 @@ impl Marks {
             .partition_point(|mark| (mark.start as usize) < len);
         self.entries.truncate(count);
     }
+}
+
+// Puts a mark behind the others.
+#[inline(always)]
+fn put_last(entries: &mut Vec<Mark>, mark: Mark) -> Result<(), AllocError>
+    ensures marked { OnOk result (entries.new.items ≡ entries.old.items ++ mark ∷ []) }
+    ensures unchanged { OnErr result (entries.new.items ≡ entries.old.items) }
+{
+    if entries.len() >= entries.capacity() {
+        make_room(entries)?;
+    }
+    entries.push_reserved(mark);
+    Ok(())
+}
+
+// Makes room for one mark more.
+#[cold]
+#[inline(never)]
+fn make_room(entries: &mut Vec<Mark>) -> Result<(), AllocError>
+    ensures same { entries.new.items ≡ entries.old.items }
+    ensures room { OnOk result (vec_len entries.new < vec_capacity entries.new) }
+{
+    entries.reserve(1)
 }

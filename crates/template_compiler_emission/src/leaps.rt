@@ -1,5 +1,5 @@
 //! Instructions that are put behind others, and jumps whose targets are told later.
-ghost use Rattle.std.specs.Prelude.{◌≡◌, OnOk, IfOk, IfErr, length};
+ghost use Rattle.std.specs.Prelude.{◌≡◌, [], ◌∷◌, OnOk, IfOk, IfErr, length};
 ghost use Rattle.std.proofs.Math.ListN.{set};
 ghost use Rattle.template_code.specs.Code.{load_const};
 ghost use Rattle.template_code.specs.View.{code_of};
@@ -11,7 +11,7 @@ ghost use Rattle.template_compiler_emission.specs.Puts.{Keeps, Puts, held};
 use template_code::{Instruction, Instructions};
 use template_tree::Span;
 use template_values_core::Value;
-use template_values_errors::Error;
+use template_values_errors::{Error, ErrorKind};
 
 /// A jump, whose target may be told later.
 #[derive(Clone, Copy, Debug, PartialEq, Eq)]
@@ -46,37 +46,55 @@ impl Leap {
 // Puts one instruction behind the others, and answers its place. It comes from a span of the source, or else from
 // where the one before it comes.
 #[inline(always)]
-fn add_from<'source>(
+fn push_from<'source>(
     code: &mut Instructions<'source>,
     instruction: Instruction<'source>,
-    from: Option<Span>,
-) -> Result<u32, Error>
+    from: Option<&Span>,
+) -> Result<u32, ErrorKind>
     ensures place { IfOk result (λ place. place ≡ length (code_in code.old)) }
     ensures put { OnOk result (Puts (one (code_of instruction.entry)) code.old code.new) }
-    ensures refused { IfErr result (TakesNoMore (code_in code.new)) }
+    ensures refused { IfErr result (λ kind. TakesNoMore (code_in code.new) (kind ∷ [])) }
 {
     match from {
-        Some(span) => add_at(code, instruction, span),
-        None => code.add(instruction),
+        Some(span) => push_at(code, instruction, *span),
+        None => code.push(instruction),
     }
 }
 
 // Puts one instruction behind the others, which comes from a span of the source, and answers its place.
 #[inline(always)]
-fn add_at<'source>(
+fn push_at<'source>(
     code: &mut Instructions<'source>,
     instruction: Instruction<'source>,
     span: Span,
-) -> Result<u32, Error>
+) -> Result<u32, ErrorKind>
     ensures place { IfOk result (λ place. place ≡ length (code_in code.old)) }
     ensures put { OnOk result (Puts (one (code_of instruction.entry)) code.old code.new) }
-    ensures refused { IfErr result (TakesNoMore (code_in code.new)) }
+    ensures refused { IfErr result (λ kind. TakesNoMore (code_in code.new) (kind ∷ [])) }
 {
-    code.add_with_span(instruction, span)
+    code.push_with_span(instruction, span)
 }
 
 /// Puts one instruction behind the others. It comes from a span of the source, or else from where the one before it
 /// comes.
+///
+/// # Errors
+///
+/// Those of [`Instructions::add`], of which the kind alone is told.
+#[inline(always)]
+pub fn push<'source>(
+    code: &mut Instructions<'source>,
+    instruction: Instruction<'source>,
+    from: Option<&Span>,
+) -> Result<(), ErrorKind>
+    ensures put { OnOk result (Puts (one (code_of instruction.entry)) code.old code.new) }
+    ensures refused { IfErr result (λ kind. TakesNoMore (code_in code.new) (kind ∷ [])) }
+{
+    push_from(code, instruction, from)?;
+    Ok(())
+}
+
+/// The same, where the refusal is told as an error.
 ///
 /// # Errors
 ///
@@ -90,11 +108,31 @@ pub fn put<'source>(
     ensures put { OnOk result (Puts (one (code_of instruction.entry)) code.old code.new) }
     ensures refused { IfErr result (TakesNoMore (code_in code.new)) }
 {
-    add_from(code, instruction, from)?;
-    Ok(())
+    match push_from(code, instruction, from.as_ref()) {
+        Ok(_place) => Ok(()),
+        Err(kind) => Err(Error::new(kind)),
+    }
 }
 
-/// Puts a jump behind the others whose target is told later, and answers its place. It comes from where [`put`] says.
+/// Puts a jump behind the others whose target is told later, and answers its place. It comes from where [`push`] says.
+///
+/// # Errors
+///
+/// Those of [`push`].
+#[inline(always)]
+pub fn push_leap<'source>(
+    code: &mut Instructions<'source>,
+    leap: Leap,
+    from: Option<&Span>,
+) -> Result<u32, ErrorKind>
+    ensures place { IfOk result (λ place. place ≡ length (code_in code.old)) }
+    ensures put { OnOk result (Puts (one (leap_code leap 0)) code.old code.new) }
+    ensures refused { IfErr result (λ kind. TakesNoMore (code_in code.new) (kind ∷ [])) }
+{
+    push_from(code, leap.to(0), from)
+}
+
+/// The same, where the refusal is told as an error.
 ///
 /// # Errors
 ///
@@ -109,11 +147,15 @@ pub fn reserve<'source>(
     ensures put { OnOk result (Puts (one (leap_code leap 0)) code.old code.new) }
     ensures refused { IfErr result (TakesNoMore (code_in code.new)) }
 {
-    add_from(code, leap.to(0), from)
+    match push_from(code, leap.to(0), from.as_ref()) {
+        Ok(place) => Ok(place),
+        Err(kind) => Err(Error::new(kind)),
+    }
 }
 
 /// Tells the jump at a place its target: the place behind the last instruction. Where none stands, nothing
 /// changes.
+#[inline(always)]
 pub fn land<'source>(code: &mut Instructions<'source>, place: u32, leap: Leap)
     ensures landed { code_in code.new ≡ set (code_in code.old) place (leap_code leap (length (code_in code.old))) }
     ensures same { Keeps code.old code.new }
@@ -122,19 +164,19 @@ pub fn land<'source>(code: &mut Instructions<'source>, place: u32, leap: Leap)
     code.replace(place, leap.to(target));
 }
 
-/// Puts the load of a constant behind the others, where there is one. It comes from where [`put`] says.
+/// Puts the load of a constant behind the others, where there is one. It comes from where [`push`] says.
 ///
 /// # Errors
 ///
-/// Those of [`Instructions::add`].
+/// Those of [`push`].
 #[inline(always)]
 pub fn load<'source>(
     code: &mut Instructions<'source>,
     constant: Option<Value>,
-    from: Option<Span>,
-) -> Result<(), Error>
+    from: Option<&Span>,
+) -> Result<(), ErrorKind>
     ensures put { OnOk result (Puts (held constant) code.old code.new) }
-    ensures refused { IfErr result (TakesNoMore (code_in code.new)) }
+    ensures refused { IfErr result (λ kind. TakesNoMore (code_in code.new) (kind ∷ [])) }
 {
     match constant {
         Some(value) => load_value(code, value, from),
@@ -147,30 +189,33 @@ pub fn load<'source>(
 fn load_value<'source>(
     code: &mut Instructions<'source>,
     value: Value,
-    from: Option<Span>,
-) -> Result<(), Error>
+    from: Option<&Span>,
+) -> Result<(), ErrorKind>
     ensures put { OnOk result (Puts (one (load_const value)) code.old code.new) }
-    ensures refused { IfErr result (TakesNoMore (code_in code.new)) }
+    ensures refused { IfErr result (λ kind. TakesNoMore (code_in code.new) (kind ∷ [])) }
 {
-    put(code, Instruction::LoadConst(value), from)
+    push(code, Instruction::LoadConst(value), from)
 }
 
-/// Puts the load of a copy of a constant behind the others, where there is one. It comes from where [`put`] says.
+/// Puts the load of a copy of a constant behind the others, where there is one. It comes from where [`push`] says.
 ///
 /// # Errors
 ///
-/// Those of [`Instructions::add`].
+/// Those of [`push`].
 #[inline(always)]
 pub fn load_copy<'source>(
     code: &mut Instructions<'source>,
     constant: &Option<Value>,
-    from: Option<Span>,
-) -> Result<(), Error>
+    from: Option<&Span>,
+) -> Result<(), ErrorKind>
     ensures put { OnOk result (Puts (held constant.now) code.old code.new) }
-    ensures refused { IfErr result (TakesNoMore (code_in code.new)) }
+    ensures refused { IfErr result (λ kind. TakesNoMore (code_in code.new) (kind ∷ [])) }
 {
     match constant {
-        Some(value) => load_value(code, value.copy()?, from),
+        Some(value) => match value.copy() {
+            Ok(copy) => load_value(code, copy, from),
+            Err(_refused) => Err(ErrorKind::OutOfMemory),
+        },
         None => Ok(()),
     }
 }

@@ -1,67 +1,65 @@
 //! Expressions. A tree is gone along its left parts in a loop; its other parts nest at most 150 deep. The code of
 //! an expression comes from one span: it is told with the first instruction that is put, and none is told with the
 //! others, which come from where the one before them comes.
-ghost use Rattle.std.specs.Prelude.{◌≡◌, IsNone, None, Some, OnOk, IfOk, IfErr, length, option_and_then};
-ghost use Rattle.template_values_errors.specs.Memory.{NoMemory};
+ghost use Rattle.std.specs.Prelude.{◌≡◌, [], ◌∷◌, IsNone, None, Some, OnOk, IfOk, IfErr, length, option_and_then};
 ghost use Rattle.template_values_model.specs.Val.{none, silent_undefined};
 ghost use Rattle.template_tree.specs.Tree.{list_literal, tuple_literal, map_literal};
 ghost use Rattle.template_tree.specs.View.{expression_of, optional_in, expressions_in, links_in};
 ghost use Rattle.template_walk.specs.Constants.{constant_of, chain_constant};
 ghost use Rattle.template_walk.specs.Runnable.{IsRunnable, IsRunnableIfGiven, AreRunnable, IsRunnableChain, AreRunnableLinks};
 ghost use Rattle.template_walk.specs.Statements.{number_of};
-ghost use Rattle.template_code.specs.Code.{build_list, build_map, build_tuple, get_attr, get_item, load_const, lookup, operate, slice};
+ghost use Rattle.template_code.specs.Code.{build_list, build_map, build_tuple, get_item, operate, slice};
 ghost use Rattle.template_code.specs.Listing.{code_in, TakesNoMore};
 ghost use Rattle.template_compiler_codegen.specs.Expressions.{one, then_code, skipped, either_code, unary_code, expression_code, optional_code, expressions_code, entries_code, codes_of, entry_count, chain_code};
 ghost use Rattle.template_compiler_folding.specs.Folding.{unary_folded, binary_folded, comparison_folded};
 ghost use Rattle.template_compiler_emission.specs.Leaps.{leap_code, leap_of};
 ghost use Rattle.template_compiler_emission.specs.Puts.{Puts, unless, held, behind};
 ghost use Rattle.template_compiler_expression_codegen.specs.Chains.{Grows, constant_behind, leaps_in, left_behind, link_code, linked_to};
-ghost use Rattle.template_compiler_expression_codegen.specs.Ends.{CutOr};
 ghost use Rattle.template_compiler_expression_codegen.specs.Own.{own_constant, own_code};
 
-use crate::chains::{Link, end_link, is_false, put_leap, tell_leaps};
-use crate::operators::{Choice, end_choice, end_operator, end_unary};
+use crate::chains::{Link, Linked, end_link, is_false, put_leap, tell_leaps};
+use crate::leaves::{
+    compile_attribute, first_from, hold, hold_literal, let_go, load_held, put_literal, put_name,
+    unless_refused,
+};
+use crate::operators::{Choice, end_choice, end_constant_unary, end_operator};
 use std::alloc::Global;
-use std::borrow::CowStr;
 use template_code::{Instruction, Instructions};
 use template_compiler_emission::{
-    Leap, land, leap_of, load, load_copy, operator_instruction, put, reserve, unary_instruction,
+    Leap, land, leap_of, load_copy, operator_instruction, push, push_leap, unary_instruction,
 };
 use template_compiler_folding::{fold_list, fold_map, fold_tuple};
 use template_tree::{BinOpKind, CompareOp, Expr, Span, UnaryOpKind};
 use template_tree_parts::{left, spine};
 use template_values_core::Value;
-use template_values_errors::Error;
+use template_values_errors::ErrorKind;
 
 // How many left parts of an expression are gone along by calls. Most have fewer, and no list is made for them.
 const NEAR: u32 = 8;
 
-/// The value of an expression that is a constant tree, for which nothing is put; else its code is put
-/// behind the instructions. Linear in the expression, besides what its operators cost.
-///
-/// # Errors
-///
-/// Those of [`Instructions::add`].
+// The value of an expression that is a constant tree, for which nothing is put; else its code is put
+// behind the instructions.
 #[cycle(expression)]
-pub fn fold_expr<'source>(
+pub(crate) fn fold_expr<'source>(
     alloc: Global,
     code: &mut Instructions<'source>,
     expr: &Expr<'source>,
-    from: Option<Span>,
-) -> Result<Option<Value>, Error>
+    from: Option<&Span>,
+) -> Result<Option<Value>, ErrorKind>
     requires { IsRunnable (expression_of expr.now) }
     ensures constant { IfOk result (λ o. o ≡ constant_of (expression_of expr.now)) }
     ensures put { IfOk result (λ o. Puts (unless o (expression_code (expression_of expr.now))) code.old code.new) }
-    ensures refused { IfErr result (TakesNoMore (code_in code.new)) }
+    ensures refused { IfErr result (λ kind. TakesNoMore (code_in code.new) (kind ∷ [])) }
 {
     let mut value = None;
-    fold_left(alloc, code, expr, &mut value, NEAR, from.as_ref())?;
+    fold_left(alloc, code, expr, &mut value, NEAR, from)?;
     Ok(value)
 }
 
 // The same, where so many left parts are gone along by calls; what has more is gone along by a list. The constant stands
-// at a place of the caller's then, where none stood.
+// at a place of the caller's then, where none stood. Most first operands are names, for which no constant is sought.
 #[cycle(expression)]
+#[inline(always)]
 fn fold_left<'source>(
     alloc: Global,
     code: &mut Instructions<'source>,
@@ -69,20 +67,36 @@ fn fold_left<'source>(
     value: &mut Option<Value>,
     near: u32,
     from: Option<&Span>,
-) -> Result<(), Error>
+) -> Result<(), ErrorKind>
     requires runs { IsRunnable (expression_of expr.now) }
     requires none { value.old ≡ None }
     ensures constant { OnOk result (value.new ≡ constant_of (expression_of expr.now)) }
     ensures put { OnOk result (Puts (unless value.new (expression_code (expression_of expr.now))) code.old code.new) }
-    ensures refused { IfErr result (TakesNoMore (code_in code.new)) }
+    ensures refused { IfErr result (λ kind. TakesNoMore (code_in code.new) (kind ∷ [])) }
 {
     if let Expr::Var(n) = expr {
-        return put(
-            code,
-            Instruction::Lookup(CowStr::Borrowed(n.node.id)),
-            from.copied(),
-        );
+        return put_name(code, n.node.id, from);
     }
+    fold_tree(alloc, code, expr, value, near, from)
+}
+
+// The same for what may have a left part.
+#[cycle(expression)]
+#[inline(never)]
+fn fold_tree<'source>(
+    alloc: Global,
+    code: &mut Instructions<'source>,
+    expr: &Expr<'source>,
+    value: &mut Option<Value>,
+    near: u32,
+    from: Option<&Span>,
+) -> Result<(), ErrorKind>
+    requires runs { IsRunnable (expression_of expr.now) }
+    requires none { value.old ≡ None }
+    ensures constant { OnOk result (value.new ≡ constant_of (expression_of expr.now)) }
+    ensures put { OnOk result (Puts (unless value.new (expression_code (expression_of expr.now))) code.old code.new) }
+    ensures refused { IfErr result (λ kind. TakesNoMore (code_in code.new) (kind ∷ [])) }
+{
     match left(expr) {
         Some(part) => {
             if near == 0 {
@@ -105,14 +119,14 @@ fn fold_spine<'source>(
     expr: &Expr<'source>,
     value: &mut Option<Value>,
     from: Option<&Span>,
-) -> Result<(), Error>
+) -> Result<(), ErrorKind>
     requires runs { IsRunnable (expression_of expr.now) }
     requires none { value.old ≡ None }
     ensures constant { OnOk result (value.new ≡ constant_of (expression_of expr.now)) }
     ensures put { OnOk result (Puts (unless value.new (expression_code (expression_of expr.now))) code.old code.new) }
-    ensures refused { IfErr result (TakesNoMore (code_in code.new)) }
+    ensures refused { IfErr result (λ kind. TakesNoMore (code_in code.new) (kind ∷ [])) }
 {
-    let nodes = spine(alloc, expr)?;
+    let nodes = unless_refused(spine(alloc, expr))?;
     let mut i = 0;
     while i < nodes.len() {
         let told = first_from(i, &*value, from);
@@ -122,19 +136,6 @@ fn fold_spine<'source>(
     Ok(())
 }
 
-// Where the next node of a left chain comes from: the span is still to be told where nothing is put yet.
-fn first_from<'a>(
-    passed: usize,
-    constant: &Option<Value>,
-    from: Option<&'a Span>,
-) -> Option<&'a Span> {
-    if passed == 0 || constant.is_some() {
-        from
-    } else {
-        None
-    }
-}
-
 // Puts the code of an expression behind the instructions. Most are names, for which no constant is sought.
 #[cycle(expression)]
 pub(crate) fn compile_expr<'source>(
@@ -142,10 +143,10 @@ pub(crate) fn compile_expr<'source>(
     code: &mut Instructions<'source>,
     expr: &Expr<'source>,
     from: Option<&Span>,
-) -> Result<(), Error>
+) -> Result<(), ErrorKind>
     requires { IsRunnable (expression_of expr.now) }
     ensures put { OnOk result (Puts (expression_code (expression_of expr.now)) code.old code.new) }
-    ensures refused { IfErr result (TakesNoMore (code_in code.new)) }
+    ensures refused { IfErr result (λ kind. TakesNoMore (code_in code.new) (kind ∷ [])) }
 {
     match expr {
         Expr::Var(n) => put_name(code, n.node.id, from),
@@ -162,86 +163,14 @@ fn compile_tree<'source>(
     code: &mut Instructions<'source>,
     expr: &Expr<'source>,
     from: Option<&Span>,
-) -> Result<(), Error>
+) -> Result<(), ErrorKind>
     requires { IsRunnable (expression_of expr.now) }
     ensures put { OnOk result (Puts (expression_code (expression_of expr.now)) code.old code.new) }
-    ensures refused { IfErr result (TakesNoMore (code_in code.new)) }
+    ensures refused { IfErr result (λ kind. TakesNoMore (code_in code.new) (kind ∷ [])) }
 {
     let mut value = None;
-    fold_left(alloc, code, expr, &mut value, NEAR, from)?;
+    fold_tree(alloc, code, expr, &mut value, NEAR, from)?;
     load_held(code, &mut value, from)
-}
-
-// A name, which is no constant.
-#[inline(never)]
-fn put_name<'source>(
-    code: &mut Instructions<'source>,
-    name: &'source str,
-    from: Option<&Span>,
-) -> Result<(), Error>
-    ensures put { OnOk result (Puts (one (lookup name.now)) code.old code.new) }
-    ensures refused { IfErr result (TakesNoMore (code_in code.new)) }
-{
-    put(
-        code,
-        Instruction::Lookup(CowStr::Borrowed(name)),
-        from.copied(),
-    )
-}
-
-// The load of a literal.
-#[inline(never)]
-fn put_literal<'source>(
-    code: &mut Instructions<'source>,
-    value: &Value,
-    from: Option<&Span>,
-) -> Result<(), Error>
-    ensures put { OnOk result (Puts (one (load_const value.now)) code.old code.new) }
-    ensures refused { IfErr result (TakesNoMore (code_in code.new)) }
-{
-    put(code, Instruction::LoadConst(value.copy()?), from.copied())
-}
-
-// Holds a literal back.
-#[inline(never)]
-fn hold(value: &mut Option<Value>, literal: &Value) -> Result<(), Error>
-    ensures held { OnOk result (value.new ≡ Some literal.now) }
-    ensures refused { IfErr result NoMemory }
-{
-    *value = Some(literal.copy()?);
-    Ok(())
-}
-
-// Puts the load of a constant, where it was held back; nothing is held back then.
-#[inline(always)]
-fn load_held<'source>(
-    code: &mut Instructions<'source>,
-    value: &mut Option<Value>,
-    from: Option<&Span>,
-) -> Result<(), Error>
-    ensures taken { OnOk result (value.new ≡ None) }
-    ensures put { OnOk result (Puts (held value.old) code.old code.new) }
-    ensures refused { IfErr result (TakesNoMore (code_in code.new)) }
-{
-    if value.is_none() {
-        return Ok(());
-    }
-    load_taken(code, value, from)
-}
-
-// The same where one may have been held back.
-#[cold]
-#[inline(never)]
-fn load_taken<'source>(
-    code: &mut Instructions<'source>,
-    value: &mut Option<Value>,
-    from: Option<&Span>,
-) -> Result<(), Error>
-    ensures taken { OnOk result (value.new ≡ None) }
-    ensures put { OnOk result (Puts (held value.old) code.old code.new) }
-    ensures refused { IfErr result (TakesNoMore (code_in code.new)) }
-{
-    load(code, value.take(), from.copied())
 }
 
 // A node behind its left part, whose value is given where it was held back; the value of the node takes its place.
@@ -253,18 +182,18 @@ fn fold_node<'source>(
     expr: &Expr<'source>,
     value: &mut Option<Value>,
     from: Option<&Span>,
-) -> Result<(), Error>
+) -> Result<(), ErrorKind>
     requires { IsRunnable (expression_of expr.now) }
     ensures constant { OnOk result (value.new ≡ own_constant value.old (expression_of expr.now)) }
     ensures put { OnOk result (Puts (unless value.new (own_code value.old (expression_of expr.now))) code.old code.new) }
-    ensures refused { IfErr result (TakesNoMore (code_in code.new)) }
+    ensures refused { IfErr result (λ kind. TakesNoMore (code_in code.new) (kind ∷ [])) }
 {
     match expr {
         Expr::Var(n) => {
-            *value = None;
+            let_go(value);
             put_name(code, n.node.id, from)
         }
-        Expr::Const(n) => hold(value, &n.node.value),
+        Expr::Const(n) => hold_literal(value, &n.node.value),
         Expr::UnaryOp(n) => fold_unary_operator(alloc, code, n.node.op, &n.node.expr, value, from),
         Expr::BinOp(n) => match leap_of(n.node.op) {
             Some(leap) => fold_choice(alloc, code, n.node.op, leap, value, &n.node.right, from),
@@ -272,7 +201,7 @@ fn fold_node<'source>(
         },
         Expr::IfExpr(n) => {
             let node = &n.node;
-            *value = None;
+            let_go(value);
             compile_choice(
                 alloc,
                 code,
@@ -315,38 +244,20 @@ fn fold_unary_operator<'source>(
     operand: &Expr<'source>,
     value: &mut Option<Value>,
     from: Option<&Span>,
-) -> Result<(), Error>
+) -> Result<(), ErrorKind>
     requires { IsRunnable (expression_of operand.now) }
     ensures constant { OnOk result (value.new ≡ unary_folded op (constant_of (expression_of operand.now))) }
     ensures put { OnOk result
         (Puts (unless value.new (then_code (expression_code (expression_of operand.now)) (one (unary_code op)))) code.old code.new) }
-    ensures refused { IfErr result (TakesNoMore (code_in code.new)) }
+    ensures refused { IfErr result (λ kind. TakesNoMore (code_in code.new) (kind ∷ [])) }
 {
     let begins = code.len();
-    *value = None;
+    let_go(value);
     fold_left(alloc, code, operand, value, NEAR, from)?;
     if value.is_none() {
-        return put(code, unary_instruction(op), None);
+        return push(code, unary_instruction(op), None);
     }
     end_constant_unary(code, begins, op, value, from)
-}
-
-// The same behind a constant operand.
-#[inline(never)]
-fn end_constant_unary<'source>(
-    code: &mut Instructions<'source>,
-    begins: usize,
-    op: UnaryOpKind,
-    value: &mut Option<Value>,
-    from: Option<&Span>,
-) -> Result<(), Error>
-    ensures constant { OnOk result (value.new ≡ unary_folded op value.old) }
-    ensures put { OnOk result
-        (CutOr begins value.new code.old code.new (Puts (behind value.old (one (unary_code op))) code.old code.new)) }
-    ensures refused { IfErr result (TakesNoMore (code_in code.new)) }
-{
-    *value = end_unary(code, begins, op, value.take(), from.copied())?;
-    Ok(())
 }
 
 // `and` or `or` behind its left side, which is loaded before the right one, and dropped again where both
@@ -361,18 +272,18 @@ fn fold_choice<'source>(
     value: &mut Option<Value>,
     right: &Expr<'source>,
     from: Option<&Span>,
-) -> Result<(), Error>
+) -> Result<(), ErrorKind>
     requires { IsRunnable (expression_of right.now) }
     ensures constant { OnOk result (value.new ≡ binary_folded op value.old (constant_of (expression_of right.now))) }
     ensures put { OnOk result
         (Puts (unless value.new (behind value.old (skipped (leap_code leap) (expression_code (expression_of right.now)))))
         code.old code.new) }
-    ensures refused { IfErr result (TakesNoMore (code_in code.new)) }
+    ensures refused { IfErr result (λ kind. TakesNoMore (code_in code.new) (kind ∷ [])) }
 {
     if value.is_some() {
         return fold_constant_choice(alloc, code, op, leap, value, right, from);
     }
-    let jump = reserve(code, leap, None)?;
+    let jump = push_leap(code, leap, None)?;
     compile_expr(alloc, code, right, None)?;
     land(code, jump, leap);
     Ok(())
@@ -389,20 +300,21 @@ fn fold_constant_choice<'source>(
     value: &mut Option<Value>,
     right: &Expr<'source>,
     from: Option<&Span>,
-) -> Result<(), Error>
+) -> Result<(), ErrorKind>
     requires { IsRunnable (expression_of right.now) }
     ensures constant { OnOk result (value.new ≡ binary_folded op value.old (constant_of (expression_of right.now))) }
     ensures put { OnOk result
         (Puts (unless value.new (behind value.old (skipped (leap_code leap) (expression_code (expression_of right.now)))))
         code.old code.new) }
-    ensures refused { IfErr result (TakesNoMore (code_in code.new)) }
+    ensures refused { IfErr result (λ kind. TakesNoMore (code_in code.new) (kind ∷ [])) }
 {
     let begins = code.len();
-    load_copy(code, value, from.copied())?;
-    let jump = reserve(code, leap, None)?;
+    load_copy(code, value, from)?;
+    let jump = push_leap(code, leap, None)?;
     let constant = fold_expr(alloc, code, right, None)?;
     let choice = Choice { begins, jump, leap };
-    *value = end_choice(alloc, code, choice, op, value, constant)?;
+    let folded = end_choice(alloc, code, choice, op, value, constant)?;
+    hold(value, folded);
     Ok(())
 }
 
@@ -417,20 +329,20 @@ fn fold_operator<'source>(
     value: &mut Option<Value>,
     right: &Expr<'source>,
     from: Option<&Span>,
-) -> Result<(), Error>
+) -> Result<(), ErrorKind>
     requires right { IsRunnable (expression_of right.now) }
     requires op { IsNone (leap_of op) }
     ensures constant { OnOk result (value.new ≡ binary_folded op value.old (constant_of (expression_of right.now))) }
     ensures put { OnOk result
         (Puts (unless value.new (behind value.old (then_code (expression_code (expression_of right.now)) (one (operate op)))))
         code.old code.new) }
-    ensures refused { IfErr result (TakesNoMore (code_in code.new)) }
+    ensures refused { IfErr result (λ kind. TakesNoMore (code_in code.new) (kind ∷ [])) }
 {
     if value.is_some() {
         return fold_constant_operator(alloc, code, op, value, right, from);
     }
     compile_expr(alloc, code, right, None)?;
-    put(code, operator_instruction(op), None)
+    push(code, operator_instruction(op), None)
 }
 
 // The same behind a constant.
@@ -443,19 +355,20 @@ fn fold_constant_operator<'source>(
     value: &mut Option<Value>,
     right: &Expr<'source>,
     from: Option<&Span>,
-) -> Result<(), Error>
+) -> Result<(), ErrorKind>
     requires right { IsRunnable (expression_of right.now) }
     requires op { IsNone (leap_of op) }
     ensures constant { OnOk result (value.new ≡ binary_folded op value.old (constant_of (expression_of right.now))) }
     ensures put { OnOk result
         (Puts (unless value.new (behind value.old (then_code (expression_code (expression_of right.now)) (one (operate op)))))
         code.old code.new) }
-    ensures refused { IfErr result (TakesNoMore (code_in code.new)) }
+    ensures refused { IfErr result (λ kind. TakesNoMore (code_in code.new) (kind ∷ [])) }
 {
     let begins = code.len();
-    load_copy(code, value, from.copied())?;
+    load_copy(code, value, from)?;
     let constant = fold_expr(alloc, code, right, None)?;
-    *value = end_operator(alloc, code, begins, op, value, constant)?;
+    let folded = end_operator(alloc, code, begins, op, value, constant)?;
+    hold(value, folded);
     Ok(())
 }
 
@@ -466,14 +379,14 @@ fn compile_optional<'source>(
     code: &mut Instructions<'source>,
     expr: &Option<Expr<'source>>,
     missing: Value,
-) -> Result<(), Error>
+) -> Result<(), ErrorKind>
     requires { IsRunnableIfGiven (optional_in expr.now) }
     ensures put { OnOk result (Puts (optional_code missing (optional_in expr.now)) code.old code.new) }
-    ensures refused { IfErr result (TakesNoMore (code_in code.new)) }
+    ensures refused { IfErr result (λ kind. TakesNoMore (code_in code.new) (kind ∷ [])) }
 {
     match expr {
         Some(expr) => compile_expr(alloc, code, expr, None),
-        None => put(code, Instruction::LoadConst(missing), None),
+        None => push(code, Instruction::LoadConst(missing), None),
     }
 }
 
@@ -487,7 +400,7 @@ fn compile_choice<'source>(
     branch: &Expr<'source>,
     otherwise: &Option<Expr<'source>>,
     from: Option<&Span>,
-) -> Result<(), Error>
+) -> Result<(), ErrorKind>
     requires test { IsRunnable (expression_of test.now) }
     requires branch { IsRunnable (expression_of branch.now) }
     requires otherwise { IsRunnableIfGiven (optional_in otherwise.now) }
@@ -495,32 +408,16 @@ fn compile_choice<'source>(
         (Puts (then_code (expression_code (expression_of test.now))
         (either_code (expression_code (expression_of branch.now)) (optional_code silent_undefined (optional_in otherwise.now))))
         code.old code.new) }
-    ensures refused { IfErr result (TakesNoMore (code_in code.new)) }
+    ensures refused { IfErr result (λ kind. TakesNoMore (code_in code.new) (kind ∷ [])) }
 {
     compile_expr(alloc, code, test, from)?;
-    let second = reserve(code, Leap::IfFalse, None)?;
+    let second = push_leap(code, Leap::IfFalse, None)?;
     compile_expr(alloc, code, branch, None)?;
-    let end = reserve(code, Leap::Always, None)?;
+    let end = push_leap(code, Leap::Always, None)?;
     land(code, second, Leap::IfFalse);
     compile_optional(alloc, code, otherwise, Value::silent_undefined())?;
     land(code, end, Leap::Always);
     Ok(())
-}
-
-// An attribute of the left part.
-#[inline(never)]
-fn compile_attribute<'source>(
-    code: &mut Instructions<'source>,
-    left: &mut Option<Value>,
-    name: &'source str,
-    from: Option<&Span>,
-) -> Result<(), Error>
-    ensures taken { OnOk result (left.new ≡ None) }
-    ensures put { OnOk result (Puts (behind left.old (one (get_attr name.now))) code.old code.new) }
-    ensures refused { IfErr result (TakesNoMore (code_in code.new)) }
-{
-    load_held(code, left, from)?;
-    put(code, Instruction::GetAttr(CowStr::Borrowed(name)), None)
 }
 
 // An item of the left part.
@@ -532,16 +429,16 @@ fn compile_item<'source>(
     left: &mut Option<Value>,
     key: &Expr<'source>,
     from: Option<&Span>,
-) -> Result<(), Error>
+) -> Result<(), ErrorKind>
     requires { IsRunnable (expression_of key.now) }
     ensures taken { OnOk result (left.new ≡ None) }
     ensures put { OnOk result
         (Puts (behind left.old (then_code (expression_code (expression_of key.now)) (one get_item))) code.old code.new) }
-    ensures refused { IfErr result (TakesNoMore (code_in code.new)) }
+    ensures refused { IfErr result (λ kind. TakesNoMore (code_in code.new) (kind ∷ [])) }
 {
     load_held(code, left, from)?;
     compile_expr(alloc, code, key, None)?;
-    put(code, Instruction::GetItem, None)
+    push(code, Instruction::GetItem, None)
 }
 
 // A slice of the left part; a bound that is left out is none.
@@ -555,7 +452,7 @@ fn compile_slice<'source>(
     stop: &Option<Expr<'source>>,
     step: &Option<Expr<'source>>,
     from: Option<&Span>,
-) -> Result<(), Error>
+) -> Result<(), ErrorKind>
     requires start { IsRunnableIfGiven (optional_in start.now) }
     requires stop { IsRunnableIfGiven (optional_in stop.now) }
     requires step { IsRunnableIfGiven (optional_in step.now) }
@@ -564,13 +461,13 @@ fn compile_slice<'source>(
         (Puts (behind left.old (then_code (optional_code none (optional_in start.now))
         (then_code (optional_code none (optional_in stop.now)) (then_code (optional_code none (optional_in step.now)) (one slice)))))
         code.old code.new) }
-    ensures refused { IfErr result (TakesNoMore (code_in code.new)) }
+    ensures refused { IfErr result (λ kind. TakesNoMore (code_in code.new) (kind ∷ [])) }
 {
     load_held(code, left, from)?;
     compile_optional(alloc, code, start, Value::none())?;
     compile_optional(alloc, code, stop, Value::none())?;
     compile_optional(alloc, code, step, Value::none())?;
-    put(code, Instruction::Slice, None)
+    push(code, Instruction::Slice, None)
 }
 
 // The expressions, from the first to the last.
@@ -580,10 +477,10 @@ fn compile_items<'source>(
     code: &mut Instructions<'source>,
     items: &[Expr<'source>],
     from: Option<&Span>,
-) -> Result<(), Error>
+) -> Result<(), ErrorKind>
     requires { AreRunnable (expressions_in items.now) }
     ensures put { OnOk result (Puts (expressions_code (expressions_in items.now)) code.old code.new) }
-    ensures refused { IfErr result (TakesNoMore (code_in code.new)) }
+    ensures refused { IfErr result (λ kind. TakesNoMore (code_in code.new) (kind ∷ [])) }
 {
     let mut told = from;
     for item in items {
@@ -601,13 +498,13 @@ fn compile_entries<'source>(
     keys: &[Expr<'source>],
     values: &[Expr<'source>],
     from: Option<&Span>,
-) -> Result<usize, Error>
+) -> Result<usize, ErrorKind>
     requires keys { AreRunnable (expressions_in keys.now) }
     requires values { AreRunnable (expressions_in values.now) }
     ensures count { IfOk result (λ count. count ≡ entry_count (expressions_in keys.now) (codes_of (expressions_in values.now))) }
     ensures put { OnOk result
         (Puts (entries_code (expressions_in keys.now) (codes_of (expressions_in values.now))) code.old code.new) }
-    ensures refused { IfErr result (TakesNoMore (code_in code.new)) }
+    ensures refused { IfErr result (λ kind. TakesNoMore (code_in code.new) (kind ∷ [])) }
 {
     let mut told = from;
     for (i, key) in keys.iter().enumerate() {
@@ -630,23 +527,23 @@ fn fold_list_literal<'source>(
     items: &[Expr<'source>],
     value: &mut Option<Value>,
     from: Option<&Span>,
-) -> Result<(), Error>
+) -> Result<(), ErrorKind>
     requires { AreRunnable (expressions_in items.now) }
     ensures constant { OnOk result (value.new ≡ constant_of (list_literal (expressions_in items.now))) }
     ensures put { OnOk result (Puts (unless value.new
         (then_code (expressions_code (expressions_in items.now)) (one (build_list (number_of (expressions_in items.now))))))
         code.old code.new) }
-    ensures refused { IfErr result (TakesNoMore (code_in code.new)) }
+    ensures refused { IfErr result (λ kind. TakesNoMore (code_in code.new) (kind ∷ [])) }
 {
-    match fold_list(alloc, items)? {
+    match unless_refused(fold_list(alloc, items))? {
         Some(found) => {
-            *value = Some(found);
+            hold(value, Some(found));
             Ok(())
         }
         None => {
-            *value = None;
+            let_go(value);
             compile_items(alloc, code, items, from)?;
-            put(code, Instruction::BuildList(Some(items.len())), None)
+            push(code, Instruction::BuildList(Some(items.len())), None)
         }
     }
 }
@@ -660,23 +557,23 @@ fn fold_tuple_literal<'source>(
     items: &[Expr<'source>],
     value: &mut Option<Value>,
     from: Option<&Span>,
-) -> Result<(), Error>
+) -> Result<(), ErrorKind>
     requires { AreRunnable (expressions_in items.now) }
     ensures constant { OnOk result (value.new ≡ constant_of (tuple_literal (expressions_in items.now))) }
     ensures put { OnOk result (Puts (unless value.new
         (then_code (expressions_code (expressions_in items.now)) (one (build_tuple (number_of (expressions_in items.now))))))
         code.old code.new) }
-    ensures refused { IfErr result (TakesNoMore (code_in code.new)) }
+    ensures refused { IfErr result (λ kind. TakesNoMore (code_in code.new) (kind ∷ [])) }
 {
-    match fold_tuple(alloc, items)? {
+    match unless_refused(fold_tuple(alloc, items))? {
         Some(found) => {
-            *value = Some(found);
+            hold(value, Some(found));
             Ok(())
         }
         None => {
-            *value = None;
+            let_go(value);
             compile_items(alloc, code, items, from)?;
-            put(code, Instruction::BuildTuple(Some(items.len())), None)
+            push(code, Instruction::BuildTuple(Some(items.len())), None)
         }
     }
 }
@@ -691,7 +588,7 @@ fn fold_map_literal<'source>(
     values: &[Expr<'source>],
     value: &mut Option<Value>,
     from: Option<&Span>,
-) -> Result<(), Error>
+) -> Result<(), ErrorKind>
     requires keys { AreRunnable (expressions_in keys.now) }
     requires values { AreRunnable (expressions_in values.now) }
     ensures constant { OnOk result (value.new ≡ constant_of (map_literal (expressions_in keys.now) (expressions_in values.now))) }
@@ -699,26 +596,19 @@ fn fold_map_literal<'source>(
         (then_code (entries_code (expressions_in keys.now) (codes_of (expressions_in values.now)))
         (one (build_map (entry_count (expressions_in keys.now) (codes_of (expressions_in values.now)))))))
         code.old code.new) }
-    ensures refused { IfErr result (TakesNoMore (code_in code.new)) }
+    ensures refused { IfErr result (λ kind. TakesNoMore (code_in code.new) (kind ∷ [])) }
 {
-    match fold_map(alloc, keys, values)? {
+    match unless_refused(fold_map(alloc, keys, values))? {
         Some(found) => {
-            *value = Some(found);
+            hold(value, Some(found));
             Ok(())
         }
         None => {
-            *value = None;
+            let_go(value);
             let count = compile_entries(alloc, code, keys, values, from)?;
-            put(code, Instruction::BuildMap(count), None)
+            push(code, Instruction::BuildMap(count), None)
         }
     }
-}
-
-// What is constant of a chain, and the places of its leaps.
-#[derive(Drop)]
-struct Linked {
-    holds: Option<Value>,
-    leaps: Vec<u32>,
 }
 
 // A comparison behind the value at its left; it is put, be it constant or not.
@@ -728,12 +618,12 @@ fn compile_link<'source>(
     code: &mut Instructions<'source>,
     left: &Option<Value>,
     link: &CompareOp<'source>,
-) -> Result<Link, Error>
+) -> Result<Link, ErrorKind>
     requires { IsRunnable (expression_of link.now.expr) }
     ensures holds { IfOk result (λ l. l.holds ≡ comparison_folded link.now.op left.now (constant_of (expression_of link.now.expr))) }
     ensures left { IfOk result (λ l. l.left ≡ left_behind l.holds (constant_of (expression_of link.now.expr))) }
     ensures put { OnOk result (Puts (link_code link.now.op (expression_of link.now.expr)) code.old code.new) }
-    ensures refused { IfErr result (TakesNoMore (code_in code.new)) }
+    ensures refused { IfErr result (λ kind. TakesNoMore (code_in code.new) (kind ∷ [])) }
 {
     let right = fold_expr(alloc, code, &link.expr, None)?;
     end_link(code, left, link.op, right)
@@ -747,14 +637,14 @@ fn compile_links<'source>(
     code: &mut Instructions<'source>,
     first: Link,
     links: &[CompareOp<'source>],
-) -> Result<Linked, Error>
+) -> Result<Linked, ErrorKind>
     requires links { AreRunnableLinks (links_in links.now) }
     requires first { first.holds ≡ None → first.left ≡ None }
     ensures constant { IfOk result (λ l. l.holds ≡ constant_behind first.holds first.left (links_in links.now)) }
     ensures leaps { IfOk result (λ l. l.holds ≡ None → l.leaps.items ≡ leaps_in (links_in links.now) (length (code_in code.old))) }
     ensures put { IfOk result (λ l. l.holds ≡ None → Puts (linked_to 0 (links_in links.now)) code.old code.new) }
     ensures grown { OnOk result (Grows code.old code.new) }
-    ensures refused { IfErr result (TakesNoMore (code_in code.new)) }
+    ensures refused { IfErr result (λ kind. TakesNoMore (code_in code.new) (kind ∷ [])) }
 {
     let mut link = first;
     let mut leaps = Vec::new(alloc);
@@ -777,12 +667,12 @@ fn compile_chain<'source>(
     code: &mut Instructions<'source>,
     left: &Option<Value>,
     links: &[CompareOp<'source>],
-) -> Result<Option<Value>, Error>
+) -> Result<Option<Value>, ErrorKind>
     requires { IsRunnableChain (links_in links.now) }
     ensures constant { IfOk result (λ o. o ≡ option_and_then (λ v. chain_constant v (links_in links.now)) left.now) }
     ensures put { IfOk result (λ o. o ≡ None → Puts (chain_code (links_in links.now)) code.old code.new) }
     ensures grown { OnOk result (Grows code.old code.new) }
-    ensures refused { IfErr result (TakesNoMore (code_in code.new)) }
+    ensures refused { IfErr result (λ kind. TakesNoMore (code_in code.new) (kind ∷ [])) }
 {
     let (first, later) = match links.split_first() {
         Some(parts) => parts,
@@ -794,8 +684,8 @@ fn compile_chain<'source>(
         Some(holds) => Ok(Some(holds)),
         None => {
             tell_leaps(code, leaps);
-            put(code, Instruction::Swap, None)?;
-            put(code, Instruction::DiscardTop, None)?;
+            push(code, Instruction::Swap, None)?;
+            push(code, Instruction::DiscardTop, None)?;
             Ok(None)
         }
     }
@@ -810,22 +700,22 @@ fn fold_chain<'source>(
     value: &mut Option<Value>,
     links: &[CompareOp<'source>],
     from: Option<&Span>,
-) -> Result<(), Error>
+) -> Result<(), ErrorKind>
     requires { IsRunnableChain (links_in links.now) }
     ensures constant { OnOk result (value.new ≡ option_and_then (λ v. chain_constant v (links_in links.now)) value.old) }
     ensures put { OnOk result (Puts (unless value.new (behind value.old (chain_code (links_in links.now)))) code.old code.new) }
-    ensures refused { IfErr result (TakesNoMore (code_in code.new)) }
+    ensures refused { IfErr result (λ kind. TakesNoMore (code_in code.new) (kind ∷ [])) }
 {
     let begins = code.len();
-    load_copy(code, value, from.copied())?;
+    load_copy(code, value, from)?;
     match compile_chain(alloc, code, value, links)? {
         Some(holds) => {
             code.truncate(begins);
-            *value = Some(holds);
+            hold(value, Some(holds));
             Ok(())
         }
         None => {
-            *value = None;
+            let_go(value);
             Ok(())
         }
     }

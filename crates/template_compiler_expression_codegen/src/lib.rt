@@ -3,8 +3,8 @@
 
 mod chains;
 mod expressions;
+mod leaves;
 mod operators;
 mod whole;
 
-pub use expressions::fold_expr;
-pub use whole::compile_expr;
+pub use whole::{compile_expr, fold_expr};

@@ -1,5 +1,5 @@
 //! Operators behind their operands. Where an operator gives a constant, what was put for its operands is dropped again.
-ghost use Rattle.std.specs.Prelude.{◌≡◌, IsNone, IfOk, IfErr};
+ghost use Rattle.std.specs.Prelude.{◌≡◌, [], ◌∷◌, IsNone, OnOk, IfOk, IfErr};
 ghost use Rattle.template_code.specs.Code.{operate};
 ghost use Rattle.template_code.specs.Listing.{code_in, TakesNoMore};
 ghost use Rattle.template_compiler_codegen.specs.Expressions.{one, unary_code};
@@ -8,13 +8,14 @@ ghost use Rattle.template_compiler_emission.specs.Leaps.{leap_of};
 ghost use Rattle.template_compiler_emission.specs.Puts.{Puts, behind, held};
 ghost use Rattle.template_compiler_expression_codegen.specs.Ends.{CutOr, Lands};
 
+use crate::leaves::{hold, unless_refused};
 use std::alloc::Global;
 use template_code::Instructions;
-use template_compiler_emission::{Leap, land, load, operator_instruction, put, unary_instruction};
+use template_compiler_emission::{Leap, land, load, operator_instruction, push, unary_instruction};
 use template_compiler_folding::{fold_binary, fold_unary};
 use template_tree::{BinOpKind, Span, UnaryOpKind};
 use template_values_core::Value;
-use template_values_errors::Error;
+use template_values_errors::ErrorKind;
 
 // An operator behind its operand, which is loaded where it was held back.
 #[inline(always)]
@@ -23,23 +24,42 @@ pub(crate) fn end_unary<'source>(
     begins: usize,
     op: UnaryOpKind,
     operand: Option<Value>,
-    from: Option<Span>,
-) -> Result<Option<Value>, Error>
+    from: Option<&Span>,
+) -> Result<Option<Value>, ErrorKind>
     ensures constant { IfOk result (λ o. o ≡ unary_folded op operand) }
     ensures put { IfOk result (λ o. CutOr begins o code.old code.new (Puts (behind operand (one (unary_code op))) code.old code.new)) }
-    ensures refused { IfErr result (TakesNoMore (code_in code.new)) }
+    ensures refused { IfErr result (λ kind. TakesNoMore (code_in code.new) (kind ∷ [])) }
 {
-    match fold_unary(op, &operand)? {
+    match unless_refused(fold_unary(op, &operand))? {
         Some(value) => {
             code.truncate(begins);
             Ok(Some(value))
         }
         None => {
             load(code, operand, from)?;
-            put(code, unary_instruction(op), None)?;
+            push(code, unary_instruction(op), None)?;
             Ok(None)
         }
     }
+}
+
+// The same where the operand is constant.
+#[inline(never)]
+pub(crate) fn end_constant_unary<'source>(
+    code: &mut Instructions<'source>,
+    begins: usize,
+    op: UnaryOpKind,
+    value: &mut Option<Value>,
+    from: Option<&Span>,
+) -> Result<(), ErrorKind>
+    ensures constant { OnOk result (value.new ≡ unary_folded op value.old) }
+    ensures put { OnOk result
+        (CutOr begins value.new code.old code.new (Puts (behind value.old (one (unary_code op))) code.old code.new)) }
+    ensures refused { IfErr result (λ kind. TakesNoMore (code_in code.new) (kind ∷ [])) }
+{
+    let folded = end_unary(code, begins, op, value.take(), from)?;
+    hold(value, folded);
+    Ok(())
 }
 
 // Where the sides of a choice begin, and the jump between them whose target is told at their end.
@@ -59,13 +79,13 @@ pub(crate) fn end_choice<'source>(
     op: BinOpKind,
     left: &Option<Value>,
     right: Option<Value>,
-) -> Result<Option<Value>, Error>
+) -> Result<Option<Value>, ErrorKind>
     ensures constant { IfOk result (λ o. o ≡ binary_folded op left.now right) }
     ensures put { IfOk result
         (λ o. CutOr choice.begins o code.old code.new (Lands choice.jump choice.leap (held right) code.old code.new)) }
-    ensures refused { IfErr result (TakesNoMore (code_in code.new)) }
+    ensures refused { IfErr result (λ kind. TakesNoMore (code_in code.new) (kind ∷ [])) }
 {
-    match fold_binary(alloc, op, left, &right)? {
+    match unless_refused(fold_binary(alloc, op, left, &right))? {
         Some(value) => {
             code.truncate(choice.begins);
             Ok(Some(value))
@@ -87,20 +107,20 @@ pub(crate) fn end_operator<'source>(
     op: BinOpKind,
     left: &Option<Value>,
     right: Option<Value>,
-) -> Result<Option<Value>, Error>
+) -> Result<Option<Value>, ErrorKind>
     requires { IsNone (leap_of op) }
     ensures constant { IfOk result (λ o. o ≡ binary_folded op left.now right) }
     ensures put { IfOk result (λ o. CutOr begins o code.old code.new (Puts (behind right (one (operate op))) code.old code.new)) }
-    ensures refused { IfErr result (TakesNoMore (code_in code.new)) }
+    ensures refused { IfErr result (λ kind. TakesNoMore (code_in code.new) (kind ∷ [])) }
 {
-    match fold_binary(alloc, op, left, &right)? {
+    match unless_refused(fold_binary(alloc, op, left, &right))? {
         Some(value) => {
             code.truncate(begins);
             Ok(Some(value))
         }
         None => {
             load(code, right, None)?;
-            put(code, operator_instruction(op), None)?;
+            push(code, operator_instruction(op), None)?;
             Ok(None)
         }
     }

@@ -1,5 +1,5 @@
 use Rattle.std.proofs.Common.{◌≡◌, ℕ, ◌+◌, ◌<◌, ◌++◌, List, length, take, drop, false, Option, None, ap, sym, subst, ◌∙◌, arith, refl}
-use Rattle.std.proofs.lemmas.Result.{on_ok_weaker}
+use Rattle.std.proofs.lemmas.Result.{IfOk-at_ok, on_ok_weaker}
 use Rattle.std.specs.Prelude.{IfOk, OnOk, option_and_then}
 use Rattle.template_values_model.specs.Val.{Val}
 use Rattle.template_tree.specs.Tree.{Expression, Links, chain, links_more, list_literal, map_literal, tuple_literal}
@@ -38,23 +38,23 @@ fold_spine-loop-i-preserved t c =
     let within : c.loop-i.i < length ns = omega arith in
     let more = one_node ns c.loop-i.i c.index.result.now (code_in c.args.code.now) (code_in c.loop-i.code) (code_in c.fold_node.new.code)
     c.loop-i.value c.fold_node.new.value within c.index.ensures
-    (runnable_at (expression_of c.args.expr.now) ns c.requires.runs c.in_ok-nodes.ensures.nodes c.loop-i.i c.index.result.now within c.index.ensures)
+    (runnable_at (expression_of c.args.expr.now) ns c.requires.runs (IfOk-at_ok _ c.in_ok-nodes.ensures.given c.spine.ensures.nodes) c.loop-i.i c.index.result.now within c.index.ensures)
     c.loop-i.invariant.constant c.loop-i.invariant.code c.in_ok-fold_node.ensures.constant c.in_ok-fold_node.ensures.put.code in
     record { constant = more.0; code = more.1; same = same_then c.loop-i.invariant.same c.in_ok-fold_node.ensures.put.same }
 
 pub fold_left-returns-in-Var-clause-put : goal.fold_left-returns-in-Var-clause-put
-fold_left-returns-in-Var-clause-put t c = rw (c.in-Var.is, c.requires.none) c.put.ensures.put
+fold_left-returns-in-Var-clause-put t c = rw (c.in-Var.is, c.requires.none) c.put_name.ensures.put
 
-pub fold_left-returns-in-None-clause-put : goal.fold_left-returns-in-None-clause-put
-fold_left-returns-in-None-clause-put t c =
+pub fold_tree-returns-in-None-clause-put : goal.fold_tree-returns-in-None-clause-put
+fold_tree-returns-in-None-clause-put t c =
     let e = expression_of c.args.expr.now in
     let none = nothing_there c.left.result e c.in-None.is c.left.ensures.left in
     on_ok_weaker c.fold_node-in-None.result (λ both. both.1)
     (alone_put e c.args.value.now c.fold_node-in-None.new.value c.args.code.now c.fold_node-in-None.new.code c.fold_node-in-None.result
     c.requires.runs none c.requires.none c.fold_node-in-None.ensures.constant c.fold_node-in-None.ensures.put)
 
-pub fold_left-returns-in_ok-fold_left-in-Some-clause-put : goal.fold_left-returns-in_ok-fold_left-in-Some-clause-put
-fold_left-returns-in_ok-fold_left-in-Some-clause-put t c =
+pub fold_tree-returns-in_ok-fold_left-in-Some-clause-put : goal.fold_tree-returns-in_ok-fold_left-in-Some-clause-put
+fold_tree-returns-in_ok-fold_left-in-Some-clause-put t c =
     on_ok_weaker c.fold_node.result (λ both. both.1)
     (part_put (expression_of c.args.expr.now) (expression_of c.in-Some.part.now) _ c.fold_node.new.value c.args.code.now _ _ c.fold_node.result
     c.requires.runs c.in-Some.ensures.left c.in_ok-fold_left-in-Some.ensures.constant c.in_ok-fold_left-in-Some.ensures.put
@@ -65,16 +65,16 @@ fold_spine-returns-clause-constant t c =
     let ns = c.in_ok-nodes.nodes.items in
     let p = length (code_in c.args.code.now) in
     let e = expression_of c.args.expr.now in
-    let all = walked (known p) (add_own p) no_left (own_step p) ns e c.loop-i.i (so_far p (take c.loop-i.i ns)) c.in_ok-nodes.ensures.nodes (omega arith) refl in
+    let all = walked (known p) (add_own p) no_left (own_step p) ns e c.loop-i.i (so_far p (take c.loop-i.i ns)) (IfOk-at_ok _ c.in_ok-nodes.ensures.given c.spine.ensures.nodes) (omega arith) refl in
     c.loop-i.invariant.constant ∙ ap (λ a. a.0) all
 
 pub fold_spine-fold_node-requires : goal.fold_spine-fold_node-requires
 fold_spine-fold_node-requires t c =
     let ns = c.in_ok-nodes.nodes.items in
     let within : c.loop-i.i < length ns = omega arith in
-    let deep = depth_at (size-Expr c.args.expr.now) ns c.in_ok-nodes.ensures.depth c.loop-i.i c.index.result.now within c.index.ensures in (
+    let deep = depth_at (size-Expr c.args.expr.now) ns (IfOk-at_ok _ c.in_ok-nodes.ensures.given c.spine.ensures.depth) c.loop-i.i c.index.result.now within c.index.ensures in (
       omega (arith, deep, c.decreases),
-      runnable_at (expression_of c.args.expr.now) ns c.requires.runs c.in_ok-nodes.ensures.nodes c.loop-i.i c.index.result.now within c.index.ensures,
+      runnable_at (expression_of c.args.expr.now) ns c.requires.runs (IfOk-at_ok _ c.in_ok-nodes.ensures.given c.spine.ensures.nodes) c.loop-i.i c.index.result.now within c.index.ensures,
     )
 
 pub fold_spine-returns-clause-put : goal.fold_spine-returns-clause-put
@@ -82,7 +82,7 @@ fold_spine-returns-clause-put t c =
     let ns = c.in_ok-nodes.nodes.items in
     let p = length (code_in c.args.code.now) in
     let e = expression_of c.args.expr.now in
-    let all = walked (known p) (add_own p) no_left (own_step p) ns e c.loop-i.i (so_far p (take c.loop-i.i ns)) c.in_ok-nodes.ensures.nodes (omega arith) refl in
+    let all = walked (known p) (add_own p) no_left (own_step p) ns e c.loop-i.i (so_far p (take c.loop-i.i ns)) (IfOk-at_ok _ c.in_ok-nodes.ensures.given c.spine.ensures.nodes) (omega arith) refl in
     let constant = c.loop-i.invariant.constant ∙ ap (λ a. a.0) all in
     record {
       code = c.loop-i.invariant.code ∙ ap (λ a. code_in c.args.code.now ++ a.1) all ∙
@@ -90,8 +90,8 @@ fold_spine-returns-clause-put t c =
       same = c.loop-i.invariant.same;
     }
 
-pub compile_chain-returns-in_ok-put-in-None-holds-2-clause-constant : goal.compile_chain-returns-in_ok-put-in-None-holds-2-clause-constant
-compile_chain-returns-in_ok-put-in-None-holds-2-clause-constant t c =
+pub compile_chain-returns-in_ok-push-in-None-holds-2-clause-constant : goal.compile_chain-returns-in_ok-push-in-None-holds-2-clause-constant
+compile_chain-returns-in_ok-push-in-None-holds-2-clause-constant t c =
     let first = c.in-Some.parts.0.now in
     let later = c.in-Some.parts.1.now in
     let split : links_in c.args.links.now ≡ links_more first.op (expression_of first.expr) (links_in later) =
@@ -102,8 +102,8 @@ compile_chain-returns-in_ok-put-in-None-holds-2-clause-constant t c =
     c.in_ok-link.ensures.holds c.in_ok-link.ensures.left ∙
     ap (λ (l : Links). option_and_then (λ v. chain_constant v l) c.args.left.now) (sym split)
 
-pub compile_chain-returns-in_ok-put-in-None-holds-2-clause-put : goal.compile_chain-returns-in_ok-put-in-None-holds-2-clause-put
-compile_chain-returns-in_ok-put-in-None-holds-2-clause-put t c = λ _.
+pub compile_chain-returns-in_ok-push-in-None-holds-2-clause-put : goal.compile_chain-returns-in_ok-push-in-None-holds-2-clause-put
+compile_chain-returns-in_ok-push-in-None-holds-2-clause-put t c = λ _.
     let first = c.in-Some.parts.0.now in
     let later = c.in-Some.parts.1.now in
     let split : links_in c.args.links.now ≡ links_more first.op (expression_of first.expr) (links_in later) =
@@ -111,17 +111,17 @@ compile_chain-returns-in_ok-put-in-None-holds-2-clause-put t c = λ _.
     let none : c.in_ok-holds.field-0.holds ≡ None = cc in
     rw split (puts_chain first.op (expression_of first.expr) (links_in later) c.in_ok-holds.field-0.leaps.items {d = c.tell_leaps.new.code}
     c.in_ok-link.ensures.put (c.in_ok-holds.ensures.put none) (c.in_ok-holds.ensures.leaps none) c.tell_leaps.ensures.told c.tell_leaps.ensures.same
-    c.in_ok-put-in-None-holds.ensures.put c.in_ok-put-in-None-holds-2.ensures.put)
+    c.in_ok-push-in-None-holds.ensures.put c.in_ok-push-in-None-holds-2.ensures.put)
 
-pub compile_chain-returns-in_ok-put-in-None-holds-2-clause-grown : goal.compile_chain-returns-in_ok-put-in-None-holds-2-clause-grown
-compile_chain-returns-in_ok-put-in-None-holds-2-clause-grown t c =
-    let put : Puts (chain_code (links_in c.args.links.now)) c.args.code.now c.put-in-None-holds.new.code =
-    compile_chain-returns-in_ok-put-in-None-holds-2-clause-put t c refl in
+pub compile_chain-returns-in_ok-push-in-None-holds-2-clause-grown : goal.compile_chain-returns-in_ok-push-in-None-holds-2-clause-grown
+compile_chain-returns-in_ok-push-in-None-holds-2-clause-grown t c =
+    let put : Puts (chain_code (links_in c.args.links.now)) c.args.code.now c.push-in-None-holds.new.code =
+    compile_chain-returns-in_ok-push-in-None-holds-2-clause-put t c refl in
     grows_by put
 
 pub compile_choice-returns-clause-put : goal.compile_choice-returns-clause-put
 compile_choice-returns-clause-put t c =
-    let second = landed_at IfFalse c.in_ok-second.second (code_in c.compile_expr.new.code) (code_in c.reserve-2.new.code) (code_in c.land.new.code)
+    let second = landed_at IfFalse c.in_ok-second.second (code_in c.compile_expr.new.code) (code_in c.push_leap-2.new.code) (code_in c.land.new.code)
     c.in_ok-second.ensures.place c.land.ensures.landed in
     let end = landed_at Always c.in_ok-end.end (code_in c.compile_expr-2.new.code) (code_in c.compile_optional.new.code) (code_in c.land-2.new.code)
     c.in_ok-end.ensures.place c.land-2.ensures.landed in
@@ -198,12 +198,12 @@ compile_links-loop-next-preserved t c =
     }
 
 pub fold_list_literal-returns-in_ok-compile_items-in-None-clause-put : goal.fold_list_literal-returns-in_ok-compile_items-in-None-clause-put
-fold_list_literal-returns-in_ok-compile_items-in-None-clause-put t c = on_ok_weaker c.put.result (λ last.
-    puts_then c.in_ok-compile_items-in-None.ensures.put (puts_as (ap build_list (sym (number_is c.args.items.now))) last)) c.put.ensures.put
+fold_list_literal-returns-in_ok-compile_items-in-None-clause-put t c = rw c.let_go.ensures (on_ok_weaker c.push.result (λ last.
+    puts_then c.in_ok-compile_items-in-None.ensures.put (puts_as (ap build_list (sym (number_is c.args.items.now))) last)) c.push.ensures.put)
 
 pub fold_tuple_literal-returns-in_ok-compile_items-in-None-clause-put : goal.fold_tuple_literal-returns-in_ok-compile_items-in-None-clause-put
-fold_tuple_literal-returns-in_ok-compile_items-in-None-clause-put t c = on_ok_weaker c.put.result (λ last.
-    puts_then c.in_ok-compile_items-in-None.ensures.put (puts_as (ap build_tuple (sym (number_is c.args.items.now))) last)) c.put.ensures.put
+fold_tuple_literal-returns-in_ok-compile_items-in-None-clause-put t c = rw c.let_go.ensures (on_ok_weaker c.push.result (λ last.
+    puts_then c.in_ok-compile_items-in-None.ensures.put (puts_as (ap build_tuple (sym (number_is c.args.items.now))) last)) c.push.ensures.put)
 
 pub fold_node-fold_list_literal-requires : goal.fold_node-fold_list_literal-requires
 fold_node-fold_list_literal-requires t c =
@@ -297,24 +297,24 @@ compile_links-loop-next-init t c = record {
 }
 
 pub compile_slice-returns-clause-put : goal.compile_slice-returns-clause-put
-compile_slice-returns-clause-put t c = on_ok_weaker c.put.result (λ last.
+compile_slice-returns-clause-put t c = on_ok_weaker c.push.result (λ last.
     puts_behind c.args.left.now c.in_ok-load_held.ensures.put
     (puts_then (puts_optional (optional_in c.args.start.now) c.none.ensures c.in_ok-compile_optional.ensures.put)
     (puts_then (puts_optional (optional_in c.args.stop.now) c.none-2.ensures c.in_ok-compile_optional-2.ensures.put)
-    (puts_then (puts_optional (optional_in c.args.step.now) c.none-3.ensures c.in_ok-compile_optional-3.ensures.put) last)))) c.put.ensures.put
+    (puts_then (puts_optional (optional_in c.args.step.now) c.none-3.ensures c.in_ok-compile_optional-3.ensures.put) last)))) c.push.ensures.put
 
 pub fold_chain-returns-in-Some-clause-put : goal.fold_chain-returns-in-Some-clause-put
-fold_chain-returns-in-Some-clause-put t c =
+fold_chain-returns-in-Some-clause-put t c = rw c.hold.ensures (
     grows_back_at c.len-begins.result c.len-begins.ensures.len (grows_then (grows_by c.in_ok-load_copy.ensures.put) c.in_ok-holds.ensures.grown)
-    c.truncate.ensures.kept c.truncate.ensures.same c.truncate.ensures.places
+    c.truncate.ensures.kept c.truncate.ensures.same c.truncate.ensures.places)
 
 pub compile_tree-returns-clause-put : goal.compile_tree-returns-clause-put
 compile_tree-returns-clause-put t c = on_ok_weaker c.load_held.result (λ last.
-    puts_whole (expression_of c.args.expr.now) c.in_ok-fold_left.ensures.constant c.in_ok-fold_left.ensures.put last) c.load_held.ensures.put
+    puts_whole (expression_of c.args.expr.now) c.in_ok-fold_tree.ensures.constant c.in_ok-fold_tree.ensures.put last) c.load_held.ensures.put
 
 pub compile_item-returns-clause-put : goal.compile_item-returns-clause-put
-compile_item-returns-clause-put t c = on_ok_weaker c.put.result (λ last.
-    puts_behind c.args.left.now c.in_ok-load_held.ensures.put (puts_then c.in_ok-compile_expr.ensures.put last)) c.put.ensures.put
+compile_item-returns-clause-put t c = on_ok_weaker c.push.result (λ last.
+    puts_behind c.args.left.now c.in_ok-load_held.ensures.put (puts_then c.in_ok-compile_expr.ensures.put last)) c.push.ensures.put
 
 pub fold_unary_operator-returns-clause-constant : goal.fold_unary_operator-returns-clause-constant
 fold_unary_operator-returns-clause-constant t c =
@@ -329,8 +329,8 @@ fold_unary_operator-returns-clause-put t c =
 
 pub fold_constant_choice-returns-clause-constant : goal.fold_constant_choice-returns-clause-constant
 fold_constant_choice-returns-clause-constant t c =
-    subst (λ (k : Option Val). c.in_ok-value.field-0 ≡ binary_folded c.args.op c.args.value.now k) c.in_ok-constant.ensures.constant
-    c.in_ok-value.ensures.constant
+    c.hold.ensures ∙ subst (λ (k : Option Val). c.in_ok-folded.folded ≡ binary_folded c.args.op c.args.value.now k) c.in_ok-constant.ensures.constant
+    c.in_ok-folded.ensures.constant
 
 pub fold_choice-returns-clause-put : goal.fold_choice-returns-clause-put
 fold_choice-returns-clause-put t c =
@@ -340,21 +340,21 @@ fold_choice-returns-clause-put t c =
     (puts_skipped c.args.leap c.in_ok-jump.ensures.put c.in_ok-compile_expr.ensures.put landed c.land.ensures.same)
 
 pub fold_constant_choice-returns-clause-put : goal.fold_constant_choice-returns-clause-put
-fold_constant_choice-returns-clause-put t c =
+fold_constant_choice-returns-clause-put t c = rw c.hold.ensures (
     ends_choice c.args.value.now (expression_of c.args.right.now) c.args.leap c.len-begins.result c.in_ok-jump.jump _ _
     c.end_choice.new.code c.len-begins.ensures.len c.in_ok-load_copy.ensures.put c.in_ok-jump.ensures.place c.in_ok-jump.ensures.put
-    c.in_ok-constant.ensures.constant c.in_ok-constant.ensures.put c.in_ok-value.ensures.put
+    c.in_ok-constant.ensures.constant c.in_ok-constant.ensures.put c.in_ok-folded.ensures.put)
 
 pub fold_constant_operator-returns-clause-constant : goal.fold_constant_operator-returns-clause-constant
 fold_constant_operator-returns-clause-constant t c =
-    subst (λ (k : Option Val). c.in_ok-value.field-0 ≡ binary_folded c.args.op c.args.value.now k) c.in_ok-constant.ensures.constant
-    c.in_ok-value.ensures.constant
+    c.hold.ensures ∙ subst (λ (k : Option Val). c.in_ok-folded.folded ≡ binary_folded c.args.op c.args.value.now k) c.in_ok-constant.ensures.constant
+    c.in_ok-folded.ensures.constant
 
 pub fold_constant_operator-returns-clause-put : goal.fold_constant_operator-returns-clause-put
-fold_constant_operator-returns-clause-put t c =
+fold_constant_operator-returns-clause-put t c = rw c.hold.ensures (
     ends_operator c.args.value.now (expression_of c.args.right.now) (one (operate c.args.op)) c.len-begins.result _ _
     c.end_operator.new.code c.len-begins.ensures.len c.in_ok-load_copy.ensures.put c.in_ok-constant.ensures.constant
-    c.in_ok-constant.ensures.put c.in_ok-value.ensures.put
+    c.in_ok-constant.ensures.put c.in_ok-folded.ensures.put)
 
 pub compile_link-returns-clause-holds : goal.compile_link-returns-clause-holds
 compile_link-returns-clause-holds t c =

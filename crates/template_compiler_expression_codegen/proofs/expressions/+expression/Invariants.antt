@@ -12,76 +12,79 @@ use Rattle.template_compiler_expression_codegen.proofs.Sizes.{items_deep, links_
 use Rattle.template_compiler_expression_codegen.proofs.expressions.+expression.Given as goal
 
 abbrev pub decreases-fold_expr : goal.decreases-fold_expr
-decreases-fold_expr l = 16 * size-Expr l.expr.now + 3
+decreases-fold_expr l = 16 * size-Expr l.expr.now + 4
 
 abbrev pub decreases-fold_left : goal.decreases-fold_left
-decreases-fold_left l = 16 * size-Expr l.expr.now + 2
+decreases-fold_left l = 16 * size-Expr l.expr.now + 3
+
+abbrev pub decreases-fold_tree : goal.decreases-fold_tree
+decreases-fold_tree l = 16 * size-Expr l.expr.now + 2
 
 abbrev pub decreases-fold_spine : goal.decreases-fold_spine
 decreases-fold_spine l = 16 * size-Expr l.expr.now + 1
 
 abbrev pub decreases-compile_expr : goal.decreases-compile_expr
-decreases-compile_expr l = 16 * size-Expr l.expr.now + 4
+decreases-compile_expr l = 16 * size-Expr l.expr.now + 5
 
 abbrev pub decreases-compile_tree : goal.decreases-compile_tree
-decreases-compile_tree l = 16 * size-Expr l.expr.now + 3
+decreases-compile_tree l = 16 * size-Expr l.expr.now + 4
 
 abbrev pub decreases-fold_node : goal.decreases-fold_node
 decreases-fold_node l = 16 * size-Expr l.expr.now
 
 abbrev pub decreases-fold_unary_operator : goal.decreases-fold_unary_operator
-decreases-fold_unary_operator l = 16 * size-Expr l.operand.now + 5
+decreases-fold_unary_operator l = 16 * size-Expr l.operand.now + 6
 
 abbrev pub decreases-fold_choice : goal.decreases-fold_choice
-decreases-fold_choice l = 16 * size-Expr l.right.now + 6
+decreases-fold_choice l = 16 * size-Expr l.right.now + 7
 
 abbrev pub decreases-fold_constant_choice : goal.decreases-fold_constant_choice
-decreases-fold_constant_choice l = 16 * size-Expr l.right.now + 5
+decreases-fold_constant_choice l = 16 * size-Expr l.right.now + 6
 
 abbrev pub decreases-fold_operator : goal.decreases-fold_operator
-decreases-fold_operator l = 16 * size-Expr l.right.now + 6
+decreases-fold_operator l = 16 * size-Expr l.right.now + 7
 
 abbrev pub decreases-fold_constant_operator : goal.decreases-fold_constant_operator
-decreases-fold_constant_operator l = 16 * size-Expr l.right.now + 5
+decreases-fold_constant_operator l = 16 * size-Expr l.right.now + 6
 
 abbrev pub decreases-compile_optional : goal.decreases-compile_optional
-decreases-compile_optional l = 16 * optional_deep l.expr.now + 5
+decreases-compile_optional l = 16 * optional_deep l.expr.now + 6
 
 abbrev pub decreases-compile_choice : goal.decreases-compile_choice
-decreases-compile_choice l = 16 * max (size-Expr l.test.now) (max (size-Expr l.branch.now) (optional_deep l.otherwise.now)) + 6
+decreases-compile_choice l = 16 * max (size-Expr l.test.now) (max (size-Expr l.branch.now) (optional_deep l.otherwise.now)) + 7
 
 abbrev pub decreases-compile_item : goal.decreases-compile_item
-decreases-compile_item l = 16 * size-Expr l.key.now + 5
+decreases-compile_item l = 16 * size-Expr l.key.now + 6
 
 abbrev pub decreases-compile_slice : goal.decreases-compile_slice
-decreases-compile_slice l = 16 * max (optional_deep l.start.now) (max (optional_deep l.stop.now) (optional_deep l.step.now)) + 6
+decreases-compile_slice l = 16 * max (optional_deep l.start.now) (max (optional_deep l.stop.now) (optional_deep l.step.now)) + 7
 
 abbrev pub decreases-compile_items : goal.decreases-compile_items
-decreases-compile_items l = 16 * items_deep l.items.now + 6
+decreases-compile_items l = 16 * items_deep l.items.now + 7
 
 abbrev pub decreases-compile_entries : goal.decreases-compile_entries
-decreases-compile_entries l = 16 * max (items_deep l.keys.now) (items_deep l.values.now) + 6
+decreases-compile_entries l = 16 * max (items_deep l.keys.now) (items_deep l.values.now) + 7
 
 abbrev pub decreases-fold_list_literal : goal.decreases-fold_list_literal
-decreases-fold_list_literal l = 16 * items_deep l.items.now + 7
+decreases-fold_list_literal l = 16 * items_deep l.items.now + 8
 
 abbrev pub decreases-fold_tuple_literal : goal.decreases-fold_tuple_literal
-decreases-fold_tuple_literal l = 16 * items_deep l.items.now + 7
+decreases-fold_tuple_literal l = 16 * items_deep l.items.now + 8
 
 abbrev pub decreases-fold_map_literal : goal.decreases-fold_map_literal
-decreases-fold_map_literal l = 16 * max (items_deep l.keys.now) (items_deep l.values.now) + 7
+decreases-fold_map_literal l = 16 * max (items_deep l.keys.now) (items_deep l.values.now) + 8
 
 abbrev pub decreases-compile_link : goal.decreases-compile_link
-decreases-compile_link l = 16 * size-Expr l.link.now.expr + 6
+decreases-compile_link l = 16 * size-Expr l.link.now.expr + 7
 
 abbrev pub decreases-compile_links : goal.decreases-compile_links
-decreases-compile_links l = 16 * links_deep l.links.now + 7
+decreases-compile_links l = 16 * links_deep l.links.now + 8
 
 abbrev pub decreases-compile_chain : goal.decreases-compile_chain
-decreases-compile_chain l = 16 * links_deep l.links.now + 8
+decreases-compile_chain l = 16 * links_deep l.links.now + 9
 
 abbrev pub decreases-fold_chain : goal.decreases-fold_chain
-decreases-fold_chain l = 16 * links_deep l.links.now + 9
+decreases-fold_chain l = 16 * links_deep l.links.now + 10
 
 abbrev pub decreases-fold_spine-loop-i : goal.decreases-fold_spine-loop-i
 decreases-fold_spine-loop-i l = length l.nodes.items - l.i

@@ -4,6 +4,6 @@ use Rattle.template_compiler_expression_codegen.proofs.operators.end_unary.Goals
 pub returns-in-Some-clause-put : goal.returns-in-Some-clause-put
 returns-in-Some-clause-put c = record { kept = c.truncate.ensures.kept; same = c.truncate.ensures.same; places = c.truncate.ensures.places }
 
-pub returns-in_ok-put-in-None-clause-put : goal.returns-in_ok-put-in-None-clause-put
-returns-in_ok-put-in-None-clause-put c =
-    puts_behind c.args.operand c.in_ok-load-in-None.ensures.put (puts_as c.unary_instruction.ensures c.in_ok-put-in-None.ensures.put)
+pub returns-in_ok-push-in-None-clause-put : goal.returns-in_ok-push-in-None-clause-put
+returns-in_ok-push-in-None-clause-put c =
+    puts_behind c.args.operand c.in_ok-load-in-None.ensures.put (puts_as c.unary_instruction.ensures c.in_ok-push-in-None.ensures.put)
