@@ -1,16 +1,18 @@
 -- An expression runs if its left part does, and all beside it.
-use Rattle.std.proofs.Common.{◌≡◌, ℕ, ◌≤◌, ◌<◌, ◌+◌, Bool, true, false, ◌&&◌, Option, None, Some, Bor, Box, Global, refl, sym, ap, ◌∙◌, arith}
-use Rattle.std.specs.Prelude.{option_map, IfSome}
-use Rattle.template_tree.specs.Tree.{Expression, variable, constant, slice, unary, binary, chain, conditional, filtered, tested, attribute, item, call, list_literal, tuple_literal, map_literal, absent, given}
+use Rattle.std.proofs.Common.{◌≡◌, Bool, true, false, ◌&&◌, Box, Global, refl, sym, ap, ◌∙◌}
+use Rattle.template_tree.specs.Tree.{Expression}
 use Rattle.template_tree.specs.View.{expression_of, expressions_in, links_in, optional_in}
 use Rattle.template_tree.specs.declared.span.Spanned.{Spanned}
+use Rattle.template_tree.specs.declared.expressions.BinOp.{BinOp as BinOpNode}
 use Rattle.template_tree.specs.declared.expressions.Compare.{Compare, out-Compare}
+use Rattle.template_tree.specs.declared.expressions.GetItem.{GetItem as GetItemNode}
+use Rattle.template_tree.specs.declared.expressions.List.{List as ListNode}
 use Rattle.template_tree.specs.declared.expressions.Map.{Map as MapNode}
 use Rattle.template_tree.specs.declared.expressions.Slice.{Slice as SliceNode}
-use Rattle.template_tree.specs.declared.expressions.Expr.{Expr, size-Expr, Compare as CompareNode, Map, Slice}
-use Rattle.template_tree_parts.proofs.Trees.{chain_tree, map_tree, slice_tree}
-use Rattle.template_tree_parts.specs.Spine.{left_of, before}
-use Rattle.template_compiler_runnable.specs.Running.{runs, runs_beside, runs_if_given, all_run, chain_runs, left_deep, left_runs, is_target}
+use Rattle.template_tree.specs.declared.expressions.Tuple.{Tuple as TupleNode}
+use Rattle.template_tree.specs.declared.expressions.Expr.{Expr, BinOp, Compare as CompareNode, GetItem, List, Map, Slice, Tuple}
+use Rattle.template_tree_parts.proofs.Trees.{chain_tree, list_tree, map_tree, slice_tree, tuple_tree}
+use Rattle.template_compiler_runnable.specs.Running.{runs, runs_if_given, all_run, chain_runs, is_target}
 
 and_true : (b : Bool) → b ≡ (b && true)
 and_true true = refl
@@ -20,57 +22,38 @@ and_false : (b : Bool) → false ≡ (b && false)
 and_false true = refl
 and_false false = refl
 
-parted : (t : Expression) → runs t ≡ (before runs true (left_of t) && runs_beside t)
-parted (variable name) = refl
-parted (constant v) = refl
-parted (slice e start stop by) = refl
-parted (unary op e) = refl
-parted (binary op left right) = refl
-parted (chain first links) = refl
-parted (conditional test branch otherwise) = refl
-parted (filtered name absent args) = refl
-parted (filtered name (given e) args) = and_false (runs e)
-parted (tested name e args) = and_false (runs e)
-parted (attribute e name) = and_true (runs e)
-parted (item e key) = refl
-parted (call callee args) = and_false (runs callee)
-parted (list_literal es) = refl
-parted (tuple_literal es) = refl
-parted (map_literal ks vs) = refl
-
-left_is : (o : Option (Bor Expr)) → before runs true (option_map (λ part. expression_of part.now) o) ≡ left_runs o
-left_is None = refl
-left_is (Some part) = refl
-
-pub goes_left : (t : Expression) (o : Option (Bor Expr)) → option_map (λ part. expression_of part.now) o ≡ left_of t →
-    runs_beside t ≡ true → runs t ≡ left_runs o
-goes_left t o left beside =
-    parted t ∙ ap (λ b. before runs true (left_of t) && b) beside ∙ sym (and_true (before runs true (left_of t))) ∙
-    ap (λ (l : Option Expression). before runs true l) (sym left) ∙ left_is o
-
-pub left_within : (o : Option (Bor Expr)) (m k : ℕ) → IfSome o (λ part. size-Expr part.now < m) → m ≤ k → left_deep o ≤ k + 1
-left_within None m k smaller within = omega arith
-left_within (Some part) m k smaller within = omega (arith, smaller)
-
-pub stops_beside : (t : Expression) → runs_beside t ≡ false → false ≡ runs t
-stops_beside t beside =
-    and_false (before runs true (left_of t)) ∙ ap (λ b. before runs true (left_of t) && b) (sym beside) ∙ sym (parted t)
-
 pub chain_target : (e : Expr) (n : Box (Spanned Compare) Global) → e ≡ CompareNode n → false ≡ is_target (expression_of e)
 chain_target e n node = sym (ap (λ (x : Expr). is_target (expression_of x)) node ∙ ap (λ (t : Expression). is_target t) (chain_tree n.value.node))
 
--- what expressions hold beside their left parts
-pub slice_beside : (e : Expr) (n : Box (Spanned SliceNode) Global) → e ≡ Slice n → runs_beside (expression_of e)
-    ≡ (runs_if_given (optional_in n.value.node.start) && (runs_if_given (optional_in n.value.node.stop) && runs_if_given (optional_in n.value.node.step)))
-slice_beside e n node = ap (λ (x : Expr). runs_beside (expression_of x)) node ∙ ap (λ (t : Expression). runs_beside t) (slice_tree n)
+-- what an expression holds
+pub slice_runs : (e : Expr) (n : Box (Spanned SliceNode) Global) → e ≡ Slice n → runs (expression_of e)
+    ≡ (runs (expression_of n.value.node.expr) && (runs_if_given (optional_in n.value.node.start)
+    && (runs_if_given (optional_in n.value.node.stop) && runs_if_given (optional_in n.value.node.step))))
+slice_runs e n node = ap (λ (x : Expr). runs (expression_of x)) node ∙ ap (λ (t : Expression). runs t) (slice_tree n)
 
-pub map_beside : (e : Expr) (n : Box (Spanned MapNode) Global) → e ≡ Map n → runs_beside (expression_of e)
+pub binary_runs : (e : Expr) (n : Box (Spanned BinOpNode) Global) → e ≡ BinOp n → runs (expression_of e)
+    ≡ (runs (expression_of n.value.node.left) && runs (expression_of n.value.node.right))
+binary_runs e n node = ap (λ (x : Expr). runs (expression_of x)) node
+
+pub item_runs : (e : Expr) (n : Box (Spanned GetItemNode) Global) → e ≡ GetItem n → runs (expression_of e)
+    ≡ (runs (expression_of n.value.node.expr) && runs (expression_of n.value.node.subscript_expr))
+item_runs e n node = ap (λ (x : Expr). runs (expression_of x)) node
+
+pub list_runs : (e : Expr) (n : Box (Spanned ListNode) Global) → e ≡ List n → runs (expression_of e)
+    ≡ all_run (expressions_in n.value.node.items.items)
+list_runs e n node = ap (λ (x : Expr). runs (expression_of x)) node ∙ ap (λ (t : Expression). runs t) (list_tree n)
+
+pub tuple_runs : (e : Expr) (n : Box (Spanned TupleNode) Global) → e ≡ Tuple n → runs (expression_of e)
+    ≡ all_run (expressions_in n.value.node.items.items)
+tuple_runs e n node = ap (λ (x : Expr). runs (expression_of x)) node ∙ ap (λ (t : Expression). runs t) (tuple_tree n)
+
+pub map_runs : (e : Expr) (n : Box (Spanned MapNode) Global) → e ≡ Map n → runs (expression_of e)
     ≡ (all_run (expressions_in n.value.node.keys.items) && all_run (expressions_in n.value.node.values.items))
-map_beside e n node = ap (λ (x : Expr). runs_beside (expression_of x)) node ∙ ap (λ (t : Expression). runs_beside t) (map_tree n)
+map_runs e n node = ap (λ (x : Expr). runs (expression_of x)) node ∙ ap (λ (t : Expression). runs t) (map_tree n)
 
-pub chain_beside : (e : Expr) (n : Box (Spanned Compare) Global) → e ≡ CompareNode n → runs_beside (expression_of e)
-    ≡ chain_runs (links_in (out-Compare n.value.node).ops.items)
-chain_beside e n node = ap (λ (x : Expr). runs_beside (expression_of x)) node ∙ ap (λ (t : Expression). runs_beside t) (chain_tree n.value.node)
+pub chain_all_runs : (e : Expr) (n : Box (Spanned Compare) Global) → e ≡ CompareNode n → runs (expression_of e)
+    ≡ (runs (expression_of (out-Compare n.value.node).expr) && chain_runs (links_in (out-Compare n.value.node).ops.items))
+chain_all_runs e n node = ap (λ (x : Expr). runs (expression_of x)) node ∙ ap (λ (t : Expression). runs t) (chain_tree n.value.node)
 
 -- one part after the other
 pub first_fails : {x a : Bool} (b : Bool) → x ≡ (a && b) → a ≡ false → false ≡ x
@@ -78,3 +61,23 @@ first_fails b whole fails = sym (whole ∙ ap (λ c. c && b) fails)
 
 pub then : {x a : Bool} (b : Bool) → x ≡ (a && b) → a ≡ true → x ≡ b
 then b whole runs = whole ∙ ap (λ c. c && b) runs
+
+-- the left part behind all beside it
+pub beside_fails : {x b : Bool} (a : Bool) → x ≡ (a && b) → b ≡ false → false ≡ x
+beside_fails a whole fails = and_false a ∙ sym (whole ∙ ap (λ c. a && c) fails)
+
+pub goes_left : {x b : Bool} (a : Bool) → x ≡ (a && b) → b ≡ true → x ≡ a
+goes_left a whole runs = whole ∙ ap (λ c. a && c) runs ∙ sym (and_true a)
+
+-- the bounds of a slice, one after the other
+pub no_start : {x : Bool} (l a b c : Bool) → x ≡ (l && (a && (b && c))) → a ≡ false → false ≡ x
+no_start l a b c whole start = beside_fails l whole (ap (λ v. v && (b && c)) start)
+
+pub no_stop : {x : Bool} (l a b c : Bool) → x ≡ (l && (a && (b && c))) → a ≡ true → b ≡ false → false ≡ x
+no_stop l a b c whole start stop = beside_fails l whole (ap (λ v. v && (b && c)) start ∙ ap (λ v. v && c) stop)
+
+pub no_step : {x : Bool} (l a b c : Bool) → x ≡ (l && (a && (b && c))) → a ≡ true → b ≡ true → c ≡ false → false ≡ x
+no_step l a b c whole start stop step = beside_fails l whole (ap (λ v. v && (b && c)) start ∙ ap (λ v. v && c) stop ∙ step)
+
+pub all_bounds : {x : Bool} (l a b c : Bool) → x ≡ (l && (a && (b && c))) → a ≡ true → b ≡ true → c ≡ true → x ≡ l
+all_bounds l a b c whole start stop step = goes_left l whole (ap (λ v. v && (b && c)) start ∙ ap (λ v. v && c) stop ∙ step)

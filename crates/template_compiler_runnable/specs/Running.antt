@@ -1,8 +1,5 @@
--- Whether a tree is runnable, as tests: what stands beside a left chain, and all of it.
-use Rattle.std.specs.Prelude.{ℕ, ◌+◌, Bool, true, false, not, ◌&&◌, Option, None, Some}
-use Rattle.std.specs.Borrow.{Bor}
-use Rattle.template_tree.specs.View.{expression_of}
-use Rattle.template_tree.specs.declared.expressions.Expr.{Expr, size-Expr}
+-- Whether a tree is runnable, as tests.
+use Rattle.std.specs.Prelude.{Bool, true, false, not, ◌&&◌}
 use Rattle.template_tree.specs.Tree.{Expression, Optional, Expressions, Links, variable, constant, slice, unary, binary, chain, conditional, attribute, item, list_literal, tuple_literal, map_literal, absent, given, no_expressions, expressions_more, no_links, links_more, Statement, Statements, Assignments, raw, print, for_loop, if_condition, with_block, set, auto_escape, include, continue_loop, break_loop, no_statements, statements_more, no_assignments, assignments_more}
 use Rattle.template_walk.specs.Runnable.{is_kept_back}
 
@@ -38,31 +35,6 @@ abbrev mutual
   pub links_run : Links → Bool
   links_run no_links = true
   links_run (links_more op e links) = runs e && links_run links
-
--- what an expression holds beside its left part
-abbrev pub runs_beside : Expression → Bool
-runs_beside (variable name) = not (is_kept_back name)
-runs_beside (constant v) = true
-runs_beside (slice e start stop by) = runs_if_given start && (runs_if_given stop && runs_if_given by)
-runs_beside (unary op e) = runs e
-runs_beside (binary op left right) = runs right
-runs_beside (chain first links) = chain_runs links
-runs_beside (conditional test branch otherwise) = runs test && (runs branch && runs_if_given otherwise)
-runs_beside (attribute e name) = true
-runs_beside (item e key) = runs key
-runs_beside (list_literal es) = all_run es
-runs_beside (tuple_literal es) = all_run es
-runs_beside (map_literal ks vs) = all_run ks && all_run vs
-runs_beside _ = false
-
--- what is left of a left chain
-abbrev pub left_runs : Option (Bor Expr) → Bool
-left_runs None = true
-left_runs (Some part) = runs (expression_of part.now)
-
-abbrev pub left_deep : Option (Bor Expr) → ℕ
-left_deep None = 0
-left_deep (Some part) = size-Expr part.now + 1
 
 abbrev mutual
   pub is_target : Expression → Bool

@@ -2,11 +2,9 @@
 ghost use Rattle.std.specs.Prelude.{◌≡◌, ◌↔◌, IsTrue};
 ghost use Rattle.template_tree.specs.View.{expression_of, expressions_in, links_in, optional_in};
 ghost use Rattle.template_walk.specs.Runnable.{IsRunnable, is_kept_back};
-ghost use Rattle.template_compiler_runnable.specs.Running.{runs, runs_beside, runs_if_given, all_run, chain_runs, links_run};
+ghost use Rattle.template_compiler_runnable.specs.Running.{runs, runs_if_given, all_run, chain_runs, links_run};
 
 use template_tree::{CompareOp, Expr};
-use template_tree_nodes::has_walk;
-use template_tree_parts::left;
 
 /// Whether an expression's tree is one whose constructs all have a walk. Takes linear time.
 pub fn is_runnable_expr(expr: &Expr<'_>) -> bool
@@ -41,56 +39,65 @@ pub(crate) fn operand_runs(expr: &Expr<'_>) -> bool
 pub(crate) fn expression_runs(expr: &Expr<'_>) -> bool
     ensures { result ≡ runs (expression_of expr.now) }
 {
-    let mut left_part = Some(expr);
-    while let Some(part) = left_part {
-        if !others_run(part) {
-            return false;
-        }
-        left_part = left(part);
-    }
-    true
-}
-
-// Whether an expression has a walk, and all runs that it holds beside its left part.
-#[cycle(expression)]
-fn others_run(expr: &Expr<'_>) -> bool
-    ensures { result ≡ runs_beside (expression_of expr.now) }
-{
-    match expr {
-        Expr::Var(n) => !is_kept_back(n.node.id),
-        Expr::Const(_) => true,
-        Expr::Slice(n) => {
-            let node = &n.node;
-            if !optional_runs(&node.start) {
-                return false;
+    let mut at = expr;
+    loop {
+        at = match at {
+            Expr::Var(n) => return !is_kept_back(n.node.id),
+            Expr::Const(_) => return true,
+            Expr::Slice(n) => {
+                let node = &n.node;
+                if !optional_runs(&node.start) {
+                    return false;
+                }
+                if !optional_runs(&node.stop) {
+                    return false;
+                }
+                if !optional_runs(&node.step) {
+                    return false;
+                }
+                &node.expr
             }
-            if !optional_runs(&node.stop) {
-                return false;
+            Expr::UnaryOp(n) => &n.node.expr,
+            Expr::BinOp(n) => {
+                let node = &n.node;
+                if !operand_runs(&node.right) {
+                    return false;
+                }
+                &node.left
             }
-            optional_runs(&node.step)
-        }
-        Expr::UnaryOp(n) => operand_runs(&n.node.expr),
-        Expr::BinOp(n) => operand_runs(&n.node.right),
-        Expr::Compare(n) => chain_runs(&n.node.ops),
-        Expr::IfExpr(n) => {
-            let node = &n.node;
-            operand_runs(&node.test_expr)
-                && operand_runs(&node.true_expr)
-                && optional_runs(&node.false_expr)
-        }
-        Expr::GetAttr(_) => true,
-        Expr::GetItem(n) => operand_runs(&n.node.subscript_expr),
-        Expr::Filter(_) => has_walk(expr),
-        Expr::Test(_) => has_walk(expr),
-        Expr::Call(_) => has_walk(expr),
-        Expr::List(n) => items_run(&n.node.items),
-        Expr::Tuple(n) => items_run(&n.node.items),
-        Expr::Map(n) => {
-            if !items_run(&n.node.keys) {
-                return false;
+            Expr::Compare(n) => {
+                let node = &n.node;
+                if !chain_runs(&node.ops) {
+                    return false;
+                }
+                &node.expr
             }
-            items_run(&n.node.values)
-        }
+            Expr::IfExpr(n) => {
+                let node = &n.node;
+                return operand_runs(&node.test_expr)
+                    && operand_runs(&node.true_expr)
+                    && optional_runs(&node.false_expr);
+            }
+            Expr::GetAttr(n) => &n.node.expr,
+            Expr::GetItem(n) => {
+                let node = &n.node;
+                if !operand_runs(&node.subscript_expr) {
+                    return false;
+                }
+                &node.expr
+            }
+            Expr::Filter(_) => return false,
+            Expr::Test(_) => return false,
+            Expr::Call(_) => return false,
+            Expr::List(n) => return items_run(&n.node.items),
+            Expr::Tuple(n) => return items_run(&n.node.items),
+            Expr::Map(n) => {
+                if !items_run(&n.node.keys) {
+                    return false;
+                }
+                return items_run(&n.node.values);
+            }
+        };
     }
 }
 

@@ -50,32 +50,40 @@ fn statements_run(looping: bool, body: &[Stmt<'_>]) -> bool
     true
 }
 
-// Whether the statement runs, in a loop or not.
+// Whether the statement runs, in a loop or not. Most are texts and values that are printed.
 #[cycle(statement)]
+#[inline(always)]
 fn statement_runs(looping: bool, statement: &Stmt<'_>) -> bool
     ensures { result ≡ statement_runs looping (statement_of statement.now) }
 {
-    let mut at = statement;
-    loop {
-        at = match at {
-            Stmt::IfCond(n) => {
-                let node = &n.node;
-                if node.false_body.len() != 1 {
-                    return parts_run(looping, at);
-                }
-                if !operand_runs(&node.expr) {
-                    return false;
-                }
-                if !statements_run(looping, &node.true_body) {
-                    return false;
-                }
-                &node.false_body[0]
-            }
-            Stmt::EmitRaw(_) => return true,
-            Stmt::EmitExpr(n) => return operand_runs(&n.node.expr),
-            _ => return parts_run(looping, at),
-        };
+    match statement {
+        Stmt::EmitRaw(_) => true,
+        Stmt::EmitExpr(n) => operand_runs(&n.node.expr),
+        _ => bodies_run(looping, statement),
     }
+}
+
+// The same, along a chain of `elif`.
+#[cycle(statement)]
+#[inline(never)]
+fn bodies_run(looping: bool, statement: &Stmt<'_>) -> bool
+    ensures { result ≡ statement_runs looping (statement_of statement.now) }
+{
+    let mut at = statement;
+    while let Stmt::IfCond(n) = at {
+        let node = &n.node;
+        if node.false_body.len() != 1 {
+            break;
+        }
+        if !operand_runs(&node.expr) {
+            return false;
+        }
+        if !statements_run(looping, &node.true_body) {
+            return false;
+        }
+        at = &node.false_body[0];
+    }
+    parts_run(looping, at)
 }
 
 // The same, each body by a call.

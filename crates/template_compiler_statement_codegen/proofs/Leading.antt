@@ -2,7 +2,7 @@
 use Rattle.std.proofs.Common.{◌≡◌, ℕ, ◌+◌, suc, false, List, [], ◌∷◌, ◌++◌, length, refl, sym, ap, ◌∙◌, append-nil, append_assoc, length-append, arith}
 use Rattle.std.proofs.Math.ListN.{set}
 use Rattle.std.proofs.lemmas.List.{set_at}
-use Rattle.template_tree.specs.Tree.{Expression, Statement, Statements, absent, for_loop, if_condition, with_block, auto_escape, continue_loop, break_loop, no_statements, statements_more}
+use Rattle.template_tree.specs.Tree.{Expression, Statement, Statements, absent, for_loop, if_condition, with_block, auto_escape, break_loop, no_statements, statements_more}
 use Rattle.template_code.specs.Code.{Code, push_with, pop_frame, push_loop, push_did_not_iterate, pop_loop_frame, push_auto_escape, pop_auto_escape, jump, jump_if_false}
 use Rattle.template_compiler_codegen.specs.Expressions.{Coded, then_code, one, skipped, either_code, expression_code}
 use Rattle.template_compiler_codegen.specs.Statements.{Ways, own_ways, closing_with, target_code, assignments_code, loop_flags, rounds_code, loop_end_code, branches_code, left_by, statement_code, statements_code}

@@ -6,7 +6,7 @@ use Rattle.std.proofs.lemmas.List.{length-set}
 use Rattle.template_tree.specs.Tree.{Statements}
 use Rattle.template_code.specs.Code.{Code, jump, iterate}
 use Rattle.template_compiler_codegen.specs.Expressions.{Coded}
-use Rattle.template_compiler_codegen.specs.Statements.{Ways, own_ways, rounds_code, statements_code}
+use Rattle.template_compiler_codegen.specs.Statements.{own_ways, rounds_code, statements_code}
 use Rattle.template_compiler_codegen.proofs.Lengths.{long_statements}
 use Rattle.template_compiler_emission.proofs.Pieces.{one_more, one_longer}
 use Rattle.template_compiler_statement_codegen.specs.Breaks.{breaks_in, led}

@@ -3,7 +3,7 @@ use Rattle.std.specs.Prelude.{ℕ, ◌+◌, suc, false, List, [], ◌∷◌, ◌
 use Rattle.std.proofs.Math.ListN.{set}
 use Rattle.template_tree.specs.Tree.{Statement, Statements, absent, for_loop, if_condition, with_block, auto_escape, break_loop, no_statements, statements_more}
 use Rattle.template_code.specs.Code.{Code, push_with, pop_frame, push_loop, push_did_not_iterate, pop_loop_frame, push_auto_escape, pop_auto_escape, jump}
-use Rattle.template_compiler_codegen.specs.Expressions.{Coded, then_code, one, expression_code}
+use Rattle.template_compiler_codegen.specs.Expressions.{Coded, one, expression_code}
 use Rattle.template_compiler_codegen.specs.Statements.{Ways, own_ways, closing_with, target_code, assignments_code, loop_flags, rounds_code, statement_code, statements_code}
 
 -- places in a piece of code that begins at any place

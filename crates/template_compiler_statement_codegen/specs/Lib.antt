@@ -2,3 +2,4 @@ pub mod Listed
 pub mod Rounds
 pub mod Breaks
 pub mod Laws
+pub mod Refusals

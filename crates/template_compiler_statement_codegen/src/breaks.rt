@@ -10,6 +10,7 @@ use template_code::Instructions;
 use template_compiler_emission::{Leap, land};
 
 /// Tells the jumps at the places where they lead: behind the last instruction. Linear in their number.
+#[inline(always)]
 pub fn tell_breaks<'source>(code: &mut Instructions<'source>, breaks: Vec<u32>)
     ensures told { code_in code.new ≡ led (length (code_in code.old)) breaks.items (code_in code.old) }
     ensures same { Keeps code.old code.new }

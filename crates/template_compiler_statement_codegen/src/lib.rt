@@ -2,6 +2,7 @@
 #![tactic(auto)]
 
 mod breaks;
+mod puts;
 mod rounds;
 mod statements;
 mod targets;

@@ -2,17 +2,19 @@
 ghost use Rattle.std.specs.Prelude.{◌≡◌, [], ◌∷◌, OnOk, IfErr};
 ghost use Rattle.template_tree.specs.Tree.{break_loop, continue_loop};
 ghost use Rattle.template_code.specs.View.{code_of};
-ghost use Rattle.template_code.specs.Listing.{code_in, TakesNoMore};
+ghost use Rattle.template_code.specs.Listing.{code_in};
 ghost use Rattle.template_compiler_codegen.specs.Statements.{statement_code};
 ghost use Rattle.template_compiler_emission.specs.Puts.{Puts};
 ghost use Rattle.template_compiler_statement_codegen.specs.Breaks.{breaks_of};
+ghost use Rattle.template_compiler_statement_codegen.specs.Refusals.{Refuses};
 ghost use Rattle.template_compiler_statement_codegen.specs.Rounds.{Lowers, closed_by, closing_code, ways_of};
 
+use crate::puts::{push, put, reserve};
 use std::alloc::Global;
 use template_code::{Instruction, Instructions};
-use template_compiler_emission::{Leap, put, reserve};
+use template_compiler_emission::Leap;
 use template_tree::Span;
-use template_values_errors::Error;
+use template_values_errors::ErrorKind;
 
 // What stands open around statements inside a loop.
 #[derive(Clone, Copy)]
@@ -62,9 +64,9 @@ fn close_all<'source>(
     code: &mut Instructions<'source>,
     closings: &[Closing],
     span: Span,
-) -> Result<(), Error>
+) -> Result<(), ErrorKind>
     ensures put { OnOk result (Puts (λ place. closed_by closings.now) code.old code.new) }
-    ensures refused { IfErr result (TakesNoMore (code_in code.new)) }
+    ensures refused { IfErr result (Refuses (code_in code.new)) }
 {
     let mut left = closings.len();
     while left > 0 {
@@ -76,30 +78,31 @@ fn close_all<'source>(
 }
 
 // Puts what leaves the loop: its jump is told later where the loop ends.
+#[inline(never)]
 pub(crate) fn put_break<'source>(
     code: &mut Instructions<'source>,
     round: &mut Round,
-    span: Span,
-) -> Result<(), Error>
+    span: &Span,
+) -> Result<(), ErrorKind>
     ensures lowered { OnOk result (Lowers (statement_code (ways_of round.old) break_loop) (breaks_of (ways_of round.old) break_loop)
         code.old code.new round.old round.new) }
-    ensures refused { IfErr result (TakesNoMore (code_in code.new)) }
+    ensures refused { IfErr result (Refuses (code_in code.new)) }
 {
-    close_all(code, &round.closings, span)?;
-    let place = reserve(code, Leap::Always, Some(span))?;
-    round.breaks.push(place)?;
-    Ok(())
+    close_all(code, &round.closings, *span)?;
+    let place = reserve(code, Leap::Always, Some(*span))?;
+    push(&mut round.breaks, place)
 }
 
 // Puts what goes on with the loop's next item.
+#[inline(never)]
 pub(crate) fn put_continue<'source>(
     code: &mut Instructions<'source>,
     round: &Round,
-    span: Span,
-) -> Result<(), Error>
+    span: &Span,
+) -> Result<(), ErrorKind>
     ensures put { OnOk result (Puts (statement_code (ways_of round.now) continue_loop) code.old code.new) }
-    ensures refused { IfErr result (TakesNoMore (code_in code.new)) }
+    ensures refused { IfErr result (Refuses (code_in code.new)) }
 {
-    close_all(code, &round.closings, span)?;
-    put(code, Instruction::Jump(round.asks), Some(span))
+    close_all(code, &round.closings, *span)?;
+    put(code, Instruction::Jump(round.asks), Some(*span))
 }

@@ -13,19 +13,20 @@ ghost use Rattle.template_compiler_emission.specs.Puts.{Keeps, Puts};
 ghost use Rattle.template_compiler_statement_codegen.specs.Breaks.{breaks_in, led, loop_end_places};
 ghost use Rattle.template_tree_parts.specs.Listed.{statements_in};
 ghost use Rattle.template_compiler_statement_codegen.specs.Listed.{IsRunnableTree, body_in, condition_of};
+ghost use Rattle.template_compiler_statement_codegen.specs.Refusals.{Refuses};
 ghost use Rattle.template_compiler_statement_codegen.specs.Rounds.{Lowers, LowersBody, LowersStatement, LowersBranch, LowersChain, closed_code, closed_places, closing_code, places_in, ways_of};
 
+use crate::puts::{compile_expr, push, put, reserve};
 use crate::rounds::{Closing, Round, put_break, put_continue};
-use crate::targets::{compile_assignment, compile_assignments};
+use crate::targets::{store, store_all};
 use crate::tell_breaks;
-use std::alloc::{AllocError, Global};
+use std::alloc::Global;
 use std::borrow::CowStr;
 use template_code::{Instruction, Instructions, LOOP_FLAG_WITH_LOOP_VAR};
-use template_compiler_emission::{Leap, land, put, reserve};
-use template_compiler_expression_codegen::compile_expr;
+use template_compiler_emission::{Leap, land};
 use template_tree::{Expr, Span, Spanned};
-use template_tree_statements::{IfCond, Stmt};
-use template_values_errors::Error;
+use template_tree_statements::{ForLoop, IfCond, Stmt};
+use template_values_errors::{Error, ErrorKind};
 
 /// Puts the code of a whole template behind the instructions. Linear in the template, besides what the
 /// operators of constant trees cost.
@@ -43,7 +44,10 @@ pub fn compile_template<'source>(
     ensures refused { IfErr result (TakesNoMore (code_in code.new)) }
 {
     let mut round = Round::new(alloc, 0);
-    compile_body(alloc, code, &mut round, children(tree))
+    match compile_body(alloc, code, &mut round, children(tree)) {
+        Ok(()) => Ok(()),
+        Err(kind) => Err(Error::new(kind)),
+    }
 }
 
 // The statements of a whole template.
@@ -82,10 +86,10 @@ fn compile_body<'source>(
     code: &mut Instructions<'source>,
     round: &mut Round,
     body: &[Stmt<'source>],
-) -> Result<(), Error>
+) -> Result<(), ErrorKind>
     requires { AreRunnableStatements true (statements_in body.now) }
     ensures lowered { OnOk result (LowersBody (statements_in body.now) code.old code.new round.old round.new) }
-    ensures refused { IfErr result (TakesNoMore (code_in code.new)) }
+    ensures refused { IfErr result (Refuses (code_in code.new)) }
 {
     for statement in body {
         compile_statement(alloc, code, round, statement)?;
@@ -93,7 +97,7 @@ fn compile_body<'source>(
     Ok(())
 }
 
-// A statement. Most are texts and values that are printed.
+// A statement. Most are texts.
 #[cycle(statement)]
 #[inline(always)]
 fn compile_statement<'source>(
@@ -101,19 +105,18 @@ fn compile_statement<'source>(
     code: &mut Instructions<'source>,
     round: &mut Round,
     statement: &Stmt<'source>,
-) -> Result<(), Error>
+) -> Result<(), ErrorKind>
     requires { IsRunnableStatement true (statement_of statement.now) }
     ensures lowered { OnOk result (LowersStatement (statement_of statement.now) code.old code.new round.old round.new) }
-    ensures refused { IfErr result (TakesNoMore (code_in code.new)) }
+    ensures refused { IfErr result (Refuses (code_in code.new)) }
 {
     match statement {
         Stmt::EmitRaw(n) => compile_text(code, n.node.raw, n.span),
-        Stmt::EmitExpr(n) => compile_print(alloc, code, &n.node.expr),
         _ => compile_any(alloc, code, round, statement),
     }
 }
 
-// The same, each kind by a call.
+// The same, each kind by a function of its own.
 #[cycle(statement)]
 #[inline(never)]
 fn compile_any<'source>(
@@ -121,30 +124,18 @@ fn compile_any<'source>(
     code: &mut Instructions<'source>,
     round: &mut Round,
     statement: &Stmt<'source>,
-) -> Result<(), Error>
+) -> Result<(), ErrorKind>
     requires { IsRunnableStatement true (statement_of statement.now) }
     ensures lowered { OnOk result (LowersStatement (statement_of statement.now) code.old code.new round.old round.new) }
-    ensures refused { IfErr result (TakesNoMore (code_in code.new)) }
+    ensures refused { IfErr result (Refuses (code_in code.new)) }
 {
     match statement {
-        Stmt::EmitRaw(n) => compile_text(code, n.node.raw, n.span),
+        Stmt::EmitRaw(n) => compile_text_apart(code, n.node.raw, &n.span),
         Stmt::EmitExpr(n) => compile_print(alloc, code, &n.node.expr),
         Stmt::Set(n) => compile_set(alloc, code, &n.node.target, &n.node.expr),
         Stmt::Include(n) => compile_include(alloc, code, &n.node.name, n.node.ignore_missing),
         Stmt::IfCond(n) => compile_condition(alloc, code, round, n),
-        Stmt::ForLoop(n) => {
-            let node = &n.node;
-            compile_loop(
-                alloc,
-                code,
-                round,
-                &node.target,
-                &node.iter,
-                &node.body,
-                &node.else_body,
-                n.span,
-            )
-        }
+        Stmt::ForLoop(n) => compile_loop(alloc, code, round, &n.node, &n.span),
         Stmt::WithBlock(n) => {
             compile_with(
                 alloc,
@@ -152,14 +143,14 @@ fn compile_any<'source>(
                 round,
                 &n.node.assignments,
                 &n.node.body,
-                n.span,
+                &n.span,
             )
         }
         Stmt::AutoEscape(n) => {
-            compile_auto_escape(alloc, code, round, &n.node.enabled, &n.node.body, n.span)
+            compile_auto_escape(alloc, code, round, &n.node.enabled, &n.node.body, &n.span)
         }
-        Stmt::Continue(n) => put_continue(code, &*round, n.span),
-        Stmt::Break(n) => put_break(code, round, n.span),
+        Stmt::Continue(n) => put_continue(code, &*round, &n.span),
+        Stmt::Break(n) => put_break(code, round, &n.span),
         Stmt::Template(_) => unreachable!(),
         Stmt::SetBlock(_) => unreachable!(),
         Stmt::FilterBlock(_) => unreachable!(),
@@ -179,9 +170,9 @@ fn compile_text<'source>(
     code: &mut Instructions<'source>,
     text: &'source str,
     span: Span,
-) -> Result<(), Error>
+) -> Result<(), ErrorKind>
     ensures put { OnOk result (Puts (one (emit_raw text.now)) code.old code.new) }
-    ensures refused { IfErr result (TakesNoMore (code_in code.new)) }
+    ensures refused { IfErr result (Refuses (code_in code.new)) }
 {
     put(
         code,
@@ -190,48 +181,64 @@ fn compile_text<'source>(
     )
 }
 
+// The same by a call.
+#[inline(never)]
+fn compile_text_apart<'source>(
+    code: &mut Instructions<'source>,
+    text: &'source str,
+    span: &Span,
+) -> Result<(), ErrorKind>
+    ensures put { OnOk result (Puts (one (emit_raw text.now)) code.old code.new) }
+    ensures refused { IfErr result (Refuses (code_in code.new)) }
+{
+    compile_text(code, text, *span)
+}
+
 // A value that is printed.
+#[inline(never)]
 fn compile_print<'source>(
     alloc: Global,
     code: &mut Instructions<'source>,
     expr: &Expr<'source>,
-) -> Result<(), Error>
+) -> Result<(), ErrorKind>
     requires { IsRunnable (expression_of expr.now) }
     ensures put { OnOk result (Puts (then_code (expression_code (expression_of expr.now)) (one emit)) code.old code.new) }
-    ensures refused { IfErr result (TakesNoMore (code_in code.new)) }
+    ensures refused { IfErr result (Refuses (code_in code.new)) }
 {
     compile_expr(alloc, code, expr)?;
     put(code, Instruction::Emit, None)
 }
 
 // A value that is stored in a target.
+#[inline(never)]
 fn compile_set<'source>(
     alloc: Global,
     code: &mut Instructions<'source>,
     target: &Expr<'source>,
     expr: &Expr<'source>,
-) -> Result<(), Error>
+) -> Result<(), ErrorKind>
     requires target { IsTarget (expression_of target.now) }
     requires expr { IsRunnable (expression_of expr.now) }
     ensures put { OnOk result
         (Puts (then_code (expression_code (expression_of expr.now)) (target_code (expression_of target.now))) code.old code.new) }
-    ensures refused { IfErr result (TakesNoMore (code_in code.new)) }
+    ensures refused { IfErr result (Refuses (code_in code.new)) }
 {
     compile_expr(alloc, code, expr)?;
-    compile_assignment(code, target)
+    store(code, target)
 }
 
 // A template that is run here.
+#[inline(never)]
 fn compile_include<'source>(
     alloc: Global,
     code: &mut Instructions<'source>,
     name: &Expr<'source>,
     ignore_missing: bool,
-) -> Result<(), Error>
+) -> Result<(), ErrorKind>
     requires { IsRunnable (expression_of name.now) }
     ensures put { OnOk result
         (Puts (then_code (expression_code (expression_of name.now)) (one (include ignore_missing))) code.old code.new) }
-    ensures refused { IfErr result (TakesNoMore (code_in code.new)) }
+    ensures refused { IfErr result (Refuses (code_in code.new)) }
 {
     compile_expr(alloc, code, name)?;
     put(code, Instruction::Include(ignore_missing), None)
@@ -245,57 +252,59 @@ fn compile_closed<'source>(
     round: &mut Round,
     closing: Closing,
     body: &[Stmt<'source>],
-    span: Span,
-) -> Result<(), Error>
+    span: &Span,
+) -> Result<(), ErrorKind>
     requires { AreRunnableStatements true (statements_in body.now) }
     ensures lowered { OnOk result
         (Lowers (closed_code (closing_code closing) (ways_of round.old) (statements_in body.now))
         (closed_places (closing_code closing) (ways_of round.old) (statements_in body.now)) code.old code.new round.old round.new) }
-    ensures refused { IfErr result (TakesNoMore (code_in code.new)) }
+    ensures refused { IfErr result (Refuses (code_in code.new)) }
 {
     let open = round.closings.len();
-    round.closings.push(closing)?;
+    push(&mut round.closings, closing)?;
     compile_body(alloc, code, round, body)?;
     round.closings.truncate(open);
-    put(code, closing.instruction(), Some(span))
+    put(code, closing.instruction(), Some(*span))
 }
 
 // A frame with assignments, around a body.
 #[cycle(statement)]
+#[inline(never)]
 fn compile_with<'source>(
     alloc: Global,
     code: &mut Instructions<'source>,
     round: &mut Round,
     assignments: &[(Expr<'source>, Expr<'source>)],
     body: &[Stmt<'source>],
-    span: Span,
-) -> Result<(), Error>
+    span: &Span,
+) -> Result<(), ErrorKind>
     requires assignments { AreAssignments (assignments_in assignments.now) }
     requires body { AreRunnableStatements true (statements_in body.now) }
     ensures lowered { OnOk result
         (LowersStatement (with_block (assignments_in assignments.now) (statements_in body.now)) code.old code.new round.old round.new) }
-    ensures refused { IfErr result (TakesNoMore (code_in code.new)) }
+    ensures refused { IfErr result (Refuses (code_in code.new)) }
 {
-    put(code, Instruction::PushWith, Some(span))?;
-    compile_assignments(alloc, code, assignments)?;
+    put(code, Instruction::PushWith, Some(*span))?;
+    store_all(alloc, code, assignments)?;
     compile_closed(alloc, code, round, Closing::Frame, body, span)
 }
 
 // Another escape, around a body.
 #[cycle(statement)]
+#[inline(never)]
 fn compile_auto_escape<'source>(
     alloc: Global,
     code: &mut Instructions<'source>,
     round: &mut Round,
     enabled: &Expr<'source>,
     body: &[Stmt<'source>],
-    span: Span,
-) -> Result<(), Error>
+    span: &Span,
+) -> Result<(), ErrorKind>
     requires enabled { IsRunnable (expression_of enabled.now) }
     requires body { AreRunnableStatements true (statements_in body.now) }
     ensures lowered { OnOk result
         (LowersStatement (auto_escape (expression_of enabled.now) (statements_in body.now)) code.old code.new round.old round.new) }
-    ensures refused { IfErr result (TakesNoMore (code_in code.new)) }
+    ensures refused { IfErr result (Refuses (code_in code.new)) }
 {
     compile_expr(alloc, code, enabled)?;
     put(code, Instruction::PushAutoEscape, None)?;
@@ -304,30 +313,28 @@ fn compile_auto_escape<'source>(
 
 // A loop: its items, its rounds, and what runs where no item was given.
 #[cycle(statement)]
+#[inline(never)]
 fn compile_loop<'source>(
     alloc: Global,
     code: &mut Instructions<'source>,
     round: &mut Round,
-    target: &Expr<'source>,
-    items: &Expr<'source>,
-    body: &[Stmt<'source>],
-    otherwise: &[Stmt<'source>],
-    span: Span,
-) -> Result<(), Error>
-    requires target { IsTarget (expression_of target.now) }
-    requires items { IsRunnable (expression_of items.now) }
-    requires body { AreRunnableStatements true (statements_in body.now) }
-    requires otherwise { AreRunnableStatements true (statements_in otherwise.now) }
+    node: &ForLoop<'source>,
+    span: &Span,
+) -> Result<(), ErrorKind>
+    requires target { IsTarget (expression_of node.now.target) }
+    requires items { IsRunnable (expression_of node.now.iter) }
+    requires body { AreRunnableStatements true (statements_in node.now.body.items) }
+    requires otherwise { AreRunnableStatements true (statements_in node.now.else_body.items) }
     ensures lowered { OnOk result
-        (LowersStatement (for_loop (expression_of target.now) (expression_of items.now) absent false (statements_in body.now)
-        (statements_in otherwise.now))
+        (LowersStatement (for_loop (expression_of node.now.target) (expression_of node.now.iter) absent false
+        (statements_in node.now.body.items) (statements_in node.now.else_body.items))
         code.old code.new round.old round.new) }
-    ensures refused { IfErr result (TakesNoMore (code_in code.new)) }
+    ensures refused { IfErr result (Refuses (code_in code.new)) }
 {
-    compile_expr(alloc, code, items)?;
+    compile_expr(alloc, code, &node.iter)?;
     put(code, Instruction::PushLoop(LOOP_FLAG_WITH_LOOP_VAR), None)?;
-    compile_rounds(alloc, code, target, body, span)?;
-    compile_loop_end(alloc, code, round, otherwise)
+    compile_rounds(alloc, code, &node.target, &node.body, *span)?;
+    compile_loop_end(alloc, code, round, &node.else_body)
 }
 
 // The rounds of a loop, whose ways out are its own. They ask where the items come from, and go back where the loop
@@ -340,17 +347,17 @@ fn compile_rounds<'source>(
     target: &Expr<'source>,
     body: &[Stmt<'source>],
     span: Span,
-) -> Result<(), Error>
+) -> Result<(), ErrorKind>
     requires target { IsTarget (expression_of target.now) }
     requires body { AreRunnableStatements true (statements_in body.now) }
     ensures put { OnOk result
         (Puts (rounds_code (target_code (expression_of target.now)) (λ break_to continue_to. statements_code
         (own_ways break_to continue_to) (statements_in body.now)))
         code.old code.new) }
-    ensures refused { IfErr result (TakesNoMore (code_in code.new)) }
+    ensures refused { IfErr result (Refuses (code_in code.new)) }
 {
     let asks = reserve(code, Leap::Iterate, None)?;
-    compile_assignment(code, target)?;
+    store(code, target)?;
     let mut round = Round::new(alloc, asks);
     compile_body(alloc, code, &mut round, body)?;
     put(code, Instruction::Jump(asks), Some(span))?;
@@ -368,13 +375,13 @@ fn compile_loop_end<'source>(
     code: &mut Instructions<'source>,
     round: &mut Round,
     otherwise: &[Stmt<'source>],
-) -> Result<(), Error>
+) -> Result<(), ErrorKind>
     requires { AreRunnableStatements true (statements_in otherwise.now) }
     ensures lowered { OnOk result
         (Lowers (loop_end_code (statements_in otherwise.now) (statements_code (ways_of round.old) (statements_in otherwise.now)))
         (loop_end_places (statements_in otherwise.now) (breaks_in (ways_of round.old) (statements_in otherwise.now)))
         code.old code.new round.old round.new) }
-    ensures refused { IfErr result (TakesNoMore (code_in code.new)) }
+    ensures refused { IfErr result (Refuses (code_in code.new)) }
 {
     if otherwise.is_empty() {
         return put(code, Instruction::PopLoopFrame, None);
@@ -389,15 +396,16 @@ fn compile_loop_end<'source>(
 
 // A condition, with the chain of `elif` behind it, where there is one.
 #[cycle(statement)]
+#[inline(never)]
 fn compile_condition<'source>(
     alloc: Global,
     code: &mut Instructions<'source>,
     round: &mut Round,
     first: &Box<Spanned<IfCond<'source>>>,
-) -> Result<(), Error>
+) -> Result<(), ErrorKind>
     requires { IsRunnableStatement true (condition_of first.now.value.node) }
     ensures lowered { OnOk result (LowersStatement (condition_of first.now.value.node) code.old code.new round.old round.new) }
-    ensures refused { IfErr result (TakesNoMore (code_in code.new)) }
+    ensures refused { IfErr result (Refuses (code_in code.new)) }
 {
     if has_elif(&first.node.false_body) {
         compile_elifs(alloc, code, round, first)
@@ -426,10 +434,10 @@ fn compile_alone<'source>(
     round: &mut Round,
     condition: &IfCond<'source>,
     span: Span,
-) -> Result<(), Error>
+) -> Result<(), ErrorKind>
     requires { IsRunnableStatement true (condition_of condition.now) }
     ensures lowered { OnOk result (LowersStatement (condition_of condition.now) code.old code.new round.old round.new) }
-    ensures refused { IfErr result (TakesNoMore (code_in code.new)) }
+    ensures refused { IfErr result (Refuses (code_in code.new)) }
 {
     let end = compile_branch(alloc, code, round, condition, span)?;
     compile_body(alloc, code, round, &condition.false_body)?;
@@ -438,6 +446,7 @@ fn compile_alone<'source>(
 }
 
 // Tells the jump at a place, where there is one, that it leads behind the last instruction.
+#[inline(always)]
 fn tell_end<'source>(code: &mut Instructions<'source>, end: Option<u32>)
     ensures told { code_in code.new ≡ led (length (code_in code.old)) (places_in end) (code_in code.old) }
     ensures same { Keeps code.old code.new }
@@ -455,10 +464,10 @@ fn compile_elifs<'source>(
     code: &mut Instructions<'source>,
     round: &mut Round,
     first: &Box<Spanned<IfCond<'source>>>,
-) -> Result<(), Error>
+) -> Result<(), ErrorKind>
     requires { IsRunnableStatement true (condition_of first.now.value.node) }
     ensures lowered { OnOk result (LowersStatement (condition_of first.now.value.node) code.old code.new round.old round.new) }
-    ensures refused { IfErr result (TakesNoMore (code_in code.new)) }
+    ensures refused { IfErr result (Refuses (code_in code.new)) }
 {
     let mut ends = Vec::new(alloc);
     compile_chain(alloc, code, round, first, &mut ends)?;
@@ -474,11 +483,11 @@ fn compile_chain<'source>(
     round: &mut Round,
     first: &Box<Spanned<IfCond<'source>>>,
     ends: &mut Vec<u32>,
-) -> Result<(), Error>
+) -> Result<(), ErrorKind>
     requires runs { IsRunnableStatement true (condition_of first.now.value.node) }
     requires none { ends.old.items ≡ [] }
     ensures lowered { OnOk result (LowersChain first.now.value.node ends.new.items code.old code.new round.old round.new) }
-    ensures refused { IfErr result (TakesNoMore (code_in code.new)) }
+    ensures refused { IfErr result (Refuses (code_in code.new)) }
 {
     let mut at = first;
     loop {
@@ -506,10 +515,10 @@ fn compile_branch<'source>(
     round: &mut Round,
     condition: &IfCond<'source>,
     span: Span,
-) -> Result<Option<u32>, Error>
+) -> Result<Option<u32>, ErrorKind>
     requires { IsRunnableStatement true (condition_of condition.now) }
     ensures lowered { IfOk result (λ end. LowersBranch condition.now (places_in end) code.old code.new round.old round.new) }
-    ensures refused { IfErr result (TakesNoMore (code_in code.new)) }
+    ensures refused { IfErr result (Refuses (code_in code.new)) }
 {
     compile_expr(alloc, code, &condition.expr)?;
     let next = reserve(code, Leap::IfFalse, None)?;
@@ -524,11 +533,12 @@ fn compile_branch<'source>(
 }
 
 // Keeps a place, where there is one.
-fn keep(places: &mut Vec<u32>, place: Option<u32>) -> Result<(), AllocError>
-    ensures { OnOk result (places.new.items ≡ places.old.items ++ places_in place) }
+fn keep(places: &mut Vec<u32>, place: Option<u32>) -> Result<(), ErrorKind>
+    ensures kept { OnOk result (places.new.items ≡ places.old.items ++ places_in place) }
+    ensures refused { IfErr result (λ kind. kind ≡ ErrorKind.OutOfMemory) }
 {
     if let Some(place) = place {
-        places.push(place)?;
+        return push(places, place);
     }
     Ok(())
 }

@@ -7,14 +7,14 @@ ghost use Rattle.template_walk.specs.Runnable.{IsTarget, AreTargets, AreAssignme
 ghost use Rattle.template_code.specs.Listing.{code_in, TakesNoMore};
 ghost use Rattle.template_compiler_codegen.specs.Statements.{assignments_code, target_code};
 ghost use Rattle.template_compiler_emission.specs.Puts.{Puts};
+ghost use Rattle.template_compiler_statement_codegen.specs.Refusals.{Refuses};
 
+use crate::puts::{compile_expr, put};
 use std::alloc::Global;
 use std::borrow::CowStr;
 use template_code::{Instruction, Instructions};
-use template_compiler_emission::put;
-use template_compiler_expression_codegen::compile_expr;
 use template_tree::{Expr, Span};
-use template_values_errors::Error;
+use template_values_errors::{Error, ErrorKind};
 
 /// Puts the code that stores the value on top in a target behind the instructions: under a name, or
 /// unpacked in a list of targets. Linear in the target.
@@ -22,7 +22,6 @@ use template_values_errors::Error;
 /// # Errors
 ///
 /// Those of [`Instructions::add`].
-#[cycle(target)]
 pub fn compile_assignment<'source>(
     code: &mut Instructions<'source>,
     target: &Expr<'source>,
@@ -31,13 +30,30 @@ pub fn compile_assignment<'source>(
     ensures put { OnOk result (Puts (target_code (expression_of target.now)) code.old code.new) }
     ensures refused { IfErr result (TakesNoMore (code_in code.new)) }
 {
+    match store(code, target) {
+        Ok(()) => Ok(()),
+        Err(kind) => Err(Error::new(kind)),
+    }
+}
+
+// The same. Most targets are names.
+#[cycle(target)]
+#[inline(always)]
+pub(crate) fn store<'source>(
+    code: &mut Instructions<'source>,
+    target: &Expr<'source>,
+) -> Result<(), ErrorKind>
+    requires { IsTarget (expression_of target.now) }
+    ensures put { OnOk result (Puts (target_code (expression_of target.now)) code.old code.new) }
+    ensures refused { IfErr result (Refuses (code_in code.new)) }
+{
     match target {
         Expr::Var(n) => put(
             code,
             Instruction::StoreLocal(CowStr::Borrowed(n.node.id)),
             Some(n.span),
         ),
-        Expr::List(n) => compile_targets(code, &n.node.items, n.span),
+        Expr::List(n) => store_items(code, &n.node.items, n.span),
         Expr::Const(_) => unreachable!(),
         Expr::Slice(_) => unreachable!(),
         Expr::UnaryOp(_) => unreachable!(),
@@ -56,18 +72,19 @@ pub fn compile_assignment<'source>(
 
 // The targets that the items of the value on top go to, from the first to the last.
 #[cycle(target)]
-fn compile_targets<'source>(
+#[inline(never)]
+fn store_items<'source>(
     code: &mut Instructions<'source>,
     targets: &[Expr<'source>],
     span: Span,
-) -> Result<(), Error>
+) -> Result<(), ErrorKind>
     requires { AreTargets (expressions_in targets.now) }
     ensures put { OnOk result (Puts (target_code (list_literal (expressions_in targets.now))) code.old code.new) }
-    ensures refused { IfErr result (TakesNoMore (code_in code.new)) }
+    ensures refused { IfErr result (Refuses (code_in code.new)) }
 {
     put(code, Instruction::UnpackList(targets.len()), Some(span))?;
     for target in targets {
-        compile_assignment(code, target)?;
+        store(code, target)?;
     }
     Ok(())
 }
@@ -87,9 +104,25 @@ pub fn compile_assignments<'source>(
     ensures put { OnOk result (Puts (assignments_code (assignments_in assignments.now)) code.old code.new) }
     ensures refused { IfErr result (TakesNoMore (code_in code.new)) }
 {
+    match store_all(alloc, code, assignments) {
+        Ok(()) => Ok(()),
+        Err(kind) => Err(Error::new(kind)),
+    }
+}
+
+// The same.
+pub(crate) fn store_all<'source>(
+    alloc: Global,
+    code: &mut Instructions<'source>,
+    assignments: &[(Expr<'source>, Expr<'source>)],
+) -> Result<(), ErrorKind>
+    requires { AreAssignments (assignments_in assignments.now) }
+    ensures put { OnOk result (Puts (assignments_code (assignments_in assignments.now)) code.old code.new) }
+    ensures refused { IfErr result (Refuses (code_in code.new)) }
+{
     for (target, value) in assignments {
         compile_expr(alloc, code, value)?;
-        compile_assignment(code, target)?;
+        store(code, target)?;
     }
     Ok(())
 }

@@ -236,7 +236,7 @@ impl<'source> Stmt<'source> {
 
 impl<'source> Drop for Stmt<'source> {
     #[cycle(stmt)]
-    #[inline(never)]
+    #[inline(always)]
     fn drop(self) {
         match self {
             Stmt::EmitRaw(_) => {}

@@ -1,89 +1,140 @@
-use Rattle.std.proofs.Common.{◌≡◌, ◌≤◌, ◌+◌, rules, arith, sym, ap, ◌∙◌, Option, Bor, List as Items}
+use Rattle.std.proofs.Common.{◌≡◌, rules, sym, ap, ◌∙◌, List as Items}
 use Rattle.template_tree.specs.View.{expression_of, expressions_in, links_in, optional_in}
+use Rattle.template_tree.specs.declared.expressions.BinOp.{BinOp as BinOpNode}
 use Rattle.template_tree.specs.declared.expressions.CompareOp.{CompareOp}
 use Rattle.template_tree.specs.declared.expressions.Compare.{Compare, out-Compare}
+use Rattle.template_tree.specs.declared.expressions.GetItem.{GetItem as GetItemNode}
+use Rattle.template_tree.specs.declared.expressions.List.{List as ListNode}
 use Rattle.template_tree.specs.declared.expressions.Map.{Map as MapNode}
 use Rattle.template_tree.specs.declared.expressions.Slice.{Slice as SliceNode}
-use Rattle.template_tree.specs.declared.expressions.Expr.{Expr, size-Expr, the_lemmas}
+use Rattle.template_tree.specs.declared.expressions.Tuple.{Tuple as TupleNode}
+use Rattle.template_tree.specs.declared.expressions.Expr.{Expr, the_lemmas}
 use Rattle.template_tree.specs.declared.span.Spanned.{Spanned}
-use Rattle.template_tree.proofs.Rows.{expressions_row}
-use Rattle.template_tree_nodes.specs.Constructs.{has_walk}
-use Rattle.template_compiler_runnable.specs.Running.{all_run, chain_runs, left_deep, left_runs, runs_beside, runs_if_given}
-use Rattle.template_compiler_runnable.proofs.Parts.{goes_left, left_within, chain_beside, map_beside, slice_beside, first_fails, then}
+use Rattle.template_compiler_runnable.specs.Running.{all_run, chain_runs, runs, runs_if_given}
+use Rattle.template_compiler_runnable.proofs.Parts.{all_bounds, beside_fails, binary_runs, chain_all_runs, first_fails, goes_left, item_runs, list_runs, map_runs, no_start, no_stop, no_step, slice_runs, then, tuple_runs}
 use Rattle.template_compiler_runnable.proofs.expressions.+expression.Goals as goal
 
-pub expression_runs-others_run-requires : goal.expression_runs-others_run-requires
-expression_runs-others_run-requires t c =
-    let deep : left_deep c.loop-left_part.left_part ≡ size-Expr c.in-Some.part.now + 1 = ap (λ (o : Option (Bor Expr)). left_deep o) c.in-Some.is in
-    let inside : left_deep c.loop-left_part.left_part ≤ size-Expr c.args.expr.now + 1 = c.loop-left_part.invariant.deep in
-    (omega (arith, inside, deep, c.decreases), tt)
+pub expression_runs-returns-in-Filter : goal.expression_runs-returns-in-Filter
+expression_runs-returns-in-Filter t c = ap (λ (x : Expr). runs (expression_of x)) (sym c.in-Filter.is) ∙ sym c.loop-at.invariant.decides
 
-pub expression_runs-loop-left_part-preserved : goal.expression_runs-loop-left_part-preserved
-expression_runs-loop-left_part-preserved t c =
-    let deep : left_deep c.loop-left_part.left_part ≡ size-Expr c.in-Some.part.now + 1 = ap (λ (o : Option (Bor Expr)). left_deep o) c.in-Some.is in
-    let inside : left_deep c.loop-left_part.left_part ≤ size-Expr c.args.expr.now + 1 = c.loop-left_part.invariant.deep in
-    record {
-      decides = c.loop-left_part.invariant.decides ∙ ap (λ (o : Option (Bor Expr)). left_runs o) c.in-Some.is ∙
-          goes_left (expression_of c.in-Some.part.now) c.left-left_part.result c.left-left_part.ensures.left (sym c.others_run.ensures ∙ c.if-not-others_run.false);
-      deep = left_within c.left-left_part.result (size-Expr c.in-Some.part.now) (size-Expr c.args.expr.now) c.left-left_part.ensures.smaller (omega (arith, inside, deep));
-    }
+pub expression_runs-returns-in-Test : goal.expression_runs-returns-in-Test
+expression_runs-returns-in-Test t c = ap (λ (x : Expr). runs (expression_of x)) (sym c.in-Test.is) ∙ sym c.loop-at.invariant.decides
 
-pub others_run-returns-in-Compare : goal.others_run-returns-in-Compare
-others_run-returns-in-Compare t c =
-    let read : c.deref-in-Compare-2.result.now ≡ (out-Compare c.in-Compare.n.value.node).ops.items =
-    c.deref-in-Compare-2.ensures.value ∙ ap (λ (x : Spanned Compare). (out-Compare x.node).ops.items) c.deref-in-Compare.ensures in
-    c.chain_runs.ensures ∙ ap (λ (ls : Items CompareOp). chain_runs (links_in ls)) read ∙
-    sym (chain_beside c.args.expr.now c.in-Compare.n c.in-Compare.is)
+pub expression_runs-returns-in-Call : goal.expression_runs-returns-in-Call
+expression_runs-returns-in-Call t c = ap (λ (x : Expr). runs (expression_of x)) (sym c.in-Call.is) ∙ sym c.loop-at.invariant.decides
 
-pub others_run-returns-in-List : goal.others_run-returns-in-List
-others_run-returns-in-List t c = search (rules, the_lemmas, expressions_row)
+pub expression_runs-returns-in-Const : goal.expression_runs-returns-in-Const
+expression_runs-returns-in-Const t c = ap (λ (x : Expr). runs (expression_of x)) (sym c.in-Const.is) ∙ sym c.loop-at.invariant.decides
 
-pub others_run-returns-in-Tuple : goal.others_run-returns-in-Tuple
-others_run-returns-in-Tuple t c = search (rules, the_lemmas, expressions_row)
+pub expression_runs-returns-then-not-optional_runs : goal.expression_runs-returns-then-not-optional_runs
+expression_runs-returns-then-not-optional_runs t c =
+    let n = c.in-Slice.n.value.node in
+    let start = c.optional_runs.ensures ∙ ap (λ (s : Spanned SliceNode). runs_if_given (optional_in s.node.start)) c.deref.ensures in
+    no_start (runs (expression_of n.expr)) (runs_if_given (optional_in n.start)) (runs_if_given (optional_in n.stop)) (runs_if_given (optional_in n.step))
+    (c.loop-at.invariant.decides ∙ slice_runs c.loop-at.at.now c.in-Slice.n c.in-Slice.is)
+    (sym start ∙ c.if-not-optional_runs.true)
 
-pub others_run-returns-then-not-optional_runs-2 : goal.others_run-returns-then-not-optional_runs-2
-others_run-returns-then-not-optional_runs-2 t c =
+pub expression_runs-returns-then-not-optional_runs-2 : goal.expression_runs-returns-then-not-optional_runs-2
+expression_runs-returns-then-not-optional_runs-2 t c =
+    let n = c.in-Slice.n.value.node in
     let start = c.optional_runs.ensures ∙ ap (λ (s : Spanned SliceNode). runs_if_given (optional_in s.node.start)) c.deref.ensures in
     let stop = c.optional_runs-in-Slice.ensures ∙ ap (λ (s : Spanned SliceNode). runs_if_given (optional_in s.node.stop)) c.deref.ensures in
-    first_fails _ (then _ (slice_beside c.args.expr.now c.in-Slice.n c.in-Slice.is) (sym start ∙ c.if-not-optional_runs.false))
-    (sym stop ∙ c.if-not-optional_runs-2.true)
+    no_stop (runs (expression_of n.expr)) (runs_if_given (optional_in n.start)) (runs_if_given (optional_in n.stop)) (runs_if_given (optional_in n.step))
+    (c.loop-at.invariant.decides ∙ slice_runs c.loop-at.at.now c.in-Slice.n c.in-Slice.is)
+    (sym start ∙ c.if-not-optional_runs.false) (sym stop ∙ c.if-not-optional_runs-2.true)
 
-pub others_run-returns-else-not-optional_runs-2 : goal.others_run-returns-else-not-optional_runs-2
-others_run-returns-else-not-optional_runs-2 t c =
+pub expression_runs-returns-then-not-optional_runs-3 : goal.expression_runs-returns-then-not-optional_runs-3
+expression_runs-returns-then-not-optional_runs-3 t c =
+    let n = c.in-Slice.n.value.node in
     let start = c.optional_runs.ensures ∙ ap (λ (s : Spanned SliceNode). runs_if_given (optional_in s.node.start)) c.deref.ensures in
     let stop = c.optional_runs-in-Slice.ensures ∙ ap (λ (s : Spanned SliceNode). runs_if_given (optional_in s.node.stop)) c.deref.ensures in
     let step = c.optional_runs-in-Slice-2.ensures ∙ ap (λ (s : Spanned SliceNode). runs_if_given (optional_in s.node.step)) c.deref.ensures in
-    step ∙ sym (then _ (then _ (slice_beside c.args.expr.now c.in-Slice.n c.in-Slice.is) (sym start ∙ c.if-not-optional_runs.false))
-    (sym stop ∙ c.if-not-optional_runs-2.false))
+    no_step (runs (expression_of n.expr)) (runs_if_given (optional_in n.start)) (runs_if_given (optional_in n.stop)) (runs_if_given (optional_in n.step))
+    (c.loop-at.invariant.decides ∙ slice_runs c.loop-at.at.now c.in-Slice.n c.in-Slice.is)
+    (sym start ∙ c.if-not-optional_runs.false) (sym stop ∙ c.if-not-optional_runs-2.false) (sym step ∙ c.if-not-optional_runs-3.true)
 
-pub others_run-returns-then-not-items_run : goal.others_run-returns-then-not-items_run
-others_run-returns-then-not-items_run t c =
+pub expression_runs-loop-at-preserved-else-not-optional_runs-3 : goal.expression_runs-loop-at-preserved-else-not-optional_runs-3
+expression_runs-loop-at-preserved-else-not-optional_runs-3 t c =
+    let n = c.in-Slice.n.value.node in
+    let start = c.optional_runs.ensures ∙ ap (λ (s : Spanned SliceNode). runs_if_given (optional_in s.node.start)) c.deref.ensures in
+    let stop = c.optional_runs-in-Slice.ensures ∙ ap (λ (s : Spanned SliceNode). runs_if_given (optional_in s.node.stop)) c.deref.ensures in
+    let step = c.optional_runs-in-Slice-2.ensures ∙ ap (λ (s : Spanned SliceNode). runs_if_given (optional_in s.node.step)) c.deref.ensures in
+    record {
+      decides = all_bounds (runs (expression_of n.expr)) (runs_if_given (optional_in n.start)) (runs_if_given (optional_in n.stop)) (runs_if_given (optional_in n.step))
+          (c.loop-at.invariant.decides ∙ slice_runs c.loop-at.at.now c.in-Slice.n c.in-Slice.is)
+          (sym start ∙ c.if-not-optional_runs.false) (sym stop ∙ c.if-not-optional_runs-2.false) (sym step ∙ c.if-not-optional_runs-3.false) ∙
+          ap (λ (s : Spanned SliceNode). runs (expression_of s.node.expr)) (sym c.deref.ensures);
+      deep = search (rules, the_lemmas);
+    }
+
+pub expression_runs-returns-then-not-operand_runs : goal.expression_runs-returns-then-not-operand_runs
+expression_runs-returns-then-not-operand_runs t c =
+    let beside = c.operand_runs.ensures ∙ ap (λ (s : Spanned BinOpNode). runs (expression_of s.node.right)) c.deref-in-BinOp.ensures in
+    beside_fails _ (c.loop-at.invariant.decides ∙ binary_runs c.loop-at.at.now c.in-BinOp.n c.in-BinOp.is) (sym beside ∙ c.if-not-operand_runs.true)
+
+pub expression_runs-loop-at-preserved-else-not-operand_runs : goal.expression_runs-loop-at-preserved-else-not-operand_runs
+expression_runs-loop-at-preserved-else-not-operand_runs t c =
+    let beside = c.operand_runs.ensures ∙ ap (λ (s : Spanned BinOpNode). runs (expression_of s.node.right)) c.deref-in-BinOp.ensures in
+    record {
+      decides = goes_left _ (c.loop-at.invariant.decides ∙ binary_runs c.loop-at.at.now c.in-BinOp.n c.in-BinOp.is) (sym beside ∙ c.if-not-operand_runs.false) ∙
+          ap (λ (s : Spanned BinOpNode). runs (expression_of s.node.left)) (sym c.deref-in-BinOp.ensures);
+      deep = search (rules, the_lemmas);
+    }
+
+pub expression_runs-returns-then-not-operand_runs-2 : goal.expression_runs-returns-then-not-operand_runs-2
+expression_runs-returns-then-not-operand_runs-2 t c =
+    let beside = c.operand_runs-in-GetItem.ensures ∙ ap (λ (s : Spanned GetItemNode). runs (expression_of s.node.subscript_expr)) c.deref-in-GetItem.ensures in
+    beside_fails _ (c.loop-at.invariant.decides ∙ item_runs c.loop-at.at.now c.in-GetItem.n c.in-GetItem.is) (sym beside ∙ c.if-not-operand_runs-2.true)
+
+pub expression_runs-loop-at-preserved : goal.expression_runs-loop-at-preserved
+expression_runs-loop-at-preserved t c =
+    let beside = c.operand_runs-in-GetItem.ensures ∙ ap (λ (s : Spanned GetItemNode). runs (expression_of s.node.subscript_expr)) c.deref-in-GetItem.ensures in
+    record {
+      decides = goes_left _ (c.loop-at.invariant.decides ∙ item_runs c.loop-at.at.now c.in-GetItem.n c.in-GetItem.is) (sym beside ∙ c.if-not-operand_runs-2.false) ∙
+          ap (λ (s : Spanned GetItemNode). runs (expression_of s.node.expr)) (sym c.deref-in-GetItem.ensures);
+      deep = search (rules, the_lemmas);
+    }
+
+pub expression_runs-returns-then-not-chain_runs : goal.expression_runs-returns-then-not-chain_runs
+expression_runs-returns-then-not-chain_runs t c =
+    let read : c.deref-in-Compare-2.result.now ≡ (out-Compare c.in-Compare.n.value.node).ops.items =
+    c.deref-in-Compare-2.ensures.value ∙ ap (λ (x : Spanned Compare). (out-Compare x.node).ops.items) c.deref-in-Compare.ensures in
+    let beside = c.chain_runs.ensures ∙ ap (λ (ls : Items CompareOp). chain_runs (links_in ls)) read in
+    beside_fails _ (c.loop-at.invariant.decides ∙ chain_all_runs c.loop-at.at.now c.in-Compare.n c.in-Compare.is) (sym beside ∙ c.if-not-chain_runs.true)
+
+pub expression_runs-loop-at-preserved-else-not-chain_runs : goal.expression_runs-loop-at-preserved-else-not-chain_runs
+expression_runs-loop-at-preserved-else-not-chain_runs t c =
+    let read : c.deref-in-Compare-2.result.now ≡ (out-Compare c.in-Compare.n.value.node).ops.items =
+    c.deref-in-Compare-2.ensures.value ∙ ap (λ (x : Spanned Compare). (out-Compare x.node).ops.items) c.deref-in-Compare.ensures in
+    let beside = c.chain_runs.ensures ∙ ap (λ (ls : Items CompareOp). chain_runs (links_in ls)) read in
+    record {
+      decides = goes_left _ (c.loop-at.invariant.decides ∙ chain_all_runs c.loop-at.at.now c.in-Compare.n c.in-Compare.is) (sym beside ∙ c.if-not-chain_runs.false) ∙
+          ap (λ (s : Spanned Compare). runs (expression_of (out-Compare s.node).expr)) (sym c.deref-in-Compare.ensures);
+      deep = search (rules, the_lemmas);
+    }
+
+pub expression_runs-returns-in-List : goal.expression_runs-returns-in-List
+expression_runs-returns-in-List t c =
+    let read = c.deref-in-List-2.ensures.value ∙ ap (λ (l : Spanned ListNode). l.node.items.items) c.deref-in-List.ensures in
+    c.items_run.ensures ∙ ap (λ (es : Items Expr). all_run (expressions_in es)) read ∙
+    sym (c.loop-at.invariant.decides ∙ list_runs c.loop-at.at.now c.in-List.n c.in-List.is)
+
+pub expression_runs-returns-in-Tuple : goal.expression_runs-returns-in-Tuple
+expression_runs-returns-in-Tuple t c =
+    let read = c.deref-in-Tuple-2.ensures.value ∙ ap (λ (l : Spanned TupleNode). l.node.items.items) c.deref-in-Tuple.ensures in
+    c.items_run-in-Tuple.ensures ∙ ap (λ (es : Items Expr). all_run (expressions_in es)) read ∙
+    sym (c.loop-at.invariant.decides ∙ tuple_runs c.loop-at.at.now c.in-Tuple.n c.in-Tuple.is)
+
+pub expression_runs-returns-then-not-items_run : goal.expression_runs-returns-then-not-items_run
+expression_runs-returns-then-not-items_run t c =
     let keys = c.items_run-in-Map.ensures ∙ ap (λ (es : Items Expr). all_run (expressions_in es))
     (c.deref-in-Map-2.ensures.value ∙ ap (λ (m : Spanned MapNode). m.node.keys.items) c.deref-in-Map.ensures) in
-    first_fails _ (map_beside c.args.expr.now c.in-Map.n c.in-Map.is) (sym keys ∙ c.if-not-items_run.true)
+    first_fails _ (c.loop-at.invariant.decides ∙ map_runs c.loop-at.at.now c.in-Map.n c.in-Map.is) (sym keys ∙ c.if-not-items_run.true)
 
-pub others_run-returns-else-not-items_run : goal.others_run-returns-else-not-items_run
-others_run-returns-else-not-items_run t c =
+pub expression_runs-returns-in-Map : goal.expression_runs-returns-in-Map
+expression_runs-returns-in-Map t c =
     let keys = c.items_run-in-Map.ensures ∙ ap (λ (es : Items Expr). all_run (expressions_in es))
     (c.deref-in-Map-2.ensures.value ∙ ap (λ (m : Spanned MapNode). m.node.keys.items) c.deref-in-Map.ensures) in
     let values = c.items_run-in-Map-2.ensures ∙ ap (λ (es : Items Expr). all_run (expressions_in es))
     (c.deref-in-Map-4.ensures.value ∙ ap (λ (m : Spanned MapNode). m.node.values.items) c.deref-in-Map-3.ensures) in
-    values ∙ sym (then _ (map_beside c.args.expr.now c.in-Map.n c.in-Map.is) (sym keys ∙ c.if-not-items_run.false))
-
-pub others_run-returns-in-Filter : goal.others_run-returns-in-Filter
-others_run-returns-in-Filter t c =
-    c.has_walk.ensures ∙ ap (λ (x : Expr). has_walk (expression_of x)) c.in-Filter.is ∙ ap (λ (x : Expr). runs_beside (expression_of x)) (sym c.in-Filter.is)
-
-pub others_run-returns-in-Test : goal.others_run-returns-in-Test
-others_run-returns-in-Test t c =
-    c.has_walk-in-Test.ensures ∙ ap (λ (x : Expr). has_walk (expression_of x)) c.in-Test.is ∙ ap (λ (x : Expr). runs_beside (expression_of x)) (sym c.in-Test.is)
-
-pub others_run-returns-in-Call : goal.others_run-returns-in-Call
-others_run-returns-in-Call t c =
-    c.has_walk-in-Call.ensures ∙ ap (λ (x : Expr). has_walk (expression_of x)) c.in-Call.is ∙ ap (λ (x : Expr). runs_beside (expression_of x)) (sym c.in-Call.is)
-
-pub others_run-returns-in-GetAttr : goal.others_run-returns-in-GetAttr
-others_run-returns-in-GetAttr t c = ap (λ (x : Expr). runs_beside (expression_of x)) (sym c.in-GetAttr.is)
-
-pub others_run-returns-in-Const : goal.others_run-returns-in-Const
-others_run-returns-in-Const t c = ap (λ (x : Expr). runs_beside (expression_of x)) (sym c.in-Const.is)
+    values ∙ sym (then _ (c.loop-at.invariant.decides ∙ map_runs c.loop-at.at.now c.in-Map.n c.in-Map.is) (sym keys ∙ c.if-not-items_run.false))

@@ -87,16 +87,16 @@ parts_run-returns-else-not-operand_runs-3 t c =
 pub parts_run-returns-in-CallBlock : goal.parts_run-returns-in-CallBlock
 parts_run-returns-in-CallBlock t c = no_call c.args.looping c.args.statement.now c.in-CallBlock.field-0 c.in-CallBlock.is
 
-pub statement_runs-returns-then-not-statements_run : goal.statement_runs-returns-then-not-statements_run
-statement_runs-returns-then-not-statements_run t c =
+pub bodies_run-returns-then-not-statements_run : goal.bodies_run-returns-then-not-statements_run
+bodies_run-returns-then-not-statements_run t c =
     let test = c.operand_runs.ensures ∙ ap (λ (f : Spanned IfCondNode). runs (expression_of f.node.expr)) c.deref.ensures in
     let body = c.statements_run.ensures ∙ ap (λ (ss : List Stmt). statements_run c.args.looping (statements_in ss))
     (c.deref-in-IfCond.ensures.value ∙ ap (λ (f : Spanned IfCondNode). f.node.true_body.items) c.deref.ensures) in
     let whole = if_runs c.args.looping c.loop-at.at.now c.in-IfCond.n c.in-IfCond.is in
     first_fails _ (then _ (c.loop-at.invariant.decides ∙ whole) (sym test ∙ c.if-not-operand_runs.false)) (sym body ∙ c.if-not-statements_run.true)
 
-pub statement_runs-loop-at-preserved : goal.statement_runs-loop-at-preserved
-statement_runs-loop-at-preserved t c =
+pub bodies_run-loop-at-preserved : goal.bodies_run-loop-at-preserved
+bodies_run-loop-at-preserved t c =
     let test = c.operand_runs.ensures ∙ ap (λ (f : Spanned IfCondNode). runs (expression_of f.node.expr)) c.deref.ensures in
     let body = c.statements_run.ensures ∙ ap (λ (ss : List Stmt). statements_run c.args.looping (statements_in ss))
     (c.deref-in-IfCond.ensures.value ∙ ap (λ (f : Spanned IfCondNode). f.node.true_body.items) c.deref.ensures) in
@@ -108,13 +108,13 @@ statement_runs-loop-at-preserved t c =
     let counted = c.len.ensures in
     let tested = c.if-len-ne1.false in
     let one : length items ≡ 1 = omega (arith, shared, counted, tested, v.false_body.ok.0) in
-    let at : c.index.result.now ≡ get_or items 0 c.index.result.now =
-    c.index.ensures ∙ ap (λ (f : Spanned IfCondNode). get_or f.node.false_body.items 0 c.index.result.now) c.deref.ensures in
-    let within = else_smaller c.loop-at.at.now c.in-IfCond.n 0 c.index.result.now c.in-IfCond.is (omega (arith, one)) in
-    let same : size-Stmt c.index.result.now ≡ size-Stmt (get_or items 0 c.index.result.now) = ap (λ (s : Stmt). size-Stmt s) at in
+    let at : c.index-at.result.now ≡ get_or items 0 c.index-at.result.now =
+    c.index-at.ensures ∙ ap (λ (f : Spanned IfCondNode). get_or f.node.false_body.items 0 c.index-at.result.now) c.deref.ensures in
+    let within = else_smaller c.loop-at.at.now c.in-IfCond.n 0 c.index-at.result.now c.in-IfCond.is (omega (arith, one)) in
+    let same : size-Stmt c.index-at.result.now ≡ size-Stmt (get_or items 0 c.index-at.result.now) = ap (λ (s : Stmt). size-Stmt s) at in
     let deep : size-Stmt c.loop-at.at.now ≤ size-Stmt c.args.statement.now = c.loop-at.invariant.deep in
     record {
-      decides = c.loop-at.invariant.decides ∙ others ∙ only_runs c.args.looping items c.index.result.now one at;
+      decides = c.loop-at.invariant.decides ∙ others ∙ only_runs c.args.looping items c.index-at.result.now one at;
       deep = omega (arith, within, same, deep);
     }
 

@@ -6,8 +6,8 @@ use Rattle.template_tree_parts.specs.Listed.{statements_in}
 use Rattle.template_compiler_runnable.specs.Running.{statement_runs, statements_run}
 use Rattle.template_compiler_runnable.proofs.statements.+statement.Given as goal
 
-abbrev pub invariant-statement_runs-loop-at : goal.invariant-statement_runs-loop-at
-invariant-statement_runs-loop-at l = record {
+abbrev pub invariant-bodies_run-loop-at : goal.invariant-bodies_run-loop-at
+invariant-bodies_run-loop-at l = record {
   decides : statement_runs l.looping (statement_of l.fn.statement) ≡ statement_runs l.looping (statement_of l.at);
   deep : size-Stmt l.at ≤ size-Stmt l.fn.statement;
 }

@@ -58,12 +58,12 @@ compile_branch-returns-clause-lowered t c =
 pub compile_closed-returns-clause-lowered : goal.compile_closed-returns-clause-lowered
 compile_closed-returns-clause-lowered t c =
     let r = c.args.round.now in
-    let inside : Round = record { asks = r.asks; closings = c.push.new.self; breaks = r.breaks } in
+    let inside : Round = record { asks = r.asks; closings = c.push.new.items; breaks = r.breaks } in
     let behind = c.compile_body.new.round in
     let last : Round = record { asks = behind.asks; closings = c.truncate.new.self; breaks = behind.breaks } in
     let long : c.len-open.result ≡ length r.closings.items = omega (arith, c.len-open.ensures, r.closings.ok.0) in
     on_ok_weaker c.put.result (λ closed.
-    lowers_closed c.args.closing (statements_in c.args.body.now) r inside behind last c.len-open.result c.in_ok-push.ensures.items refl refl
+    lowers_closed c.args.closing (statements_in c.args.body.now) r inside behind last c.len-open.result c.in_ok-push.ensures.pushed refl refl
     c.in_ok-compile_body.ensures.lowered long c.truncate.ensures.items refl refl (puts_as c.instruction.ensures closed)) c.put.ensures.put
 
 pub compile_elifs-returns-clause-lowered : goal.compile_elifs-returns-clause-lowered
@@ -117,14 +117,14 @@ pub compile_chain-returns-then-len-ne1-clause-lowered : goal.compile_chain-retur
 compile_chain-returns-then-len-ne1-clause-lowered t c = on_ok_weaker c.compile_body.result (λ last.
     chain_ends c.args.first.now.value.node c.loop-end.at.now.value.node c.deref.result.now.node c.deref-then-len-ne1.result.now c.loop-end.ends.items
     (places_in c.in_ok-end.end) c.keep.new.places.items (ap (λ (x : Spanned IfCondNode). x.node) c.deref.ensures)
-    (c.deref-then-len-ne1.ensures.value ∙ ap (λ (x : Spanned IfCondNode). x.node.false_body.items) c.deref.ensures) c.in_ok-keep.ensures
+    (c.deref-then-len-ne1.ensures.value ∙ ap (λ (x : Spanned IfCondNode). x.node.false_body.items) c.deref.ensures) c.in_ok-keep.ensures.kept
     c.loop-end.invariant.chain c.in_ok-end.ensures.lowered last) c.compile_body.ensures.lowered
 
 pub compile_chain-returns-in_default-clause-lowered : goal.compile_chain-returns-in_default-clause-lowered
 compile_chain-returns-in_default-clause-lowered t c = on_ok_weaker c.compile_body-in_default.result (λ last.
     chain_ends c.args.first.now.value.node c.loop-end.at.now.value.node c.deref.result.now.node c.deref-in_default.result.now c.loop-end.ends.items
     (places_in c.in_ok-end.end) c.keep.new.places.items (ap (λ (x : Spanned IfCondNode). x.node) c.deref.ensures)
-    (c.deref-in_default.ensures.value ∙ ap (λ (x : Spanned IfCondNode). x.node.false_body.items) c.deref.ensures) c.in_ok-keep.ensures
+    (c.deref-in_default.ensures.value ∙ ap (λ (x : Spanned IfCondNode). x.node.false_body.items) c.deref.ensures) c.in_ok-keep.ensures.kept
     c.loop-end.invariant.chain c.in_ok-end.ensures.lowered last) c.compile_body-in_default.ensures.lowered
 
 pub compile_chain-loop-end-preserved : goal.compile_chain-loop-end-preserved
@@ -138,7 +138,7 @@ compile_chain-loop-end-preserved t c =
     let tree = elif_tree at.false_body.items c.index.result.now c.in-IfCond.n later one read c.in-IfCond.is refl in
     record {
       chain = chain_next c.args.first.now.value.node at c.deref.result.now.node later c.loop-end.ends.items (places_in c.in_ok-end.end) c.keep.new.places.items
-          (ap (λ (x : Spanned IfCondNode). x.node) c.deref.ensures) tree c.in_ok-keep.ensures c.loop-end.invariant.chain c.in_ok-end.ensures.lowered;
+          (ap (λ (x : Spanned IfCondNode). x.node) c.deref.ensures) tree c.in_ok-keep.ensures.kept c.loop-end.invariant.chain c.in_ok-end.ensures.lowered;
       runs = later_runs at later c.loop-end.invariant.runs tree;
       deep = omega (arith, elif_smaller at.false_body.items c.index.result.now c.in-IfCond.n later one read c.in-IfCond.is refl, c.loop-end.invariant.deep);
     }
@@ -165,7 +165,7 @@ pub compile_rounds-returns-clause-put : goal.compile_rounds-returns-clause-put
 compile_rounds-returns-clause-put t c =
     puts_rounds (target_code (expression_of c.args.target.now)) (statements_in c.args.body.now) c.in_ok-asks.asks c.new-round.result c.compile_body.new.round
     c.in_ok-asks.ensures.place c.new-round.ensures.asks c.new-round.ensures.closings c.new-round.ensures.breaks c.in_ok-asks.ensures.put
-    c.in_ok-compile_assignment.ensures.put c.in_ok-compile_body.ensures.lowered c.in_ok-put.ensures.put c.land.ensures.landed c.land.ensures.same
+    c.in_ok-store.ensures.put c.in_ok-compile_body.ensures.lowered c.in_ok-put.ensures.put c.land.ensures.landed c.land.ensures.same
     c.tell_breaks.ensures.told c.tell_breaks.ensures.same
 
 pub compile_any-unreachable-requires-in-CallBlock : goal.compile_any-unreachable-requires-in-CallBlock
@@ -190,27 +190,26 @@ pub compile_any-compile_loop-requires : goal.compile_any-compile_loop-requires
 compile_any-compile_loop-requires t c =
     let s = c.args.statement.now in
     let n = c.in-ForLoop.n in
-    let target = c.deref-in-ForLoop.result.now.node.target in
-    let e = c.deref-in-ForLoop.result.now.node.iter in
-    let body = c.deref-in-ForLoop-2.result.now in
-    let other = c.deref-in-ForLoop-3.result.now in
-    let body_is = c.deref-in-ForLoop-2.ensures.value ∙ ap (λ (l : Spanned ForLoopNode). l.node.body.items) c.deref-in-ForLoop.ensures in
-    let other_is = c.deref-in-ForLoop-3.ensures.value ∙ ap (λ (l : Spanned ForLoopNode). l.node.else_body.items) c.deref-in-ForLoop.ensures in
-    let tree = loop_is s n target e body other c.requires c.in-ForLoop.is (ap (λ (l : Spanned ForLoopNode). l.node.target) c.deref-in-ForLoop.ensures)
-    (ap (λ (l : Spanned ForLoopNode). l.node.iter) c.deref-in-ForLoop.ensures) body_is other_is in
-    let runs : IsRunnableStatement true (for_loop (expression_of target) (expression_of e) absent false (statements_in body) (statements_in other)) =
+    let v = c.deref-in-ForLoop.result.now.node in
+    let is = ap (λ (l : Spanned ForLoopNode). l.node) c.deref-in-ForLoop.ensures in
+    let body_is = ap (λ (l : ForLoopNode). l.body.items) is in
+    let other_is = ap (λ (l : ForLoopNode). l.else_body.items) is in
+    let tree = loop_is s n v.target v.iter v.body.items v.else_body.items c.requires c.in-ForLoop.is (ap (λ (l : ForLoopNode). l.target) is)
+    (ap (λ (l : ForLoopNode). l.iter) is) body_is other_is in
+    let runs : IsRunnableStatement true
+    (for_loop (expression_of v.target) (expression_of v.iter) absent false (statements_in v.body.items) (statements_in v.else_body.items)) =
     subst (λ (x : Statement). IsRunnableStatement true x) tree c.requires in (
-      omega (arith, loop_deep s n body c.in-ForLoop.is body_is, loop_other_deep s n other c.in-ForLoop.is other_is, c.decreases),
+      omega (arith, loop_deep s n v.body.items c.in-ForLoop.is body_is, loop_other_deep s n v.else_body.items c.in-ForLoop.is other_is, c.decreases),
       (runs.0, (runs.1, (runs.2, runs.3))),
     )
 
 pub compile_any-returns-in-ForLoop-clause-lowered : goal.compile_any-returns-in-ForLoop-clause-lowered
 compile_any-returns-in-ForLoop-clause-lowered t c =
-    let tree = loop_is c.args.statement.now c.in-ForLoop.n c.deref-in-ForLoop.result.now.node.target c.deref-in-ForLoop.result.now.node.iter
-    c.deref-in-ForLoop-2.result.now c.deref-in-ForLoop-3.result.now c.requires c.in-ForLoop.is
-    (ap (λ (l : Spanned ForLoopNode). l.node.target) c.deref-in-ForLoop.ensures) (ap (λ (l : Spanned ForLoopNode). l.node.iter) c.deref-in-ForLoop.ensures)
-    (c.deref-in-ForLoop-2.ensures.value ∙ ap (λ (l : Spanned ForLoopNode). l.node.body.items) c.deref-in-ForLoop.ensures)
-    (c.deref-in-ForLoop-3.ensures.value ∙ ap (λ (l : Spanned ForLoopNode). l.node.else_body.items) c.deref-in-ForLoop.ensures) in
+    let v = c.deref-in-ForLoop.result.now.node in
+    let is = ap (λ (l : Spanned ForLoopNode). l.node) c.deref-in-ForLoop.ensures in
+    let tree = loop_is c.args.statement.now c.in-ForLoop.n v.target v.iter v.body.items v.else_body.items c.requires c.in-ForLoop.is
+    (ap (λ (l : ForLoopNode). l.target) is) (ap (λ (l : ForLoopNode). l.iter) is) (ap (λ (l : ForLoopNode). l.body.items) is)
+    (ap (λ (l : ForLoopNode). l.else_body.items) is) in
     rw tree c.compile_loop.ensures.lowered
 
 pub compile_any-compile_with-requires : goal.compile_any-compile_with-requires
@@ -256,9 +255,9 @@ compile_any-returns-in-AutoEscape-clause-lowered t c =
     rw tree c.compile_auto_escape.ensures.lowered
 
 pub compile_loop-returns-clause-lowered : goal.compile_loop-returns-clause-lowered
-compile_loop-returns-clause-lowered t c = on_ok_weaker c.compile_loop_end.result (λ last.
+compile_loop-returns-clause-lowered t c = rw (sym c.deref.ensures.value, sym c.deref-2.ensures.value) (on_ok_weaker c.compile_loop_end.result (λ last.
     lowers_behind c.in_ok-compile_expr.ensures.put
-    (lowers_behind c.in_ok-put.ensures.put (lowers_behind c.in_ok-compile_rounds.ensures.put last))) c.compile_loop_end.ensures.lowered
+    (lowers_behind c.in_ok-put.ensures.put (lowers_behind c.in_ok-compile_rounds.ensures.put last))) c.compile_loop_end.ensures.lowered)
 
 pub compile_any-unreachable-requires : goal.compile_any-unreachable-requires
 compile_any-unreachable-requires t c = subst (λ (s : Stmt). IsRunnableStatement true (statement_of s)) c.in-Template.is c.requires

@@ -23,7 +23,7 @@ abbrev pub decreases-compile_auto_escape : goal.decreases-compile_auto_escape
 decreases-compile_auto_escape l = 8 * body_deep l.body.now + 4
 
 abbrev pub decreases-compile_loop : goal.decreases-compile_loop
-decreases-compile_loop l = 8 * max (body_deep l.body.now) (body_deep l.otherwise.now) + 4
+decreases-compile_loop l = 8 * max (body_deep l.node.now.body.items) (body_deep l.node.now.else_body.items) + 4
 
 abbrev pub decreases-compile_rounds : goal.decreases-compile_rounds
 decreases-compile_rounds l = 8 * body_deep l.body.now + 3

@@ -1,4 +1,3 @@
-use Rattle.std.proofs.lemmas.Result.{on_ok_weaker}
 use Rattle.template_tree_statements.specs.View.{statement_of}
 use Rattle.template_tree_parts.specs.Listed.{statements_in}
 use Rattle.template_compiler_statement_codegen.specs.Listed.{body_in}
@@ -8,7 +7,7 @@ use Rattle.template_compiler_statement_codegen.proofs.statements.compile_templat
 pub compile_body-requires : goal.compile_body-requires
 compile_body-requires c = tree_runs (statement_of c.args.tree.now) (statements_in c.children.result.now) c.children.ensures c.requires
 
-pub returns-clause-put : goal.returns-clause-put
-returns-clause-put c = on_ok_weaker c.compile_body.result (λ lowered.
+pub returns-in-Ok-clause-put : goal.returns-in-Ok-clause-put
+returns-in-Ok-clause-put c =
     puts_template (statements_in c.children.result.now) (body_in (statement_of c.args.tree.now)) c.new-round.result c.compile_body.new.round c.children.ensures
-    c.new-round.ensures.asks c.new-round.ensures.closings lowered) c.compile_body.ensures.lowered
+    c.new-round.ensures.asks c.new-round.ensures.closings c.in-Ok.ensures.lowered

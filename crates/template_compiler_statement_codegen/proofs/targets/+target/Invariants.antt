@@ -10,13 +10,13 @@ use Rattle.template_compiler_emission.specs.Puts.{Puts}
 use Rattle.template_compiler_expression_codegen.proofs.Sizes.{items_deep}
 use Rattle.template_compiler_statement_codegen.proofs.targets.+target.Given as goal
 
-abbrev pub decreases-compile_assignment : goal.decreases-compile_assignment
-decreases-compile_assignment l = 2 * size-Expr l.target.now + 1
+abbrev pub decreases-store : goal.decreases-store
+decreases-store l = 2 * size-Expr l.target.now + 1
 
-abbrev pub decreases-compile_targets : goal.decreases-compile_targets
-decreases-compile_targets l = 2 * items_deep l.targets.now + 2
+abbrev pub decreases-store_items : goal.decreases-store_items
+decreases-store_items l = 2 * items_deep l.targets.now + 2
 
-abbrev pub invariant-compile_targets-loop-target : goal.invariant-compile_targets-loop-target
-invariant-compile_targets-loop-target l =
+abbrev pub invariant-store_items-loop-target : goal.invariant-store_items-loop-target
+invariant-store_items-loop-target l =
     Puts (then_code (one (unpack_list (number_of (expressions_in l.targets)))) (targets_code (expressions_in (take l.target-index l.targets))))
     l.fn.code l.code

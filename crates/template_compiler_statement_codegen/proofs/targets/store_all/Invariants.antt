@@ -3,7 +3,7 @@ use Rattle.std.proofs.Common.{take}
 use Rattle.template_tree_statements.specs.View.{assignments_in}
 use Rattle.template_compiler_codegen.specs.Statements.{assignments_code}
 use Rattle.template_compiler_emission.specs.Puts.{Puts}
-use Rattle.template_compiler_statement_codegen.proofs.targets.compile_assignments.Given as goal
+use Rattle.template_compiler_statement_codegen.proofs.targets.store_all.Given as goal
 
 abbrev pub invariant-loop-target : goal.invariant-loop-target
 invariant-loop-target l = Puts (assignments_code (assignments_in (take l.target-index l.assignments))) l.initial.code l.code
