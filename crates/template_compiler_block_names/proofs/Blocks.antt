@@ -118,6 +118,12 @@ body_item ns ms xs i x within read taken left =
     behind ns ms (blocks_in (statement_of x)) (blocks_of (drop (i + 1) xs)) taken
     (ap (λ (ss : List Stmt). ns ++ blocks_of ss) (sym (drop_at xs i x within read)) ∙ left)
 
+-- one without a block
+pub body_skipped : {all : List (List ℕ)} (ns : List (List ℕ)) (xs : List Stmt) (i : ℕ) (x : Stmt) → i < length xs → x ≡ get_or xs i x →
+    blocks_in (statement_of x) ≡ [] → ns ++ blocks_of (drop i xs) ≡ all → ns ++ blocks_of (drop (i + 1) xs) ≡ all
+body_skipped ns xs i x within read none left =
+    body_item ns ns xs i x within read (sym (append-nil ns) ∙ ap (λ bs. ns ++ bs) (sym none)) left
+
 pub body_done : {all : List (List ℕ)} (ns : List (List ℕ)) (xs : List Stmt) (i : ℕ) → length xs ≤ i → ns ++ blocks_of (drop i xs) ≡ all → ns ≡ all
 body_done ns xs i past left =
     sym (append-nil ns) ∙ ap (λ (ss : List Stmt). ns ++ blocks_of ss) (sym (drop_none xs i past)) ∙ left

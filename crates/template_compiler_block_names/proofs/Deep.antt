@@ -30,10 +30,13 @@ all_below deep (x ∷ xs) m h all =
     omega (arith, first, rest)
 
 -- measures of the walk: a body in a statement, and a statement in a body
-pub body_falls : (d s r t : ℕ) → d < s → s ≤ r → 2 * r ≡ t → 2 * d + 1 < t
+pub body_falls : (d s r t : ℕ) → d < s → s ≤ r → 3 * r ≡ t → 3 * d + 1 < t
 body_falls d s r t less within is = omega (arith, less, within, is)
 
-pub item_falls : (m d t : ℕ) → m ≤ d → 2 * d + 1 ≡ t → 2 * m < t
+pub body_in_falls : (d s r t : ℕ) → d < s → s ≤ r → 3 * r ≡ t → 3 * d + 2 < t
+body_in_falls d s r t less within is = omega (arith, less, within, is)
+
+pub item_falls : (m d t : ℕ) → m ≤ d → 3 * d + 1 ≡ t → 3 * m < t
 item_falls m d t within is = omega (arith, within, is)
 
 abbrev pub body_deep : Items Stmt → ℕ

@@ -13,10 +13,11 @@ use Rattle.template_tree_statements.specs.declared.statements.Stmt.{Stmt, size-S
 use Rattle.template_compiler_statement_makers.specs.Listed.{statements_in}
 use Rattle.template_compiler_grammar.specs.TemplateTrees.{blocks_among}
 use Rattle.template_compiler_block_names.specs.Waiting.{texts_in}
-use Rattle.template_compiler_block_names.proofs.Deep.{body_deep, deep_at, body_falls, item_falls, template_deep, loop_deep, loop_other_deep, choice_deep, choice_other_deep, with_deep, set_block_deep, escape_deep, filter_block_deep, block_deep, macro_deep}
+use Rattle.template_compiler_block_names.proofs.Deep.{body_deep, deep_at, body_falls, body_in_falls, item_falls, template_deep, loop_deep, loop_other_deep, choice_deep, choice_other_deep, with_deep, set_block_deep, escape_deep, filter_block_deep, block_deep, macro_deep}
 use Rattle.template_compiler_block_names.proofs.Lists.{texts_push}
-use Rattle.template_compiler_block_names.proofs.Blocks.{call_deep, body_item, body_done, parts, nothing, behind, body_behind, body_end, only_blocks, else_less, else_smaller, template_blocks, for_blocks, if_blocks, with_blocks, set_blocks, escape_blocks, filter_blocks, block_blocks, macro_blocks, call_blocks}
+use Rattle.template_compiler_block_names.proofs.Blocks.{call_deep, body_item, body_skipped, body_done, parts, nothing, behind, body_behind, body_end, only_blocks, else_less, else_smaller, template_blocks, for_blocks, if_blocks, with_blocks, set_blocks, escape_blocks, filter_blocks, block_blocks, macro_blocks, call_blocks}
 use Rattle.template_compiler_block_names.proofs.names.+statement.Goals as goal
+use Rattle.template_compiler_block_names.proofs.names.+statement.Goals.{take_names-then-not-is_printed+in_ok-take_names_of, take_names-else-not-is_printed}
 
 pub take_names_of-returns-in-Template : goal.take_names_of-returns-in-Template
 take_names_of-returns-in-Template t c =
@@ -77,8 +78,8 @@ take_names_of-returns-in-ForLoop t c =
     let v = c.in-ForLoop.n.value.node in
     let body = c.deref-in-ForLoop-2.ensures.value ∙ ap (λ (x : Spanned ForLoopNode). x.node.body.items) c.deref-in-ForLoop.ensures in
     let other = c.deref-in-ForLoop-4.ensures.value ∙ ap (λ (x : Spanned ForLoopNode). x.node.else_body.items) c.deref-in-ForLoop-3.ensures in
-    body_end _ _ c.take_names-in-ForLoop-2.result other c.take_names-in-ForLoop-2.ensures
-    (body_behind _ _ (blocks_among (statements_in v.else_body.items)) body c.in_ok-take_names-in-ForLoop.ensures
+    body_end _ _ c.take_names_in-in-ForLoop-2.result other c.take_names_in-in-ForLoop-2.ensures
+    (body_behind _ _ (blocks_among (statements_in v.else_body.items)) body c.in_ok-take_names_in-in-ForLoop.ensures
     (parts (texts_in c.loop-at.names.items) c.in-ForLoop.is (for_blocks c.in-ForLoop.n) c.loop-at.invariant.taken))
 
 pub take_names_of-returns-then-len-ne1 : goal.take_names_of-returns-then-len-ne1
@@ -86,8 +87,8 @@ take_names_of-returns-then-len-ne1 t c =
     let v = c.in-IfCond.n.value.node in
     let body = c.deref-in-IfCond.ensures.value ∙ ap (λ (x : Spanned IfCondNode). x.node.true_body.items) c.deref.ensures in
     let other = c.deref-then-len-ne1.ensures.value ∙ ap (λ (x : Spanned IfCondNode). x.node.false_body.items) c.deref-in-IfCond-2.ensures in
-    body_end _ _ c.take_names-then-len-ne1.result other c.take_names-then-len-ne1.ensures
-    (body_behind _ _ (blocks_among (statements_in v.false_body.items)) body c.in_ok-take_names-in-IfCond.ensures
+    body_end _ _ c.take_names.result other c.take_names.ensures
+    (body_behind _ _ (blocks_among (statements_in v.false_body.items)) body c.in_ok-take_names_in-in-IfCond.ensures
     (parts (texts_in c.loop-at.names.items) c.in-IfCond.is (if_blocks c.in-IfCond.n) c.loop-at.invariant.taken))
 
 pub take_names_of-loop-at-preserved : goal.take_names_of-loop-at-preserved
@@ -95,7 +96,7 @@ take_names_of-loop-at-preserved t c =
     let v = c.in-IfCond.n.value.node in
     let items = v.false_body.items in
     let body = c.deref-in-IfCond.ensures.value ∙ ap (λ (x : Spanned IfCondNode). x.node.true_body.items) c.deref.ensures in
-    let behind_it = body_behind _ _ (blocks_among (statements_in items)) body c.in_ok-take_names-in-IfCond.ensures
+    let behind_it = body_behind _ _ (blocks_among (statements_in items)) body c.in_ok-take_names_in-in-IfCond.ensures
     (parts (texts_in c.loop-at.names.items) c.in-IfCond.is (if_blocks c.in-IfCond.n) c.loop-at.invariant.taken) in
     let shared = ap (λ (x : Spanned IfCondNode). vec_len x.node.false_body) c.deref-in-IfCond-2.ensures in
     let counted = c.len.ensures in
@@ -107,7 +108,7 @@ take_names_of-loop-at-preserved t c =
     let same : size-Stmt c.index.result.now ≡ size-Stmt (get_or items 0 c.index.result.now) = ap (λ (s : Stmt). size-Stmt s) at in
     let deep : size-Stmt c.loop-at.at.now ≤ size-Stmt c.args.statement.now = c.loop-at.invariant.deep in
     record {
-      taken = ap (λ bs. texts_in c.take_names.new.names.items ++ bs) (only_blocks items c.index.result.now one at) ∙ behind_it;
+      taken = ap (λ bs. texts_in c.take_names_in.new.names.items ++ bs) (only_blocks items c.index.result.now one at) ∙ behind_it;
       deep = omega (arith, within, same, deep);
     }
 
@@ -148,25 +149,25 @@ take_names-take_names_of-requires t c = (
   tt,
 )
 
+pub take_names_of-take_names_in-requires : goal.take_names_of-take_names_in-requires
+take_names_of-take_names_in-requires t c =
+    let read = c.deref-in-IfCond.ensures.value ∙ ap (λ (x : Spanned IfCondNode). x.node.true_body.items) c.deref.ensures in
+    (body_in_falls _ _ (size-Stmt c.args.statement.now) t (choice_deep c.loop-at.at.now c.in-IfCond.n c.deref-in-IfCond.result.now c.in-IfCond.is read) c.loop-at.invariant.deep c.decreases, tt)
+
 pub take_names_of-take_names-requires : goal.take_names_of-take_names-requires
 take_names_of-take_names-requires t c =
-    let read = c.deref-in-IfCond.ensures.value ∙ ap (λ (x : Spanned IfCondNode). x.node.true_body.items) c.deref.ensures in
-    (body_falls _ _ (size-Stmt c.args.statement.now) t (choice_deep c.loop-at.at.now c.in-IfCond.n c.deref-in-IfCond.result.now c.in-IfCond.is read) c.loop-at.invariant.deep c.decreases, tt)
-
-pub take_names_of-take_names-requires-then-len-ne1 : goal.take_names_of-take_names-requires-then-len-ne1
-take_names_of-take_names-requires-then-len-ne1 t c =
     let read = c.deref-then-len-ne1.ensures.value ∙ ap (λ (x : Spanned IfCondNode). x.node.false_body.items) c.deref-in-IfCond-2.ensures in
     (body_falls _ _ (size-Stmt c.args.statement.now) t (choice_other_deep c.loop-at.at.now c.in-IfCond.n c.deref-then-len-ne1.result.now c.in-IfCond.is read) c.loop-at.invariant.deep c.decreases, tt)
 
-pub take_names_of-take_names-requires-in-ForLoop : goal.take_names_of-take_names-requires-in-ForLoop
-take_names_of-take_names-requires-in-ForLoop t c =
+pub take_names_of-take_names_in-requires-in-ForLoop : goal.take_names_of-take_names_in-requires-in-ForLoop
+take_names_of-take_names_in-requires-in-ForLoop t c =
     let read = c.deref-in-ForLoop-2.ensures.value ∙ ap (λ (x : Spanned ForLoopNode). x.node.body.items) c.deref-in-ForLoop.ensures in
-    (body_falls _ _ (size-Stmt c.args.statement.now) t (loop_deep c.loop-at.at.now c.in-ForLoop.n c.deref-in-ForLoop-2.result.now c.in-ForLoop.is read) c.loop-at.invariant.deep c.decreases, tt)
+    (body_in_falls _ _ (size-Stmt c.args.statement.now) t (loop_deep c.loop-at.at.now c.in-ForLoop.n c.deref-in-ForLoop-2.result.now c.in-ForLoop.is read) c.loop-at.invariant.deep c.decreases, tt)
 
-pub take_names_of-take_names-requires-in-ForLoop-2 : goal.take_names_of-take_names-requires-in-ForLoop-2
-take_names_of-take_names-requires-in-ForLoop-2 t c =
+pub take_names_of-take_names_in-requires-in-ForLoop-2 : goal.take_names_of-take_names_in-requires-in-ForLoop-2
+take_names_of-take_names_in-requires-in-ForLoop-2 t c =
     let read = c.deref-in-ForLoop-4.ensures.value ∙ ap (λ (x : Spanned ForLoopNode). x.node.else_body.items) c.deref-in-ForLoop-3.ensures in
-    (body_falls _ _ (size-Stmt c.args.statement.now) t (loop_other_deep c.loop-at.at.now c.in-ForLoop.n c.deref-in-ForLoop-4.result.now c.in-ForLoop.is read) c.loop-at.invariant.deep c.decreases, tt)
+    (body_in_falls _ _ (size-Stmt c.args.statement.now) t (loop_other_deep c.loop-at.at.now c.in-ForLoop.n c.deref-in-ForLoop-4.result.now c.in-ForLoop.is read) c.loop-at.invariant.deep c.decreases, tt)
 
 pub take_names_of-take_names-requires-in-Block : goal.take_names_of-take_names-requires-in-Block
 take_names_of-take_names-requires-in-Block t c =
@@ -211,8 +212,15 @@ take_names_of-take_names-requires-in-CallBlock t c =
 
 pub take_names-loop-statement-preserved : goal.take_names-loop-statement-preserved
 take_names-loop-statement-preserved t c =
-    body_item (texts_in c.loop-statement.names.items) (texts_in c.take_names_of.new.names.items) c.args.body.now c.loop-statement.statement-index
-    c.statement-item.result (omega arith) c.statement-item.is c.in_ok-take_names_of.ensures c.loop-statement.invariant
+    elim c.if-not-is_printed.branch [
+      | take_names-then-not-is_printed+in_ok-take_names_of w ↦
+          rw w.names-is (body_item (texts_in c.loop-statement.names.items) (texts_in w.take_names_of.new.names.items) c.args.body.now
+          c.loop-statement.statement-index c.statement-item.result (omega arith) c.statement-item.is w.in_ok-take_names_of.ensures
+          c.loop-statement.invariant)
+      | take_names-else-not-is_printed w ↦
+          rw w.names-is (body_skipped (texts_in c.loop-statement.names.items) c.args.body.now c.loop-statement.statement-index
+          c.statement-item.result (omega arith) c.statement-item.is (c.is_printed.ensures w.if-not-is_printed.false) c.loop-statement.invariant)
+    ]
 
 pub take_names-returns : goal.take_names-returns
 take_names-returns t c =
@@ -235,3 +243,6 @@ take_names_of-loop-at-smaller t c =
     c.index.ensures ∙ ap (λ (x : Spanned IfCondNode). get_or x.node.false_body.items 0 c.index.result.now) c.deref-in-IfCond-2.ensures in
     let less = else_less c.loop-at.at.now c.in-IfCond.n 0 c.index.result.now c.in-IfCond.is (omega (arith, one)) in
     subst (λ (s : Stmt). size-Stmt s < size-Stmt c.loop-at.at.now) (sym at) less
+
+pub take_names_in-take_names-requires : goal.take_names_in-take_names-requires
+take_names_in-take_names-requires t c = (omega (arith, c.decreases), tt)

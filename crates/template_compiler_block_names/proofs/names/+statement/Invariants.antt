@@ -9,10 +9,13 @@ use Rattle.template_compiler_block_names.proofs.Deep.{body_deep}
 use Rattle.template_compiler_block_names.proofs.names.+statement.Given as goal
 
 abbrev pub decreases-take_names : goal.decreases-take_names
-decreases-take_names l = 2 * body_deep l.body.now + 1
+decreases-take_names l = 3 * body_deep l.body.now + 1
+
+abbrev pub decreases-take_names_in : goal.decreases-take_names_in
+decreases-take_names_in l = 3 * body_deep l.body.now + 2
 
 abbrev pub decreases-take_names_of : goal.decreases-take_names_of
-decreases-take_names_of l = 2 * size-Stmt l.statement.now
+decreases-take_names_of l = 3 * size-Stmt l.statement.now
 
 abbrev pub invariant-take_names-loop-statement : goal.invariant-take_names-loop-statement
 invariant-take_names-loop-statement l =
