@@ -1,11 +1,11 @@
 -- A primary that is a word.
-use Rattle.std.proofs.Common.{◌≡◌, ℕ, pos, Result, Ok, List, [], ◌∷◌, Some, refl, sym, subst, ap, ◌∙◌}
-use Rattle.template_compiler_tokens.specs.Token.{Token, identifier, number, symbol, paren_open, bracket_open, brace_open}
+use Rattle.std.proofs.Common.{◌≡◌, ℕ, Result, Ok, List, [], ◌∷◌, Some, refl, sym, subst, ap, ◌∙◌}
+use Rattle.template_compiler_tokens.specs.Token.{Token, identifier, symbol, paren_open, bracket_open, brace_open}
 use Rattle.template_compiler_stream.specs.declared.refusal.Refusal.{Refusal}
 use Rattle.template_compiler_expression_parts.specs.Parsed.{Parsed, literal_at}
 use Rattle.template_tree.specs.declared.span.Span.{Span}
 use Rattle.template_tree.specs.declared.expressions.Expr.{Expr}
-use Rattle.template_tree.specs.NodePlaces.{at, no_parts}
+use Rattle.template_tree.specs.NodePlaces.{no_parts}
 use Rattle.template_compiler_tokens.specs.Places.{next_span}
 use Rattle.template_compiler_grammar.specs.Reader.{word_tree}
 use Rattle.template_compiler_placed_grammar.specs.Nodes.{node}
@@ -13,12 +13,6 @@ use Rattle.template_compiler_placed_grammar.specs.Reader.{nothing_deeper, primar
 use Rattle.template_compiler_grammar.specs.Words.{literal_word}
 use Rattle.template_compiler_stream.specs.Left.{passed}
 use Rattle.template_compiler_stream.specs.Signs.{next_word}
-use Rattle.template_compiler_placed_grammar.specs.Views.{node_of}
-use Rattle.template_tree.specs.ExpressionPlaces.{places_of}
-use Rattle.template_tree.specs.Tree.{constant}
-use Rattle.template_tree.specs.View.{expression_of}
-use Rattle.template_values_model.specs.Val.{int}
-use Rattle.template_compiler_expression_parts.proofs.Rounds.{node_is}
 
 word_primary : (spans : List Span) (n : List ℕ) (ts : List Token) → Some n ≡ next_word ts →
     primary_by spans nothing_deeper ts ≡ Ok (node (word_tree (literal_word n) n) (next_span spans ts) no_parts, passed ts)
@@ -54,18 +48,3 @@ literal_first spans all start t old mid new r e f g h =
     let here = subst (λ spans. Parsed (literal_at spans start t mid) new r) g h in
     let there = subst (λ s. Parsed (literal_at spans s t mid) new r) (f ∙ ap (next_span spans) e) here in
     subst (λ m. Parsed m new r) (sym (ap (primary_by spans nothing_deeper) e ∙ literal_same spans t mid)) there
-
--- a number
-number_primary : (spans : List Span) (n : ℕ) (ts : List Token) →
-    primary_by spans nothing_deeper (number n ∷ ts) ≡ Ok (node (constant (int (pos n))) (next_span spans (number n ∷ ts)) no_parts, ts)
-unfolding primary_by
-number_primary spans n ts = refl
-
-pub number_first : (spans : List Span) (n : ℕ) (start : Span) (e : Expr) (old new : List Token) → old ≡ number n ∷ passed old →
-    start ≡ next_span spans old → new ≡ passed old → expression_of e ≡ constant (int (pos n)) → places_of e ≡ at start no_parts →
-    primary_by spans nothing_deeper old ≡ Ok (node_of e, new)
-number_first spans n start e old new here stands behind tree places =
-    ap (primary_by spans nothing_deeper) here ∙ number_primary spans n (passed old) ∙
-    ap (λ s. Ok (node (constant (int (pos n))) s no_parts, passed old)) (sym (stands ∙ ap (next_span spans) here)) ∙
-    ap (λ us. Ok (node (constant (int (pos n))) start no_parts, us)) (sym behind) ∙
-    ap (λ a. Ok (a, new)) (sym (node_is e (constant (int (pos n))) (at start no_parts) tree places))

@@ -1,5 +1,5 @@
 -- The symbols that signs are.
-use Rattle.std.specs.Prelude.{ℕ, Bool, true, false, ◌==◌, ◌&&◌, ◌||◌, not, codes, bytes_eq, List, [], ◌∷◌, Option, None, Some}
+use Rattle.std.specs.Prelude.{ℕ, Bool, true, false, ◌==◌, ◌&&◌, not, codes, bytes_eq, List, [], ◌∷◌, Option, None, Some}
 use Rattle.template_compiler_tokens.specs.Token as token
 use Rattle.template_compiler_tokens.specs.Token.{Symbol, symbol, identifier, number, variable_end, block_end}
 use Rattle.template_tree.specs.declared.operators.BinOpKind.{BinOpKind}
@@ -144,21 +144,3 @@ begins_end (t ∷ ts) = is_end t
 abbrev pub begins_alone : List token.Token → Bool
 begins_alone [] = false
 begins_alone (t ∷ ts) = begins_end ts && is_plain t
-
--- words that go on with what is compared
-abbrev pub is_operator_word : List ℕ → Bool
-is_operator_word n = bytes_eq (codes "is") n || bytes_eq (codes "in") n || bytes_eq (codes "not") n
-
--- what no operator of what is compared begins with: ends, and other words
-abbrev pub is_operand_end : token.Token → Bool
-is_operand_end (identifier n) = not (is_operator_word n)
-is_operand_end t = is_end t
-
-abbrev pub begins_operand_end : List token.Token → Bool
-begins_operand_end [] = false
-begins_operand_end (t ∷ ts) = is_operand_end t
-
--- what is compared is alone and stands next
-abbrev pub begins_operand : List token.Token → Bool
-begins_operand [] = false
-begins_operand (t ∷ ts) = begins_operand_end ts && is_plain t

@@ -1,7 +1,7 @@
 //! Signs and brackets.
 ghost use Rattle.std.specs.Prelude.{◌≡◌, ◌==◌, bytes_eq, option_map};
 ghost use Rattle.template_compiler_stream.specs.Signs.{number_of, symbol_of, symbol_in};
-ghost use Rattle.template_compiler_stream.specs.Signs.{level_of, word_in, is_end, is_operand_end, is_operator_word, is_plain};
+ghost use Rattle.template_compiler_stream.specs.Signs.{level_of, word_in, is_end, is_plain};
 ghost use Rattle.template_compiler_grammar.specs.Words.{conjunction, disjunction, factors, terms, texts, operator, comparison_operator, is_bare, is_no_argument};
 ghost use Rattle.template_compiler_grammar.specs.Reader.{is_closing, is_bound_end};
 ghost use Rattle.template_compiler_tokens.specs.View.{token_of};
@@ -310,28 +310,4 @@ pub fn is_end(token: &Token) -> bool
         Token::BraceClose => true,
         _ => false,
     }
-}
-
-/// Whether no operator of an operand stands in the token, nor a part, a filter or a test: what is compared ends with it.
-pub fn is_operand_end(token: &Token) -> bool
-    ensures { result ≡ is_operand_end (token_of token.now) }
-{
-    match token {
-        Token::Ident(name) => !is_operator_word(*name),
-        Token::VariableEnd => true,
-        Token::BlockEnd => true,
-        Token::Comma => true,
-        Token::Colon => true,
-        Token::ParenClose => true,
-        Token::BracketClose => true,
-        Token::BraceClose => true,
-        _ => false,
-    }
-}
-
-// The words that go on with what is compared.
-fn is_operator_word(name: &str) -> bool
-    ensures { result ≡ is_operator_word name.now }
-{
-    is_word(name, "is") || is_word(name, "in") || is_word(name, "not")
 }

@@ -8,7 +8,7 @@ ghost use Rattle.template_compiler_stream.specs.Refusals.{fault_of};
 ghost use Rattle.template_compiler_stream.specs.Left.{Peeks, Shows, ahead, behind, ended, passed};
 ghost use Rattle.template_compiler_stream.specs.Spans.{ShownAt, TakenAt};
 ghost use Rattle.template_compiler_tokens.specs.Places.{last_span, next_span, no_span, token_count, until};
-ghost use Rattle.template_compiler_stream.specs.Signs.{assigned_behind, begins_alone, begins_operand, begins_symbol, is_symbol, level_of, second_word, next_operator, next_comparison, next_symbol, next_word, symbol_of, word_in};
+ghost use Rattle.template_compiler_stream.specs.Signs.{assigned_behind, begins_alone, begins_symbol, is_symbol, level_of, second_word, next_operator, next_comparison, next_symbol, next_word, symbol_of, word_in};
 ghost use Rattle.template_compiler_tokens.specs.View.{token_of};
 ghost use Rattle.template_compiler_stream.specs.Skips.{PutsText, SkipsDotted, SkipsKeyword, SkipsSign, SkipsText, SkipsWord};
 
@@ -16,8 +16,8 @@ mod tags;
 
 use crate::refusal::Fault;
 use crate::sign::{
-    Level, Sign, begins_argument, closes, comparison_of, ends_bound, is_end, is_operand_end,
-    is_plain, operator_of, sign_of,
+    Level, Sign, begins_argument, closes, comparison_of, ends_bound, is_end, is_plain, operator_of,
+    sign_of,
 };
 use std::alloc::AllocError;
 use std::marker::Model;
@@ -230,20 +230,6 @@ impl<'source> TokenStream<'source> {
         match self.peek() {
             Next::Token(first, _) => match self.peek_second() {
                 Some(second) => is_end(second) && is_plain(first),
-                None => false,
-            },
-            Next::End => false,
-            Next::Bad(_) => false,
-        }
-    }
-
-    /// Whether what is compared is alone and stands next: a name or a number, with no operator behind it but `and` and `or`.
-    pub fn begins_operand(&self) -> bool
-        ensures { result ≡ begins_operand self.now.left }
-    {
-        match self.peek() {
-            Next::Token(first, _) => match self.peek_second() {
-                Some(second) => is_operand_end(second) && is_plain(first),
                 None => false,
             },
             Next::End => false,

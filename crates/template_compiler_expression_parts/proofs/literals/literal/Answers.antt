@@ -1,6 +1,4 @@
-use Rattle.std.proofs.Common.{ap, ◌∙◌}
-use Rattle.template_tree.specs.Tree.{constant}
-use Rattle.template_compiler_expression_parts.proofs.Words.{number_first, word_first}
+use Rattle.template_compiler_expression_parts.proofs.Words.{word_first}
 use Rattle.template_compiler_expression_parts.proofs.literals.literal.Goals as goal
 
 pub returns-in-Some-clause-parsed : goal.returns-in-Some-clause-parsed
