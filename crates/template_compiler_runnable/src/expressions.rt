@@ -5,6 +5,7 @@ ghost use Rattle.template_walk.specs.Runnable.{IsRunnable, is_kept_back};
 ghost use Rattle.template_compiler_runnable.specs.Running.{runs, runs_if_given, all_run, chain_runs, links_run};
 
 use template_tree::{CompareOp, Expr};
+use template_tree_nodes::has_walk;
 
 /// Whether an expression's tree is one whose constructs all have a walk. Takes linear time.
 pub fn is_runnable_expr(expr: &Expr<'_>) -> bool
@@ -86,9 +87,9 @@ pub(crate) fn expression_runs(expr: &Expr<'_>) -> bool
                 }
                 &node.expr
             }
-            Expr::Filter(_) => return false,
-            Expr::Test(_) => return false,
-            Expr::Call(_) => return false,
+            Expr::Filter(_) => return has_walk(at),
+            Expr::Test(_) => return has_walk(at),
+            Expr::Call(_) => return has_walk(at),
             Expr::List(n) => return items_run(&n.node.items),
             Expr::Tuple(n) => return items_run(&n.node.items),
             Expr::Map(n) => {

@@ -10,18 +10,22 @@ use Rattle.template_tree.specs.declared.expressions.Slice.{Slice as SliceNode}
 use Rattle.template_tree.specs.declared.expressions.Tuple.{Tuple as TupleNode}
 use Rattle.template_tree.specs.declared.expressions.Expr.{Expr, the_lemmas}
 use Rattle.template_tree.specs.declared.span.Spanned.{Spanned}
+use Rattle.template_tree_nodes.specs.Constructs.{has_walk}
 use Rattle.template_compiler_runnable.specs.Running.{all_run, chain_runs, runs, runs_if_given}
 use Rattle.template_compiler_runnable.proofs.Parts.{all_bounds, beside_fails, binary_runs, chain_all_runs, first_fails, goes_left, item_runs, list_runs, map_runs, no_start, no_stop, no_step, slice_runs, then, tuple_runs}
 use Rattle.template_compiler_runnable.proofs.expressions.+expression.Goals as goal
 
 pub expression_runs-returns-in-Filter : goal.expression_runs-returns-in-Filter
-expression_runs-returns-in-Filter t c = ap (λ (x : Expr). runs (expression_of x)) (sym c.in-Filter.is) ∙ sym c.loop-at.invariant.decides
+expression_runs-returns-in-Filter t c =
+    c.has_walk.ensures ∙ ap (λ (x : Expr). has_walk (expression_of x)) c.in-Filter.is ∙ ap (λ (x : Expr). runs (expression_of x)) (sym c.in-Filter.is) ∙ sym c.loop-at.invariant.decides
 
 pub expression_runs-returns-in-Test : goal.expression_runs-returns-in-Test
-expression_runs-returns-in-Test t c = ap (λ (x : Expr). runs (expression_of x)) (sym c.in-Test.is) ∙ sym c.loop-at.invariant.decides
+expression_runs-returns-in-Test t c =
+    c.has_walk-in-Test.ensures ∙ ap (λ (x : Expr). has_walk (expression_of x)) c.in-Test.is ∙ ap (λ (x : Expr). runs (expression_of x)) (sym c.in-Test.is) ∙ sym c.loop-at.invariant.decides
 
 pub expression_runs-returns-in-Call : goal.expression_runs-returns-in-Call
-expression_runs-returns-in-Call t c = ap (λ (x : Expr). runs (expression_of x)) (sym c.in-Call.is) ∙ sym c.loop-at.invariant.decides
+expression_runs-returns-in-Call t c =
+    c.has_walk-in-Call.ensures ∙ ap (λ (x : Expr). has_walk (expression_of x)) c.in-Call.is ∙ ap (λ (x : Expr). runs (expression_of x)) (sym c.in-Call.is) ∙ sym c.loop-at.invariant.decides
 
 pub expression_runs-returns-in-Const : goal.expression_runs-returns-in-Const
 expression_runs-returns-in-Const t c = ap (λ (x : Expr). runs (expression_of x)) (sym c.in-Const.is) ∙ sym c.loop-at.invariant.decides
