@@ -86,22 +86,12 @@ pub(crate) fn read_leaf<'source, R: ReadsExpressions>(
     ensures spans { tokens.new.spans ≡ tokens.old.spans }
 {
     match leaf {
-        Leaf::Import => return leaves::read_import::<R>(alloc, tokens, left, span).map(
-            Stmt::Import,
-        ),
-        Leaf::From => return leaves::read_from::<R>(alloc, tokens, left, span).map(
-            Stmt::FromImport,
-        ),
-        Leaf::Extends => return leaves::read_extends::<R>(alloc, tokens, left, span).map(
-            Stmt::Extends,
-        ),
-        Leaf::Include => return leaves::read_include::<R>(alloc, tokens, left, span).map(
-            Stmt::Include,
-        ),
-        Leaf::Do => return leaves::read_do::<R>(alloc, tokens, left, span).map(Stmt::Do),
-        Leaf::Break => return Ok(Stmt::Break(leaves::read_break(tokens, around.in_loop, span)?)),
-        Leaf::Continue => {
-            return Ok(Stmt::Continue(leaves::read_continue(tokens, around.in_loop, span)?));
-        }
+        Leaf::Import => Ok(Stmt::Import(leaves::read_import::<R>(alloc, tokens, left, span)?)),
+        Leaf::From => Ok(Stmt::FromImport(leaves::read_from::<R>(alloc, tokens, left, span)?)),
+        Leaf::Extends => Ok(Stmt::Extends(leaves::read_extends::<R>(alloc, tokens, left, span)?)),
+        Leaf::Include => Ok(Stmt::Include(leaves::read_include::<R>(alloc, tokens, left, span)?)),
+        Leaf::Do => Ok(Stmt::Do(leaves::read_do::<R>(alloc, tokens, left, span)?)),
+        Leaf::Break => Ok(Stmt::Break(leaves::read_break(tokens, around.in_loop, span)?)),
+        Leaf::Continue => Ok(Stmt::Continue(leaves::read_continue(tokens, around.in_loop, span)?)),
     }
 }

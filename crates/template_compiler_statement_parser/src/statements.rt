@@ -226,19 +226,17 @@ fn read_parent<'source, R: ReadsExpressions>(
     ensures spans { tokens.new.spans ≡ tokens.old.spans }
 {
     match parent {
-        Parent::With => return with_block::<R>(alloc, tokens, left, around, span).map(
-            Stmt::WithBlock,
-        ),
-        Parent::Set => return set::<R>(alloc, tokens, left, around, span),
-        Parent::AutoEscape => {
-            return auto_escape::<R>(alloc, tokens, left, around, span).map(Stmt::AutoEscape);
-        }
-        Parent::Filter => return filter_block::<R>(alloc, tokens, left, around, span).map(
-            Stmt::FilterBlock,
-        ),
-        Parent::Block => return block::<R>(alloc, tokens, left, around, span).map(Stmt::Block),
-        Parent::Macro => return macro_block::<R>(alloc, tokens, left, span).map(Stmt::Macro),
-        Parent::Call => return call_block::<R>(alloc, tokens, left, span).map(Stmt::CallBlock),
+        Parent::With => Ok(Stmt::WithBlock(with_block::<R>(alloc, tokens, left, around, span)?)),
+        Parent::Set => set::<R>(alloc, tokens, left, around, span),
+        Parent::AutoEscape => Ok(Stmt::AutoEscape(auto_escape::<R>(
+            alloc, tokens, left, around, span,
+        )?)),
+        Parent::Filter => Ok(Stmt::FilterBlock(filter_block::<R>(
+            alloc, tokens, left, around, span,
+        )?)),
+        Parent::Block => Ok(Stmt::Block(block::<R>(alloc, tokens, left, around, span)?)),
+        Parent::Macro => Ok(Stmt::Macro(macro_block::<R>(alloc, tokens, left, span)?)),
+        Parent::Call => Ok(Stmt::CallBlock(call_block::<R>(alloc, tokens, left, span)?)),
     }
 }
 
