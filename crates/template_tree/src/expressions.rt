@@ -274,56 +274,39 @@ impl<'source> Expr<'source> {
     ghost use Rattle.std.specs.Prelude.{◌<◌, IfSome};
     ghost use Rattle.template_tree.specs.declared.expressions.Expr.{size-Expr};
 
-    // Drops an expression that has parts, along its left ones.
+    // Drops an expression that has parts, along its left ones. Most are operators and look-ups.
     #[cycle(expr)]
     #[inline(never)]
-    fn drop_parts(self) {
-        let mut next = self.into_left();
-        while let Some(expr) = next {
-            next = expr.into_left();
+    fn drop_parts(mut self) {
+        loop {
+            match self {
+                Expr::Var(_) => return,
+                Expr::Const(_) => return,
+                Expr::UnaryOp(n) => {
+                    let UnaryOp { expr, .. } = Box::into_inner(n).into_node();
+                    self = expr;
+                }
+                Expr::BinOp(n) => {
+                    let BinOp { left, .. } = Box::into_inner(n).into_node();
+                    self = left;
+                }
+                Expr::GetAttr(n) => {
+                    let GetAttr { expr, .. } = Box::into_inner(n).into_node();
+                    self = expr;
+                }
+                Expr::GetItem(n) => {
+                    let GetItem { expr, .. } = Box::into_inner(n).into_node();
+                    self = expr;
+                }
+                expr => match expr.into_first_part() {
+                    Some(first) => self = first,
+                    None => return,
+                },
+            }
         }
     }
 
-    // The expression on the left of this one; its other parts are dropped. Most are names and literals, and have none.
-    #[cycle(expr)]
-    fn into_left(self) -> Option<Expr<'source>>
-        ensures { IfSome result (λ e. size-Expr e < size-Expr self.entry) }
-    {
-        match self {
-            Expr::Var(_) => None,
-            Expr::Const(_) => None,
-            expr => expr.into_first_operand(),
-        }
-    }
-
-    // The same for operators and look-ups, which most of the others are.
-    #[cycle(expr)]
-    #[inline(never)]
-    fn into_first_operand(self) -> Option<Expr<'source>>
-        ensures { IfSome result (λ e. size-Expr e < size-Expr self.entry) }
-    {
-        match self {
-            Expr::UnaryOp(n) => {
-                let UnaryOp { expr, .. } = Box::into_inner(n).into_node();
-                Some(expr)
-            }
-            Expr::BinOp(n) => {
-                let BinOp { left, .. } = Box::into_inner(n).into_node();
-                Some(left)
-            }
-            Expr::GetAttr(n) => {
-                let GetAttr { expr, .. } = Box::into_inner(n).into_node();
-                Some(expr)
-            }
-            Expr::GetItem(n) => {
-                let GetItem { expr, .. } = Box::into_inner(n).into_node();
-                Some(expr)
-            }
-            expr => expr.into_first_part(),
-        }
-    }
-
-    // The same for the rest.
+    // The expression on the left of one of another kind; its other parts are dropped.
     #[cycle(expr)]
     #[inline(never)]
     fn into_first_part(self) -> Option<Expr<'source>>
