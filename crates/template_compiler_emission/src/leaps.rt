@@ -11,7 +11,7 @@ ghost use Rattle.template_compiler_emission.specs.Puts.{Keeps, Puts, held};
 use template_code::{Instruction, Instructions};
 use template_tree::Span;
 use template_values_core::Value;
-use template_values_errors::{Error, ErrorKind};
+use template_values_errors::ErrorKind;
 
 /// A jump, whose target may be told later.
 #[derive(Clone, Copy, Debug, PartialEq, Eq)]
@@ -94,26 +94,6 @@ pub fn push<'source>(
     Ok(())
 }
 
-/// The same, where the refusal is told as an error.
-///
-/// # Errors
-///
-/// Those of [`Instructions::add`].
-#[inline(always)]
-pub fn put<'source>(
-    code: &mut Instructions<'source>,
-    instruction: Instruction<'source>,
-    from: Option<Span>,
-) -> Result<(), Error>
-    ensures put { OnOk result (Puts (one (code_of instruction.entry)) code.old code.new) }
-    ensures refused { IfErr result (TakesNoMore (code_in code.new)) }
-{
-    match push_from(code, instruction, from.as_ref()) {
-        Ok(_place) => Ok(()),
-        Err(kind) => Err(Error::new(kind)),
-    }
-}
-
 /// Puts a jump behind the others whose target is told later, and answers its place. It comes from where [`push`] says.
 ///
 /// # Errors
@@ -130,27 +110,6 @@ pub fn push_leap<'source>(
     ensures refused { IfErr result (λ kind. TakesNoMore (code_in code.new) (kind ∷ [])) }
 {
     push_from(code, leap.to(0), from)
-}
-
-/// The same, where the refusal is told as an error.
-///
-/// # Errors
-///
-/// Those of [`Instructions::add`].
-#[inline(always)]
-pub fn reserve<'source>(
-    code: &mut Instructions<'source>,
-    leap: Leap,
-    from: Option<Span>,
-) -> Result<u32, Error>
-    ensures place { IfOk result (λ place. place ≡ length (code_in code.old)) }
-    ensures put { OnOk result (Puts (one (leap_code leap 0)) code.old code.new) }
-    ensures refused { IfErr result (TakesNoMore (code_in code.new)) }
-{
-    match push_from(code, leap.to(0), from.as_ref()) {
-        Ok(place) => Ok(place),
-        Err(kind) => Err(Error::new(kind)),
-    }
 }
 
 /// Tells the jump at a place its target: the place behind the last instruction. Where none stands, nothing

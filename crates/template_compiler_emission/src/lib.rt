@@ -4,5 +4,5 @@
 mod leaps;
 mod operators;
 
-pub use leaps::{Leap, land, load, load_copy, push, push_leap, put, reserve};
+pub use leaps::{Leap, land, load, load_copy, push, push_leap};
 pub use operators::{comparison_instruction, leap_of, operator_instruction, unary_instruction};

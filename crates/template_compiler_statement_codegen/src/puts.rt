@@ -12,7 +12,7 @@ ghost use Rattle.template_compiler_statement_codegen.specs.Refusals.{Refuses};
 
 use std::alloc::Global;
 use template_code::{Instruction, Instructions};
-use template_compiler_emission::Leap;
+use template_compiler_emission::{Leap, push, push_leap};
 use template_tree::{Expr, Span};
 use template_values_errors::{Error, ErrorKind};
 
@@ -26,10 +26,7 @@ pub(crate) fn put<'source>(
     ensures put { OnOk result (Puts (one (code_of instruction.entry)) code.old code.new) }
     ensures refused { IfErr result (Refuses (code_in code.new)) }
 {
-    match template_compiler_emission::put(code, instruction, from) {
-        Ok(()) => Ok(()),
-        Err(error) => Err(kind_of(error)),
-    }
+    push(code, instruction, from.as_ref())
 }
 
 // Puts a jump whose target is told later, and answers its place.
@@ -43,10 +40,7 @@ pub(crate) fn reserve<'source>(
     ensures put { OnOk result (Puts (one (leap_code leap 0)) code.old code.new) }
     ensures refused { IfErr result (Refuses (code_in code.new)) }
 {
-    match template_compiler_emission::reserve(code, leap, from) {
-        Ok(place) => Ok(place),
-        Err(error) => Err(kind_of(error)),
-    }
+    push_leap(code, leap, from.as_ref())
 }
 
 // Puts the code of an expression.
@@ -68,7 +62,7 @@ pub(crate) fn compile_expr<'source>(
 
 // Keeps an item behind the others.
 #[inline(always)]
-pub(crate) fn push<T: Drop>(items: &mut Vec<T>, item: T) -> Result<(), ErrorKind>
+pub(crate) fn append<T: Drop>(items: &mut Vec<T>, item: T) -> Result<(), ErrorKind>
     ensures pushed { OnOk result (items.new.items ≡ items.old.items ++ item ∷ []) }
     ensures refused { IfErr result (λ kind. kind ≡ ErrorKind.OutOfMemory) }
 {

@@ -9,7 +9,7 @@ ghost use Rattle.template_compiler_statement_codegen.specs.Breaks.{breaks_of};
 ghost use Rattle.template_compiler_statement_codegen.specs.Refusals.{Refuses};
 ghost use Rattle.template_compiler_statement_codegen.specs.Rounds.{Lowers, closed_by, closing_code, ways_of};
 
-use crate::puts::{push, put, reserve};
+use crate::puts::{append, put, reserve};
 use std::alloc::Global;
 use template_code::{Instruction, Instructions};
 use template_compiler_emission::Leap;
@@ -90,7 +90,7 @@ pub(crate) fn put_break<'source>(
 {
     close_all(code, &round.closings, *span)?;
     let place = reserve(code, Leap::Always, Some(*span))?;
-    push(&mut round.breaks, place)
+    append(&mut round.breaks, place)
 }
 
 // Puts what goes on with the loop's next item.

@@ -16,7 +16,7 @@ ghost use Rattle.template_compiler_statement_codegen.specs.Listed.{IsRunnableTre
 ghost use Rattle.template_compiler_statement_codegen.specs.Refusals.{Refuses};
 ghost use Rattle.template_compiler_statement_codegen.specs.Rounds.{Lowers, LowersBody, LowersStatement, LowersBranch, LowersChain, closed_code, closed_places, closing_code, places_in, ways_of};
 
-use crate::puts::{compile_expr, push, put, reserve};
+use crate::puts::{append, compile_expr, put, reserve};
 use crate::rounds::{Closing, Round, put_break, put_continue};
 use crate::targets::{store, store_all};
 use crate::tell_breaks;
@@ -261,7 +261,7 @@ fn compile_closed<'source>(
     ensures refused { IfErr result (Refuses (code_in code.new)) }
 {
     let open = round.closings.len();
-    push(&mut round.closings, closing)?;
+    append(&mut round.closings, closing)?;
     compile_body(alloc, code, round, body)?;
     round.closings.truncate(open);
     put(code, closing.instruction(), Some(*span))
@@ -538,7 +538,7 @@ fn keep(places: &mut Vec<u32>, place: Option<u32>) -> Result<(), ErrorKind>
     ensures refused { IfErr result (λ kind. kind ≡ ErrorKind.OutOfMemory) }
 {
     if let Some(place) = place {
-        return push(places, place);
+        return append(places, place);
     }
     Ok(())
 }

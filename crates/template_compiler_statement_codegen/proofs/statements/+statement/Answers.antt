@@ -58,12 +58,12 @@ compile_branch-returns-clause-lowered t c =
 pub compile_closed-returns-clause-lowered : goal.compile_closed-returns-clause-lowered
 compile_closed-returns-clause-lowered t c =
     let r = c.args.round.now in
-    let inside : Round = record { asks = r.asks; closings = c.push.new.items; breaks = r.breaks } in
+    let inside : Round = record { asks = r.asks; closings = c.append.new.items; breaks = r.breaks } in
     let behind = c.compile_body.new.round in
     let last : Round = record { asks = behind.asks; closings = c.truncate.new.self; breaks = behind.breaks } in
     let long : c.len-open.result ≡ length r.closings.items = omega (arith, c.len-open.ensures, r.closings.ok.0) in
     on_ok_weaker c.put.result (λ closed.
-    lowers_closed c.args.closing (statements_in c.args.body.now) r inside behind last c.len-open.result c.in_ok-push.ensures.pushed refl refl
+    lowers_closed c.args.closing (statements_in c.args.body.now) r inside behind last c.len-open.result c.in_ok-append.ensures.pushed refl refl
     c.in_ok-compile_body.ensures.lowered long c.truncate.ensures.items refl refl (puts_as c.instruction.ensures closed)) c.put.ensures.put
 
 pub compile_elifs-returns-clause-lowered : goal.compile_elifs-returns-clause-lowered
