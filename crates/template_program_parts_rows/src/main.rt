@@ -1,16 +1,14 @@
 //! Calls of values, and the parts of the program that need no engine, as rows. Each line of standard input is JSON.
 //!
-//! What is no object is an expression: `null` is none, an array is a call of the name that stands first with the values of
-//! the others, and all else is itself. It gives the value that it has, as containers print it, or the kind of the refusal.
-//! All that prints is written behind a text; a refusal that changes that text is told as `BadStream`.
+//! What is no object is an expression: `null` is none, an array a call of the name that stands first, all else itself. It
+//! gives its value, printed behind a text, or the kind of the refusal; `BadStream` where a refusal changes that text.
 //!
 //! An object is of one of these kinds; of its entries all but the first may be left out. Words that are read alone:
 //!
 //! - `read`: the words behind the program's name, an array of texts;
 //! - `begins`, `holds`: how the text of help or of a refusal begins, and what stands in it.
 //!
-//! They give what was read of them, or `help`, `usage` or `definition` by why they were refused, and `another help` or
-//! `another usage` where the text is not so.
+//! They give what was read of them, or `help`, `usage` or `definition` (`another ..` where the text is not so) if refused.
 //!
 //! A context that is read alone:
 //!
