@@ -1,5 +1,5 @@
 -- What the scanner answers.
-use Rattle.std.specs.Prelude.{◌≡◌, ℕ, ◌⊎◌, ◌+◌, ◌++◌, List, Option, None, Some, Result, Ok, Err, take, drop, slice_index, String, string_bytes, encode_utf8}
+use Rattle.std.specs.Prelude.{◌≡◌, ℕ, true, false, ◌⊎◌, ◌+◌, ◌++◌, List, Option, None, Some, Result, Ok, Err, take, drop, slice_index, String, string_bytes, encode_utf8}
 use Rattle.std.specs.Borrow.{Bor}
 use Rattle.std.specs.declared.alloc.Global.{Global}
 use Rattle.template_values_errors.specs.declared.ErrorKind.{ErrorKind}
@@ -10,7 +10,8 @@ use Rattle.template_compiler_tokens.specs.View.{token_of}
 use Rattle.template_compiler_tokens.specs.Left.{kind_of}
 use Rattle.template_compiler_tokens.specs.Numbers.{number_at, number_width}
 use Rattle.template_compiler_tokens.specs.Texts.{HasUnit, IsLowSurrogate, IsEscape, Unescapes, IsText}
-use Rattle.template_compiler_tokens.specs.Lexical.{IsSign, Begins, class_of, text_class}
+use Rattle.std.specs.Char.{is_ascii_digit}
+use Rattle.template_compiler_tokens.specs.Lexical.{IsSign, Begins, class_of, is_name_part, text_class}
 
 -- the token that the text begins with, and how many bytes it takes; or why it begins with none;
 -- or want of memory, which a text literal alone takes
@@ -24,6 +25,12 @@ Scans s (Err kind) =
 abbrev pub ScansNumber : List ℕ → Result (Token × ℕ) ErrorKind → Type 0
 ScansNumber s (Ok found) = (token_of found.0 ≡ number_at s) × (found.1 ≡ number_width s)
 ScansNumber s (Err kind) = (fault : TokenFault) × (kind ≡ kind_of fault) × (number_at s ≡ bad fault)
+
+-- the number that the text begins with is a digit alone: behind it stands neither a point nor what may stand in a name
+pub record IsLoneDigit (s : List ℕ) : Type 0 where
+  pub digit : is_ascii_digit (slice_index s 0) ≡ true
+  pub name : is_name_part (slice_index s 1) ≡ false
+  pub point : slice_index s 1 ≡ 46 → ⊥
 
 -- want of memory; or an escape is none, and then the fact holds
 abbrev pub IsRefused : Type 0 → ErrorKind → Type 0

@@ -1,11 +1,11 @@
 //! Whole numbers.
-ghost use Rattle.std.specs.Prelude.{◌≡◌, ◌^◌, ◌<◌, ◌≤◌, ◌+◌, length, take, drop, slice_index, Some, None, IfSome, IsTrue, ◌==◌, ◌&&◌, true};
+ghost use Rattle.std.specs.Prelude.{◌≡◌, IfNone, ◌^◌, ◌<◌, ◌≤◌, ◌+◌, length, take, drop, slice_index, Some, None, IfSome, IsTrue, ◌==◌, ◌&&◌, true};
 ghost use Rattle.std.specs.Char.{is_ascii_digit as ascii_digit};
 ghost use Rattle.std.specs.Option.{SomeIff};
 ghost use Rattle.template_compiler_tokens.specs.Numbers as number;
 ghost use Rattle.template_compiler_tokens.specs.Token as token;
 ghost use Rattle.template_compiler_tokens.specs.View.{token_of};
-ghost use Rattle.template_compiler_scanner.specs.Scans.{ScansNumber};
+ghost use Rattle.template_compiler_scanner.specs.Scans.{IsLoneDigit, ScansNumber};
 
 use crate::bytes::{byte_at, is_name_part};
 use template_compiler_tokens::Token;
@@ -173,6 +173,7 @@ pub fn lone_digit(text: &[u8]) -> Option<u64>
     ensures value { IfSome result (λ digit. number.number_at text.now ≡ token.number digit) }
     ensures width { IfSome result (λ digit. number.number_width text.now ≡ 1) }
     ensures digit { IfSome result (λ _. ascii_digit (slice_index text.now 0) ≡ true) }
+    ensures none { IfNone result (IsLoneDigit text.now → ⊥) }
 {
     let first = byte_at(text, 0);
     let next = byte_at(text, 1);

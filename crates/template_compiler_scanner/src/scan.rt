@@ -4,7 +4,7 @@ ghost use Rattle.template_compiler_tokens.specs.Lexical.{IsSign, is_name_part, i
 ghost use Rattle.template_compiler_tokens.specs.Token.{bad, bad_syntax};
 ghost use Rattle.std.specs.Str.{IsCharBoundary};
 ghost use Rattle.template_compiler_tokens.specs.declared.token.Token.TheVariants.{Ident, Int};
-ghost use Rattle.template_compiler_scanner.specs.Scans.{Scans};
+ghost use Rattle.template_compiler_scanner.specs.Scans.{IsLoneDigit, Scans};
 
 use crate::bytes::{begun_name_len, byte_at, is_name_start, name_len};
 use crate::numbers::{lone_digit, scan_number};
@@ -79,6 +79,7 @@ pub fn scan_mark<'source>(text: &str) -> Option<(Token<'source>, usize)>
 pub fn scan_digit(text: &str) -> Option<u64>
     ensures token { IfSome result (λ digit. Scans text.now (Ok (Int digit, 1))) }
     ensures cut { IfSome result (λ _. IsCharBoundary text.now 1) }
+    ensures none { IfNone result (IsLoneDigit text.now → ⊥) }
 {
     match lone_digit(text.as_bytes()) {
         Some(digit) => Some(digit),

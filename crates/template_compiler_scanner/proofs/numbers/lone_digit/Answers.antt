@@ -18,4 +18,5 @@ returns-then-not-is_name_part c =
       value = lone_number s digit apart small ∙ ap number (ap (λ b. b - 48) (sym first) ∙ sym c.from.ensures);
       width = lone_width s digit apart;
       digit = digit;
+      none = tt;
     }

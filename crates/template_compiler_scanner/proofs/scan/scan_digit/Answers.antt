@@ -25,4 +25,4 @@ returns-in-Some c =
     let r : Result (Token × ℕ) ErrorKind = Ok (Int c.in-Some.digit, 1) in
     let token : Scans s r =
     number_scans s r (class_number (slice_index s 0) (no_name (slice_index s 0) digit) digit) (sym value, sym width) in
-    record { token = token; cut = scans_cut s r c.utf8.text token }
+    record { token = token; cut = scans_cut s r c.utf8.text token; none = tt }
