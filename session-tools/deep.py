@@ -1,0 +1,60 @@
+import subprocess,os,sys,tempfile,resource
+P='/work/h/real'
+def run(name,text,stack_kib=None,ctx='{}',limit=None):
+    with tempfile.TemporaryDirectory() as f:
+        open(f+'/t.txt','w',newline='').write(text); open(f+'/c.json','w').write(ctx)
+        pre=(lambda: resource.setrlimit(resource.RLIMIT_STACK,(stack_kib*1024,stack_kib*1024))) if stack_kib else None
+        r=subprocess.run(['/usr/bin/time','-f','%M KiB %e s',P,'render','--context','c.json','t.txt'],cwd=f,stdout=subprocess.PIPE,stderr=subprocess.PIPE,preexec_fn=pre)
+        err=r.stderr.decode().strip().split('\n')
+        print(f"{name:34} status {r.returncode} out {len(r.stdout)} {r.stdout[:20]!r} {' | '.join(err)[-80:]} (len {len(text)})",flush=True)
+n=149
+for s in (1024,):
+    print("stack",s)
+    run('if',"{% if true %}"*n+"x"+"{% endif %}"*n,s)
+    run('if 150',"{% if true %}"*150+"x"+"{% endif %}"*150,s)
+    run('if 151',"{% if true %}"*151+"x"+"{% endif %}"*151,s)
+    run('for',"{% for a in [1] %}"*149+"x"+"{% endfor %}"*149,s)
+    run('with',"{% with a = 1 %}"*n+"x"+"{% endwith %}"*n,s)
+    run('parens',"{{ "+"("*n+"1"+")"*n+" }}",s)
+    run('parens151',"{{ "+"("*151+"1"+")"*151+" }}",s)
+    run('lists',"{{ "+"["*n+"1"+"]"*n+" }}",s)
+    run('maps',"{{ "+'{"a":'*n+"1"+"}"*n+" }}",s)
+    run('not',"{{ "+"not "*n+"1"+" }}",s)
+    run('minus',"{{ "+"-"*n+"1"+" }}",s)
+    run('subscript',"{{ a"+"[b"*n+"]"*n+" }}",s)
+    run('else chain',"{{ "+"1 if a else "*n+"2 }}",s)
+    run('power',"{{ "+"2**"*9+"1 }}",s)
+    run('set lists deep',"{% set a = "+"["*n+"1"+"]"*n+" %}{{ a }}",s)
+    run('call args',"{{ f"+"(f"*n+")"*n+" }}",s)
+    run('tests',"{{ a"+" is b(c"*140+")"*140+" }}",s)
+    run('elif',"{% if false %}"+"{% elif false %}"*80000+"{% else %}x{% endif %}",s)
+    run('else if nest',"{% if false %}{% else %}"*149+"x"+"{% endif %}"*149,s)
+print("8 MB")
+k=500000
+run('+1',"{{ 1"+"+1"*k+" }}",8192)
+run('.a',"{{ a"+".a"*k+" }}",8192)
+run('[0]',"{{ a"+"[0]"*k+" }}",8192)
+run('|f',"{{ a"+"|f"*k+" }}",8192)
+run('and',"{{ a"+" and a"*100000+" }}",8192)
+run('<',"{{ 1"+" < 2"*100000+" }}",8192)
+run('~',"{{ a"+"~a"*200000+" }}",8192)
+run('elif a',"{% if a %}"+"{% elif a %}"*80000+"{% endif %}",8192)
+run('{{ unclosed',"{{"*k,8192)
+run('if unclosed',"{% if a %}"*100000,8192)
+run('" unclosed','{{ "'+"a"*1000000,8192)
+run('quote','"'*1000000,8192)
+run('comment',"{#"+"a"*1000000+"#}",8192)
+run('comment unclosed',"{#"+"a"*1000000,8192)
+run('data segments',"a{{b}}"*160000,8192)
+run('2^20 segments',"a{#b#}"*(1<<20),8192)
+run('braces',"{"*1000000,8192)
+run('a',"a"*1000000,8192)
+run('raw unclosed',"{% raw %}"+"a"*1000000,8192)
+run('raw many',"{% raw %}a{% endraw %}"*50000,8192)
+run('list of names',"{{ ["+"a,"*100000+"] }}",8192)
+run('list of numbers',"{{ ["+"1,"*100000+"]|length }}",8192)
+piece = "some text {{ a.b[1] + 2 }} more {% if a and not b %}x{% else %}y{% endif %}{# note #}{% for i in c %}{{ i }}{% endfor %}{% raw %}{{{% endraw %}\n"
+for t in (1,10,100):
+    text = "{% if false %}" + piece * (100000 * t // len(piece)) + "{% endif %}"
+    run(f'mixed {t}',text,8192)
+run('text 10 MB',"a"*10_000_000,8192)
