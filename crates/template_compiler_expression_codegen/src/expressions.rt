@@ -5,7 +5,7 @@ ghost use Rattle.std.specs.Prelude.{◌≡◌, IsNone, None, Some, OnOk, IfOk, I
 ghost use Rattle.template_values_errors.specs.Memory.{NoMemory};
 ghost use Rattle.template_values_model.specs.Val.{none, silent_undefined};
 ghost use Rattle.template_tree.specs.Tree.{list_literal, tuple_literal, map_literal};
-ghost use Rattle.template_tree.specs.View.{expression_of, optional_in, expressions_in, links_in};
+ghost use Rattle.template_tree.specs.View.{expression_of, literal_value, optional_in, expressions_in, links_in};
 ghost use Rattle.template_walk.specs.Constants.{constant_of, chain_constant};
 ghost use Rattle.template_walk.specs.Runnable.{IsRunnable, IsRunnableIfGiven, AreRunnable, IsRunnableChain, AreRunnableLinks};
 ghost use Rattle.template_walk.specs.Statements.{number_of};
@@ -28,7 +28,7 @@ use template_compiler_emission::{
     Leap, land, leap_of, load, load_copy, operator_instruction, put, reserve, unary_instruction,
 };
 use template_compiler_folding::{fold_list, fold_map, fold_tuple};
-use template_tree::{BinOpKind, CompareOp, Expr, Span, UnaryOpKind};
+use template_tree::{BinOpKind, CompareOp, Const, Expr, Span, UnaryOpKind};
 use template_tree_parts::{left, spine};
 use template_values_core::Value;
 use template_values_errors::Error;
@@ -149,7 +149,7 @@ pub(crate) fn compile_expr<'source>(
 {
     match expr {
         Expr::Var(n) => put_name(code, n.node.id, from),
-        Expr::Const(n) => put_literal(code, &n.node.value, from),
+        Expr::Const(n) => put_literal(code, &n.node, from),
         _ => compile_tree(alloc, code, expr, from),
     }
 }
@@ -193,22 +193,22 @@ fn put_name<'source>(
 #[inline(never)]
 fn put_literal<'source>(
     code: &mut Instructions<'source>,
-    value: &Value,
+    literal: &Const,
     from: Option<&Span>,
 ) -> Result<(), Error>
-    ensures put { OnOk result (Puts (one (load_const value.now)) code.old code.new) }
+    ensures put { OnOk result (Puts (one (load_const (literal_value literal.now))) code.old code.new) }
     ensures refused { IfErr result (TakesNoMore (code_in code.new)) }
 {
-    put(code, Instruction::LoadConst(value.copy()?), from.copied())
+    put(code, Instruction::LoadConst(literal.value()?), from.copied())
 }
 
 // Holds a literal back.
 #[inline(never)]
-fn hold(value: &mut Option<Value>, literal: &Value) -> Result<(), Error>
-    ensures held { OnOk result (value.new ≡ Some literal.now) }
+fn hold(value: &mut Option<Value>, literal: &Const) -> Result<(), Error>
+    ensures held { OnOk result (value.new ≡ Some (literal_value literal.now)) }
     ensures refused { IfErr result NoMemory }
 {
-    *value = Some(literal.copy()?);
+    *value = Some(literal.value()?);
     Ok(())
 }
 
@@ -264,7 +264,7 @@ fn fold_node<'source>(
             *value = None;
             put_name(code, n.node.id, from)
         }
-        Expr::Const(n) => hold(value, &n.node.value),
+        Expr::Const(n) => hold(value, &n.node),
         Expr::UnaryOp(n) => fold_unary_operator(alloc, code, n.node.op, &n.node.expr, value, from),
         Expr::BinOp(n) => match leap_of(n.node.op) {
             Some(leap) => fold_choice(alloc, code, n.node.op, leap, value, &n.node.right, from),

@@ -118,9 +118,7 @@ fn literal_from<'source>(
 {
     match token {
         Token::Ident(name) => named(alloc, name, span),
-        Token::Int(n) => Expr::constant(alloc, Value::from_int(i128::from(n)), span).map_err(
-            Refusal::from,
-        ),
+        Token::Int(n) => Ok(Expr::int(n, span)),
         Token::Int128(n) => Expr::constant(alloc, whole(n)?, span).map_err(Refusal::from),
         Token::Str(text) => texts(alloc, tokens, String::from_str(alloc, text)?, span),
         Token::String(text) => texts(alloc, tokens, text, span),

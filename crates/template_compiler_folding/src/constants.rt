@@ -48,7 +48,7 @@ fn node_constant(
 {
     match expr {
         Expr::Const(n) => {
-            let value = n.node.value.copy()?;
+            let value = n.node.value()?;
             Ok(Some(value))
         }
         Expr::UnaryOp(n) => {

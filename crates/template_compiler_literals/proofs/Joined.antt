@@ -1,5 +1,5 @@
 -- The literals of a list that were read so far, and the rest of the list.
-use Rattle.std.proofs.Common.{◌≡◌, ℕ, ◌+◌, ◌<◌, ◌≤◌, List, [], ◌∷◌, ◌++◌, length, get_or, drop, Option, None, Some, Box, Global, refl, sym, ap, ◌∙◌, append-nil, append_assoc}
+use Rattle.std.proofs.Common.{◌≡◌, ℕ, ◌+◌, ◌<◌, ◌≤◌, List, [], ◌∷◌, ◌++◌, length, get_or, drop, Option, None, Some, refl, sym, ap, ◌∙◌, append-nil, append_assoc}
 use Rattle.std.proofs.lemmas.List.{drop_more, drop_all}
 use Rattle.template_values_model.specs.Val.{Val}
 use Rattle.template_tree.specs.View.{expression_of, expressions_in}
@@ -10,7 +10,7 @@ use Rattle.template_tree.specs.declared.expressions.Compare.{Compare' as compare
 use Rattle.template_walk.specs.Constants.{both, literal_of, literals_of}
 
 -- a node that is no constant is no literal
-pub other_than_literal : (e : Expr) → ((x : Box (Spanned Literal) Global) → e ≡ Const x → ⊥) → None ≡ literal_of (expression_of e)
+pub other_than_literal : (e : Expr) → ((x : Spanned Literal) → e ≡ Const x → ⊥) → None ≡ literal_of (expression_of e)
 other_than_literal (Const n) h = absurd (h n refl)
 other_than_literal (Compare' p (compared expr shape ops) span) h = refl
 other_than_literal _ h = refl

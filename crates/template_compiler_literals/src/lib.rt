@@ -3,20 +3,20 @@
 
 ghost use Rattle.std.specs.Prelude.{◌≡◌, IfOk, IfErr, option_map};
 ghost use Rattle.template_values_errors.specs.Memory.{NoMemory};
-ghost use Rattle.template_tree.specs.View.{expression_of, expressions_in};
+ghost use Rattle.template_tree.specs.View.{expression_of, expressions_in, literal_value};
 ghost use Rattle.template_walk.specs.Constants.{literal_of, literals_of};
 
 use std::alloc::Global;
-use template_tree::Expr;
+use template_tree::{Const, Expr};
 use template_values_core::Value;
 use template_values_errors::Error;
 
-// The value of a literal.
-fn literal<'a, 'source>(expr: &'a Expr<'source>) -> Option<&'a Value>
-    ensures { option_map (λ value. value.now) result ≡ literal_of (expression_of expr.now) }
+// The literal that an expression is.
+fn literal<'a, 'source>(expr: &'a Expr<'source>) -> Option<&'a Const>
+    ensures { option_map (λ literal. literal_value literal.now) result ≡ literal_of (expression_of expr.now) }
 {
     match expr {
-        Expr::Const(n) => Some(&n.node.value),
+        Expr::Const(n) => Some(&n.node),
         _ => None,
     }
 }
@@ -36,7 +36,7 @@ pub fn literals<'source>(
     let mut values = Vec::new(alloc);
     for expr in exprs {
         match literal(expr) {
-            Some(value) => values.push(value.copy()?)?,
+            Some(literal) => values.push(literal.value()?)?,
             None => return Ok(None),
         }
     }

@@ -3,7 +3,7 @@ use crate::forms::{
     ABSENT, Form, UNKNOWN, binary_word, comparison_word, open, quoted, unary_word, word,
 };
 use template_tree::{
-    Call, CallArg, Compare, CompareOp, Expr, Filter, GetAttr, IfExpr, Map, Slice, Test,
+    Call, CallArg, Compare, CompareOp, Const, Expr, Filter, GetAttr, IfExpr, Map, Slice, Test,
 };
 use template_values_core::{Content, Value};
 use template_values_errors::ErrorKind;
@@ -23,7 +23,7 @@ pub(crate) fn expression(expr: &Expr, out: &mut Form, left: u32) {
 fn node(expr: &Expr, out: &mut Form, left: u32) {
     match expr {
         Expr::Var(n) => out.push_str(n.node.id),
-        Expr::Const(n) => constant(&n.node.value, out),
+        Expr::Const(n) => literal(&n.node, out),
         Expr::UnaryOp(n) => single(unary_word(n.node.op), &n.node.expr, out, left),
         Expr::BinOp(n) => pair(
             binary_word(n.node.op),
@@ -52,6 +52,14 @@ fn rarer(expr: &Expr, out: &mut Form, left: u32) {
         Expr::Tuple(n) => group("tuple", n.node.items.as_slice(), out, left),
         Expr::Map(n) => map(&n.node, out, left),
         _ => out.push_str(UNKNOWN),
+    }
+}
+
+// A literal.
+fn literal(literal: &Const, out: &mut Form) {
+    match literal {
+        Const::Int(number) => out.push_number(i128::from(*number)),
+        Const::Value(value) => constant(value, out),
     }
 }
 

@@ -9,7 +9,7 @@ use Rattle.template_tree.specs.NodePlaces.{Places, at, Parts, no_parts, parts_mo
 abbrev mutual
   pub places_of : Expr → Places
   places_of (Var n) = at n.span no_parts
-  places_of (Const n) = at n.value.span no_parts
+  places_of (Const n) = at n.span no_parts
   places_of (Slice' p expr start stop step span) =
       at span (parts_more (places_of expr) (and_parts (places_given start) (and_parts (places_given stop) (places_given step))))
   places_of (UnaryOp' p op expr span) = at span (one (places_of expr))

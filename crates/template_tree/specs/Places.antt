@@ -4,7 +4,7 @@ use Rattle.template_tree.specs.declared.expressions.Expr.{Expr, Var, Const, Slic
 
 abbrev pub expression_span : Expr → Span
 expression_span (Var n) = n.span
-expression_span (Const n) = n.value.span
+expression_span (Const n) = n.span
 expression_span (Slice' p expr start stop step span) = span
 expression_span (UnaryOp' p op expr span) = span
 expression_span (BinOp' p op left right span) = span

@@ -1,16 +1,24 @@
 -- The trees in the nodes: their places in the source are left out.
-use Rattle.std.specs.Prelude.{List, [], ◌∷◌, Option, None, Some}
+use Rattle.std.specs.Prelude.{List, [], ◌∷◌, Option, None, Some, pos}
 use Rattle.std.specs.Cow.{cow_str_bytes}
+use Rattle.template_values_core.specs.Val.{Val, int}
 use Rattle.template_tree.specs.Tree.{Expression, variable, constant, slice, unary, binary, chain, conditional, filtered, tested, attribute, item, call, list_literal, tuple_literal, map_literal, Optional, absent, given, Expressions, no_expressions, expressions_more, Links, no_links, links_more, Arguments, no_arguments, arguments_more, Argument, positional, keyword, positional_spread, keyword_spread}
 use Rattle.template_tree.specs.declared.expressions.Expr.{Expr, Var, Const, Slice', UnaryOp', BinOp', Compare', IfExpr', Filter', Test', GetAttr', GetItem', Call', List', Tuple', Map', Held-Filter-expr, None', Some', Row_of-CallArg, end_of-CallArg, more_of-CallArg, Row_of-Expr, end_of-Expr, more_of-Expr}
+use Rattle.template_tree.specs.declared.expressions.Const.{Const as Literal}
+use Rattle.template_tree.specs.declared.expressions.Const.TheVariants.{Int, Value}
 use Rattle.template_tree.specs.declared.expressions.Compare.{Compare, Compare' as compared, Row_of-CompareOp, end_of-CompareOp, more_of-CompareOp}
 use Rattle.template_tree.specs.declared.expressions.CompareOp.{CompareOp}
 use Rattle.template_tree.specs.declared.calls.CallArg.{CallArg, Pos, Kwarg, PosSplat, KwargSplat}
 
+-- the value of a literal
+abbrev pub literal_value : Literal → Val
+literal_value (Int number) = int (pos number)
+literal_value (Value held) = held.value
+
 abbrev mutual
   pub expression_of : Expr → Expression
   expression_of (Var n) = variable n.node.id.now
-  expression_of (Const n) = constant n.value.node.value
+  expression_of (Const n) = constant (literal_value n.node)
   expression_of (Slice' p expr start stop step span) =
       slice (expression_of expr) (optional_of start) (optional_of stop) (optional_of step)
   expression_of (UnaryOp' p op expr span) = unary op (expression_of expr)

@@ -6,6 +6,7 @@ use crate::operators::{BinOpKind, CompareOpKind, UnaryOpKind};
 use crate::span::{Span, Spanned};
 use std::borrow::CowStr;
 use template_values_core::Value;
+use template_values_errors::Error;
 
 /// An expression. Its left parts may nest as deep as the source is long, all others at most 150 deep:
 /// what goes over a tree goes along its left parts in a loop, and calls itself for the other parts alone.
@@ -14,7 +15,7 @@ pub enum Expr<'source> {
     /// A name: `user`.
     Var(Spanned<Var<'source>>),
     /// A literal: `42`, `"text"`, `true`, `none`.
-    Const(Box<Spanned<Const>>),
+    Const(Spanned<Const>),
     /// A part of a list or a text: `items[1:3]`.
     Slice(Box<Spanned<Slice<'source>>>),
     /// An operator with one operand: `not ready`, `-x`.
@@ -49,10 +50,35 @@ pub struct Var<'source> {
     pub id: &'source str,
 }
 
-/// A literal.
+/// A literal. A small number needs no memory of its own.
 #[derive(Drop)]
-pub struct Const {
-    pub value: Value,
+pub enum Const {
+    /// A whole number below 2^64.
+    Int(u64),
+    /// Another value: `"text"`, `true`, `none`, a larger number.
+    Value(Box<Value>),
+}
+
+impl Const {
+    ghost use Rattle.std.specs.Prelude.{IfOk, IfErr};
+    ghost use Rattle.template_values_errors.specs.Memory.{NoMemory};
+    ghost use Rattle.template_tree.specs.View.{literal_value};
+
+    /// The value of the literal.
+    ///
+    /// # Errors
+    ///
+    /// [`ErrorKind::OutOfMemory`](template_values_errors::ErrorKind::OutOfMemory).
+    #[inline(always)]
+    pub fn value(&self) -> Result<Value, Error>
+        ensures same { IfOk result (λ v. v ≡ literal_value self.now) }
+        ensures refused { IfErr result NoMemory }
+    {
+        match self {
+            Const::Int(number) => Ok(Value::from_int(i128::from(*number))),
+            Const::Value(value) => value.copy(),
+        }
+    }
 }
 
 /// `expr[start:stop:step]`.
@@ -274,56 +300,39 @@ impl<'source> Expr<'source> {
     ghost use Rattle.std.specs.Prelude.{◌<◌, IfSome};
     ghost use Rattle.template_tree.specs.declared.expressions.Expr.{size-Expr};
 
-    // Drops an expression that has parts, along its left ones.
+    // Drops an expression that has parts, along its left ones. Most are operators and look-ups.
     #[cycle(expr)]
     #[inline(never)]
-    fn drop_parts(self) {
-        let mut next = self.into_left();
-        while let Some(expr) = next {
-            next = expr.into_left();
+    fn drop_parts(mut self) {
+        loop {
+            match self {
+                Expr::Var(_) => return,
+                Expr::Const(_) => return,
+                Expr::UnaryOp(n) => {
+                    let UnaryOp { expr, .. } = Box::into_inner(n).into_node();
+                    self = expr;
+                }
+                Expr::BinOp(n) => {
+                    let BinOp { left, .. } = Box::into_inner(n).into_node();
+                    self = left;
+                }
+                Expr::GetAttr(n) => {
+                    let GetAttr { expr, .. } = Box::into_inner(n).into_node();
+                    self = expr;
+                }
+                Expr::GetItem(n) => {
+                    let GetItem { expr, .. } = Box::into_inner(n).into_node();
+                    self = expr;
+                }
+                expr => match expr.into_first_part() {
+                    Some(first) => self = first,
+                    None => return,
+                },
+            }
         }
     }
 
-    // The expression on the left of this one; its other parts are dropped. Most are names and literals, and have none.
-    #[cycle(expr)]
-    fn into_left(self) -> Option<Expr<'source>>
-        ensures { IfSome result (λ e. size-Expr e < size-Expr self.entry) }
-    {
-        match self {
-            Expr::Var(_) => None,
-            Expr::Const(_) => None,
-            expr => expr.into_first_operand(),
-        }
-    }
-
-    // The same for operators and look-ups, which most of the others are.
-    #[cycle(expr)]
-    #[inline(never)]
-    fn into_first_operand(self) -> Option<Expr<'source>>
-        ensures { IfSome result (λ e. size-Expr e < size-Expr self.entry) }
-    {
-        match self {
-            Expr::UnaryOp(n) => {
-                let UnaryOp { expr, .. } = Box::into_inner(n).into_node();
-                Some(expr)
-            }
-            Expr::BinOp(n) => {
-                let BinOp { left, .. } = Box::into_inner(n).into_node();
-                Some(left)
-            }
-            Expr::GetAttr(n) => {
-                let GetAttr { expr, .. } = Box::into_inner(n).into_node();
-                Some(expr)
-            }
-            Expr::GetItem(n) => {
-                let GetItem { expr, .. } = Box::into_inner(n).into_node();
-                Some(expr)
-            }
-            expr => expr.into_first_part(),
-        }
-    }
-
-    // The same for the rest.
+    // The expression on the left of one of another kind; its other parts are dropped.
     #[cycle(expr)]
     #[inline(never)]
     fn into_first_part(self) -> Option<Expr<'source>>

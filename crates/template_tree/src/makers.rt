@@ -1,11 +1,12 @@
 //! Makers of nodes: each takes one allocation at most, and drops its parts where that is refused.
-ghost use Rattle.std.specs.Prelude.{◌≡◌, IfOk};
+ghost use Rattle.std.specs.Prelude.{◌≡◌, IfOk, pos};
 ghost use Rattle.std.specs.Cow.{cow_str_bytes};
 ghost use Rattle.template_tree.specs.ExpressionPlaces.{places_of, places_optional, places_in, places_in_links, places_in_arguments};
 ghost use Rattle.template_tree.specs.NodePlaces.{at, no_parts, parts_more, one, and_parts};
 ghost use Rattle.template_tree.specs.Places.{expression_span};
 ghost use Rattle.template_tree.specs.Tree.{variable, constant, slice, unary, binary, chain, conditional, filtered, tested, attribute, item, call, list_literal, tuple_literal, map_literal};
 ghost use Rattle.template_tree.specs.View.{expression_of, optional_in, expressions_in, links_in, arguments_in};
+ghost use Rattle.template_values_core.specs.Val as Val;
 
 use crate::calls::{Call, CallArg};
 use crate::expressions::{
@@ -35,7 +36,18 @@ impl<'source> Expr<'source> {
         ensures span { IfOk result (λ e. expression_span e ≡ span) }
         ensures places { IfOk result (λ e. places_of e ≡ at span no_parts) }
     {
-        Ok(Expr::Const(Spanned::boxed(alloc, Const { value }, span)?))
+        let literal = Const::Value(Box::new(alloc, value)?);
+        Ok(Expr::Const(Spanned::new(literal, span)))
+    }
+
+    /// A literal that is a whole number.
+    #[inline(always)]
+    pub fn int(number: u64, span: Span) -> Expr<'source>
+        ensures tree { expression_of result ≡ constant (Val.int (pos number)) }
+        ensures span { expression_span result ≡ span }
+        ensures places { places_of result ≡ at span no_parts }
+    {
+        Expr::Const(Spanned::new(Const::Int(number), span))
     }
 
     /// `expr[start:stop:step]`.

@@ -1,8 +1,7 @@
--- What is left to drop is smaller than what was passed.
-use Rattle.std.proofs.Common.{◌<◌}
-use Rattle.std.specs.Prelude.{IfSome}
+-- What is left to drop is no larger than what was passed.
+use Rattle.std.proofs.Common.{◌≤◌}
 use Rattle.template_tree.specs.declared.expressions.Expr.{size-Expr}
 use Rattle.template_tree.proofs.+expr.Given as goal
 
-abbrev pub invariant-expressions::Expr::drop_parts-loop-next : goal.invariant-expressions::Expr::drop_parts-loop-next
-invariant-expressions::Expr::drop_parts-loop-next l = IfSome l.next (λ e. size-Expr e < size-Expr l.fn.self)
+abbrev pub invariant-expressions::Expr::drop_parts-loop-self : goal.invariant-expressions::Expr::drop_parts-loop-self
+invariant-expressions::Expr::drop_parts-loop-self l = size-Expr l.self ≤ size-Expr l.fn.self
