@@ -199,7 +199,11 @@ fn put_literal<'source>(
     ensures put { OnOk result (Puts (one (load_const (literal_value literal.now))) code.old code.new) }
     ensures refused { IfErr result (TakesNoMore (code_in code.new)) }
 {
-    put(code, Instruction::LoadConst(literal.value()?), from.copied())
+    put(
+        code,
+        Instruction::LoadConst(literal.value()?),
+        from.copied(),
+    )
 }
 
 // Holds a literal back.
