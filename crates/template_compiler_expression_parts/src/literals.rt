@@ -97,6 +97,24 @@ pub fn literal<'source>(
         tokens.advance();
         return named(alloc, name, span);
     }
+    if let Some(number) = tokens.number() {
+        let span = tokens.span();
+        tokens.advance();
+        return Ok(Expr::constant(alloc, Value::from_int(i128::from(number)), span)?);
+    }
+    other_literal(alloc, tokens)
+}
+
+// A large number, or adjacent texts.
+#[tactic(auto, unfolding(template_compiler_placed_grammar::specs::Reader::primary_by))]
+#[inline(never)]
+fn other_literal<'source>(
+    alloc: Global,
+    tokens: &mut TokenStream<'source>,
+) -> Result<Expr<'source>, Refusal>
+    ensures parsed { Parsed (primary_by tokens.old.spans nothing_deeper tokens.old.left) tokens.new.left result }
+    ensures spans { tokens.new.spans ≡ tokens.old.spans }
+{
     match tokens.take() {
         First::Token(token, span) => literal_from(alloc, tokens, token, span),
         First::End => Err(Refusal::Token(Fault::Syntax)),

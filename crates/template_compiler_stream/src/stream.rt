@@ -1,7 +1,7 @@
 //! The tokens that are left.
-ghost use Rattle.std.specs.Prelude.{◌≡◌, ◌≤◌, [], ◌∷◌, ◌++◌, length, map, option_map, is_some, if◌then◌else◌, string_bytes};
+ghost use Rattle.std.specs.Prelude.{◌≡◌, ◌≤◌, IfSome, [], ◌∷◌, ◌++◌, length, map, option_map, is_some, if◌then◌else◌, string_bytes};
 ghost use Rattle.template_compiler_tokens.specs.Steps.{fault};
-ghost use Rattle.template_compiler_tokens.specs.Token.{assign, bad_syntax};
+ghost use Rattle.template_compiler_tokens.specs.Token.{assign, bad_syntax, number};
 ghost use Rattle.template_compiler_grammar.specs.Words.{begins_bare};
 ghost use Rattle.template_compiler_grammar.specs.Reader.{begins_closing, begins_bound_end};
 ghost use Rattle.template_compiler_stream.specs.Refusals.{fault_of};
@@ -127,6 +127,18 @@ impl<'source> TokenStream<'source> {
     {
         match self.peek() {
             Next::Token(token, _) => word_of(token),
+            Next::End => None,
+            Next::Bad(_) => None,
+        }
+    }
+
+    /// The number that stands next, where it is no larger than a `u64`.
+    #[inline(always)]
+    pub fn number(&self) -> Option<u64>
+        ensures { IfSome result (λ n. self.now.left ≡ number n ∷ passed self.now.left) }
+    {
+        match self.peek() {
+            Next::Token(token, _) => number_of(token),
             Next::End => None,
             Next::Bad(_) => None,
         }
@@ -497,6 +509,16 @@ fn word_of<'source>(token: &Token<'source>) -> Option<&'source str>
 {
     match token {
         Token::Ident(name) => Some(name),
+        _ => None,
+    }
+}
+
+// The number that a token is, where it is no larger than a `u64`.
+fn number_of(token: &Token) -> Option<u64>
+    ensures { IfSome result (λ n. token_of token.now ≡ number n) }
+{
+    match token {
+        Token::Int(n) => Some(*n),
         _ => None,
     }
 }
