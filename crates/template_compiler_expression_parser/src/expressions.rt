@@ -1,7 +1,7 @@
 //! Expressions.
 ghost use Rattle.std.specs.Prelude.{◌≡◌, true, false, Some, Ok, bytes_eq, codes, suc};
 ghost use Rattle.std.specs.Cow.{cow_str_bytes};
-ghost use Rattle.template_compiler_expression_parts.specs.Parsed.{Parsed, ParsedAs, ParsedOptional, Stepped, SteppedTo, WentOn, paired_in, unnamed_by, written_in};
+ghost use Rattle.template_compiler_expression_parts.specs.Parsed.{Parsed, ParsedAs, ParsedOptional, ParsedTo, Stepped, SteppedTo, WentOn, paired_in, unnamed_by, written_in};
 ghost use Rattle.template_compiler_stream.specs.Signs.{level_of, symbol_of};
 ghost use Rattle.template_compiler_expression_parser.specs.Ahead.{HasNoFilter, HasNoLink, HasNoOperator, begins_sign, choices_from, comparison_from, is_filter_sign, is_link_sign, is_link_word, is_part_sign, is_sum_sign, negative_from, operators_from, sum_from};
 ghost use Rattle.template_compiler_grammar.specs.Reader.{colon_end, paren_end};
@@ -19,7 +19,7 @@ use std::alloc::Global;
 use std::borrow::CowStr;
 use template_compiler_expression_parts::{
     Behind, Pairs, Written, attribute, before_colon, compared, deeper, in_braces, in_brackets,
-    in_order, in_parens, literal, name, separated, tested,
+    in_order, in_parens, join, literal, name, put, separated, taken, tested,
 };
 use template_compiler_stream::{Level, Refusal, Sign, TokenStream};
 use template_tree::{BinOpKind, CallArg, CompareOp, CompareOpKind, Expr, Span, UnaryOpKind};
@@ -62,8 +62,9 @@ fn choice<'source>(
         result }
     ensures spans { tokens.new.spans ≡ tokens.old.spans }
 {
-    let value = operands(alloc, tokens, left, Level::Conjunction, first, span)?;
-    let value = operands(alloc, tokens, left, Level::Disjunction, value, span)?;
+    let mut value = first;
+    operands(alloc, tokens, left, Level::Conjunction, &mut value, span)?;
+    operands(alloc, tokens, left, Level::Disjunction, &mut value, span)?;
     if tokens.skip_word("if") {
         branches(alloc, tokens, deeper(left)?, value, span)
     } else {
@@ -113,8 +114,9 @@ pub(crate) fn binary<'source>(
         return literal(alloc, tokens);
     }
     let span = tokens.span();
-    let value = operand(alloc, tokens, left, level)?;
-    operands(alloc, tokens, left, level, value, span)
+    let mut value = operand(alloc, tokens, left, level)?;
+    operands(alloc, tokens, left, level, &mut value, span)?;
+    Ok(value)
 }
 
 // Behind a value: the operators of a level, each with its right side.
@@ -125,23 +127,22 @@ fn operands<'source>(
     tokens: &mut TokenStream<'source>,
     left: u32,
     level: Level,
-    value: Expr<'source>,
+    value: &mut Expr<'source>,
     span: Span,
-) -> Result<Expr<'source>, Refusal>
+) -> Result<(), Refusal>
     ensures parsed { let table = tokens.old.spans in
-        Parsed (all (operand_step table (level_of level) (operand_by table (deeper table left) (level_of level)) span) (node_of value.entry)
-        tokens.old.left) tokens.new.left result }
+        ParsedTo (all (operand_step table (level_of level) (operand_by table (deeper table left) (level_of level)) span) (node_of value.old)
+        tokens.old.left) tokens.new.left value.new result }
     ensures spans { tokens.new.spans ≡ tokens.old.spans }
 {
-    let mut value = value;
     while let Some(op) = tokens.skip_operator(level) {
         let right = match operand(alloc, tokens, left, level) {
             Ok(right) => right,
             Err(refusal) => return Err(refusal),
         };
-        value = Expr::binary(alloc, op, value, right, tokens.expand_span(span))?;
+        join(alloc, op, value, right, tokens.expand_span(span))?;
     }
-    Ok(value)
+    Ok(())
 }
 
 #[cycle(parser)]
@@ -185,7 +186,9 @@ fn sum<'source>(
     if !begins_sum(tokens) {
         return first;
     }
-    sum_behind(alloc, tokens, left, first?, span)
+    let mut first = first?;
+    sum_behind(alloc, tokens, left, &mut first, span)?;
+    Ok(first)
 }
 
 // Behind the first operand of a sum: those of its operators, from the tightest on.
@@ -196,15 +199,15 @@ fn sum_behind<'source>(
     alloc: Global,
     tokens: &mut TokenStream<'source>,
     left: u32,
-    first: Expr<'source>,
+    value: &mut Expr<'source>,
     span: Span,
-) -> Result<Expr<'source>, Refusal>
+) -> Result<(), Refusal>
     ensures parsed { let table = tokens.old.spans in
-        Parsed (sum_from table (deeper table left) span (node_of first.entry) tokens.old.left) tokens.new.left result }
+        ParsedTo (sum_from table (deeper table left) span (node_of value.old) tokens.old.left) tokens.new.left value.new result }
     ensures spans { tokens.new.spans ≡ tokens.old.spans }
 {
-    let value = operands(alloc, tokens, left, Level::Factors, first, span)?;
-    let value = operands(alloc, tokens, left, Level::Texts, value, span)?;
+    operands(alloc, tokens, left, Level::Factors, value, span)?;
+    operands(alloc, tokens, left, Level::Texts, value, span)?;
     operands(alloc, tokens, left, Level::Terms, value, span)
 }
 
@@ -275,8 +278,9 @@ fn operators<'source>(
         Parsed (operators_from table (deeper table left) span (node_of first.entry) tokens.old.left) tokens.new.left result }
     ensures spans { tokens.new.spans ≡ tokens.old.spans }
 {
-    let value = power_behind(alloc, tokens, left, first, span)?;
-    let value = sum_behind(alloc, tokens, left, value, span)?;
+    let mut value = first;
+    power_behind(alloc, tokens, left, &mut value, span)?;
+    sum_behind(alloc, tokens, left, &mut value, span)?;
     if begins_link(tokens) {
         comparison_behind(alloc, tokens, left, value, span)
     } else {
@@ -451,7 +455,9 @@ fn power<'source>(
     if !begins_filter(tokens) {
         return first;
     }
-    power_behind(alloc, tokens, left, first?, span)
+    let mut first = first?;
+    power_behind(alloc, tokens, left, &mut first, span)?;
+    Ok(first)
 }
 
 // Filters and tests behind an unary, and a power behind these.
@@ -462,26 +468,27 @@ fn power_behind<'source>(
     alloc: Global,
     tokens: &mut TokenStream<'source>,
     left: u32,
-    first: Expr<'source>,
+    value: &mut Expr<'source>,
     span: Span,
-) -> Result<Expr<'source>, Refusal>
+) -> Result<(), Refusal>
     ensures parsed { let table = tokens.old.spans in let r = deeper table left in
-        Parsed (and_then (all (filter_step table r span) (node_of first.entry) tokens.old.left) (power_behind table r span))
-        tokens.new.left result }
+        ParsedTo (and_then (all (filter_step table r span) (node_of value.old) tokens.old.left) (power_behind table r span))
+        tokens.new.left value.new result }
     ensures spans { tokens.new.spans ≡ tokens.old.spans }
 {
-    let value = filters(alloc, tokens, left, first, span)?;
+    filters(alloc, tokens, left, value, span)?;
     if tokens.skip(Sign::Pow) {
         let right = power(alloc, tokens, deeper(left)?)?;
-        Ok(Expr::binary(
+        join(
             alloc,
             BinOpKind::Pow,
             value,
             right,
             tokens.expand_span(span),
-        )?)
+        )?;
+        Ok(())
     } else {
-        Ok(value)
+        Ok(())
     }
 }
 
@@ -520,18 +527,17 @@ fn filters<'source>(
     alloc: Global,
     tokens: &mut TokenStream<'source>,
     left: u32,
-    value: Expr<'source>,
+    value: &mut Expr<'source>,
     span: Span,
-) -> Result<Expr<'source>, Refusal>
+) -> Result<(), Refusal>
     ensures parsed { let table = tokens.old.spans in
-        Parsed (all (filter_step table (deeper table left) span) (node_of value.entry) tokens.old.left) tokens.new.left result }
+        ParsedTo (all (filter_step table (deeper table left) span) (node_of value.old) tokens.old.left) tokens.new.left value.new result }
     ensures spans { tokens.new.spans ≡ tokens.old.spans }
 {
-    let mut value = value;
     loop {
         match next_filter(alloc, tokens, left, value, span) {
-            Ok(Behind::Goes(next)) => value = next,
-            Ok(Behind::Stops(end)) => return Ok(end),
+            Ok(true) => {}
+            Ok(false) => return Ok(()),
             Err(refusal) => return Err(refusal),
         }
     }
@@ -544,20 +550,24 @@ fn next_filter<'source>(
     alloc: Global,
     tokens: &mut TokenStream<'source>,
     left: u32,
-    value: Expr<'source>,
+    value: &mut Expr<'source>,
     span: Span,
-) -> Result<Behind<'source>, Refusal>
+) -> Result<bool, Refusal>
     ensures parsed { let table = tokens.old.spans in
-        Stepped (filter_step table (deeper table left) span (node_of value.entry) tokens.old.left) (node_of value.entry) tokens.old.left
-        tokens.new.left result }
+        SteppedTo (filter_step table (deeper table left) span (node_of value.old) tokens.old.left) (node_of value.old) tokens.old.left
+        (node_of value.new) tokens.new.left result }
     ensures spans { tokens.new.spans ≡ tokens.old.spans }
 {
     if tokens.skip(Sign::Pipe) {
-        piped(alloc, tokens, left, value, span).map(Behind::Goes)
+        let filtered = piped(alloc, tokens, left, taken(value), span)?;
+        put(value, filtered);
+        Ok(true)
     } else if tokens.skip_word("is") {
-        asked(alloc, tokens, left, value, span).map(Behind::Goes)
+        let answer = asked(alloc, tokens, left, taken(value), span)?;
+        put(value, answer);
+        Ok(true)
     } else {
-        Ok(Behind::Stops(value))
+        Ok(false)
     }
 }
 

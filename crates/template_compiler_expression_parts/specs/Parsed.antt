@@ -47,6 +47,11 @@ abbrev pub Parsed : Read Node → List Token → Result Expr Refusal → Type 0
 Parsed r new (Ok e) = r ≡ Ok (node_of e, new)
 Parsed r new (Err e) = Refused r e
 
+-- an expression that is put in a place
+abbrev pub ParsedTo : Read Node → List Token → Expr → Result Unit Refusal → Type 0
+ParsedTo r new e (Ok x) = r ≡ Ok (node_of e, new)
+ParsedTo r new e (Err x) = Refused r x
+
 -- an expression that may be left out
 abbrev pub ParsedOptional : Read OptionalNode → List Token → Result (Option Expr) Refusal → Type 0
 ParsedOptional r new (Ok o) = r ≡ Ok (optional_node_in o, new)

@@ -9,4 +9,4 @@ mod trees;
 pub use behind::{Behind, Pairs, Written};
 pub use ends::{before_colon, deeper, in_braces, in_brackets, in_order, in_parens, separated};
 pub use literals::{attribute, literal, name};
-pub use trees::{compared, tested};
+pub use trees::{compared, join, put, taken, tested};

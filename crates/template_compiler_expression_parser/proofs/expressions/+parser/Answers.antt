@@ -1,4 +1,4 @@
-use Rattle.std.proofs.Common.{refl, sym, ◌∙◌, ap, rules}
+use Rattle.std.proofs.Common.{Ok, Err, refl, sym, ◌∙◌, ap, rules}
 use Rattle.template_compiler_stream.specs.Signs.{level_of}
 use Rattle.template_compiler_stream.specs.Refusals.{Refused}
 use Rattle.template_compiler_placed_grammar.specs.Reader.{deeper, expression_by, items_step, negation_by, operand_by, pairs_step, power_by, terms_by, unary_by}
@@ -38,25 +38,25 @@ parts-loop-next-smaller t c =
     let more = rw c.in-Ok-Goes.field-0-is at c.in-Ok-Goes.ensures.parsed in
     parts_fall _ c.args.left _ (node_of c.loop-next.value) (node_of c.in-Ok-Goes.next) _ _ more
 
-pub filters-returns-in-Ok-Stops-clause-parsed : goal.filters-returns-in-Ok-Stops-clause-parsed
-filters-returns-in-Ok-Stops-clause-parsed t c =
-    let ended = rw c.loop-next.invariant.0 at (rw c.in-Ok-Stops.field-0-is at c.in-Ok-Stops.ensures.parsed) in
-    rounds_end _ _ _ _ _ _ _ c.loop-next.invariant.1 ended
+pub filters-returns-in-Ok-false-clause-parsed : goal.filters-returns-in-Ok-false-clause-parsed
+filters-returns-in-Ok-false-clause-parsed t c =
+    let ended = rw c.loop-refusal.invariant.0 at (rw c.in-Ok-false.field-0-test at c.in-Ok-false.ensures.parsed) in
+    rounds_end _ _ _ _ _ _ _ c.loop-refusal.invariant.1 ended
 
 pub filters-returns-in-Err-clause-parsed : goal.filters-returns-in-Err-clause-parsed
 filters-returns-in-Err-clause-parsed t c =
-    let now = rw c.loop-next.invariant.0 at c.in-Err.ensures.parsed in
-    rounds_refused _ _ _ _ _ c.in-Err.refusal c.loop-next.invariant.1 now
+    let now = rw c.loop-refusal.invariant.0 at c.in-Err.ensures.parsed in
+    rounds_refused _ _ _ _ _ c.in-Err.refusal c.loop-refusal.invariant.1 now
 
-pub filters-loop-next-preserved : goal.filters-loop-next-preserved
-filters-loop-next-preserved t c =
-    let more = rw c.loop-next.invariant.0 at (rw c.in-Ok-Goes.field-0-is at c.in-Ok-Goes.ensures.parsed) in
-    (c.in-Ok-Goes.ensures.spans ∙ c.loop-next.invariant.0, rounds_go _ (filters_fall _ c.args.left _) _ _ _ _ _ _ c.loop-next.invariant.1 more)
+pub filters-loop-refusal-preserved : goal.filters-loop-refusal-preserved
+filters-loop-refusal-preserved t c =
+    let more = rw c.loop-refusal.invariant.0 at (rw c.in-Ok-true.field-0-test at c.in-Ok-true.ensures.parsed) in
+    (c.in-Ok-true.ensures.spans ∙ c.loop-refusal.invariant.0, rounds_go _ (filters_fall _ c.args.left _) _ _ _ _ _ _ c.loop-refusal.invariant.1 more)
 
-pub filters-loop-next-smaller : goal.filters-loop-next-smaller
-filters-loop-next-smaller t c =
-    let more = rw c.in-Ok-Goes.field-0-is at c.in-Ok-Goes.ensures.parsed in
-    filters_fall _ c.args.left _ (node_of c.loop-next.value) (node_of c.in-Ok-Goes.next) _ _ more
+pub filters-loop-refusal-smaller : goal.filters-loop-refusal-smaller
+filters-loop-refusal-smaller t c =
+    let more = rw c.in-Ok-true.field-0-test at c.in-Ok-true.ensures.parsed in
+    filters_fall _ c.args.left _ _ _ _ _ more
 
 pub links-returns-in-Ok-false-clause-parsed : goal.links-returns-in-Ok-false-clause-parsed
 links-returns-in-Ok-false-clause-parsed t c =
@@ -243,8 +243,17 @@ sum-returns-in_err-first-clause-parsed t c =
 
 pub sum-returns-clause-parsed : goal.sum-returns-clause-parsed
 sum-returns-clause-parsed t c =
-    let behind = rw c.span-span.ensures at (rw c.power-first.ensures.spans at c.sum_behind.ensures.parsed) in
-    sum_goes _ (deeper _ c.args.left) _ (node_of c.in_ok-first.field-0) _ _ _ c.in_ok-first.ensures.parsed behind
+    let behind = rw c.span-span.ensures at (rw c.power-first.ensures.spans at c.in_ok-sum_behind.ensures.parsed) in
+    sum_goes _ (deeper _ c.args.left) _ (node_of c.in_ok-first.first) _ _ (Ok c.sum_behind.new.value) c.in_ok-first.ensures.parsed behind
+
+pub sum-returns-in_err-sum_behind-clause-parsed : goal.sum-returns-in_err-sum_behind-clause-parsed
+sum-returns-in_err-sum_behind-clause-parsed t c =
+    let behind = rw c.span-span.ensures at (rw c.power-first.ensures.spans at c.in_err-sum_behind.ensures.parsed) in
+    let refused : Refused (terms_by c.args.tokens.now.spans (deeper c.args.tokens.now.spans c.args.left) c.args.tokens.now.left)
+    c.in_err-sum_behind.field-0.0 =
+    sum_goes _ (deeper _ c.args.left) _ (node_of c.in_ok-first.first) _ c.args.tokens.now.left (Err c.in_err-sum_behind.field-0.0)
+    c.in_ok-first.ensures.parsed behind in
+    search rules
 
 pub power-returns-in_err-first-clause-parsed : goal.power-returns-in_err-first-clause-parsed
 power-returns-in_err-first-clause-parsed t c =
@@ -254,8 +263,17 @@ power-returns-in_err-first-clause-parsed t c =
 
 pub power-returns-clause-parsed : goal.power-returns-clause-parsed
 power-returns-clause-parsed t c =
-    let behind = rw c.span-span.ensures at (rw c.unary-first.ensures.spans at c.power_behind.ensures.parsed) in
-    power_goes _ (deeper _ c.args.left) _ (node_of c.in_ok-first.field-0) _ _ _ c.in_ok-first.ensures.parsed behind
+    let behind = rw c.span-span.ensures at (rw c.unary-first.ensures.spans at c.in_ok-power_behind.ensures.parsed) in
+    power_goes _ (deeper _ c.args.left) _ (node_of c.in_ok-first.first) _ _ (Ok c.power_behind.new.value) c.in_ok-first.ensures.parsed behind
+
+pub power-returns-in_err-power_behind-clause-parsed : goal.power-returns-in_err-power_behind-clause-parsed
+power-returns-in_err-power_behind-clause-parsed t c =
+    let behind = rw c.span-span.ensures at (rw c.unary-first.ensures.spans at c.in_err-power_behind.ensures.parsed) in
+    let refused : Refused (power_by c.args.tokens.now.spans (deeper c.args.tokens.now.spans c.args.left) c.args.tokens.now.left)
+    c.in_err-power_behind.field-0.0 =
+    power_goes _ (deeper _ c.args.left) _ (node_of c.in_ok-first.first) _ c.args.tokens.now.left (Err c.in_err-power_behind.field-0.0)
+    c.in_ok-first.ensures.parsed behind in
+    search rules
 
 pub operands-loop-op-preserved : goal.operands-loop-op-preserved
 operands-loop-op-preserved t c =
@@ -263,7 +281,7 @@ operands-loop-op-preserved t c =
     let right = rw same at c.in-Ok.ensures.parsed in
     let whole = rw (c.in-Ok.ensures.spans ∙ same) at c.expand_span.ensures in
     let more = next_operand_goes c.args.tokens.now.spans (level_of c.args.level) (operand_by c.args.tokens.now.spans (deeper c.args.tokens.now.spans c.args.left) (level_of c.args.level)) c.args.span _ (node_of c.loop-op.value) _ _ _ _ _
-    c.in-Some.op c.in-Some.ensures.operator c.in-Some.ensures.passed right c.in_ok-value.ensures.tree c.in_ok-value.ensures.places whole in
+    c.in-Some.op c.in-Some.ensures.operator c.in-Some.ensures.passed right c.in_ok-join.ensures.tree c.in_ok-join.ensures.places whole in
     (c.in-Ok.ensures.spans ∙ same, rounds_go _ (operands_fall _ c.args.left (level_of c.args.level) _) _ _ _ _ _ _ c.loop-op.invariant.1 more)
 
 pub operands-loop-op-smaller : goal.operands-loop-op-smaller
@@ -272,7 +290,7 @@ operands-loop-op-smaller t c =
     let right = rw same at c.in-Ok.ensures.parsed in
     let whole = rw (c.in-Ok.ensures.spans ∙ same) at c.expand_span.ensures in
     let more = next_operand_goes c.args.tokens.now.spans (level_of c.args.level) (operand_by c.args.tokens.now.spans (deeper c.args.tokens.now.spans c.args.left) (level_of c.args.level)) c.args.span _ (node_of c.loop-op.value) _ _ _ _ _
-    c.in-Some.op c.in-Some.ensures.operator c.in-Some.ensures.passed right c.in_ok-value.ensures.tree c.in_ok-value.ensures.places whole in
+    c.in-Some.op c.in-Some.ensures.operator c.in-Some.ensures.passed right c.in_ok-join.ensures.tree c.in_ok-join.ensures.places whole in
     operands_fall _ c.args.left (level_of c.args.level) _ (node_of c.loop-op.value) _ _ _ more
 
 pub operands-returns-in-Err-clause-parsed : goal.operands-returns-in-Err-clause-parsed
@@ -330,5 +348,5 @@ unary-returns-clause-parsed t c =
 
 pub operators-returns-else-begins_link-clause-parsed : goal.operators-returns-else-begins_link-clause-parsed
 operators-returns-else-begins_link-clause-parsed t c =
-    let sum = rw c.in_ok-value.ensures.spans at c.in_ok-value-2.ensures.parsed in
-    operators_end c.args.tokens.now.spans (deeper c.args.tokens.now.spans c.args.left) c.args.span _ _ _ _ _ _ c.in_ok-value.ensures.parsed sum (c.begins_link.ensures c.if-begins_link.false)
+    let sum = rw c.in_ok-power_behind.ensures.spans at c.in_ok-sum_behind.ensures.parsed in
+    operators_end c.args.tokens.now.spans (deeper c.args.tokens.now.spans c.args.left) c.args.span _ _ _ _ _ _ c.in_ok-power_behind.ensures.parsed sum (c.begins_link.ensures c.if-begins_link.false)

@@ -184,14 +184,14 @@ invariant-parts-loop-next l =
 abbrev pub decreases-parts-loop-next : goal.decreases-parts-loop-next
 decreases-parts-loop-next l = length l.tokens.left
 
-abbrev pub invariant-filters-loop-next : goal.invariant-filters-loop-next
-invariant-filters-loop-next l =
+abbrev pub invariant-filters-loop-refusal : goal.invariant-filters-loop-refusal
+invariant-filters-loop-refusal l =
     (l.tokens.spans ≡ l.initial.tokens.spans) ×
     (all (filter_step l.initial.tokens.spans (deeper l.initial.tokens.spans l.left) l.span) (node_of l.value) l.tokens.left ≡
     all (filter_step l.initial.tokens.spans (deeper l.initial.tokens.spans l.left) l.span) (node_of l.initial.value) l.initial.tokens.left)
 
-abbrev pub decreases-filters-loop-next : goal.decreases-filters-loop-next
-decreases-filters-loop-next l = length l.tokens.left
+abbrev pub decreases-filters-loop-refusal : goal.decreases-filters-loop-refusal
+decreases-filters-loop-refusal l = length l.tokens.left
 
 abbrev pub invariant-links-loop-links : goal.invariant-links-loop-links
 invariant-links-loop-links l =
