@@ -4,3 +4,4 @@ pub mod Falls
 pub mod Wholes
 pub mod Made
 pub mod Put
+pub mod Printed

@@ -1,12 +1,15 @@
 //! Statements that are put behind others, where nothing stands in them that calls itself.
 ghost use Rattle.std.specs.Prelude.{◌≡◌, IfErr, OnOk};
 ghost use Rattle.template_compiler_placed_grammar.specs.TemplateNodes.{and_placed_statement, statement_node};
-ghost use Rattle.template_compiler_placed_grammar.specs.TemplateReader.{here, opened_by, print_by};
+ghost use Rattle.template_compiler_grammar.specs.TemplateGrammar as grammar;
+ghost use Rattle.template_compiler_placed_grammar.specs.TemplateReader.{here, opened_by, print_by, statement_step};
 ghost use Rattle.template_compiler_placed_grammar.specs.Views.{statement_node_of};
 ghost use Rattle.template_compiler_statement_makers.specs.Listed.{statement_nodes_in};
 ghost use Rattle.template_compiler_statement_makers.specs.Surroundings.{around_of};
-ghost use Rattle.template_compiler_statement_parser.specs.Bodies.{PutBehind};
+ghost use Rattle.template_compiler_statement_parser.specs.Bodies.{PrintedTo, PutBehind, ReadOn, Untagged, opens};
 ghost use Rattle.template_compiler_statement_parser.specs.Kinds.{leaf_opening};
+ghost use Rattle.template_compiler_statement_parts.specs.Tags.{next_tag};
+ghost use Rattle.template_compiler_tokens.specs.Steps.{all};
 ghost use Rattle.template_compiler_stream.specs.declared.refusal.Refusal.TheVariants as refusals;
 ghost use Rattle.template_tree.specs.NodePlaces.{no_parts};
 ghost use Rattle.template_tree.specs.Tree.{raw};
@@ -15,8 +18,8 @@ ghost use Rattle.template_tree_statements.specs.declared.statements.Stmt.TheVari
 use crate::kinds::{Leaf, read_leaf};
 use std::alloc::Global;
 use template_compiler_statement_leaves::read_print;
-use template_compiler_statement_makers::Around;
-use template_compiler_statement_parts::put;
+use template_compiler_statement_makers::{Around, opening_named};
+use template_compiler_statement_parts::{put, tag_word};
 use template_compiler_statement_values::ReadsExpressions;
 use template_compiler_stream::{Refusal, TokenStream};
 use template_tree::{Span, Spanned};
@@ -56,6 +59,69 @@ pub(crate) fn put_print<'source, R: ReadsExpressions>(
 {
     let print = read_print::<R>(alloc, tokens, left, span)?;
     put(statements, Stmt::EmitExpr(print))
+}
+
+// A text or a print, where one stands next, whatever is around.
+#[inline(always)]
+#[tactic(auto, using(crate::proofs::Next::print_here, crate::proofs::Next::nothing_here), unfolding(template_compiler_tokens::specs::Steps::under))]
+pub(crate) fn next_printed<'source, R: ReadsExpressions>(
+    alloc: Global,
+    tokens: &mut TokenStream<'source>,
+    left: u32,
+    statements: &mut Vec<Stmt<'source>>,
+) -> Result<bool, Refusal>
+    ensures parsed { let table = tokens.old.spans in (p : grammar.Around) →
+        PrintedTo (statement_step table (here table left) p (statement_nodes_in statements.old.items) tokens.old.left)
+        (statement_nodes_in statements.old.items) tokens.old.left (statement_nodes_in statements.new.items) tokens.new.left result }
+    ensures spans { tokens.new.spans ≡ tokens.old.spans }
+{
+    let span = tokens.span();
+    if let Some(text) = tokens.text() {
+        tokens.advance();
+        put_text(statements, text, span)?;
+        return Ok(true);
+    }
+    if tokens.starts_print() {
+        tokens.advance();
+        put_print::<R>(alloc, tokens, left, span, statements)?;
+        return Ok(true);
+    }
+    Ok(false)
+}
+
+/// Texts and prints, up to what is neither.
+#[inline(always)]
+pub(crate) fn put_printed<'source, R: ReadsExpressions>(
+    alloc: Global,
+    tokens: &mut TokenStream<'source>,
+    left: u32,
+    statements: &mut Vec<Stmt<'source>>,
+) -> Result<(), Refusal>
+    ensures parsed { let table = tokens.old.spans in (p : grammar.Around) →
+        ReadOn (all (statement_step table (here table left) p) (statement_nodes_in statements.old.items) tokens.old.left)
+        (all (statement_step table (here table left) p) (statement_nodes_in statements.new.items) tokens.new.left) result }
+    ensures ended { OnOk result ((p : grammar.Around) → let table = tokens.old.spans in
+        Untagged tokens.new.left (statement_step table (here table left) p (statement_nodes_in statements.new.items) tokens.new.left)) }
+    ensures spans { tokens.new.spans ≡ tokens.old.spans }
+{
+    loop {
+        match next_printed::<R>(alloc, tokens, left, statements) {
+            Ok(true) => {}
+            Ok(false) => return Ok(()),
+            Err(refusal) => return Err(refusal),
+        }
+    }
+}
+
+/// Whether a tag stands next whose word begins a statement.
+#[inline(always)]
+pub(crate) fn begins_statement<'source>(tokens: &TokenStream<'source>) -> bool
+    ensures { result ≡ opens (next_tag tokens.now.left) }
+{
+    match tag_word(tokens) {
+        Some(word) => opening_named(word).is_some(),
+        None => false,
+    }
 }
 
 /// A loop.

@@ -17,7 +17,9 @@ ghost use Rattle.template_compiler_placed_grammar.specs.Views.{statement_node_of
 ghost use Rattle.template_tree_statements.specs.declared.statements.Stmt.TheVariants as statements;
 ghost use Rattle.template_compiler_statement_makers.specs.Listed.{statement_nodes_in};
 
-use crate::behind::{put_condition, put_leaf, put_loop, put_print, put_text};
+use crate::behind::{
+    begins_statement, next_printed, put_condition, put_leaf, put_loop, put_printed,
+};
 use crate::kinds::{Kind, Parent, kind_of};
 use std::alloc::Global;
 use template_compiler_statement_declarations as declarations;
@@ -32,8 +34,9 @@ use template_tree_statements::{
     AutoEscape, Block, CallBlock, FilterBlock, ForLoop, IfCond, Macro, SetBlock, Stmt, WithBlock,
 };
 
-// A body, one nesting level deeper, into its place, which is empty.
+// A body, one nesting level deeper, into its place, which is empty. Most are texts and prints alone.
 #[cycle(statements)]
+#[inline(always)]
 #[tactic(auto, unfolding(template_compiler_placed_grammar::specs::TemplateReader::deeper_body))]
 fn read_body<'source, R: ReadsExpressions>(
     alloc: Global,
@@ -50,7 +53,12 @@ fn read_body<'source, R: ReadsExpressions>(
     if left == 0 {
         Err(Refusal::Token(Fault::Syntax))
     } else {
-        put_statements::<R>(alloc, tokens, left - 1, around, body)
+        put_printed::<R>(alloc, tokens, left - 1, body)?;
+        if begins_statement(tokens) {
+            put_statements::<R>(alloc, tokens, left - 1, around, body)
+        } else {
+            Ok(())
+        }
     }
 }
 
@@ -99,7 +107,6 @@ fn put_statements<'source, R: ReadsExpressions>(
 
 // A text, a print or a tag that begins a statement.
 #[cycle(statements)]
-#[tactic(auto, using(crate::proofs::Next::print_here, crate::proofs::Next::nothing_here), unfolding(template_compiler_tokens::specs::Steps::under))]
 fn next_statement<'source, R: ReadsExpressions>(
     alloc: Global,
     tokens: &mut TokenStream<'source>,
@@ -112,16 +119,10 @@ fn next_statement<'source, R: ReadsExpressions>(
         (statement_nodes_in statements.old.items) tokens.old.left (statement_nodes_in statements.new.items) tokens.new.left result }
     ensures spans { tokens.new.spans ≡ tokens.old.spans }
 {
-    let span = tokens.span();
-    if let Some(text) = tokens.text() {
-        tokens.advance();
-        put_text(statements, text, span)?;
-        return Ok(true);
-    }
-    if tokens.starts_print() {
-        tokens.advance();
-        put_print::<R>(alloc, tokens, left, span, statements)?;
-        return Ok(true);
+    match next_printed::<R>(alloc, tokens, left, statements) {
+        Ok(true) => return Ok(true),
+        Ok(false) => {}
+        Err(refusal) => return Err(refusal),
     }
     match parts::tag_word(tokens) {
         Some(word) => next_tag::<R>(alloc, tokens, left, around, statements, word),
@@ -293,6 +294,7 @@ fn otherwise<'source, R: ReadsExpressions>(
 // A loop, behind its word: its head, its body, and the one for the case that nothing is gone over. What is left out by the
 // condition on the items is not gone over.
 #[cycle(statements)]
+#[inline(always)]
 fn for_loop<'source, R: ReadsExpressions>(
     alloc: Global,
     tokens: &mut TokenStream<'source>,
@@ -327,6 +329,7 @@ fn for_loop<'source, R: ReadsExpressions>(
 // A condition, behind its word: its head and its body, and what stands for the case that it does not hold, perhaps behind
 // other branches.
 #[cycle(statements)]
+#[inline(always)]
 fn if_condition<'source, R: ReadsExpressions>(
     alloc: Global,
     tokens: &mut TokenStream<'source>,

@@ -4,7 +4,7 @@ use Rattle.template_compiler_tokens.proofs.Loops.{then_goes}
 use Rattle.template_tree_statements.specs.declared.statements.Stmt.TheVariants.{Block, IfCond}
 use Rattle.template_compiler_grammar.specs.TemplateGrammar.{macro_around}
 use Rattle.template_compiler_placed_grammar.specs.TemplateNodes.{auto_escape_node, call_block_node, filter_block_node, macro_node, with_node}
-use Rattle.template_compiler_placed_grammar.specs.TemplateReader.{autoescape_by, block_by, branch_by, branch_step, call_by, else_by, filter_block_by, for_by, here, here_by, if_by, macro_by, opened_by, set_by, statement_step, statements_at, statements_by, with_by}
+use Rattle.template_compiler_placed_grammar.specs.TemplateReader.{autoescape_by, block_by, branch_by, branch_step, call_by, deeper_body, else_by, filter_block_by, for_by, here, here_by, if_by, macro_by, opened_by, set_by, statement_step, statements_at, statements_by, with_by}
 use Rattle.template_compiler_placed_grammar.specs.Views.{statement_node_of}
 use Rattle.template_compiler_stream.specs.Refusals.{Refused}
 use Rattle.template_compiler_statement_parts.specs.Parsed.{ParsedAs, ParsedInto, RefusedStep, SteppedTo}
@@ -20,7 +20,8 @@ use Rattle.template_compiler_statement_parser.specs.Bodies.{ParsedStatement, Put
 use Rattle.template_compiler_statement_parser.proofs.Falls.{branches_fall, statements_fall}
 use Rattle.template_compiler_statement_parser.proofs.Less.{body_less}
 use Rattle.template_compiler_statement_parser.proofs.Made.{alone_fails, behind, behind_fails, body_fails, body_made, branch_made, branches_fail, else_body_fails, else_ended, else_fails, else_read, else_tag_fails, for_body_fails, for_else_fails, for_made, head_fails, if_behind, if_made, if_whole, rest_made, set_body_fails, set_body_made, set_opened, set_read}
-use Rattle.template_compiler_statement_parser.proofs.Next.{tag_here, text_put}
+use Rattle.template_compiler_statement_parser.proofs.Printed.{body_ends, tag_read}
+use Rattle.template_compiler_statement_parts.specs.Tags.{next_tag}
 use Rattle.template_compiler_statement_parser.proofs.Put.{put_fails, put_node, put_statement}
 use Rattle.template_compiler_statement_parser.proofs.Wholes.{autoescape_whole, block_whole, branch_whole, call_whole, filter_whole, for_whole, macro_whole, set_whole_by, with_whole}
 use Rattle.template_compiler_statement_parser.proofs.statements.+statements.Goals as goal
@@ -50,14 +51,6 @@ pub branches-loop-branches-smaller : goal.branches-loop-branches-smaller
 branches-loop-branches-smaller g t c =
     let more = rw c.in-Ok-true.field-0-test at c.in-Ok-true.ensures.parsed in
     branches_fall _ c.args.left (around_of c.args.around) _ _ _ _ more
-
-pub next_statement-returns-in-Some-tag_word-clause-parsed : goal.next_statement-returns-in-Some-tag_word-clause-parsed
-next_statement-returns-in-Some-tag_word-clause-parsed g t c =
-    let spans = c.args.tokens.now.spans in
-    let ss = statement_nodes_in c.args.statements.now.items in
-    subst (λ m. SteppedTo m ss c.args.tokens.now.left (statement_nodes_in c.next_tag.new.statements.items) c.next_tag.new.tokens.left c.next_tag.result)
-    (sym (tag_here spans (here spans c.args.left) (around_of c.args.around) ss c.in-Some-tag_word.word.now c.args.tokens.now.left c.in-Some-tag_word.ensures))
-    c.next_tag.ensures.parsed
 
 pub with_block-returns-clause-parsed : goal.with_block-returns-clause-parsed
 unfolding here here_by
@@ -242,17 +235,6 @@ set_block-returns-in_err-body-clause-parsed g t c =
     let refused : Refused (set_rest spans r p c.args.span (set_over (set_block_of c.args.head)) c.args.tokens.now.left) c.in_err-body.field-0.0 =
     set_body_fails spans r p c.args.span (set_block_of c.args.head) _ _ c.in_err-body.ensures.parsed in
     search rules
-
-pub read_body-returns-else-left-eq0-clause-parsed : goal.read_body-returns-else-left-eq0-clause-parsed
-unfolding statements_at statements_by
-read_body-returns-else-left-eq0-clause-parsed g t c =
-    let spans = c.args.tokens.now.spans in
-    let p = around_of c.args.around in
-    let n = c.args.left - 1 in
-    subst (λ m. ParsedInto m (statement_nodes_in c.put_statements.new.statements.items) c.put_statements.new.tokens.left c.put_statements.result)
-    (ap (λ ss. all (statement_step spans (here spans n) p) (statement_nodes_in ss) c.args.tokens.now.left) c.requires ∙
-    sym (body_less spans c.args.left n p c.args.tokens.now.left (omega arith)))
-    c.put_statements.ensures.parsed
 
 pub put_statements-returns-in-Ok-false-clause-parsed : goal.put_statements-returns-in-Ok-false-clause-parsed
 put_statements-returns-in-Ok-false-clause-parsed g t c =
@@ -516,12 +498,6 @@ put_opened-returns-in-Parent-clause-parsed g t c =
     (statement_nodes_in c.put_parent.new.statements.items) c.put_parent.new.tokens.left c.put_parent.result)
     c.in-Parent.ensures c.put_parent.ensures.parsed
 
-pub next_statement-returns-in-Some-clause-parsed : goal.next_statement-returns-in-Some-clause-parsed
-next_statement-returns-in-Some-clause-parsed g t c =
-    let spans = c.args.tokens.now.spans in
-    text_put spans (here spans c.args.left) (around_of c.args.around) _ _ c.in-Some.text.now _ c.args.tokens.now.left c.advance.new.self.left
-    c.in-Some.ensures.text c.in-Some.ensures.counted c.advance.ensures.passed c.in_ok-put_text.ensures.put c.span-span.ensures
-
 pub put_parent-returns-clause-parsed : goal.put_parent-returns-clause-parsed
 put_parent-returns-clause-parsed g t c =
     let spans = c.args.tokens.now.spans in
@@ -583,3 +559,54 @@ put_opened-returns-in_err-if_condition-in-Condition-clause-parsed g t c =
     put_fails read ss _ (subst (λ o. Refused (opened_by spans r p o c.args.span c.args.tokens.now.left) c.in_err-if_condition-in-Condition.field-0.0)
     c.in-Condition.ensures c.in_err-if_condition-in-Condition.ensures.parsed) in
     search rules
+
+pub read_body-returns-then-begins_statement-clause-parsed : goal.read_body-returns-then-begins_statement-clause-parsed
+unfolding statements_at statements_by
+read_body-returns-then-begins_statement-clause-parsed g t c =
+    let spans = c.args.tokens.now.spans in
+    let p = around_of c.args.around in
+    let n = c.args.left - 1 in
+    let rest = rw c.in_ok-put_printed.ensures.spans at c.put_statements.ensures.parsed in
+    subst (λ m. ParsedInto m (statement_nodes_in c.put_statements.new.statements.items) c.put_statements.new.tokens.left c.put_statements.result)
+    (c.in_ok-put_printed.ensures.parsed p ∙ ap (λ ss. all (statement_step spans (here spans n) p) (statement_nodes_in ss) c.args.tokens.now.left) c.requires ∙
+    sym (body_less spans c.args.left n p c.args.tokens.now.left (omega arith))) rest
+
+pub read_body-returns-else-begins_statement-clause-parsed : goal.read_body-returns-else-begins_statement-clause-parsed
+unfolding statements_at statements_by
+read_body-returns-else-begins_statement-clause-parsed g t c =
+    let spans = c.args.tokens.now.spans in
+    let p = around_of c.args.around in
+    let n = c.args.left - 1 in
+    body_less spans c.args.left n p c.args.tokens.now.left (omega arith) ∙
+    sym (c.in_ok-put_printed.ensures.parsed p ∙ ap (λ ss. all (statement_step spans (here spans n) p) (statement_nodes_in ss) c.args.tokens.now.left) c.requires) ∙
+    body_ends spans (here spans n) p _ _ (sym c.begins_statement.ensures ∙ c.if-begins_statement.false) (c.in_ok-put_printed.ensures.ended p)
+
+pub read_body-returns-in_err-put_printed-clause-parsed : goal.read_body-returns-in_err-put_printed-clause-parsed
+unfolding statements_at statements_by
+read_body-returns-in_err-put_printed-clause-parsed g t c =
+    let spans = c.args.tokens.now.spans in
+    let p = around_of c.args.around in
+    let n = c.args.left - 1 in
+    let refused : Refused (deeper_body spans c.args.left p c.args.tokens.now.left) c.in_err-put_printed.field-0.0 =
+    subst (λ m. Refused m c.in_err-put_printed.field-0.0)
+    (ap (λ ss. all (statement_step spans (here spans n) p) (statement_nodes_in ss) c.args.tokens.now.left) c.requires ∙
+    sym (body_less spans c.args.left n p c.args.tokens.now.left (omega arith))) (c.in_err-put_printed.ensures.parsed p) in
+    search rules
+
+pub next_statement-returns-in-Ok-true-clause-parsed : goal.next_statement-returns-in-Ok-true-clause-parsed
+next_statement-returns-in-Ok-true-clause-parsed g t c =
+    rw c.in-Ok-true.field-0-test at (c.in-Ok-true.ensures.parsed (around_of c.args.around))
+
+pub next_statement-returns-in-Err-clause-parsed : goal.next_statement-returns-in-Err-clause-parsed
+next_statement-returns-in-Err-clause-parsed g t c = c.in-Err.ensures.parsed (around_of c.args.around)
+
+pub next_statement-returns-in-Some-clause-parsed : goal.next_statement-returns-in-Some-clause-parsed
+next_statement-returns-in-Some-clause-parsed g t c =
+    let none = rw c.in-Ok-false.field-0-test at (c.in-Ok-false.ensures.parsed (around_of c.args.around)) in
+    tag_read c.args.tokens.now.spans _ c.args.left (around_of c.args.around) _ _ _ _ c.in-Ok-false.ensures.spans none.0 none.1 _ _ _
+    c.in-Some.word.now c.in-Some.ensures c.next_tag.ensures.parsed
+
+pub next_statement-returns-in-None-clause-parsed : goal.next_statement-returns-in-None-clause-parsed
+next_statement-returns-in-None-clause-parsed g t c =
+    let none = rw c.in-Ok-false.field-0-test at (c.in-Ok-false.ensures.parsed (around_of c.args.around)) in
+    (none.2 (c.in-None.ensures ∙ ap next_tag none.0), none.0, none.1)
