@@ -20,4 +20,4 @@ mod opening;
 
 pub use around::Around;
 pub use blocks::is_blank;
-pub use opening::{Opening, opening_named};
+pub use opening::{Opening, goes_on_or_ends, opening_named};

@@ -44,18 +44,19 @@ pub enum Opening {
 pub fn opening_named(word: &str) -> Option<Opening>
     ensures { option_map opening_of result ≡ opening word.now }
 {
-    if goes_on_or_ends(word.as_bytes()) {
+    if goes_on_or_ends(word) {
         None
     } else {
         first_opening(word)
     }
 }
 
-// A word as `else` and `endif`: about half of the words that begin tags.
-fn goes_on_or_ends(word: &[u8]) -> bool
+/// Whether the word is one as `else` and `endif`, which begin no statement: about half of the words that begin tags.
+#[inline(always)]
+pub fn goes_on_or_ends(word: &str) -> bool
     ensures { IsTrue result → IsNone (opening word.now) }
 {
-    matches!(word, [b'e', b'l' | b'n', ..])
+    matches!(word.as_bytes(), [b'e', b'l' | b'n', ..])
 }
 
 // The words that begin a statement, in the grammar's order.

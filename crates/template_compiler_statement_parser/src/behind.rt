@@ -18,7 +18,7 @@ ghost use Rattle.template_tree_statements.specs.declared.statements.Stmt.TheVari
 use crate::kinds::{Leaf, read_leaf};
 use std::alloc::Global;
 use template_compiler_statement_leaves::read_print;
-use template_compiler_statement_makers::{Around, opening_named};
+use template_compiler_statement_makers::{Around, goes_on_or_ends};
 use template_compiler_statement_parts::{put, tag_word};
 use template_compiler_statement_values::ReadsExpressions;
 use template_compiler_stream::{Refusal, TokenStream};
@@ -113,13 +113,13 @@ pub(crate) fn put_printed<'source, R: ReadsExpressions>(
     }
 }
 
-/// Whether a tag stands next whose word begins a statement.
+/// Whether a tag stands next whose word may begin a statement.
 #[inline(always)]
 pub(crate) fn begins_statement<'source>(tokens: &TokenStream<'source>) -> bool
-    ensures { result ≡ opens (next_tag tokens.now.left) }
+    ensures { result ≡ false → opens (next_tag tokens.now.left) ≡ false }
 {
     match tag_word(tokens) {
-        Some(word) => opening_named(word).is_some(),
+        Some(word) => !goes_on_or_ends(word),
         None => false,
     }
 }

@@ -579,7 +579,7 @@ read_body-returns-else-begins_statement-clause-parsed g t c =
     let n = c.args.left - 1 in
     body_less spans c.args.left n p c.args.tokens.now.left (omega arith) ∙
     sym (c.in_ok-put_printed.ensures.parsed p ∙ ap (λ ss. all (statement_step spans (here spans n) p) (statement_nodes_in ss) c.args.tokens.now.left) c.requires) ∙
-    body_ends spans (here spans n) p _ _ (sym c.begins_statement.ensures ∙ c.if-begins_statement.false) (c.in_ok-put_printed.ensures.ended p)
+    body_ends spans (here spans n) p _ _ (c.begins_statement.ensures c.if-begins_statement.false) (c.in_ok-put_printed.ensures.ended p)
 
 pub read_body-returns-in_err-put_printed-clause-parsed : goal.read_body-returns-in_err-put_printed-clause-parsed
 unfolding statements_at statements_by
