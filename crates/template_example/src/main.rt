@@ -4,11 +4,9 @@
 #![tactic(auto)]
 
 use std::alloc::Global;
-use template_environment::{Captured, Environment, Template};
-use template_machine_surroundings::StateIds;
-use template_values_core::Value;
-use template_values_errors::Error;
-use template_values_json::context_from_json;
+use template_machine::{
+    Captured, Environment, Error, StateIds, Template, Value, context_from_json,
+};
 
 const PAGE: &str =
     "{% include 'head.html' %}{% for item in items %}<p>{{ item }}</p>{% else %}<p>-</p>{% endfor %}";

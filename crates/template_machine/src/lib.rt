@@ -1,10 +1,12 @@
 //! The virtual machine of templates: environments of templates, and their renders over a context into a
-//! sink. This crate holds no code of its own: it gathers the machine's crates under one name.
+//! sink. This crate holds no code of its own: it gathers under one name all that a program needs to render, values,
+//! contexts, errors and syntaxes among it.
 //!
 //! # A first example
 //!
 //! ```text
 //! let mut ids = StateIds::new(0);
+//! let context = context_from_json(alloc, b"{\"name\": \"World\"}")?;
 //! let mut environment = Environment::new(alloc, &mut ids)?;
 //! environment.add_template("hello.txt", "Hello {{ name }}!")?;
 //! let template = environment.get_template("hello.txt")?;
@@ -12,10 +14,11 @@
 //! template.render_captured_to(&mut ids, context, &mut out)?;
 //! ```
 //!
-//! Over a context that holds `World` under `name`, `out` is then `Hello World!`.
+//! `out` is then `Hello World!`.
 //!
 //! # The main calls
 //!
+//! - [`context_from_json`] gives the context that a JSON object says, and [`Value`] has makers for every other one.
 //! - [`Environment::add_template`] adds a template in the place of one of that name, or refuses it and
 //!   changes nothing; [`Environment::add_template_owned`] keeps copies of its texts. [`Environment::get_template`]
 //!   finds it, and [`Environment::remove_template`] takes it away.
@@ -47,17 +50,20 @@
 
 pub use template_code_checked::{Checked, verify};
 pub use template_code_shapes::{StreamKind, certified_is_good, good_ends_well, good_goes_on};
+pub use template_compiler_syntax::{StartMarker, SyntaxConfig, SyntaxConfigBuilder};
 pub use template_environment::{Captured, Environment, Expression, State, Template};
 pub use template_machine_frames::{Context, Frame, LoopState};
 pub use template_machine_meaning::{
     every_evaluation_gives, every_run_ends, expression_isolation, isolation, one_meaning,
 };
 pub use template_machine_operands::Operands;
-pub use template_machine_output::{NullWriter, Sink, SinkFault, WriteWrapper, write_text};
+pub use template_machine_output::{NullWriter, Sink, SinkFault, WriteWrapper, Writer, write_text};
 pub use template_machine_state::{Caller, State as MachineState};
 pub use template_machine_surroundings::{
     AutoEscapeRule, EscapeRule, NoRule, StateIds, default_auto_escape_callback, one_escape,
     one_rule,
 };
 pub use template_process::{enough_is_enough, fuel_adds_up, writes_beginning};
+pub use template_values_core::{Content, Entry, Value};
 pub use template_values_errors::{AutoEscape, Error, ErrorKind, UndefinedBehavior};
+pub use template_values_json::{context_from_json, entries_from_json};
