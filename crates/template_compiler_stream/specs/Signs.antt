@@ -1,5 +1,5 @@
 -- The symbols that signs are.
-use Rattle.std.specs.Prelude.{ℕ, Bool, true, false, ◌==◌, ◌&&◌, not, codes, bytes_eq, List, [], ◌∷◌, Option, None, Some}
+use Rattle.std.specs.Prelude.{ℕ, ◌^◌, Bool, true, false, ◌==◌, ◌&&◌, not, nat_lt, if◌then◌else◌, codes, bytes_eq, List, [], ◌∷◌, Option, None, Some}
 use Rattle.template_compiler_tokens.specs.Token as token
 use Rattle.template_compiler_tokens.specs.Token.{Symbol, symbol, identifier, number, variable_end, block_end}
 use Rattle.template_tree.specs.declared.operators.BinOpKind.{BinOpKind}
@@ -92,6 +92,15 @@ word_in _ = None
 abbrev pub next_word : List token.Token → Option (List ℕ)
 next_word [] = None
 next_word (t ∷ ts) = word_in t
+
+-- the number that a token is, where it is below 2^64
+abbrev pub number_in : token.Token → Option ℕ
+number_in (number n) = if nat_lt n (2 ^ 64) then Some n else None
+number_in _ = None
+
+abbrev pub next_number : List token.Token → Option ℕ
+next_number [] = None
+next_number (t ∷ ts) = number_in t
 
 -- the word behind the next token
 abbrev pub second_word : List token.Token → Option (List ℕ)

@@ -8,7 +8,7 @@ ghost use Rattle.template_compiler_stream.specs.Refusals.{fault_of};
 ghost use Rattle.template_compiler_stream.specs.Left.{Peeks, Shows, ahead, behind, ended, passed};
 ghost use Rattle.template_compiler_stream.specs.Spans.{ShownAt, TakenAt};
 ghost use Rattle.template_compiler_tokens.specs.Places.{last_span, next_span, no_span, token_count, until};
-ghost use Rattle.template_compiler_stream.specs.Signs.{assigned_behind, begins_alone, begins_symbol, is_symbol, level_of, second_word, next_operator, next_comparison, next_symbol, next_word, symbol_of, word_in};
+ghost use Rattle.template_compiler_stream.specs.Signs.{assigned_behind, begins_alone, begins_symbol, is_symbol, level_of, second_word, next_number, next_operator, next_comparison, next_symbol, next_word, number_in, symbol_of, word_in};
 ghost use Rattle.template_compiler_tokens.specs.View.{token_of};
 ghost use Rattle.template_compiler_stream.specs.Skips.{PutsText, SkipsDotted, SkipsKeyword, SkipsSign, SkipsText, SkipsWord};
 
@@ -135,7 +135,8 @@ impl<'source> TokenStream<'source> {
     /// The number that stands next, where it is no larger than a `u64`.
     #[inline(always)]
     pub fn number(&self) -> Option<u64>
-        ensures { IfSome result (λ n. self.now.left ≡ number n ∷ passed self.now.left) }
+        ensures value { result ≡ next_number self.now.left }
+        ensures left { IfSome result (λ n. self.now.left ≡ number n ∷ passed self.now.left) }
     {
         match self.peek() {
             Next::Token(token, _) => number_of(token),
@@ -515,10 +516,12 @@ fn word_of<'source>(token: &Token<'source>) -> Option<&'source str>
 
 // The number that a token is, where it is no larger than a `u64`.
 fn number_of(token: &Token) -> Option<u64>
-    ensures { IfSome result (λ n. token_of token.now ≡ number n) }
+    ensures value { result ≡ number_in (token_of token.now) }
+    ensures token { IfSome result (λ n. token_of token.now ≡ number n) }
 {
     match token {
         Token::Int(n) => Some(*n),
+        Token::Int128(n) => u64::try_from(*n).ok(),
         _ => None,
     }
 }
