@@ -3,6 +3,7 @@
 #![tactic(auto)]
 
 mod bytes;
+mod counts;
 mod place;
 mod starts;
 mod stretch;

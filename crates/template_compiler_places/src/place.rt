@@ -1,7 +1,8 @@
 //! A place in a source.
-ghost use Rattle.std.specs.Prelude.{◌≡◌, ℕ, ◌+◌, ◌-◌, ◌^◌, ◌≤◌, IsTrue, true, false, ◌++◌, List, [], length, min, count_by, fold};
-ghost use Rattle.template_compiler_places.specs.Bytes.{is_newline, begins_character, next_column, ArePlain};
+ghost use Rattle.std.specs.Prelude.{◌≡◌, ℕ, ◌+◌, ◌-◌, ◌^◌, ◌≤◌, IsTrue, true, false, ◌++◌, List, [], length, min};
+ghost use Rattle.template_compiler_places.specs.Bytes.{is_newline, begins_character, ArePlain};
 
+use crate::counts::{Counts, count};
 use template_tree::Span;
 
 // What a column, an offset and a character of one byte count for in a place that is one number.
@@ -135,13 +136,6 @@ pub(crate) fn is_plain(byte: u8) -> bool
     byte != b'\n' && byte < 0x80
 }
 
-// What a text counts for: its newlines, and the column behind it.
-#[derive(Clone, Copy)]
-struct Counts {
-    newlines: usize,
-    column: usize,
-}
-
 pub(crate) fn saturate(count: usize) -> u16
     ensures { result ≡ min count 65535 }
 {
@@ -152,22 +146,4 @@ fn saturate_offset(offset: u32, len: usize) -> u32
     ensures { result ≡ min (offset + len) 4294967295 }
 {
     offset.saturating_add(len.min(u32::MAX as usize) as u32)
-}
-
-// From the column that the text begins at. Most texts are tokens of a few bytes, so they are gone over once.
-fn count(column: u16, bytes: &[u8]) -> Counts
-    ensures newlines { result.newlines ≡ count_by is_newline bytes.now }
-    ensures column { result.column ≡ fold next_column column bytes.now }
-{
-    let mut newlines = 0;
-    let mut column = column as usize;
-    for byte in bytes {
-        if *byte == b'\n' {
-            newlines += 1;
-            column = 0;
-        } else if *byte < 0x80 || 0xc0 <= *byte {
-            column += 1;
-        }
-    }
-    Counts { newlines, column }
 }

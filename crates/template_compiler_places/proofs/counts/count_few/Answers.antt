@@ -1,6 +1,6 @@
 use Rattle.std.proofs.Common.{take, arith, length-take}
 use Rattle.template_compiler_places.proofs.Columns.{column_bound}
-use Rattle.template_compiler_places.proofs.place.count.Goals as goal
+use Rattle.template_compiler_places.proofs.counts.count_few.Goals as goal
 
 pub overflow_add-column : goal.overflow_add-column
 overflow_add-column c =

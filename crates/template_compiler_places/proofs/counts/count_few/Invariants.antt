@@ -1,6 +1,6 @@
 use Rattle.std.proofs.Common.{◌≡◌, count_by, fold, take}
 use Rattle.template_compiler_places.specs.Bytes.{is_newline, next_column}
-use Rattle.template_compiler_places.proofs.place.count.Given as goal
+use Rattle.template_compiler_places.proofs.counts.count_few.Given as goal
 
 abbrev pub invariant-loop-byte : goal.invariant-loop-byte
 invariant-loop-byte l =
