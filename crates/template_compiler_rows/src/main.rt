@@ -37,7 +37,8 @@
 //! Other objects have one entry:
 //!
 //! - `token`, a text: the token that it begins with, and how many bytes it takes;
-//! - `places`, two texts: the place of the second one behind the first;
+//! - `places`, two texts: the place of the second one behind the first; or two texts and a count: the same, where the
+//!   second one stands so many times;
 //! - `difference` and `one_entry`, two names: what the sample of that name makes of them; `attributes`, a count: what a
 //!   chain of so many is, and how many nodes its descent has;
 //! - `listed`, two arrays, steps and places: the line and the span of each of the places among the instructions that the
@@ -76,7 +77,7 @@ use crate::operands::about_operands;
 use crate::report::Report;
 use crate::streams::verified;
 use crate::syntax::{parts_of_syntax, syntax_of};
-use crate::tokens::{first_token, place_behind, streamed_tokens, tokens_of};
+use crate::tokens::{first_token, place_behind, place_of_many, streamed_tokens, tokens_of};
 use crate::trees::{about_template, names_of_both, value};
 use serde_json::{Map, Value as Json};
 use std::alloc::Global;
@@ -208,6 +209,10 @@ fn about_parts(alloc: Global, name: &str, parts: &[Json], out: &mut Report) {
     match parts {
         [Json::String(first), Json::String(second)] => {
             about_texts(alloc, name, first.as_str(), second.as_str(), out)
+        }
+        [Json::String(before), Json::String(text), times] if name == "places" => {
+            let times = times.as_u64().unwrap_or(0) as usize;
+            place_of_many(alloc, before.as_str(), text.as_str(), times, out)
         }
         [Json::Array(steps), Json::Array(places)] if name == "listed" => {
             listed(alloc, steps.as_slice(), places.as_slice(), out)

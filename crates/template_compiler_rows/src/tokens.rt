@@ -98,3 +98,17 @@ pub(crate) fn place_behind(before: &str, text: &str, out: &mut Report) {
     let start = Place::start().after(before);
     out.place(start.to(start.after(text)))
 }
+
+/// The same of a text that stands so many times.
+pub(crate) fn place_of_many(
+    alloc: Global,
+    before: &str,
+    text: &str,
+    times: usize,
+    out: &mut Report,
+) {
+    match text.repeat(alloc, times) {
+        Ok(many) => place_behind(before, many.as_str(), out),
+        Err(_) => out.refuse(ErrorKind::OutOfMemory),
+    }
+}
