@@ -1,6 +1,5 @@
-use Rattle.std.proofs.Common.{◌+◌, sym, ◌∙◌, ap, arith}
-use Rattle.template_compiler_places.specs.Bytes.{is_between, begins_character, is_newline}
-use Rattle.std.proofs.Common.{count_by}
+use Rattle.std.proofs.Common.{◌+◌, count_by, sym, ◌∙◌, ap, arith}
+use Rattle.template_compiler_places.specs.Bytes.{is_newline, begins_character}
 use Rattle.template_compiler_places.proofs.Counting.{column_along, column_behind_last, newlines_between, newlines_by_last, no_newline}
 use Rattle.template_compiler_places.proofs.counts.count_many.Goals as goal
 
