@@ -1,10 +1,16 @@
-//! A law: what every run of a template keeps, whatever it does.
+//! Laws: what every run of a template keeps, whatever it does.
 
-ghost use Rattle.template_machine_meaning.specs.Keeps.{RunsKeep};
+ghost use Rattle.template_machine_meaning.specs.Keeps.{FaultsAreMeant, RunsKeep};
 
-/// A run counts as much depth around its frames at its end as at its start; a fault that it ends with is none that a
-/// machine has for want of memory, for a sink that fails, or for code that is lost; and nor does what wraps its faults
-/// begin so.
+/// A run counts as much depth around its frames at its end as at its start. A machine has faults of its own, for want of
+/// memory, for a sink that fails, or for code that is lost: none of these stands among the kinds that the run ends with, nor
+/// among those that wrap its faults, however many includes they come from.
 pub fn runs_keep()
     ensures { RunsKeep }
+{}
+
+/// The same of the kinds that a run ends with under any fuel: a template's fault is never told as want of memory, at any
+/// depth.
+pub fn faults_are_meant()
+    ensures { FaultsAreMeant }
 {}

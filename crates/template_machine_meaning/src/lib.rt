@@ -9,7 +9,7 @@ mod contexts;
 mod kept;
 
 pub use contexts::{expression_isolation, isolation};
-pub use kept::runs_keep;
+pub use kept::{faults_are_meant, runs_keep};
 
 /// Under a greater bound a process that goes further gives a run that extends.
 pub fn bounds_extend()
