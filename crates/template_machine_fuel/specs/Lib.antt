@@ -1,1 +1,4 @@
 pub mod Included
+pub mod Trackers
+-- what contracts here cite of the crates below
+pub use Rattle.template_machine_going.specs.Paying

@@ -4,9 +4,11 @@
 ghost use Rattle.std.specs.Prelude.{◌≡◌, ◌≤◌, ◌+◌, ◌∷◌, [], ℕ, IfErr, OnOk, OnErr, option_map};
 ghost use Rattle.template_machine_going.specs.Paying.{Paid, IsSpent};
 
+mod tracking;
 mod wrapping;
 
 use template_values_errors::{Error, ErrorKind};
+pub use tracking::FuelTracker;
 pub use wrapping::included;
 
 /// Takes the price of an instruction of what is left of a fuel, if one is set. A fuel n lets n - 1 steps run, and a fuel
