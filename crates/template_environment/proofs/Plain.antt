@@ -36,18 +36,18 @@ text_finished (byte ∷ bytes) w = tt
 whole_gives : {X : Type 0} (fuel : Option ℕ) (bytes : List ℕ) (w : World) (text : X → List ℕ) (result : Result X (List ErrorKind))
     → GivesText text result (text_run bytes w) → GivesItself fuel bytes text result
 whole_gives fuel [] w text (Ok x) gives = gives.1
-whole_gives fuel [] w text (Err kinds) (inl ended) = cc
+whole_gives fuel [] w text (Err kinds) (inl (ended, meant)) = cc
 whole_gives fuel [] w text (Err kinds) (inr want) = inl want
 whole_gives fuel (byte ∷ bytes) w text (Ok x) gives = gives.1 ∙ append-nil (byte ∷ bytes)
-whole_gives fuel (byte ∷ bytes) w text (Err kinds) (inl ended) = cc
+whole_gives fuel (byte ∷ bytes) w text (Err kinds) (inl (ended, meant)) = cc
 whole_gives fuel (byte ∷ bytes) w text (Err kinds) (inr want) = inl want
 
 whole_writes : {X : Type 0} (fuel : Option ℕ) (bytes : List ℕ) (w : World) (before after : Option (List ℕ)) (result : Result X (List ErrorKind))
     → Renders result before after (text_run bytes w) → WritesItself fuel bytes before after result
 whole_writes fuel [] w before after (Ok x) (whole ends text) = text
-whole_writes fuel [] w before after (Err kinds) (whole ends text) = cc
+whole_writes fuel [] w before after (Err kinds) (whole (ends, meant) text) = cc
 whole_writes fuel (byte ∷ bytes) w before after (Ok x) (whole ends text) = subst (Appends before after) (append-nil (byte ∷ bytes)) text
-whole_writes fuel (byte ∷ bytes) w before after (Err kinds) (whole ends text) = cc
+whole_writes fuel (byte ∷ bytes) w before after (Err kinds) (whole (ends, meant) text) = cc
 whole_writes fuel bytes w before after (Ok x) (broken wants text) = absurd wants
 whole_writes fuel bytes w before after (Err kinds) (broken wants text) = inl wants
 
@@ -66,10 +66,10 @@ gives_itself (Some fuel) [] w text result gives =
 gives_itself (Some (suc (suc fuel))) (byte ∷ bytes) w text result gives =
     whole_gives (Some (suc (suc fuel))) (byte ∷ bytes) w text result (subst (GivesText text result) (not_cut fuel byte bytes w) gives)
 gives_itself (Some zero) (byte ∷ bytes) w text (Ok x) gives = absurd gives.0
-gives_itself (Some zero) (byte ∷ bytes) w text (Err kinds) (inl ended) = inr (cc, omega arith)
+gives_itself (Some zero) (byte ∷ bytes) w text (Err kinds) (inl (ended, meant)) = inr (cc, omega arith)
 gives_itself (Some zero) (byte ∷ bytes) w text (Err kinds) (inr want) = inl want
 gives_itself (Some (suc zero)) (byte ∷ bytes) w text (Ok x) gives = absurd gives.0
-gives_itself (Some (suc zero)) (byte ∷ bytes) w text (Err kinds) (inl ended) = inr (cc, omega arith)
+gives_itself (Some (suc zero)) (byte ∷ bytes) w text (Err kinds) (inl (ended, meant)) = inr (cc, omega arith)
 gives_itself (Some (suc zero)) (byte ∷ bytes) w text (Err kinds) (inr want) = inl want
 
 writes_itself : {X : Type 0} (fuel : Option ℕ) (bytes : List ℕ) (w : World) (before after : Option (List ℕ)) (result : Result X (List ErrorKind))
@@ -80,11 +80,11 @@ writes_itself (Some fuel) [] w before after result renders =
 writes_itself (Some (suc (suc fuel))) (byte ∷ bytes) w before after result renders =
     whole_writes (Some (suc (suc fuel))) (byte ∷ bytes) w before after result (subst (Renders result before after) (not_cut fuel byte bytes w) renders)
 writes_itself (Some zero) (byte ∷ bytes) w before after (Ok x) (whole ends text) = absurd ends
-writes_itself (Some zero) (byte ∷ bytes) w before after (Err kinds) (whole ends text) = inr (cc, omega arith)
+writes_itself (Some zero) (byte ∷ bytes) w before after (Err kinds) (whole (ends, meant) text) = inr (cc, omega arith)
 writes_itself (Some zero) (byte ∷ bytes) w before after (Ok x) (broken wants text) = absurd wants
 writes_itself (Some zero) (byte ∷ bytes) w before after (Err kinds) (broken wants text) = inl wants
 writes_itself (Some (suc zero)) (byte ∷ bytes) w before after (Ok x) (whole ends text) = absurd ends
-writes_itself (Some (suc zero)) (byte ∷ bytes) w before after (Err kinds) (whole ends text) = inr (cc, omega arith)
+writes_itself (Some (suc zero)) (byte ∷ bytes) w before after (Err kinds) (whole (ends, meant) text) = inr (cc, omega arith)
 writes_itself (Some (suc zero)) (byte ∷ bytes) w before after (Ok x) (broken wants text) = absurd wants
 writes_itself (Some (suc zero)) (byte ∷ bytes) w before after (Err kinds) (broken wants text) = inl wants
 

@@ -4,12 +4,13 @@ use Rattle.template_values_errors.specs.declared.ErrorKind.{ErrorKind}
 use Rattle.template_values_errors.specs.Memory.{NoMemory}
 use Rattle.template_values_model.specs.Val.{Val}
 use Rattle.template_names.specs.Names.{stands_in}
-use Rattle.template_process.specs.Drive.{ends, faults}
+use Rattle.template_process.specs.Drive.{ends}
 use Rattle.template_process.specs.Fuel.{IsSameRun, under}
 use Rattle.template_process.specs.Trace.{Run}
 use Rattle.template_machine_meaning.specs.Isolation.{AgreesAt}
 use Rattle.template_machine_meaning.specs.Meaning.{evaluated}
 use Rattle.template_machine_meaning.specs.World.{World}
+use Rattle.template_machine_renders.specs.Renders.{FaultsAs}
 use Rattle.template_compiled.specs.Expressions.{expression_in}
 use Rattle.template_environment.specs.Reading.{registry_of}
 use Rattle.template_environment.specs.Standing.{setting_of}
@@ -36,7 +37,7 @@ module _ {R : Type 0} where
 -- The call gives the one value that the run leaves; else it answers with the run's fault. Or a growth was refused.
 abbrev pub Gives : {S : Type 0} → Result Val (List ErrorKind) → Run S → Type 0
 Gives (Ok v) r = r.end ≡ ends (v ∷ [])
-Gives (Err kinds) r = (r.end ≡ faults kinds) ⊎ NoMemory kinds
+Gives (Err kinds) r = FaultsAs r kinds ⊎ NoMemory kinds
 
 module _ {R : Type 0} where
   -- the contexts hold the same under each name that stands in the expression, or neither holds anything

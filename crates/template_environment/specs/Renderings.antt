@@ -7,13 +7,12 @@ use Rattle.template_values_errors.specs.Memory.{NoMemory}
 use Rattle.template_values_errors.specs.declared.modes.AutoEscape.{AutoEscape}
 use Rattle.template_values_model.specs.Val.{Val}
 use Rattle.template_process.specs.Approximants.{IsFinished}
-use Rattle.template_process.specs.Drive.{faults}
 use Rattle.template_process.specs.Fuel.{under}
 use Rattle.template_process.specs.Trace.{Run, text_of}
 use Rattle.template_machine_meaning.specs.Meaning.{rendered}
 use Rattle.template_machine_meaning.specs.World.{World}
 use Rattle.template_machine_surroundings.specs.Rule.{IsEscapeOf}
-use Rattle.template_machine_renders.specs.Renders.{IsOver}
+use Rattle.template_machine_renders.specs.Renders.{FaultsAs, IsOver}
 use Rattle.template_compiled.specs.Compiled.{Compiled, standing_of}
 use Rattle.template_compiled.specs.Sources.{IsAccepted, IsRefusedWith, Source}
 use Rattle.template_environment.specs.Standing.{setting_of}
@@ -34,7 +33,7 @@ left_of levels = option_map (λ l. l.1) levels
 -- growth was refused.
 abbrev pub GivesText : {X S : Type 0} → (X → List ℕ) → Result X (List ErrorKind) → Run S → Type 0
 GivesText text (Ok x) r = IsOver r.end × (text x ≡ text_of r.items)
-GivesText text (Err kinds) r = (r.end ≡ faults kinds) ⊎ NoMemory kinds
+GivesText text (Err kinds) r = FaultsAs r kinds ⊎ NoMemory kinds
 
 -- the number that is never given to a state
 abbrev pub last_id : ℕ

@@ -6,6 +6,7 @@ use Rattle.template_values_errors.specs.declared.ErrorKind.TheVariants.{OutOfFue
 use Rattle.template_values_model.specs.Val.{Val}
 use Rattle.template_tree.specs.Tree.{Expression}
 use Rattle.template_walk.specs.Runnable.{IsRunnable}
+use Rattle.template_walk.specs.Statements.{standalone_walk, template_walk}
 use Rattle.template_code.specs.Code.{Operand, single, Code}
 use Rattle.template_code.specs.Steps.{values_in}
 use Rattle.template_compiler_codegen.specs.Statements.{standalone_code, template_code}
@@ -19,8 +20,10 @@ use Rattle.template_machine_output.specs.Writes.{AppendsBeginning}
 use Rattle.template_machine_output.proofs.Beginnings.{beginning_longer}
 use Rattle.template_machine_meaning.specs.World.{World}
 use Rattle.template_machine_meaning.specs.Surroundings.{answer}
-use Rattle.template_machine_meaning.specs.Meaning.{Setting, evaluation, meaning}
+use Rattle.template_machine_meaning.specs.Meaning.{Setting, evaluation, meaning, walks_of}
 use Rattle.template_machine_meaning.specs.Laws.{GivesOne}
+use Rattle.template_machine_meaning.specs.Keeps.{IsFault, IsMeantEnd}
+use Rattle.template_machine_meaning.proofs.RunsKept.{faults_are_meant}
 use Rattle.template_machine_meaning.proofs.Evaluating.{every_evaluation_gives}
 use Rattle.template_machine_codes.specs.Codes.{codes_of}
 use Rattle.template_machine_codes.proofs.Alike.{code_means_expression, code_means_tree}
@@ -83,29 +86,33 @@ text_behind items q before taken begun =
 
 -- a run of code that stopped is what the code means, up to there
 stops_there : (X : Type 0) (setting : Setting) (code : List Code) (meant : Run World) (w : World) (fuel : Option ℕ) (before : Option (List ℕ)) (y : Spot World)
-    (kinds : List ErrorKind) → Means setting code w meant → IsFinished meant.end → Stops (answer (codes_of setting)) code (at_start w fuel before) y kinds
+    (kinds : List ErrorKind) → IsMeantEnd (under fuel meant).end → Means setting code w meant → IsFinished meant.end → Stops (answer (codes_of setting)) code (at_start w fuel before) y kinds
     → Renders {X = X} (Err kinds) before y.taken (under fuel meant)
-stops_there X setting code meant w fuel before y kinds means finished (faults f) =
+stops_there X setting code meant w fuel before y kinds fault means finished (faults f) =
     let r : Run World = record { items = f.1.items; end = drives.faults kinds; after = f.1.world } in
     let is = ended_means setting code meant (at_start w fuel before) f.1.least f.0 r refl refl means tt
     (λ m le. f.1.is m le ∙ ended_there f.1.items (drives.faults kinds) f.1.world) in
     let same = ap (under fuel) is ∙ lasts fuel y.left r f.1.pays in
-    subst (Renders {X = X} (Err kinds) before y.taken) (sym same) (whole refl f.1.text)
-stops_there X setting code meant w fuel before y kinds means finished (runs_out f) =
+    subst (Renders {X = X} (Err kinds) before y.taken) (sym same)
+    (whole (refl, subst (λ (q : Run World). IsMeantEnd q.end) same fault) f.1.text)
+stops_there X setting code meant w fuel before y kinds fault means finished (runs_out f) =
     let o = f.1 in
     let is = begun_means setting code meant (at_start w fuel before) o.least f.0 (o.items ++ paid o.wraps ∷ []) o.rest refl refl means
     (λ m le. o.is m le ∙ behind-behind o.items (paid o.wraps ∷ []) (o.rest m)) in
     let r : Run World = record { items = o.items; end = drives.faults (o.wraps ++ OutOfFuel ∷ []); after = is.0.after } in
     let same = ap (under fuel) (is.1 ∙ sym (behind-behind o.items (paid o.wraps ∷ []) is.0)) ∙ ends_spent fuel y.left o.items o.wraps is.0 o.pays o.spent
     ∙ ended_there o.items (drives.faults (o.wraps ++ OutOfFuel ∷ [])) is.0.after in
-    subst (Renders {X = X} (Err kinds) before y.taken) (sym same) (whole (ap (λ ks. drives.faults ks) (sym o.kinds_are)) o.text)
-stops_there X setting code meant w fuel before y kinds means finished (wants why f) =
+    subst (Renders {X = X} (Err kinds) before y.taken) (sym same) (whole (
+      ap (λ ks. drives.faults ks) (sym o.kinds_are),
+      subst IsFault (sym o.kinds_are) (subst (λ (q : Run World). IsMeantEnd q.end) same fault),
+    ) o.text)
+stops_there X setting code meant w fuel before y kinds fault means finished (wants why f) =
     let o = f.1 in
     let is = begun_means setting code meant (at_start w fuel before) o.least f.0 o.items o.rest refl refl means o.is in
     let cut = begins fuel y.left o.items is.0 o.pays in
     let same = ap (under fuel) is.1 ∙ cut.1 in
     subst (Renders {X = X} (Err kinds) before y.taken) (sym same) (broken why (text_behind o.items cut.0 before y.taken o.text))
-stops_there X setting code meant w fuel before y kinds means finished (strays is f) =
+stops_there X setting code meant w fuel before y kinds fault means finished (strays is f) =
     let o = f.1 in
     let r : Run World = record { items = o.items; end = o.end; after = o.world } in
     let same = ended_means setting code meant (at_start w fuel before) o.least f.0 r refl refl means (lost_uncut o.end o.lost)
@@ -114,7 +121,8 @@ stops_there X setting code meant w fuel before y kinds means finished (strays is
 
 pub stops_render : (X : Type 0) → StopsRender X
 stops_render X setting tree w fuel before y kinds stops n finished =
-    stops_there X setting (template_code tree) (meaning setting n tree w) w fuel before y kinds (code_means_tree setting tree w n finished) finished stops
+    stops_there X setting (template_code tree) (meaning setting n tree w) w fuel before y kinds
+    (faults_are_meant (walks_of setting) n (template_walk n tree) w fuel) (code_means_tree setting tree w n finished) finished stops
 
 -- an expression's run leaves one value, or ends with a fault
 one_finished : (e : End) → GivesOne e → IsFinished e
@@ -152,7 +160,8 @@ expressions_evaluate setting e runs w after fuel left before taken (Ok v) (below
     over.0 ∙ only_one v (values_in below) over.1
 expressions_evaluate setting e runs w after fuel left before taken (Err kinds) (inl stops) =
     gives_fault kinds before taken (under fuel (evaluation setting e w))
-    (stops_there Val setting (standalone_code e) (evaluation setting e w) w fuel before (at_start after left taken) kinds (expression_means setting e runs w)
+    (stops_there Val setting (standalone_code e) (evaluation setting e w) w fuel before (at_start after left taken) kinds
+    (faults_are_meant (walks_of setting) 0 (standalone_walk e) w fuel) (expression_means setting e runs w)
     (one_finished (evaluation setting e w).end (every_evaluation_gives setting e runs w)) stops)
 expressions_evaluate setting e runs w after fuel left before taken (Err kinds) (inr (bad, h)) =
     absurd (evaluation_over setting e runs w after fuel left before taken [] h).1

@@ -8,6 +8,7 @@ use Rattle.template_process.specs.Drive.{End, ends, faults}
 use Rattle.template_process.specs.Fuel.{remaining, under}
 use Rattle.template_process.specs.Trace.{Run, text_of}
 use Rattle.template_machine_output.specs.Writes.{AppendsBeginning}
+use Rattle.template_machine_meaning.specs.Keeps.{IsFault}
 use Rattle.template_machine_meaning.specs.World.{World}
 use Rattle.template_machine_going.specs.Spots.{Spot}
 use Rattle.template_machine_going.specs.Outcomes.{IsWanting}
@@ -22,10 +23,14 @@ abbrev pub IsOver : End → Type 0
 IsOver (ends operands) = Unit {0}
 IsOver _ = ⊥
 
+-- the run ends with a fault of these kinds; no want of memory is among them, nor a failure of a sink, at any depth
+abbrev pub FaultsAs : {S : Type 0} → Run S → List ErrorKind → Type 0
+FaultsAs r kinds = (r.end ≡ faults kinds) × IsFault kinds
+
 -- a call answers as the run ends: `Ok` where that is over, else its fault
 abbrev pub EndsAs : {X S : Type 0} → Result X (List ErrorKind) → Run S → Type 0
 EndsAs (Ok _) r = IsOver r.end
-EndsAs (Err kinds) r = r.end ≡ faults kinds
+EndsAs (Err kinds) r = FaultsAs r kinds
 
 -- The call answers as the run ends, and its sink took the text. Or a growth was refused, or the sink failed, and it took a
 -- beginning of the text.
@@ -47,4 +52,4 @@ pub record IsDone (fuel : Option ℕ) (r : Run World) (after : World) (left : Op
 -- The call tells the one value that the run leaves, or answers with the run's fault. Or a growth was refused, or the sink failed.
 abbrev pub GivesValue : {S : Type 0} → Result Val (List ErrorKind) → Run S → Type 0
 GivesValue (Ok v) r = r.end ≡ ends (v ∷ [])
-GivesValue (Err kinds) r = (r.end ≡ faults kinds) ⊎ IsWanting kinds
+GivesValue (Err kinds) r = FaultsAs r kinds ⊎ IsWanting kinds
