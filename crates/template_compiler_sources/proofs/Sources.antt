@@ -12,12 +12,9 @@ use Rattle.template_compiler_stream.specs.declared.refusal.Refusal.{Refusal}
 use Rattle.template_compiler_stream.specs.declared.refusal.Refusal.TheVariants as refusals
 use Rattle.template_compiler_source_tokens.specs.Kinds.{refused_kind}
 use Rattle.template_compiler_tokens.specs.Token.{Token, TokenFault, bad_syntax}
-use Rattle.template_compiler_tokens.specs.Blame.{Blamed}
 use Rattle.template_compiler_tokens.specs.Places.{next_span}
 use Rattle.template_compiler_tokens.specs.Steps.{Read, fault}
 use Rattle.template_tree.specs.NodePlaces.{at}
-use Rattle.template_compiler_tokens.proofs.Readings.{Kept, Reads, fault_blamed}
-use Rattle.template_compiler_grammar.specs.Grammar.{IsExpression}
 use Rattle.template_compiler_grammar.specs.Reader.{expression_at}
 use Rattle.template_compiler_grammar_laws.proofs.Complete.{expression_complete}
 use Rattle.template_compiler_grammar_laws.proofs.Sound.{expression_sound}
@@ -42,7 +39,7 @@ use Rattle.template_compiler_tokenizer.specs.Spans.{Spanned as PlacedToken, HasS
 use Rattle.template_compiler_grammar.specs.TemplateTrees.{are_distinct, blocks_among}
 use Rattle.template_compiler_stream.specs.Tags.{is_done}
 use Rattle.template_compiler_grammar_laws.proofs.TemplatesComplete.{template_complete}
-use Rattle.template_compiler_grammar_laws.proofs.TemplatesSound.{template_sound, template_blamed}
+use Rattle.template_compiler_grammar_laws.proofs.TemplatesSound.{template_sound}
 use Rattle.template_compiler_sources.specs.Source.{IsSource, source_of, IsPlacedSource, placed_source, IsFaulty, IsExpressionSource, expression_source, IsPlacedExpressionSource, placed_expression_source, IsFaultyExpression, RefusesSource, RefusesExpression}
 use Rattle.template_compiler_sources.specs.Wholes.{nothing_behind, expression_alone, ParsedTemplate, ParsedExpression}
 
@@ -63,26 +60,15 @@ pub faulty_source : (x : Syntax) (source : List ℕ) (tokens : List Token) (f : 
 faulty_source x source tokens f u h e = record {
   tokens = tokens;
   spelled = h;
-  blamed = template_blamed tokens f e;
+  ends = e;
   treeless = no_other x source tokens f u h e;
 }
 
 -- an expression's source
-kept_blame : (us ts : List Token) (f : TokenFault) → Kept us ts → Blamed f us → Blamed f ts
-kept_blame us ts f k (inl e) = inl e
-kept_blame us ts f k (inr s) = inr (k.0 f s)
-
 alone_found : (ts : List Token) (r : Read Expression) (e : Expression) → expression_at 150 ts ≡ r → nothing_behind r ≡ Ok e → expression_at 150 ts ≡ Ok (e, [])
 alone_found ts (Ok (f, [])) e read h = let same : f ≡ e = cc in read ∙ ap (λ e. Ok (e, [])) same
 alone_found ts (Ok (f, u ∷ us)) e read h = cc
 alone_found ts (Err g) e read h = cc
-
-alone_blamed : (ts : List Token) (r : Read Expression) (f : TokenFault) → Reads (IsExpression 150 ts) ts r → nothing_behind r ≡ Err f → Blamed f ts
-alone_blamed ts (Ok (e, [])) f reads h = cc
-alone_blamed ts (Ok (e, u ∷ us)) f reads h =
-    let is : fault (u ∷ us) ≡ f = cc in
-    kept_blame (u ∷ us) ts f ((reads.tree e (u ∷ us) refl).1) (subst (λ f. Blamed f (u ∷ us)) is (fault_blamed (u ∷ us)))
-alone_blamed ts (Err g) f reads h = let is : g ≡ f = cc in reads.blames f (ap (λ g. Err g) is)
 
 pub found_expression : (source : List ℕ) (tokens : List Token) (e : Expression) → IsSpelled source tokens →
     expression_alone tokens ≡ Ok e → IsExpressionSource source e
@@ -102,7 +88,7 @@ pub faulty_expression : (source : List ℕ) (tokens : List Token) (f : TokenFaul
 faulty_expression source tokens f h e = record {
   tokens = tokens;
   spelled = h;
-  blamed = alone_blamed tokens (expression_at 150 tokens) f (expression_sound 150 tokens) e;
+  ends = e;
   treeless = no_expression source tokens f h e;
 }
 

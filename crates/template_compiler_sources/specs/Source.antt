@@ -1,11 +1,10 @@
 -- Which tree a source has, and why it has none.
-use Rattle.std.specs.Prelude.{◌≡◌, ◌≤◌, ◌^◌, ◌⊎◌, ℕ, List, [], ◌∷◌, length}
+use Rattle.std.specs.Prelude.{◌≡◌, ◌≤◌, ◌^◌, ◌⊎◌, ℕ, List, [], ◌∷◌, length, Err}
 use Rattle.template_values_errors.specs.declared.ErrorKind.{ErrorKind}
 use Rattle.template_values_errors.specs.declared.ErrorKind.TheVariants as kinds
 use Rattle.template_tree.specs.Tree.{Expression, Statement, template, Statements}
 use Rattle.template_compiler_tokens.specs.Token.{Token, TokenFault}
 use Rattle.template_compiler_tokens.specs.Left.{kind_of}
-use Rattle.template_compiler_tokens.specs.Blame.{Blamed}
 use Rattle.template_compiler_syntax.specs.Syntax.{Syntax}
 use Rattle.template_compiler_segments.specs.Flat.{IsTokens}
 use Rattle.template_compiler_tokenizer.specs.Spans.{Spanned, HasSpans, words_in}
@@ -13,10 +12,12 @@ use Rattle.template_compiler_source_tokens.specs.Spans.{token_spans}
 use Rattle.template_compiler_source_tokens.specs.Spelled.{IsSpelled, spelled_spans}
 use Rattle.template_compiler_grammar.specs.Grammar.{IsExpression}
 use Rattle.template_compiler_grammar.specs.TemplateGrammar.{IsTemplate}
+use Rattle.template_compiler_grammar.specs.TemplateReader.{template_of}
 use Rattle.template_compiler_placed_grammar.specs.DerivedExpressions.{expression_places}
 use Rattle.template_compiler_placed_grammar.specs.DerivedStatements.{template_places}
 use Rattle.template_compiler_placed_grammar.specs.Nodes.{placed, Node}
 use Rattle.template_compiler_placed_grammar.specs.TemplateNodes.{PlacedStatement}
+use Rattle.template_compiler_sources.specs.Wholes.{expression_alone}
 
 -- the source's tokens are the template's statements
 pub data IsSource (x : Syntax) (source : List ℕ) : Statement → Type 0 where
@@ -28,11 +29,11 @@ pub data IsPlacedSource (x : Syntax) (source : List ℕ) : PlacedStatement → T
   placed_source : {tokens : List Spanned} {body : Statements} → HasSpans x source tokens → (whole : IsTemplate (words_in tokens) body) →
       IsPlacedSource x source (placed (template body) (template_places (token_spans tokens) whole))
 
--- the source has no tree, and the fault stands among its tokens
+-- the source has no tree: the reading of its tokens from the first on ends with the fault
 pub record IsFaulty (x : Syntax) (source : List ℕ) (fault : TokenFault) : Type 0 where
   pub tokens : List Token
   pub spelled : IsTokens x source tokens
-  pub blamed : Blamed fault tokens
+  pub ends : template_of tokens ≡ Err fault
   pub treeless : (tree : Statement) → IsSource x source tree → ⊥
 
 -- the source's tokens are the expression
@@ -46,11 +47,11 @@ pub data IsPlacedExpressionSource (source : List ℕ) : Node → Type 0 where
       (whole : IsExpression 150 tokens tree []) →
       IsPlacedExpressionSource source (placed tree (expression_places (spelled_spans [] spelled) whole))
 
--- the source is no expression, and the fault stands among its tokens
+-- the source is no expression: the reading of its tokens from the first on ends with the fault
 pub record IsFaultyExpression (source : List ℕ) (fault : TokenFault) : Type 0 where
   pub tokens : List Token
   pub spelled : IsSpelled source tokens
-  pub blamed : Blamed fault tokens
+  pub ends : expression_alone tokens ≡ Err fault
   pub treeless : (tree : Expression) → IsExpressionSource source tree → ⊥
 
 -- the error alone, without a cause

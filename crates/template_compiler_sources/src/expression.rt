@@ -20,9 +20,9 @@ use template_values_errors::{Error, ErrorKind};
 ///
 /// # Errors
 ///
-/// `TooLarge` for a source of 2^32 bytes or more, else `BadEscape` for a text literal with an escape that is none,
-/// `NoFloats` for a number with a fraction or an exponent, `SyntaxError` for all else where the source has no tree;
-/// `OutOfMemory`.
+/// `TooLarge` for a source of 2^32 bytes or more. Else the fault that the reading of its tokens ends with: `BadEscape` where
+/// that is a text literal with an escape that is none, `NoFloats` where it is a number with a fraction or an exponent,
+/// `SyntaxError` for any other. `OutOfMemory`.
 pub fn parse_expr<'source>(alloc: Global, source: &'source str) -> Result<Expr<'source>, Error>
     ensures found { IfOk result (λ tree. IsExpressionSource source.now (expression_of tree)) }
     ensures places { IfOk result (λ tree. IsPlacedExpressionSource source.now (node_of tree)) }

@@ -9,6 +9,6 @@ mod source;
 mod template;
 
 pub use expression::parse_expr;
-pub use laws::{one_placed_expression, one_placed_tree};
+pub use laws::{one_expression_fault, one_fault, one_placed_expression, one_placed_tree};
 pub use parser::Parser;
 pub use source::parse;

@@ -22,9 +22,9 @@ use template_values_errors::{Error, ErrorKind};
 ///
 /// # Errors
 ///
-/// `TooLarge` for a source of 2^32 bytes or more, else `BadEscape` for a text literal with an escape that is none,
-/// `NoFloats` for a number with a fraction or an exponent, `SyntaxError` for all else where the source has no tree;
-/// `OutOfMemory`.
+/// `TooLarge` for a source of 2^32 bytes or more. Else the fault that the reading of its tokens ends with: `BadEscape` where
+/// that is a text literal with an escape that is none, `NoFloats` where it is a number with a fraction or an exponent,
+/// `SyntaxError` for any other. `OutOfMemory`.
 pub fn parse<'source>(
     alloc: Global,
     source: &'source str,
