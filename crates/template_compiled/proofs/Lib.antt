@@ -4,3 +4,4 @@ pub mod Accepting
 pub mod Alone
 pub mod Updates
 pub mod Listing
+pub mod Refusals

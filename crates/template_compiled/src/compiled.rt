@@ -3,6 +3,7 @@ ghost use Rattle.std.specs.Prelude.{◌≡◌, ◌↔◌, ℕ, List, IsTrue, IfO
 ghost use Rattle.std.specs.BTreeSet.{contains_text};
 ghost use Rattle.std.specs.Cow.{cow_str_bytes};
 ghost use Rattle.template_values_errors.specs.Memory.{NoMemory};
+ghost use Rattle.template_values_errors.specs.declared.ErrorKind.{ErrorKind as Kind};
 ghost use Rattle.template_tree.specs.Tree.{Statements, template};
 ghost use Rattle.template_tree_statements.specs.View.{statement_of};
 ghost use Rattle.template_code.specs.Listing.{code_in};
@@ -15,7 +16,7 @@ ghost use Rattle.template_names_undeclared.specs.Found.{Adds, AddsSome};
 ghost use Rattle.template_compiled.specs.Names.{uses};
 ghost use Rattle.template_compiler_emission.specs.Puts.{NoRoom};
 ghost use Rattle.template_compiled.specs.Plain.{IsPlain, PlainStandsForItself};
-ghost use Rattle.template_compiled.specs.Sources.{IsRefusedWith, Source, read_by, tree_in};
+ghost use Rattle.template_compiled.specs.Sources.{IsAccepted, IsRefusedWith, Source, read_by, tree_in};
 
 use crate::config::TemplateConfig;
 use std::alloc::Global;
@@ -279,4 +280,13 @@ pub fn one_tree()
 /// alone.
 pub fn plain_text()
     ensures { PlainStandsForItself }
+{}
+
+/// A law: where there is room for a source and for its code, the source is refused with one kind, and where it is accepted it
+/// is not refused.
+pub fn one_refusal()
+    ensures one { (source : Source) (kinds others : List Kind) → IsUsable source.syntax → IsRefusedWith source kinds
+        → IsRefusedWith source others → ¬ NoRoom kinds → ¬ NoRoom others → kinds ≡ others }
+    ensures accepted { (source : Source) (kinds : List Kind) → IsUsable source.syntax → IsAccepted source
+        → IsRefusedWith source kinds → ¬ NoRoom kinds → ⊥ }
 {}

@@ -3,13 +3,15 @@ ghost use Rattle.std.specs.Prelude.{◌≡◌, ◌↔◌, ℕ, List, IsTrue, IfO
 ghost use Rattle.std.specs.BTreeSet.{contains_text};
 ghost use Rattle.std.specs.Cow.{cow_str_bytes};
 ghost use Rattle.template_values_errors.specs.Memory.{NoMemory};
+ghost use Rattle.template_values_errors.specs.declared.ErrorKind.{ErrorKind as Kind};
 ghost use Rattle.template_tree.specs.Tree.{Expression};
 ghost use Rattle.template_tree.specs.View.{expression_of};
 ghost use Rattle.template_code.specs.Listing.{code_in};
 ghost use Rattle.template_compiler_codegen.specs.Statements.{standalone_code};
+ghost use Rattle.template_compiler_emission.specs.Puts.{NoRoom};
 ghost use Rattle.template_compiler_sources.specs.Source.{IsExpressionSource};
 ghost use Rattle.template_names.specs.Names.{IsToldAlone};
-ghost use Rattle.template_compiled.specs.Expressions.{IsExpressionRefusedWith, IsFaithfulExpression, expression_in};
+ghost use Rattle.template_compiled.specs.Expressions.{IsAcceptedExpression, IsExpressionRefusedWith, IsFaithfulExpression, expression_in};
 
 use std::alloc::Global;
 use std::borrow::CowStr;
@@ -159,4 +161,12 @@ impl<'source> CompiledExpression<'source> {
 /// to.
 pub fn one_standalone_tree()
     ensures { (source : List ℕ) (e : Expression) → IsExpressionSource source e → expression_in source ≡ e }
+{}
+
+/// A law: the same of an expression's refusals as [`one_refusal`](crate::one_refusal) says of a template's.
+pub fn one_standalone_refusal()
+    ensures one { (source : List ℕ) (kinds others : List Kind) → IsExpressionRefusedWith source kinds
+        → IsExpressionRefusedWith source others → ¬ NoRoom kinds → ¬ NoRoom others → kinds ≡ others }
+    ensures accepted { (source : List ℕ) (kinds : List Kind) → IsAcceptedExpression source
+        → IsExpressionRefusedWith source kinds → ¬ NoRoom kinds → ⊥ }
 {}

@@ -8,7 +8,7 @@ mod expression;
 mod naming;
 mod templates;
 
-pub use compiled::{CompiledTemplate, one_tree, plain_text};
+pub use compiled::{CompiledTemplate, one_refusal, one_tree, plain_text};
 pub use config::TemplateConfig;
-pub use expression::{CompiledExpression, one_standalone_tree};
+pub use expression::{CompiledExpression, one_standalone_refusal, one_standalone_tree};
 pub use templates::CompiledTemplates;
