@@ -1,0 +1,20 @@
+-- The code of a tree is bounded by its source.
+use Rattle.std.proofs.Common.{arith}
+use Rattle.template_compiler_codegen.specs.Statements.{no_ways}
+use Rattle.template_code_bounds.specs.Bounds.{TemplatesAreBounded, ExpressionsAreBounded, ShortTextsFit}
+use Rattle.template_code_bounds.proofs.Expressions.{expression_bound}
+use Rattle.template_code_bounds.proofs.Statements.{template_bound}
+use Rattle.template_code_bounds.proofs.Tokens.{tokens_bound}
+use Rattle.template_code_bounds.proofs.Spelled.{spelled_bound}
+use Rattle.template_code_bounds.proofs.Lengths.{expression_most, statements_most}
+
+pub templates_are_bounded : TemplatesAreBounded
+templates_are_bounded x source tokens tree usable spelled whole =
+    omega (arith, statements_most tree no_ways 0, template_bound whole, tokens_bound x source tokens usable spelled)
+
+pub expressions_are_bounded : ExpressionsAreBounded
+expressions_are_bounded source tokens e spelled whole =
+    omega (arith, expression_most e 0, expression_bound whole, spelled_bound spelled)
+
+pub short_texts_fit : ShortTextsFit
+short_texts_fit bytes short = omega arith

@@ -1,0 +1,214 @@
+-- The code of a tree is no longer than the tree is large, wherever it begins.
+use Rattle.std.proofs.Common.{◌≤◌, ℕ, ◌+◌, suc, false, List, [], ◌∷◌, ◌++◌, length, Option, None, Some, arith, length-append}
+use Rattle.template_values_model.specs.Val.{Val, silent_undefined, none}
+use Rattle.template_tree.specs.declared.operators.BinOpKind.{BinOpKind}
+use Rattle.template_tree.specs.declared.operators.BinOpKind.TheVariants.{ScAnd, ScOr}
+use Rattle.template_tree.specs.Tree.{Expression, Optional, Expressions, Links, unary, binary, chain, conditional, attribute, item, list_literal, tuple_literal, map_literal, absent, given, no_expressions, expressions_more, no_links, links_more, Statement, print, for_loop, if_condition, with_block, set, auto_escape, continue_loop, break_loop, Statements, no_statements, statements_more, Assignments, no_assignments, assignments_more}
+use Rattle.template_tree.specs.Tree as tree
+use Rattle.template_walk.specs.Constants.{constant_of}
+use Rattle.template_walk.specs.Statements.{number_of}
+use Rattle.template_code.specs.Code.{Code, get_attr, get_item, slice, build_map, build_list, build_tuple, operate, compare_and_preserve, jump, jump_if_false, jump_if_false_or_pop, jump_if_true_or_pop, emit, unpack_list, push_with, pop_frame, push_loop, push_auto_escape, pop_auto_escape, include}
+use Rattle.template_compiler_codegen.specs.Expressions.{Coded, unary_code, then_code, one, dropped, loaded, skipped, either_code, binary_code, entry_count, expression_code, optional_code, expressions_code, codes_of, entries_code, chain_code, linked_code}
+use Rattle.template_compiler_codegen.specs.Statements.{Ways, own_ways, closing_with, target_code, targets_code, assignments_code, loop_flags, rounds_code, loop_end_code, branches_code, left_by, statement_code, statements_code}
+use Rattle.template_code_bounds.proofs.Sizes.{expression_size, optional_size, expressions_size, chain_size, links_size, target_size, targets_size, assignments_size, statement_size, statements_size}
+
+abbrev AtMost : Coded → ℕ → Type 0
+AtMost f n = (place : ℕ) → length (f place) ≤ n
+
+one_most : (c : Code) → AtMost (one c) 1
+one_most c place = omega arith
+
+then_most : (f g : Coded) (m n k : ℕ) → AtMost f m → AtMost g n → m + n ≤ k → AtMost (then_code f g) k
+then_most f g m n k first second most place =
+    let at = place + length (f place) in omega (arith, length-append (f place) (g at), first place, second at)
+
+loaded_most : (o : Option Val) (f : Coded) (n : ℕ) → AtMost f n → 1 ≤ n → AtMost (loaded o f) n
+loaded_most None f n most some place = most place
+loaded_most (Some v) f n most some place = omega arith
+
+skipped_most : (leap : ℕ → Code) (f : Coded) (m k : ℕ) → AtMost f m → suc m ≤ k → AtMost (skipped leap f) k
+skipped_most leap f m k first most place = omega (arith, first (suc place))
+
+either_most : (f g : Coded) (m n k : ℕ) → AtMost f m → AtMost g n → 2 + (m + n) ≤ k → AtMost (either_code f g) k
+either_most f g m n k first second most place =
+    let begins = suc (suc place + length (f (suc place))) in let other = g begins in
+    omega (arith, first (suc place), second begins, length-append (f (suc place)) (jump (begins + length other) ∷ other))
+
+binary_most : (op : BinOpKind) (f g : Coded) (m n : ℕ) → AtMost f m → AtMost g n → AtMost (binary_code op f g) (suc (m + n))
+binary_most ScAnd f g m n first second =
+    then_most f (skipped jump_if_false_or_pop g) m (suc n) (suc (m + n)) first (skipped_most jump_if_false_or_pop g n (suc n) second (omega arith)) (omega arith)
+binary_most ScOr f g m n first second =
+    then_most f (skipped jump_if_true_or_pop g) m (suc n) (suc (m + n)) first (skipped_most jump_if_true_or_pop g n (suc n) second (omega arith)) (omega arith)
+binary_most op f g m n first second =
+    then_most f (then_code g (one (operate op))) m (suc n) (suc (m + n)) first
+    (then_most g (one (operate op)) n 1 (suc n) second (one_most (operate op)) (omega arith)) (omega arith)
+
+and_one_most : (c : Code) (f : Coded) (m : ℕ) → AtMost f m → AtMost (then_code f (one c)) (suc m)
+and_one_most c f m first = then_most f (one c) m 1 (suc m) first (one_most c) (omega arith)
+
+-- the code of each of the expressions
+abbrev AreAtMost : Expressions → Type 0
+AreAtMost no_expressions = Unit {0}
+AreAtMost (expressions_more e es) = AtMost (expression_code e) (expression_size e) × AreAtMost es
+
+chain_some : (links : Links) → 1 ≤ chain_size links
+chain_some no_links = omega arith
+chain_some (links_more op e links) = omega arith
+
+mutual
+  pub expression_most : (e : Expression) → AtMost (expression_code e) (expression_size e)
+  expression_most (unary op e) =
+      loaded_most (constant_of (unary op e)) (then_code (expression_code e) (one (unary_code op))) (suc (expression_size e))
+      (and_one_most (unary_code op) (expression_code e) (expression_size e) (expression_most e)) (omega arith)
+  expression_most (binary op left right) =
+      loaded_most (constant_of (binary op left right)) (binary_code op (expression_code left) (expression_code right)) (suc (expression_size left + expression_size right))
+      (binary_most op (expression_code left) (expression_code right) (expression_size left) (expression_size right) (expression_most left) (expression_most right)) (omega arith)
+  expression_most (chain first links) =
+      let some = chain_some links in
+      loaded_most (constant_of (chain first links)) (then_code (expression_code first) (chain_code links)) (expression_size first + chain_size links)
+      (then_most (expression_code first) (chain_code links) (expression_size first) (chain_size links) (expression_size first + chain_size links) (expression_most first) (chain_most links) (omega arith)) (omega arith)
+  expression_most (conditional test branch otherwise) =
+      let n = 2 + (expression_size branch + optional_size otherwise) in
+      then_most (expression_code test) (either_code (expression_code branch) (optional_code silent_undefined otherwise)) (expression_size test) n (expression_size (conditional test branch otherwise))
+      (expression_most test)
+      (either_most (expression_code branch) (optional_code silent_undefined otherwise) (expression_size branch) (optional_size otherwise) n (expression_most branch) (optional_most silent_undefined otherwise) (omega arith))
+      (omega arith)
+  expression_most (attribute e name) = and_one_most (get_attr name) (expression_code e) (expression_size e) (expression_most e)
+  expression_most (item e key) =
+      then_most (expression_code e) (then_code (expression_code key) (one get_item)) (expression_size e) (suc (expression_size key)) (expression_size (item e key)) (expression_most e)
+      (and_one_most get_item (expression_code key) (expression_size key) (expression_most key)) (omega arith)
+  expression_most (tree.slice e start stop by) =
+      let c = suc (optional_size by) in let b = optional_size stop + c in let a = optional_size start + b in
+      let last = then_code (optional_code none by) (one slice) in let later = then_code (optional_code none stop) last in
+      then_most (expression_code e) (then_code (optional_code none start) later) (expression_size e) a (expression_size (tree.slice e start stop by)) (expression_most e)
+      (then_most (optional_code none start) later (optional_size start) b a (optional_most none start)
+      (then_most (optional_code none stop) last (optional_size stop) c b (optional_most none stop)
+      (and_one_most slice (optional_code none by) (optional_size by) (optional_most none by)) (omega arith)) (omega arith)) (omega arith)
+  expression_most (list_literal es) =
+      loaded_most (constant_of (list_literal es)) (then_code (expressions_code es) (one (build_list (number_of es)))) (suc (expressions_size es))
+      (and_one_most (build_list (number_of es)) (expressions_code es) (expressions_size es) (expressions_most es)) (omega arith)
+  expression_most (tuple_literal es) =
+      loaded_most (constant_of (tuple_literal es)) (then_code (expressions_code es) (one (build_tuple (number_of es)))) (suc (expressions_size es))
+      (and_one_most (build_tuple (number_of es)) (expressions_code es) (expressions_size es) (expressions_most es)) (omega arith)
+  expression_most (map_literal ks vs) =
+      let count = entry_count ks (codes_of vs) in
+      loaded_most (constant_of (map_literal ks vs)) (then_code (entries_code ks (codes_of vs)) (one (build_map count))) (suc (expressions_size ks + expressions_size vs))
+      (and_one_most (build_map count) (entries_code ks (codes_of vs)) (expressions_size ks + expressions_size vs) (entries_most ks vs (are_most vs))) (omega arith)
+  expression_most _ = λ place. omega arith
+
+  optional_most : (missing : Val) (o : Optional) → AtMost (optional_code missing o) (optional_size o)
+  optional_most missing absent = λ place. omega arith
+  optional_most missing (given e) = expression_most e
+
+  expressions_most : (es : Expressions) → AtMost (expressions_code es) (expressions_size es)
+  expressions_most no_expressions = λ place. omega arith
+  expressions_most (expressions_more e es) =
+      then_most (expression_code e) (expressions_code es) (expression_size e) (expressions_size es) (expression_size e + expressions_size es) (expression_most e) (expressions_most es) (omega arith)
+
+  are_most : (es : Expressions) → AreAtMost es
+  are_most no_expressions = tt
+  are_most (expressions_more e es) = (expression_most e, are_most es)
+
+  entries_most : (ks vs : Expressions) → AreAtMost vs → AtMost (entries_code ks (codes_of vs)) (expressions_size ks + expressions_size vs)
+  entries_most no_expressions vs values = λ place. omega arith
+  entries_most (expressions_more k ks) no_expressions values = λ place. omega arith
+  entries_most (expressions_more k ks) (expressions_more v vs) values =
+      let n = expressions_size ks + expressions_size vs in
+      then_most (expression_code k) (then_code (expression_code v) (entries_code ks (codes_of vs))) (expression_size k) (expression_size v + n) (expressions_size (expressions_more k ks) + expressions_size (expressions_more v vs)) (expression_most k)
+      (then_most (expression_code v) (entries_code ks (codes_of vs)) (expression_size v) n (expression_size v + n) (values.0) (entries_most ks vs (values.1)) (omega arith)) (omega arith)
+
+  chain_most : (links : Links) → AtMost (chain_code links) (chain_size links)
+  chain_most no_links = λ place. omega arith
+  chain_most (links_more op e links) =
+      let c = compare_and_preserve op in let n = links_size links in
+      then_most (then_code (expression_code e) (one c)) (then_code (linked_code links) dropped) (suc (expression_size e)) (n + 2) (chain_size (links_more op e links))
+      (and_one_most c (expression_code e) (expression_size e) (expression_most e))
+      (then_most (linked_code links) dropped n 2 (n + 2) (linked_most links) (λ place. omega arith) (omega arith)) (omega arith)
+
+  linked_most : (links : Links) → AtMost (linked_code links) (links_size links)
+  linked_most no_links = λ place. omega arith
+  linked_most (links_more op e links) =
+      let c = compare_and_preserve op in let n = suc (expression_size e) + links_size links in
+      skipped_most jump_if_false_or_pop (then_code (then_code (expression_code e) (one c)) (linked_code links)) n (links_size (links_more op e links))
+      (then_most (then_code (expression_code e) (one c)) (linked_code links) (suc (expression_size e)) (links_size links) n
+      (and_one_most c (expression_code e) (expression_size e) (expression_most e)) (linked_most links) (omega arith)) (omega arith)
+
+mutual
+  target_most : (target : Expression) → AtMost (target_code target) (target_size target)
+  target_most (list_literal targets) =
+      then_most (one (unpack_list (number_of targets))) (targets_code targets) 1 (targets_size targets) (suc (targets_size targets)) (one_most (unpack_list (number_of targets))) (targets_most targets) (omega arith)
+  target_most _ = λ place. omega arith
+
+  targets_most : (targets : Expressions) → AtMost (targets_code targets) (targets_size targets)
+  targets_most no_expressions = λ place. omega arith
+  targets_most (expressions_more target targets) =
+      then_most (target_code target) (targets_code targets) (target_size target) (targets_size targets) (target_size target + targets_size targets) (target_most target) (targets_most targets) (omega arith)
+
+assignments_most : (gs : Assignments) → AtMost (assignments_code gs) (assignments_size gs)
+assignments_most no_assignments = λ place. omega arith
+assignments_most (assignments_more target e more) =
+    let n = target_size target + assignments_size more in
+    then_most (expression_code e) (then_code (target_code target) (assignments_code more)) (expression_size e) n (assignments_size (assignments_more target e more)) (expression_most e)
+    (then_most (target_code target) (assignments_code more) (target_size target) (assignments_size more) n (target_most target) (assignments_most more) (omega arith)) (omega arith)
+
+rounds_most : (target : Coded) (body : ℕ → ℕ → Coded) (m n : ℕ) → AtMost target m → ((b c : ℕ) → AtMost (body b c) n) → AtMost (rounds_code target body) (2 + (m + n))
+rounds_most target body m n first second place =
+    let stored = target (suc place) in let begins = suc place + length stored in
+    let ends_at = suc (begins + length (body 0 0 begins)) in let inner = body ends_at place begins in
+    omega (arith, first (suc place), second ends_at place begins, length-append stored (inner ++ (jump place ∷ [])), length-append inner (jump place ∷ []))
+
+loop_end_most : (otherwise : Statements) (f : Coded) (n : ℕ) → AtMost f n → AtMost (loop_end_code otherwise f) (3 + n)
+loop_end_most no_statements f n most place = omega arith
+loop_end_most (statements_more s ss) f n most place = omega (arith, most (suc (suc (suc place))), most (place + 1 + 1 + 1), most (suc (place + 1 + 1)))
+
+branches_most : (otherwise : Statements) (f g : Coded) (m n : ℕ) → AtMost f m → AtMost g n → AtMost (branches_code otherwise f g) (2 + (m + n))
+branches_most no_statements f g m n first second = skipped_most jump_if_false f m (2 + (m + n)) first (omega arith)
+branches_most (statements_more s ss) f g m n first second = either_most f g m n (2 + (m + n)) first second (omega arith)
+
+left_most : (closings : List Code) (to : ℕ) → AtMost (left_by closings to) (suc (length closings))
+left_most closings to place = omega (arith, length-append closings (jump to ∷ []))
+
+mutual
+  statement_most : (s : Statement) (ways : Ways) → AtMost (statement_code ways s) (statement_size (length ways.closings) s)
+  statement_most (print e) ways = and_one_most emit (expression_code e) (expression_size e) (expression_most e)
+  statement_most (for_loop target e absent false body otherwise) ways =
+      let n = length ways.closings in
+      let inner = λ (b c : ℕ). statements_code (own_ways b c) body in
+      let last = loop_end_code otherwise (statements_code ways otherwise) in
+      let a = 3 + statements_size n otherwise in let r = 2 + (target_size target + statements_size 0 body) in
+      then_most (expression_code e) (then_code (one (push_loop loop_flags)) (then_code (rounds_code (target_code target) inner) last)) (expression_size e) (1 + (r + a))
+      (statement_size n (for_loop target e absent false body otherwise)) (expression_most e)
+      (then_most (one (push_loop loop_flags)) (then_code (rounds_code (target_code target) inner) last) 1 (r + a) (1 + (r + a)) (one_most (push_loop loop_flags))
+      (then_most (rounds_code (target_code target) inner) last r a (r + a)
+      (rounds_most (target_code target) inner (target_size target) (statements_size 0 body) (target_most target) (λ b c. statements_most body (own_ways b c)))
+      (loop_end_most otherwise (statements_code ways otherwise) (statements_size n otherwise) (statements_most otherwise ways)) (omega arith)) (omega arith)) (omega arith)
+  statement_most (if_condition e body otherwise) ways =
+      let n = length ways.closings in let m = 2 + (statements_size n body + statements_size n otherwise) in
+      then_most (expression_code e) (branches_code otherwise (statements_code ways body) (statements_code ways otherwise)) (expression_size e) m
+      (statement_size n (if_condition e body otherwise)) (expression_most e)
+      (branches_most otherwise (statements_code ways body) (statements_code ways otherwise) (statements_size n body) (statements_size n otherwise) (statements_most body ways) (statements_most otherwise ways))
+      (omega arith)
+  statement_most (with_block assignments body) ways =
+      let n = length ways.closings in let inner = statements_code (closing_with pop_frame ways) body in
+      let b = suc (statements_size (suc n) body) in let a = assignments_size assignments + b in
+      then_most (one push_with) (then_code (assignments_code assignments) (then_code inner (one pop_frame))) 1 a (statement_size n (with_block assignments body)) (one_most push_with)
+      (then_most (assignments_code assignments) (then_code inner (one pop_frame)) (assignments_size assignments) b a (assignments_most assignments)
+      (and_one_most pop_frame inner (statements_size (suc n) body) (statements_most body (closing_with pop_frame ways))) (omega arith)) (omega arith)
+  statement_most (set target e) ways =
+      then_most (expression_code e) (target_code target) (expression_size e) (target_size target) (expression_size e + target_size target) (expression_most e) (target_most target) (omega arith)
+  statement_most (auto_escape e body) ways =
+      let n = length ways.closings in let inner = statements_code (closing_with pop_auto_escape ways) body in
+      let b = suc (statements_size (suc n) body) in
+      then_most (expression_code e) (then_code (one push_auto_escape) (then_code inner (one pop_auto_escape))) (expression_size e) (1 + b) (statement_size n (auto_escape e body)) (expression_most e)
+      (then_most (one push_auto_escape) (then_code inner (one pop_auto_escape)) 1 b (1 + b) (one_most push_auto_escape)
+      (and_one_most pop_auto_escape inner (statements_size (suc n) body) (statements_most body (closing_with pop_auto_escape ways))) (omega arith)) (omega arith)
+  statement_most (tree.include e ignore_missing) ways = and_one_most (include ignore_missing) (expression_code e) (expression_size e) (expression_most e)
+  statement_most continue_loop ways = left_most ways.closings ways.continue_to
+  statement_most break_loop ways = left_most ways.closings ways.break_to
+  statement_most _ ways = λ place. omega arith
+
+  pub statements_most : (ss : Statements) (ways : Ways) → AtMost (statements_code ways ss) (statements_size (length ways.closings) ss)
+  statements_most no_statements ways = λ place. omega arith
+  statements_most (statements_more s ss) ways =
+      let n = length ways.closings in
+      then_most (statement_code ways s) (statements_code ways ss) (statement_size n s) (statements_size n ss) (statement_size n s + statements_size n ss) (statement_most s ways) (statements_most ss ways) (omega arith)

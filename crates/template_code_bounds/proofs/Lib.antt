@@ -1,0 +1,7 @@
+mod Sizes
+mod Expressions
+mod Statements
+mod Tokens
+mod Lengths
+mod Spelled
+mod Bounds
