@@ -1,5 +1,6 @@
 -- What a generator has generated.
-use Rattle.std.specs.Prelude.{map, reverse}
+use Rattle.std.specs.Prelude.{map, reverse, Option}
+use Rattle.template_values_errors.specs.declared.ErrorKind.{ErrorKind}
 use Rattle.template_code.specs.Listing.{name_in, source_in, code_in, places_in}
 use Rattle.template_compiler_generator.specs.declared.blocks.Block.{Block}
 use Rattle.template_compiler_generator.specs.declared.blocks.Block.TheVariants as kinds
@@ -21,3 +22,7 @@ draft_of g = record {
   line = g.line;
   spans = reverse g.spans.items;
 }
+
+-- the kind of the refusal that it answers from now on, if it does
+abbrev pub refused_of : CodeGenerator → Option ErrorKind
+refused_of g = g.refused

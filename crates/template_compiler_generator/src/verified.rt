@@ -78,7 +78,8 @@ pub fn verified_template<'source>(
     templates_are_accepted();
     let mut generator = CodeGenerator::new(alloc, file, source);
     generator.compile_stmt(tree)?;
-    accepted(alloc, generator.finish())
+    let instructions = generator.finish()?;
+    accepted(alloc, instructions)
 }
 
 /// The same of an expression that stands alone.
@@ -100,5 +101,6 @@ pub fn verified_expression<'source>(
     expressions_are_accepted();
     let mut generator = CodeGenerator::new(alloc, file, source);
     generator.compile_expr(expr)?;
-    accepted(alloc, generator.finish())
+    let instructions = generator.finish()?;
+    accepted(alloc, instructions)
 }

@@ -39,9 +39,13 @@ fn generate<'line>(
     let mut generator = CodeGenerator::new(alloc, NAME, "");
     make_all(&mut generator, tree, calls, out);
     if generator.is_closed() {
-        let code = generator.finish();
-        write_places(&code, places, out);
-        write_instructions(&code, out)
+        match generator.finish() {
+            Ok(code) => {
+                write_places(&code, places, out);
+                write_instructions(&code, out)
+            }
+            Err(error) => out.refuse(error.kind()),
+        }
     } else {
         out.refuse(ErrorKind::SyntaxError)
     }

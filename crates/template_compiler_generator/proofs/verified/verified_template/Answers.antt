@@ -14,19 +14,19 @@ pub accepted-requires : goal.accepted-requires
 accepted-requires c =
     let s = statement_of c.args.tree.now in
     let good = c.templates_are_accepted.ensures (body_in s) (runnable_body s c.requires) (draft_of c.new-generator.result) (draft_of c.compile_stmt.new.self)
-    (ap (λ (d : Draft). d.code) c.new-generator.ensures) c.in_ok-compile_stmt.ensures.added in
+    (ap (λ (d : Draft). d.code) c.new-generator.ensures.draft) c.in_ok-compile_stmt.ensures.added in
     let P : List Code → Type 0 = λ code. IsGood Template code in
-    (Template, subst P (sym c.finish.ensures.code) good)
+    (Template, subst P (sym c.in_ok-instructions.ensures.code) good)
 
 pub returns-clause-kind : goal.returns-clause-kind
 returns-clause-kind c =
     let s = statement_of c.args.tree.now in
     let good = c.templates_are_accepted.ensures (body_in s) (runnable_body s c.requires) (draft_of c.new-generator.result) (draft_of c.compile_stmt.new.self)
-    (ap (λ (d : Draft). d.code) c.new-generator.ensures) c.in_ok-compile_stmt.ensures.added in
+    (ap (λ (d : Draft). d.code) c.new-generator.ensures.draft) c.in_ok-compile_stmt.ensures.added in
     let P : List Code → Type 0 = λ code. IsGood Template code in
-    told_template c.accepted.result (code_in c.finish.result) (subst P (sym c.finish.ensures.code) good) c.accepted.ensures.first
+    told_template c.accepted.result (code_in c.in_ok-instructions.instructions) (subst P (sym c.in_ok-instructions.ensures.code) good) c.accepted.ensures.first
 
 pub returns-in_err-compile_stmt-clause-refused : goal.returns-in_err-compile_stmt-clause-refused
 returns-in_err-compile_stmt-clause-refused c =
-    let room = no_room _ c.in_err-compile_stmt.ensures.refused in
+    let room = no_room _ (c.in_err-compile_stmt.ensures.refused c.new-generator.ensures.fresh) in
     search rules
