@@ -4,3 +4,4 @@ pub mod Told
 pub mod Renders
 pub mod Settings
 pub mod Answers
+pub mod Statuses

@@ -27,7 +27,7 @@ whole_render Done (Ok _) before after r is room (broken wants text) = absurd wan
 whole_render Done (Err others) before after r is room renders = absurd is
 whole_render (Render kinds) (Ok _) before after r is room renders = absurd is
 whole_render (Render kinds) (Err others) before after r is room (whole faulted text) =
-    record { end = inr (kinds, refl, faulted ∙ ap (λ (ks : List ErrorKind). faults ks) (sym is)); text = text }
+    record { end = inr (kinds, refl, faulted.0 ∙ ap (λ (ks : List ErrorKind). faults ks) (sym is)); text = text }
 whole_render (Render kinds) (Err others) before after r is room (broken wants text) =
     absurd (room (subst IsWant (sym is) wants))
 whole_render (Context kinds) (Ok _) before after r is room renders = absurd is

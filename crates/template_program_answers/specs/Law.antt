@@ -9,6 +9,7 @@ use Rattle.template_environment_settings.specs.Sources.{IsAccepted, IsRefusedWit
 use Rattle.template_program_run.specs.Answers.{AnswersRequest}
 use Rattle.template_program_run.specs.History.{source_for}
 use Rattle.template_program_run.specs.Ids.{IsLastId}
+use Rattle.template_program_parts.specs.Status.{IsStatusOf}
 use Rattle.template_program_parts.specs.declared.outcome.Outcome.{Outcome}
 use Rattle.template_program_parts.specs.declared.outcome.Outcome.TheVariants.{Done, Render, Context, Template}
 use Rattle.template_program_run.specs.declared.request.Request.{Request}
@@ -70,3 +71,8 @@ abbrev pub OneAnswer : Type 0
 OneAnswer = (request : Request) (additions : List (List ℕ × List ℕ)) (json : Option (List ℕ)) (a b : Answer)
     → IsAnswerTo request additions json a → IsAnswerTo request additions json b → IsUnwanting a → IsUnwanting b
     → AreAlike additions a b
+
+-- Where a render's outcome has status 6, a growth was refused in it: no fault of a template is told so, at any depth.
+abbrev pub SixIsWant : Type 0
+SixIsWant = (request : Request) (additions : List (List ℕ × List ℕ)) (json : Option (List ℕ)) (a : Answer) (kinds : List ErrorKind)
+    → IsAnswerTo request additions json a → a.outcome ≡ Render kinds → IsStatusOf (Render kinds) 6 → NoMemory kinds

@@ -1,8 +1,8 @@
 //! The law that a request has one answer, where nothing is wanted: what `run` tells and writes is decided by the request,
-//! the templates and the context. The function does nothing: it stands for the law in its contract.
+//! the templates and the context; and the law of status 6. Each function does nothing: it stands for the law in its contract.
 #![tactic(auto)]
 
-ghost use Rattle.template_program_answers.specs.Law.{OneAnswer};
+ghost use Rattle.template_program_answers.specs.Law.{OneAnswer, SixIsWant};
 
 use template_machine_meaning::isolation;
 
@@ -15,3 +15,8 @@ pub fn one_answer()
 {
     isolation();
 }
+
+/// A render whose status is 6 lacked memory. No fault of a template is told so, however many includes it happened in.
+pub fn six_is_want()
+    ensures { SixIsWant }
+{}
