@@ -1,8 +1,8 @@
 //! A whole input, read to its end.
-ghost use Rattle.std.specs.Prelude.{◌≡◌, ◌<◌, ◌≤◌, ◌⊎◌, IfOk, IfSome, IsErrOf};
+ghost use Rattle.std.specs.Prelude.{◌≡◌, ◌<◌, ◌≤◌, ◌⊎◌, IfOk, IfSome, IsErrOf, false};
 ghost use Rattle.std.specs.Prelude.{IsTrue, OnOk, length, string_bytes, string_len, vec_len};
 ghost use Rattle.std.specs.Io.KnownBytes.{Consumes, IsAtEnd};
-ghost use Rattle.template_program_parts.specs.Reading.{AddsPiece, GivesAtMost, GivesCount, GivesNoText};
+ghost use Rattle.template_program_parts.specs.Reading.{AddsPiece, GivesAtMost, GivesCount, GivesNoText, LacksFile, LacksText};
 
 use crate::{FileFault, Source};
 use std::alloc::Global;
@@ -33,6 +33,10 @@ pub fn read_whole<S: Source>(
     ensures file { IsErrOf result FileFault.File → IsTrue (S.has_failed source.new)
         ⊎ GivesCount (S.remaining source.old) (S.remaining source.new) limit }
     ensures no_further { GivesAtMost (S.remaining source.old) (S.remaining source.new) limit }
+
+    // Where no read may fail, only an input that is too long is told so.
+    ensures lacks { IsErrOf result FileFault.File → S.may_fail source.old ≡ false → S.has_failed source.old ≡ false
+        → LacksFile (S.remaining source.old) limit }
 {
     let mut bytes = Vec::new(alloc);
     let mut piece = [0u8; PIECE];
@@ -67,6 +71,8 @@ pub fn read_text<S: Source>(
         ⊎ GivesCount (S.remaining source.old) (S.remaining source.new) limit
         ⊎ GivesNoText (S.remaining source.old) (S.remaining source.new) }
     ensures no_further { GivesAtMost (S.remaining source.old) (S.remaining source.new) limit }
+    ensures lacks { IsErrOf result FileFault.File → S.may_fail source.old ≡ false → S.has_failed source.old ≡ false
+        → LacksText (S.remaining source.old) limit }
 {
     let bytes = read_whole(alloc, source, limit)?;
     String::from_utf8(bytes).map_err(|_| FileFault::File)
@@ -88,6 +94,8 @@ fn read_more<S: Source>(
     ensures file { IsErrOf result FileFault.File → IsTrue (S.has_failed source.new) }
     ensures no_further { GivesAtMost (S.remaining source.old) (S.remaining source.new)
         (length piece.old) }
+    ensures sound { S.may_fail source.old ≡ false →
+        (S.may_fail source.new ≡ false) × (S.has_failed source.new ≡ S.has_failed source.old) }
 {
     let count = source.read_piece(piece)?;
     bytes.extend_from_slice(&piece[..count])?;
