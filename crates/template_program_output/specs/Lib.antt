@@ -1,0 +1,4 @@
+pub mod Answer
+pub mod Shown
+pub mod Lines
+pub mod Buffer
