@@ -1,5 +1,5 @@
 -- A source in which no marker starts is one data, and stands for itself.
-use Rattle.std.proofs.Common.{◌≡◌, ℕ, List, [], ◌∷◌, inl, inr, refl, sym, subst, ◌∙◌}
+use Rattle.std.proofs.Common.{◌≡◌, ℕ, List, [], ◌∷◌, inl, inr, refl, sym, subst, ◌∙◌, arith}
 use Rattle.template_values_errors.specs.declared.ErrorKind.{ErrorKind}
 use Rattle.template_tree.specs.Tree.{template}
 use Rattle.template_code.specs.Code.{Code}
@@ -12,7 +12,7 @@ use Rattle.template_compiler_syntax.specs.Syntax.{Syntax, IsUsable}
 use Rattle.template_compiler_sources.specs.Source.{IsSource, RefusesSource, source_of}
 use Rattle.template_compiler_emission.specs.Puts.{NoRoom}
 use Rattle.template_compiled.specs.Plain.{IsPlain, StandsForItself, text_kept, text_tree}
-use Rattle.template_compiled.specs.Sources.{Source, IsRefusedWith}
+use Rattle.template_compiled.specs.Sources.{Source, HasNoRoom, IsRefusedWith}
 use Rattle.template_compiled.proofs.Trees.{one_tree}
 
 text_grammar : (text : List ℕ) → IsTemplate (plain_tokens text) (text_tree text)
@@ -26,9 +26,9 @@ text_runs (byte ∷ bytes) = (tt, tt)
 plain_source : (source : Source) → IsPlain source → IsSource source.syntax source.text (template (text_tree (text_kept source)))
 plain_source source plain = source_of (plain_text source.syntax source.text plain) (text_grammar (text_kept source))
 
-plain_refused : (source : Source) → IsPlain source → (kinds : List ErrorKind) → IsUsable source.syntax → IsRefusedWith source kinds → NoRoom kinds
+plain_refused : (source : Source) → IsPlain source → (kinds : List ErrorKind) → IsUsable source.syntax → IsRefusedWith source kinds → HasNoRoom source.text kinds
 plain_refused source plain kinds usable (inl (inl want)) = inr want
-plain_refused source plain kinds usable (inl (inr (inl (large, long)))) = inl large
+plain_refused source plain kinds usable (inl (inr (inl (large, long)))) = inl (large, omega arith)
 plain_refused source plain kinds usable (inl (inr (inr (fault, alone, faulty)))) = absurd (faulty.treeless _ (plain_source source plain))
 plain_refused source plain kinds usable (inr (inl (alone, (tree, is, refuses)))) =
     let same : tree ≡ text_tree (text_kept source) = sym (one_tree source tree usable is) ∙ one_tree source _ usable (plain_source source plain) in
@@ -44,7 +44,7 @@ plain_stands source usable plain = record {
 
 -- a refusal of it, read under its syntax
 pub plain_room : {kinds : List ErrorKind} (source : Source) (y : Syntax) → y ≡ source.syntax → IsUsable source.syntax → IsPlain source
-    → RefusesSource y source.text kinds → NoRoom kinds
+    → RefusesSource y source.text kinds → HasNoRoom source.text kinds
 plain_room {kinds} source y same usable plain refused =
     (plain_stands source usable plain).refused kinds (inl (subst (λ (z : Syntax). RefusesSource z source.text kinds) same refused))
 

@@ -10,7 +10,7 @@ use Rattle.template_compiler_syntax.specs.Syntax.{IsUsable}
 use Rattle.template_compiler_sources.specs.Source.{IsAlone, IsFaulty, IsFaultyExpression, Refuses}
 use Rattle.template_compiler_sources.proofs.Faults as faults
 use Rattle.template_compiler_emission.specs.Puts.{NoRoom}
-use Rattle.template_compiled.specs.Sources.{IsAccepted, IsRefusedWith, IsUnsupported, Source}
+use Rattle.template_compiled.specs.Sources.{HasNoRoom, IsAccepted, IsRefusedWith, IsUnsupported, Source}
 use Rattle.template_compiled.specs.Expressions.{IsAcceptedExpression, IsExpressionRefusedWith, IsUnsupportedExpression}
 use Rattle.template_compiled.proofs.Alone.{one_expression}
 use Rattle.template_compiled.proofs.Trees.{one_tree}
@@ -21,12 +21,13 @@ Told faulty unsupported kinds =
     ((fault : TokenFault) × IsAlone (kind_of fault) kinds × faulty fault) ⊎ ((kinds ≡ SyntaxError ∷ []) × unsupported)
 
 told : (text : List ℕ) (faulty : TokenFault → Type 0) (unsupported : Type 0) (kinds : List ErrorKind)
-    → Refuses text faulty kinds ⊎ (((kinds ≡ SyntaxError ∷ []) × unsupported) ⊎ NoRoom kinds) → ¬ NoRoom kinds → Told faulty unsupported kinds
+    → Refuses text faulty kinds ⊎ (((kinds ≡ SyntaxError ∷ []) × unsupported) ⊎ HasNoRoom text kinds) → ¬ NoRoom kinds → Told faulty unsupported kinds
 told text faulty unsupported kinds (inl (inl want)) room = absurd (room (inr want))
 told text faulty unsupported kinds (inl (inr (inl large))) room = absurd (room (inl large.0))
 told text faulty unsupported kinds (inl (inr (inr fault))) room = inl fault
 told text faulty unsupported kinds (inr (inl construct)) room = inr construct
-told text faulty unsupported kinds (inr (inr full)) room = absurd (room full)
+told text faulty unsupported kinds (inr (inr (inl full))) room = absurd (room (inl full.0))
+told text faulty unsupported kinds (inr (inr (inr want))) room = absurd (room (inr want))
 
 one_kind : (faulty : TokenFault → Type 0) (unsupported : Type 0) → ((f g : TokenFault) → faulty f → faulty g → f ≡ g)
     → ((f : TokenFault) → faulty f → unsupported → ⊥) → (kinds others : List ErrorKind) → Told faulty unsupported kinds

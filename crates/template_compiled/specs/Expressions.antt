@@ -9,7 +9,7 @@ use Rattle.template_compiler_tokens.specs.Steps.{Read}
 use Rattle.template_compiler_grammar.specs.Reader.{expression_at}
 use Rattle.template_compiler_source_tokens.proofs.Spelling.{some_spelled}
 use Rattle.template_compiler_sources.specs.Source.{IsExpressionSource, RefusesExpression}
-use Rattle.template_compiler_emission.specs.Puts.{NoRoom}
+use Rattle.template_compiled.specs.Sources.{HasNoRoom}
 
 -- the source is this expression, and all its constructs run
 abbrev pub HasExpression : List ℕ → Expression → Type 0
@@ -34,7 +34,7 @@ IsUnsupportedExpression source = (e : Expression) × IsExpressionSource source e
 -- why a source is refused: it is no expression or is too large; or a construct does not run yet; or there is no room for its code
 abbrev pub IsExpressionRefusedWith : List ℕ → List ErrorKind → Type 0
 IsExpressionRefusedWith source kinds =
-    RefusesExpression source kinds ⊎ (((kinds ≡ SyntaxError ∷ []) × IsUnsupportedExpression source) ⊎ NoRoom kinds)
+    RefusesExpression source kinds ⊎ (((kinds ≡ SyntaxError ∷ []) × IsUnsupportedExpression source) ⊎ HasNoRoom source kinds)
 
 -- the source is an expression that runs
 pub record IsFaithfulExpression (source : List ℕ) : Type 0 where

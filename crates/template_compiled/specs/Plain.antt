@@ -5,8 +5,7 @@ use Rattle.template_tree.specs.Tree.{Statements, raw, no_statements, statements_
 use Rattle.template_compiler_syntax.specs.Syntax.{IsUsable}
 use Rattle.template_compiler_segments.specs.Flat.{template_text}
 use Rattle.template_compiler_segments.specs.Segments.{HasNoStart}
-use Rattle.template_compiler_emission.specs.Puts.{NoRoom}
-use Rattle.template_compiled.specs.Sources.{Source, HasTree, IsRefusedWith, tree_in}
+use Rattle.template_compiled.specs.Sources.{Source, HasNoRoom, HasTree, IsRefusedWith, tree_in}
 
 -- the text of a source, without the newline at its end where the syntax does not keep it
 abbrev pub text_kept : Source → List ℕ
@@ -21,11 +20,12 @@ abbrev pub text_tree : List ℕ → Statements
 text_tree [] = no_statements
 text_tree (byte ∷ bytes) = statements_more (raw (byte ∷ bytes)) no_statements
 
--- what such a source stands for: its tree is its text, and it is refused for its size or for want of memory alone
+-- what such a source stands for: its tree is its text, and it is refused for want of memory alone, or for its size, where it
+-- has 2^26 bytes at least
 pub record StandsForItself (source : Source) : Type 0 where
   pub has_tree : HasTree source (text_tree (text_kept source))
   pub tree : tree_in source ≡ text_tree (text_kept source)
-  pub refused : (kinds : List ErrorKind) → IsRefusedWith source kinds → NoRoom kinds
+  pub refused : (kinds : List ErrorKind) → IsRefusedWith source kinds → HasNoRoom source.text kinds
 
 -- A source in which no marker starts stands for itself.
 abbrev pub PlainStandsForItself : Type 0

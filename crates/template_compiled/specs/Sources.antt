@@ -1,7 +1,7 @@
 -- Sources of templates, and what they stand for.
-use Rattle.std.specs.Prelude.{◌≡◌, ℕ, ◌⊎◌, List, [], ◌∷◌, Result, Ok, Err}
+use Rattle.std.specs.Prelude.{◌≡◌, ℕ, ◌^◌, ◌≤◌, ◌⊎◌, List, [], ◌∷◌, length, Result, Ok, Err}
 use Rattle.template_values_errors.specs.declared.ErrorKind.{ErrorKind}
-use Rattle.template_values_errors.specs.declared.ErrorKind.TheVariants.{SyntaxError}
+use Rattle.template_values_errors.specs.declared.ErrorKind.TheVariants.{SyntaxError, TooLarge, OutOfMemory}
 use Rattle.template_values_errors.specs.declared.modes.AutoEscape.{AutoEscape}
 use Rattle.template_tree.specs.Tree.{Statements, no_statements, template}
 use Rattle.template_walk.specs.Runnable.{IsRunnableTemplate}
@@ -10,7 +10,6 @@ use Rattle.template_compiler_syntax.specs.Syntax.{Syntax}
 use Rattle.template_compiler_segments.proofs.Theorems.{some_tokens}
 use Rattle.template_compiler_grammar.specs.TemplateReader.{template_of}
 use Rattle.template_compiler_sources.specs.Source.{IsSource, RefusesSource}
-use Rattle.template_compiler_emission.specs.Puts.{NoRoom}
 use Rattle.template_machine_surroundings.specs.declared.escape.EscapeRule.{EscapeRule}
 use Rattle.template_machine_surroundings.specs.declared.escape.EscapeRule.TheVariants.{Fixed}
 use Rattle.template_compiled.specs.declared.config.TemplateConfig.{TemplateConfig}
@@ -49,7 +48,12 @@ tree_in source = read (template_of (some_tokens source.syntax source.text).0)
 abbrev pub IsUnsupported : Source → Type 0
 IsUnsupported source = (tree : Statements) × IsSource source.syntax source.text (template tree) × ¬ IsRunnableTemplate tree
 
+-- there is no room for the code of a text: it is too large, which that of fewer than 2^26 bytes never is; or a growth was
+-- refused
+abbrev pub HasNoRoom : List ℕ → List ErrorKind → Type 0
+HasNoRoom text kinds = ((kinds ≡ TooLarge ∷ []) × (2 ^ 26 ≤ length text)) ⊎ (kinds ≡ OutOfMemory ∷ [])
+
 -- why a source is refused: it has no tree or is too large; or a construct does not run yet; or there is no room for its code
 abbrev pub IsRefusedWith : Source → List ErrorKind → Type 0
 IsRefusedWith source kinds =
-    RefusesSource source.syntax source.text kinds ⊎ (((kinds ≡ SyntaxError ∷ []) × IsUnsupported source) ⊎ NoRoom kinds)
+    RefusesSource source.syntax source.text kinds ⊎ (((kinds ≡ SyntaxError ∷ []) × IsUnsupported source) ⊎ HasNoRoom source.text kinds)

@@ -1,14 +1,15 @@
 //! Compiled templates.
-ghost use Rattle.std.specs.Prelude.{◌≡◌, ◌↔◌, ℕ, List, IsTrue, IfOk, IfErr, OnOk, OnErr};
+ghost use Rattle.std.specs.Prelude.{◌≡◌, ◌↔◌, ◌≤◌, ◌^◌, ℕ, List, length, IsTrue, IfOk, IfErr, IsErrAnd, OnOk, OnErr};
 ghost use Rattle.std.specs.BTreeSet.{contains_text};
 ghost use Rattle.std.specs.Cow.{cow_str_bytes};
 ghost use Rattle.template_values_errors.specs.Memory.{NoMemory};
 ghost use Rattle.template_values_errors.specs.declared.ErrorKind.{ErrorKind as Kind};
+ghost use Rattle.template_values_errors.specs.declared.ErrorKind.TheVariants.{TooLarge};
 ghost use Rattle.template_tree.specs.Tree.{Statements, template};
 ghost use Rattle.template_tree_statements.specs.View.{statement_of};
 ghost use Rattle.template_code.specs.Listing.{code_in};
 ghost use Rattle.template_compiler_syntax.specs.Syntax.{IsUsable};
-ghost use Rattle.template_compiler_sources.specs.Source.{IsSource};
+ghost use Rattle.template_compiler_sources.specs.Source.{IsAlone, IsSource};
 ghost use Rattle.template_machine_surroundings.specs.Rule.{IsEscapeOf};
 ghost use Rattle.template_compiled.specs.Compiled.{IsFaithful, code_for, escaped_as};
 ghost use Rattle.template_names.specs.Names.{IsTold};
@@ -16,9 +17,10 @@ ghost use Rattle.template_names_undeclared.specs.Found.{Adds, AddsSome};
 ghost use Rattle.template_compiled.specs.Names.{uses};
 ghost use Rattle.template_compiler_emission.specs.Puts.{NoRoom};
 ghost use Rattle.template_compiled.specs.Plain.{IsPlain, PlainStandsForItself};
-ghost use Rattle.template_compiled.specs.Sources.{IsAccepted, IsRefusedWith, Source, read_by, tree_in};
+ghost use Rattle.template_compiled.specs.Sources.{HasNoRoom, IsAccepted, IsRefusedWith, Source, read_by, tree_in};
 
 use crate::config::TemplateConfig;
+use crate::room::put_template;
 use std::alloc::Global;
 use std::borrow::CowStr;
 use std::collections::BTreeSet;
@@ -26,7 +28,6 @@ use std::marker::Model;
 use template_code::Instructions;
 use template_compiler_runnable::is_runnable;
 use template_compiler_sources::parse;
-use template_compiler_statement_codegen::compile_template;
 use template_compiler_syntax::SyntaxConfig;
 use template_machine_surroundings::EscapeRule;
 use template_names_undeclared::{add_undeclared, find_undeclared};
@@ -81,7 +82,8 @@ impl<'source> CompiledTemplate<'source> {
     /// # Errors
     ///
     /// Those of [`parse`]; [`ErrorKind::SyntaxError`] for a construct that does not run yet;
-    /// [`ErrorKind::TooLarge`] for 2^32 instructions or more; [`ErrorKind::OutOfMemory`].
+    /// [`ErrorKind::TooLarge`] for 2^32 instructions or more, which a source of fewer than 2^26 bytes never has;
+    /// [`ErrorKind::OutOfMemory`].
     pub fn new(
         alloc: Global,
         name: &'source str,
@@ -93,9 +95,14 @@ impl<'source> CompiledTemplate<'source> {
         ensures faithful { IfOk result IsFaithful }
         ensures refused { IfErr result (IsRefusedWith (read_by config.now source.now)) }
 
-        // A source in which no marker starts is refused for its size or for want of memory alone.
-        ensures plain { IsPlain (read_by config.now source.now) → IfErr result NoRoom }
+        ensures too_large { 2 ^ 32 ≤ length source.now → IsErrAnd result (IsAlone TooLarge) }
+
+        // A source in which no marker starts is refused for want of memory alone, or for its size.
+        ensures plain { IsPlain (read_by config.now source.now) → IfErr result (HasNoRoom source.now) }
     {
+        if source.len() > u32::MAX as usize {
+            return Err(Error::new(ErrorKind::TooLarge));
+        }
         usable(&config.syntax_config);
         plain_text();
         let tree = parse(alloc, source, name, config.syntax_config.clone()?)?;
@@ -103,7 +110,7 @@ impl<'source> CompiledTemplate<'source> {
             return Err(Error::new(ErrorKind::SyntaxError));
         }
         let mut instructions = Instructions::new(alloc, name, source);
-        compile_template(alloc, &mut instructions, &tree)?;
+        put_template(alloc, &mut instructions, &tree, source)?;
         instructions.shrink_to_fit();
         Ok(CompiledTemplate {
             instructions,
@@ -128,8 +135,11 @@ impl<'source> CompiledTemplate<'source> {
         ensures faithful { IfOk result IsFaithful }
         ensures refused { IfErr result (IsRefusedWith (read_by config.now (cow_str_bytes source.entry))) }
 
-        // A source in which no marker starts is refused for its size or for want of memory alone.
-        ensures plain { IsPlain (read_by config.now (cow_str_bytes source.entry)) → IfErr result NoRoom }
+        ensures too_large { 2 ^ 32 ≤ length (cow_str_bytes source.entry) → IsErrAnd result (IsAlone TooLarge) }
+
+        // A source in which no marker starts is refused for want of memory alone, or for its size.
+        ensures plain { IsPlain (read_by config.now (cow_str_bytes source.entry))
+            → IfErr result (HasNoRoom (cow_str_bytes source.entry)) }
     {
         let borrowed = CompiledTemplate::new(alloc, name.as_str(), source.as_str(), config)?;
         Ok(borrowed.into_owned(alloc)?)
@@ -276,8 +286,8 @@ pub fn one_tree()
         → IsSource source.syntax source.text (template tree) → tree_in source ≡ tree }
 {}
 
-/// A law: a source in which no marker starts is read to its text, and is refused for its size or for want of memory
-/// alone.
+/// A law: a source in which no marker starts is read to its text, and is refused for want of memory alone, or for its
+/// size, where it has 2^26 bytes at least.
 pub fn plain_text()
     ensures { PlainStandsForItself }
 {}

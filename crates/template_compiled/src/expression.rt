@@ -1,18 +1,20 @@
 //! Compiled expressions.
-ghost use Rattle.std.specs.Prelude.{◌≡◌, ◌↔◌, ℕ, List, IsTrue, IfOk, IfErr};
+ghost use Rattle.std.specs.Prelude.{◌≡◌, ◌↔◌, ◌≤◌, ◌^◌, ℕ, List, length, IsTrue, IfOk, IfErr, IsErrAnd};
 ghost use Rattle.std.specs.BTreeSet.{contains_text};
 ghost use Rattle.std.specs.Cow.{cow_str_bytes};
 ghost use Rattle.template_values_errors.specs.Memory.{NoMemory};
 ghost use Rattle.template_values_errors.specs.declared.ErrorKind.{ErrorKind as Kind};
+ghost use Rattle.template_values_errors.specs.declared.ErrorKind.TheVariants.{TooLarge};
 ghost use Rattle.template_tree.specs.Tree.{Expression};
 ghost use Rattle.template_tree.specs.View.{expression_of};
 ghost use Rattle.template_code.specs.Listing.{code_in};
 ghost use Rattle.template_compiler_codegen.specs.Statements.{standalone_code};
 ghost use Rattle.template_compiler_emission.specs.Puts.{NoRoom};
-ghost use Rattle.template_compiler_sources.specs.Source.{IsExpressionSource};
+ghost use Rattle.template_compiler_sources.specs.Source.{IsAlone, IsExpressionSource};
 ghost use Rattle.template_names.specs.Names.{IsToldAlone};
 ghost use Rattle.template_compiled.specs.Expressions.{IsAcceptedExpression, IsExpressionRefusedWith, IsFaithfulExpression, expression_in};
 
+use crate::room::put_expr;
 use std::alloc::Global;
 use std::borrow::CowStr;
 use std::collections::BTreeSet;
@@ -20,7 +22,6 @@ use std::marker::Model;
 use template_code::Instructions;
 use template_compiler_runnable::is_runnable_expr;
 use template_compiler_sources::parse_expr;
-use template_compiler_statement_codegen::compile_expr;
 use template_names_undeclared::find_undeclared;
 use template_tree::{Expr, Span, Spanned};
 use template_tree_statements::{EmitExpr, Stmt};
@@ -62,18 +63,20 @@ impl<'source> CompiledExpression<'source> {
     /// # Errors
     ///
     /// Those of [`parse_expr`]; [`ErrorKind::SyntaxError`] for a construct that does not run yet;
-    /// [`ErrorKind::TooLarge`] for 2^32 instructions or more; [`ErrorKind::OutOfMemory`].
+    /// [`ErrorKind::TooLarge`] for 2^32 instructions or more, which a source of fewer than 2^26 bytes never has;
+    /// [`ErrorKind::OutOfMemory`].
     pub fn new(alloc: Global, source: &'source str) -> Result<CompiledExpression<'source>, Error>
         ensures source { IfOk result (λ e. e ≡ source.now) }
         ensures faithful { IfOk result IsFaithfulExpression }
         ensures refused { IfErr result (IsExpressionRefusedWith source.now) }
+        ensures too_large { 2 ^ 32 ≤ length source.now → IsErrAnd result (IsAlone TooLarge) }
     {
         let tree = parse_expr(alloc, source)?;
         if !is_runnable_expr(&tree) {
             return Err(Error::new(ErrorKind::SyntaxError));
         }
         let mut instructions = Instructions::new(alloc, NAME, source);
-        compile_expr(alloc, &mut instructions, &tree)?;
+        put_expr(alloc, &mut instructions, &tree, source)?;
         instructions.shrink_to_fit();
         Ok(CompiledExpression { instructions })
     }
@@ -90,6 +93,7 @@ impl<'source> CompiledExpression<'source> {
         ensures source { IfOk result (λ e. e ≡ cow_str_bytes source.entry) }
         ensures faithful { IfOk result IsFaithfulExpression }
         ensures refused { IfErr result (IsExpressionRefusedWith (cow_str_bytes source.entry)) }
+        ensures too_large { 2 ^ 32 ≤ length (cow_str_bytes source.entry) → IsErrAnd result (IsAlone TooLarge) }
     {
         let borrowed = CompiledExpression::new(alloc, source.as_str())?;
         Ok(borrowed.into_owned(alloc)?)

@@ -6,6 +6,7 @@ mod compiled;
 mod config;
 mod expression;
 mod naming;
+mod room;
 mod templates;
 
 pub use compiled::{CompiledTemplate, one_refusal, one_tree, plain_text};

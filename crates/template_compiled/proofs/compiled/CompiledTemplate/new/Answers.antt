@@ -7,7 +7,7 @@ use Rattle.template_compiler_sources.specs.Source.{IsSource}
 use Rattle.template_compiler_syntax.specs.Syntax.{Syntax}
 use Rattle.template_compiled.specs.Sources.{read_by}
 use Rattle.template_compiled.proofs.Accepting.{kept, unsupported}
-use Rattle.template_compiled.proofs.Plain.{no_room, plain_room}
+use Rattle.template_compiled.proofs.Plain.{plain_room}
 use Rattle.template_compiled.proofs.compiled.CompiledTemplate.new.Goals as goal
 
 pub returns-then-not-is_runnable-clause-refused : goal.returns-then-not-is_runnable-clause-refused
@@ -15,7 +15,7 @@ returns-then-not-is_runnable-clause-refused c =
     let shared : c.in_ok-clone.field-0 ≡ c.args.config.now.syntax_config = search rules in
     let is = subst (λ (x : Syntax). IsSource x c.args.source.now (statement_of c.in_ok-tree.tree)) shared c.in_ok-tree.ensures.found in
     inr (inl (
-      c.new.ensures,
+      c.new-then-not-is_runnable.ensures,
       unsupported (read_by c.args.config.now c.args.source.now) (statement_of c.in_ok-tree.tree) is
           (λ h. let yes = c.is_runnable.ensures.1 h in let no = c.if-not-is_runnable.true in cc),
     ))
@@ -30,23 +30,13 @@ returns-in_err-tree-clause-plain c = λ plain.
     let room = plain_room (read_by c.args.config.now c.args.source.now) c.in_ok-clone.field-0 shared c.usable.ensures plain c.in_err-tree.ensures.refused in
     search rules
 
-pub returns-in_err-compile_template-clause-refused : goal.returns-in_err-compile_template-clause-refused
-returns-in_err-compile_template-clause-refused c =
-    let room = no_room _ c.in_err-compile_template.ensures.refused in
-    search rules
-
-pub returns-in_err-compile_template-clause-plain : goal.returns-in_err-compile_template-clause-plain
-returns-in_err-compile_template-clause-plain c = λ plain.
-    let room = no_room _ c.in_err-compile_template.ensures.refused in
-    search rules
-
 pub invariant_of-result : goal.invariant_of-result
 invariant_of-result c =
     let tree = statement_of c.in_ok-tree.tree in
     let shared : c.in_ok-clone.field-0 ≡ c.args.config.now.syntax_config = search rules in
     let copied : c.in_ok-clone-2.field-0 ≡ c.args.config.now = search rules in
     let runs : c.is_runnable.result ≡ true = search rules in
-    let put = c.in_ok-compile_template.ensures.put in
+    let put = c.in_ok-put_template.ensures.put in
     let shrunk = c.shrink_to_fit.ensures in
     kept c.args.name.now _ c.args.source.now _ c.args.config.now _ _ _ tree (shrunk.same.name ∙ put.same.name ∙ c.new-instructions.ensures.name)
     (shrunk.same.source ∙ put.same.source ∙ c.new-instructions.ensures.source) copied c.usable.ensures c.in_ok-tree.ensures.too_large
@@ -59,7 +49,7 @@ returns-clause-faithful c =
     let shared : c.in_ok-clone.field-0 ≡ c.args.config.now.syntax_config = search rules in
     let copied : c.in_ok-clone-2.field-0 ≡ c.args.config.now = search rules in
     let runs : c.is_runnable.result ≡ true = search rules in
-    let put = c.in_ok-compile_template.ensures.put in
+    let put = c.in_ok-put_template.ensures.put in
     let shrunk = c.shrink_to_fit.ensures in
     (kept c.args.name.now _ c.args.source.now _ c.args.config.now _ _ _ tree (shrunk.same.name ∙ put.same.name ∙ c.new-instructions.ensures.name)
     (shrunk.same.source ∙ put.same.source ∙ c.new-instructions.ensures.source) copied c.usable.ensures c.in_ok-tree.ensures.too_large

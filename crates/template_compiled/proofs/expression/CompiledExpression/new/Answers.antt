@@ -3,14 +3,13 @@ use Rattle.template_tree.specs.View.{expression_of}
 use Rattle.template_code.specs.Code.{Code}
 use Rattle.template_compiler_codegen.specs.Expressions.{expression_code}
 use Rattle.template_compiled.proofs.Alone.{kept_alone}
-use Rattle.template_compiled.proofs.Plain.{no_room}
 use Rattle.template_compiled.proofs.expression.CompiledExpression.new.Goals as goal
 
 pub invariant_of-result : goal.invariant_of-result
 invariant_of-result c =
     let e = expression_of c.in_ok-tree.tree in
     let runs : c.is_runnable_expr.result ≡ true = search rules in
-    let put = c.in_ok-compile_expr.ensures.put in
+    let put = c.in_ok-put_expr.ensures.put in
     let shrunk = c.shrink_to_fit.ensures in
     kept_alone c.args.source.now _ _ e (shrunk.same.source ∙ put.same.source ∙ c.new-instructions.ensures.source) c.in_ok-tree.ensures.too_large
     c.in_ok-tree.ensures.found (c.is_runnable_expr.ensures.0 runs)
@@ -20,13 +19,8 @@ pub returns-clause-faithful : goal.returns-clause-faithful
 returns-clause-faithful c =
     let e = expression_of c.in_ok-tree.tree in
     let runs : c.is_runnable_expr.result ≡ true = search rules in
-    let put = c.in_ok-compile_expr.ensures.put in
+    let put = c.in_ok-put_expr.ensures.put in
     let shrunk = c.shrink_to_fit.ensures in
     (kept_alone c.args.source.now _ _ e (shrunk.same.source ∙ put.same.source ∙ c.new-instructions.ensures.source) c.in_ok-tree.ensures.too_large
     c.in_ok-tree.ensures.found (c.is_runnable_expr.ensures.0 runs)
     (shrunk.code ∙ put.code ∙ ap (λ (l : List Code). l ++ expression_code e (length l)) c.new-instructions.ensures.empty)).0
-
-pub returns-in_err-compile_expr-clause-refused : goal.returns-in_err-compile_expr-clause-refused
-returns-in_err-compile_expr-clause-refused c =
-    let room = no_room _ c.in_err-compile_expr.ensures.refused in
-    search rules
