@@ -20,7 +20,11 @@ pub use Rattle.template_code_shapes.specs.Passes
 pub use Rattle.template_code_checked.specs.Checked
 pub use Rattle.template_code.specs.Code
 pub use Rattle.template_code.specs.Steps
+pub use Rattle.template_code.specs.Prices
+pub use Rattle.template_code.specs.View as InstructionCodes
 pub use Rattle.template_code.specs.Listing
+pub use Rattle.template_machine_fuel.specs.Paying
+pub use Rattle.template_machine_fuel.specs.Trackers
 pub use Rattle.template_machine_operands.specs.Operands
 pub use Rattle.template_machine_meaning.specs.World
 pub use Rattle.template_machine_meaning.specs.Undefined
@@ -29,6 +33,7 @@ pub use Rattle.template_machine_meaning.specs.Includes
 pub use Rattle.template_machine_meaning.specs.Surroundings
 pub use Rattle.template_machine_meaning.specs.Meaning
 pub use Rattle.template_machine_meaning.specs.Laws
+pub use Rattle.template_machine_meaning.specs.Keeps
 pub use Rattle.template_machine_loops.specs.Loops
 pub use Rattle.template_machine_frames.specs.Frames
 pub use Rattle.template_machine_frames.specs.Names as ExportedNames

@@ -34,7 +34,8 @@
 //!   [`Environment::set_syntax`] how templates are written. [`Environment::set_auto_escape_callback`] takes an
 //!   [`AutoEscapeRule`] of the caller's own, which gives the escape of each name from then on.
 //! - [`Environment::context_names`] gives the names of a context that can matter to a render.
-//! - [`verify`] accepts instructions from anywhere that never lack an operand, a frame or a loop.
+//! - [`verify`] accepts instructions from anywhere that never lack an operand, a frame or a loop. [`FuelTracker`]
+//!   counts a fuel down along instructions.
 //!
 //! # What is proved
 //!
@@ -44,7 +45,8 @@
 //! ends, and in one way; [`isolation`] that it takes no more of its context than the names that are listed,
 //! and [`expression_isolation`] that an expression takes no more than those that stand in it;
 //! [`enough_is_enough`], [`fuel_adds_up`] and [`writes_beginning`] are the laws of fuel, and
-//! [`good_ends_well`] that of verified instructions. An expression gives the value that its tree means under the fuel,
+//! [`good_ends_well`] that of verified instructions. By [`faults_are_meant`] no fault of a template is told as want of
+//! memory, however many includes it happened in. An expression gives the value that its tree means under the fuel,
 //! or its fault, unless it wants memory; [`every_evaluation_gives`] says that it is one of the two.
 #![tactic(auto)]
 
@@ -53,10 +55,13 @@ pub use template_code_shapes::{StreamKind, certified_is_good, good_ends_well, go
 pub use template_compiler_syntax::{StartMarker, SyntaxConfig, SyntaxConfigBuilder};
 pub use template_environment::{Captured, Environment, Expression, State, Template};
 pub use template_machine_frames::{Context, Frame, LoopState};
+pub use template_machine_fuel::FuelTracker;
+pub use template_machine_items::Items;
 pub use template_machine_meaning::{
-    every_evaluation_gives, every_run_ends, expression_isolation, isolation, one_meaning,
+    every_evaluation_gives, every_run_ends, expression_isolation, faults_are_meant, isolation,
+    one_meaning,
 };
-pub use template_machine_operands::Operands;
+pub use template_machine_operands::Operands as Stack;
 pub use template_machine_output::{NullWriter, Sink, SinkFault, WriteWrapper, Writer, write_text};
 pub use template_machine_state::{Caller, State as MachineState};
 pub use template_machine_surroundings::{
