@@ -1,5 +1,6 @@
 -- What stands has the escape of the name that it stands under, behind every change.
 use Rattle.std.proofs.Common.{◌≡◌, ◌∙◌, ℕ, Bool, true, false, cond, List, Option, None, Some, Result, Ok, Err, OnOk, OnErr, bytes_eq, sym, subst}
+use Rattle.std.proofs.lemmas.Option.{none-some, same_Some}
 use Rattle.std.proofs.lemmas.Slice.Eq.{bytes_eq-Decides}
 use Rattle.template_machine_surroundings.specs.Rule.{IsEscapeOf}
 use Rattle.template_compiled.specs.Compiled.{Compiled, IsFaithful}
@@ -9,12 +10,6 @@ use Rattle.template_compiled.specs.declared.templates.CompiledTemplates.{Compile
 -- each has the escape of its name
 abbrev pub AreEscaped : CompiledTemplates → Type 0
 AreEscaped templates = (name : List ℕ) (c : Compiled) → compiled_at templates name ≡ Some c → ∥ IsEscapeOf c.source.escapes name c.escape ∥₁
-
-none_some : {c : Compiled} → None ≡ Some c → ⊥
-none_some at = cc
-
-some_is : {c d : Compiled} → Some c ≡ Some d → c ≡ d
-some_is at = cc
 
 by_test : (P : Compiled → Type 0) (test : Bool) (given old : Option Compiled) → ((c : Compiled) → given ≡ Some c → test ≡ true → P c)
     → ((c : Compiled) → old ≡ Some c → P c) → (found : Bool) → test ≡ found → (c : Compiled) → cond found given old ≡ Some c → P c
@@ -36,14 +31,14 @@ pub inserted : {X E : Type 0} (result : Result X E) (c : Compiled) (old new : Co
     → OnErr result ((name : List ℕ) → compiled_at new name ≡ compiled_at old name) → AreEscaped old → AreEscaped new
 inserted (Ok _) c old new faithful stands stays escaped =
     changed c.name (Some c) old new stands (λ name d at yes.
-    subst (λ (t : Compiled). ∥ IsEscapeOf t.source.escapes name t.escape ∥₁) (some_is at)
+    subst (λ (t : Compiled). ∥ IsEscapeOf t.source.escapes name t.escape ∥₁) (same_Some _ _ at)
     ∣ subst (λ (n : List ℕ). IsEscapeOf c.source.escapes n c.escape) ((bytes_eq-Decides c.name name).0 yes) faithful.is_escape ∣₁) escaped
 inserted (Err _) c old new faithful stands stays escaped = λ name d at. escaped name d (sym (stays name) ∙ at)
 
 -- behind a removal, and behind a clearing
 pub removed : (given : List ℕ) (old new : CompiledTemplates)
     → ((name : List ℕ) → compiled_at new name ≡ cond (bytes_eq given name) None (compiled_at old name)) → AreEscaped old → AreEscaped new
-removed given old new is escaped = changed given None old new is (λ name c at yes. absurd (none_some at)) escaped
+removed given old new is escaped = changed given None old new is (λ name c at yes. absurd (none-some _ at)) escaped
 
 pub cleared : (new : CompiledTemplates) → ((name : List ℕ) → compiled_at new name ≡ None) → AreEscaped new
-cleared new none = λ name c at. absurd (none_some (sym (none name) ∙ at))
+cleared new none = λ name c at. absurd (none-some _ (sym (none name) ∙ at))

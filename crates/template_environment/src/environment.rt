@@ -15,6 +15,7 @@ ghost use Rattle.template_environment_histories.specs.Histories as changes;
 ghost use Rattle.template_environment.specs.Plain.{IsRefusedForRoom, ReadGivesItself};
 ghost use Rattle.template_environment.specs.Standing.{greatest_limit, new_settings};
 
+use crate::laws::every_render_ends;
 use crate::registry::Registry;
 use crate::state::State;
 use crate::template::{Template, TemplateCode};
@@ -497,7 +498,7 @@ impl<'source, R: AutoEscapeRule> Environment<'source, R> {
     {
         isolation();
         let template = self.template_from_named_str(name, source)?;
-        template.ends();
+        every_render_ends(&template);
         template.render(ids, context)
     }
 

@@ -27,7 +27,7 @@ use template_values_errors::{AutoEscape, Error, ErrorKind};
 /// An expression that an environment compiled.
 pub struct Expression<'env, 'source, R: AutoEscapeRule = NoRule> {
     environment: &'env Environment<'source, R>,
-    compiled: CompiledExpression<'source>,
+    pub(crate) compiled: CompiledExpression<'source>,
 }
 
 impl<'env, 'source, R: AutoEscapeRule> Drop for Expression<'env, 'source, R> {

@@ -5,7 +5,7 @@ ghost use Rattle.template_values_errors.specs.Memory.{NoMemory};
 ghost use Rattle.template_values_model.specs.Val.{Val};
 ghost use Rattle.template_names.specs.Names.{IsTold};
 ghost use Rattle.template_machine_meaning.specs.Isolation.{IsContextName, is_given};
-ghost use Rattle.template_environment.specs.Isolated.{AgreeAmong, AgreeFor, IsSameRender, IsSameRenderIn, tree_of};
+ghost use Rattle.template_environment.specs.Isolated.{AgreeAmong, IsSameRenderIn, tree_of};
 ghost use Rattle.template_environment.specs.Reading.{registry_of};
 ghost use Rattle.template_environment.specs.Standing.{setting_of};
 
@@ -62,14 +62,6 @@ impl<'env, 'source, R: AutoEscapeRule> Template<'env, 'source, R> {
     {
         let alloc = self.environment.allocator();
         self.compiled.get().undeclared(alloc, nested)
-    }
-
-    /// A law, as the contract of a method that does nothing: contexts that agree at the names that can matter make
-    /// no difference to its renders.
-    pub fn isolated(&self)
-        ensures { (c d : Val) → AgreeFor self.now c d → IsSameRender self.now c d }
-    {
-        isolation();
     }
 }
 

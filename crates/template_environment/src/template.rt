@@ -7,15 +7,15 @@ ghost use Rattle.template_process.specs.Fuel.{under};
 ghost use Rattle.template_machine_surroundings.specs.Rule.{IsEscapeOf};
 ghost use Rattle.template_machine_renders.specs.Outcomes.{TellsFailures};
 ghost use Rattle.template_machine_renders.specs.Renders.{Renders, leaves};
-ghost use Rattle.template_machine_meaning.specs.World.{first_world};
 ghost use Rattle.template_compiled.specs.Plain.{IsPlain, text_kept};
-ghost use Rattle.template_environment.specs.Plain.{GivesItself, WritesItself, text_run};
+ghost use Rattle.template_environment.specs.Plain.{GivesItself, WritesItself};
 ghost use Rattle.template_environment.specs.Renderings.{GivesText, left_of, rendering, set_of};
 
 use crate::environment::Environment;
+use crate::laws::{isolated_renders, plain_renders};
 use crate::registry::Registry;
 use crate::state::State;
-use template_compiled::{CompiledTemplate, plain_text};
+use template_compiled::CompiledTemplate;
 use template_machine_fuel::levels;
 use template_machine_output::Sink;
 use template_machine_renders::run_code;
@@ -102,24 +102,6 @@ impl<'env, 'source, R: AutoEscapeRule> Template<'env, 'source, R> {
         self.compiled.get().initial_auto_escape()
     }
 
-    /// A law, as the contract of a method that does nothing: each render of the template ends, as its meaning is
-    /// finished under some bound.
-    pub fn ends(&self)
-        ensures { (context : Val) → (n : ℕ) × IsFinished (render_of self.now n context).end }
-    {
-        let _code = self.compiled.get().instructions();
-    }
-
-    /// A law, as the contract of a method that does nothing: a template in whose source no marker starts renders to
-    /// its text, at the price of one step, and to nothing where that is empty.
-    pub fn plain(&self)
-        ensures { IsPlain (source_of self.now) → (n : ℕ) (context : Val) →
-            render_of self.now n context ≡ text_run (text_kept (source_of self.now)) (first_world (escape_of self.now) context) }
-    {
-        plain_text();
-        let _code = self.compiled.get().instructions();
-    }
-
     /// A state of the template without frames, under its name and escape.
     ///
     /// # Errors
@@ -165,8 +147,8 @@ impl<'env, 'source, R: AutoEscapeRule> Template<'env, 'source, R> {
         ensures counted { ids.old ≢ u64.MAX → ids.new ≡ ids.old + 1 }
         ensures exhausted { ids.old ≡ u64.MAX → (result ≡ Err (ErrorKind.InvalidOperation ∷ [])) × (ids.new ≡ ids.old) }
     {
-        self.isolated();
-        self.plain();
+        isolated_renders(self);
+        plain_renders(self);
         let captured = self.render_captured(ids, context)?;
         Ok(captured.into_output())
     }
@@ -206,8 +188,8 @@ impl<'env, 'source, R: AutoEscapeRule> Template<'env, 'source, R> {
         ensures counted { ids.old ≢ u64.MAX → ids.new ≡ ids.old + 1 }
         ensures exhausted { ids.old ≡ u64.MAX → (result ≡ Err (ErrorKind.InvalidOperation ∷ [])) × (ids.new ≡ ids.old) }
     {
-        self.isolated();
-        self.plain();
+        isolated_renders(self);
+        plain_renders(self);
         let id = ids.next()?;
         let mut output = String::new(self.environment.allocator());
         let registry = &self.environment.registry;
@@ -264,8 +246,8 @@ impl<'env, 'source, R: AutoEscapeRule> Template<'env, 'source, R> {
         ensures exhausted { ids.old ≡ u64.MAX → (result ≡ Err (ErrorKind.InvalidOperation ∷ [])) × (sink.new ≡ sink.old)
             × (ids.new ≡ ids.old) }
     {
-        self.isolated();
-        self.plain();
+        isolated_renders(self);
+        plain_renders(self);
         let id = ids.next()?;
         let registry = &self.environment.registry;
         let (machine, fuel) = run(registry, self.compiled.get(), context, sink)?;

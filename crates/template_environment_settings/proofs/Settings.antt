@@ -2,6 +2,7 @@
 use Rattle.std.proofs.Common.{◌≡◌, ℕ, zero, suc, List, Option, None, Some, refl, sym, ap, subst, ◌∙◌}
 use Rattle.std.proofs.Math.Logic.{∥∥₁_elim}
 use Rattle.std.proofs.Math.Nat.{ℕ_set}
+use Rattle.std.proofs.lemmas.Option.{none-some, same_Some}
 use Rattle.std.specs.Option.{option_map}
 use Rattle.template_values_errors.specs.declared.modes.AutoEscape.{AutoEscape}
 use Rattle.template_values_errors.specs.declared.modes.AutoEscape.TheVariants as escapes
@@ -13,15 +14,6 @@ use Rattle.template_environment.specs.Compiled.{Compiled, standing_of}
 use Rattle.template_environment.specs.Sources.{Source, tree_in}
 use Rattle.template_environment.specs.Standing.{compiled_at}
 use Rattle.template_environment_settings.specs.Alike.{AlikeHaveOneSetting, AlikeRenderTheSame}
-
-none_some : {X : Type 0} {x : X} → None ≡ Some x → ⊥
-none_some at = cc
-
-some_none : {X : Type 0} {x : X} → Some x ≡ None → ⊥
-some_none at = cc
-
-some_is : {X : Type 0} {x y : X} → Some x ≡ Some y → x ≡ y
-some_is at = cc
 
 -- escapes by numbers, which are the same in one way alone
 abbrev number_of : AutoEscape → ℕ
@@ -69,10 +61,10 @@ one_standing : (name : List ℕ) (o p : Option Compiled) → option_map (λ c. c
     → ((c : Compiled) → o ≡ Some c → ∥ IsEscapeOf c.source.escapes name c.escape ∥₁)
     → ((c : Compiled) → p ≡ Some c → ∥ IsEscapeOf c.source.escapes name c.escape ∥₁) → option_map standing_of o ≡ option_map standing_of p
 one_standing name None None same left right = refl
-one_standing name None (Some d) same left right = absurd (none_some same)
-one_standing name (Some c) None same left right = absurd (some_none same)
+one_standing name None (Some d) same left right = absurd (none-some _ same)
+one_standing name (Some c) None same left right = absurd (none-some _ (sym same))
 one_standing name (Some c) (Some d) same left right =
-    ap Some (same_standing name name c d refl (some_is same) (left c refl) (right d refl))
+    ap Some (same_standing name name c d refl (same_Some _ _ same) (left c refl) (right d refl))
 
 pub one_setting : AlikeHaveOneSetting
 one_setting e other alike = λ i. record {

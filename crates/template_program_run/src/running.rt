@@ -16,7 +16,7 @@ use crate::additions::environment_of;
 use crate::names::write_lines;
 use crate::request::Request;
 use std::alloc::Global;
-use template_environment_settings::{Environment, Template};
+use template_environment_settings::{Environment, Template, every_render_ends};
 use template_machine_output::Sink;
 use template_machine_surroundings::StateIds;
 use template_program_parts::{Command, Outcome, context_for};
@@ -95,7 +95,7 @@ fn render<S: Sink>(
     ensures counted { ids.new ≡ behind_one ids.old }
 {
     let _escape = template.initial_auto_escape();
-    template.ends();
+    every_render_ends(template);
     match template.render_captured_to(ids, context, sink) {
         Ok(_captured) => Outcome::Done,
         Err(error) => Outcome::Render(error),

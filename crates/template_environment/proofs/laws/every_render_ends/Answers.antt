@@ -3,10 +3,10 @@ use Rattle.template_process.specs.Approximants.{IsFinished}
 use Rattle.template_compiled.specs.Compiled.{Compiled}
 use Rattle.template_environment.specs.Renderings.{rendering}
 use Rattle.template_environment.proofs.Rendering.{render_ends}
-use Rattle.template_environment.proofs.template.Template.ends.Goals as goal
+use Rattle.template_environment.proofs.laws.every_render_ends.Goals as goal
 
 pub returns : goal.returns
 returns g c = λ context.
-    let environment = c.args.self.now.environment.now.registry in
+    let environment = c.args.template.now.environment.now.registry in
     subst (λ (t : Compiled). (n : ℕ) × IsFinished (rendering environment t n context).end) c.get.ensures
     (render_ends environment c.get.result.now context environment.templates.running c.instructions-code.ensures.faithful.has_tree.1)
