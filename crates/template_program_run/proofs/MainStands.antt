@@ -1,5 +1,6 @@
 -- The answers to requests whose main template stands.
 use Rattle.std.proofs.Common.{◌≡◌, ◌∙◌, sym, subst, ap, refl, ℕ, ◌+◌, List, Option, None, Some, inr, string_bytes}
+use Rattle.std.proofs.lemmas.Option.{none-some, same_Some}
 use Rattle.std.specs.Option.{option_map}
 use Rattle.template_values_model.specs.Val.{Val}
 use Rattle.template_machine_surroundings.specs.Rule.{IsEscapeOf}
@@ -19,21 +20,15 @@ use Rattle.template_program_parts.specs.declared.command.Command.{Command}
 use Rattle.template_program_parts.specs.declared.command.Command.TheVariants as asked
 use Rattle.template_program_run.specs.declared.request.Request.{Request}
 
-some_is : {s : Source} {t : Source} → Some s ≡ Some t → s ≡ t
-some_is same = cc
-
-none_is : {s : Source} → None ≡ Some s → ⊥
-none_is same = cc
-
 -- the text of a source that stands
 text_there : (o : Option (List ℕ)) (s : Source) → option_map source_for o ≡ Some s → (text : List ℕ) × (o ≡ Some text) × (s ≡ source_for text)
-text_there None s is = absurd (none_is is)
-text_there (Some text) s is = (text, refl, sym (some_is is))
+text_there None s is = absurd (none-some _ is)
+text_there (Some text) s is = (text, refl, sym (same_Some _ _ is))
 
 -- where no source stands, no text does
 pub none_there : (o : Option (List ℕ)) → option_map source_for o ≡ None → o ≡ None
 none_there None is = refl
-none_there (Some text) is = absurd (none_is (sym is))
+none_there (Some text) is = absurd (none-some _ (sym is))
 
 -- the main template is the one that was found
 found_there : (request : Request) (additions : List (List ℕ × List ℕ)) (e : Registry) (c : Compiled)
