@@ -8,7 +8,8 @@
 //! - `read`: the words behind the program's name, an array of texts;
 //! - `begins`, `holds`: how the text of help or of a refusal begins, and what stands in it.
 //!
-//! They give what was read of them, or `help`, `usage` or `definition` (`another ..` where the text is not so) if refused.
+//! They give what was read of them, or `help`, `version`, `usage` or `definition` (`another ..` where the text is not so)
+//! if refused.
 //!
 //! A context that is read alone:
 //!

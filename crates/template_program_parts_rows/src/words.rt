@@ -23,6 +23,7 @@ fn tell(read: &Result<Words<'_>, WordsFault>, entries: &Map<String, Json>, out: 
         Ok(read) => out.tell("", read),
         Err(WordsFault::Memory) => out.refuse(ErrorKind::OutOfMemory),
         Err(WordsFault::Help(text)) => tell_text("help", text.as_str(), entries, out),
+        Err(WordsFault::Version(text)) => tell_text("version", text.as_str(), entries, out),
         Err(WordsFault::Usage(text)) => tell_text("usage", text.as_str(), entries, out),
         Err(WordsFault::Definition) => out.push_str("definition"),
     }

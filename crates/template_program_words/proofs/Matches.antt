@@ -1,5 +1,5 @@
 -- What the getters of the matches read, by the rows.
-use Rattle.std.proofs.Common.{◌≡◌, ◌∙◌, ◌⊎◌, OnOk, inl, inr, ℕ, List, [], ap, ap₂, codes, Bor, Option, None, Some, Result, Ok, Err, map, option_map, refl, unwrap_or}
+use Rattle.std.proofs.Common.{◌≡◌, ◌∙◌, ◌⊎◌, OnOk, inl, inr, ℕ, List, [], ap, ap₂, codes, Bor, Option, None, Some, Result, Ok, Err, map, option_map, refl, subst, unwrap_or}
 use Rattle.std.specs.Str.Parse.{ParsesUnsigned}
 use Rattle.clap.specs.Words.{IsAmong, Kinds, ReadsOne, Row, first_of, subcommand_name_of, subcommand_rows_of}
 use Rattle.clap.specs.declared.error.kind.ErrorKind.{ErrorKind}
@@ -11,7 +11,7 @@ use Rattle.template_program_words.specs.Modes.{mode_of}
 use Rattle.template_program_words.specs.Reading.{ReadsNumber, values_of}
 use Rattle.template_program_words.specs.Refusals.{IsWordsFault, IsUsage, NamesNoMode, RefusesWords, RefusesDefinitions, RefusesMode, RefusesRender}
 use Rattle.template_program_words.specs.declared.faults.WordsFault.{WordsFault}
-use Rattle.template_program_words.specs.declared.faults.WordsFault.TheVariants.{Memory, Help, Usage, Definition}
+use Rattle.template_program_words.specs.declared.faults.WordsFault.TheVariants.{Memory, Help, Version, Usage, Definition}
 
 -- no value is the empty list
 pub values_read : (read : Option (Bor (List (Bor (List ℕ))))) (none : Bor (List (Bor (List ℕ)))) (rows : Option (List (List ℕ)))
@@ -52,6 +52,7 @@ pub RefusesWords-render : (found : Option (List ℕ × List Row)) (rows : List R
     → RefusesRender rows fault → RefusesWords [] found fault
 RefusesWords-render found rows Memory is h = tt
 RefusesWords-render found rows (Help text) is h = absurd h
+RefusesWords-render found rows (Version text) is h = absurd h
 RefusesWords-render found rows (Usage text) is h = inr (refl, inr (rows, is, h))
 RefusesWords-render found rows Definition is h = (refl, (rows, is, h))
 
@@ -59,6 +60,7 @@ RefusesWords-render found rows Definition is h = (refl, (rows, is, h))
 pub RefusesMode-usage : (rows : List Row) (fault : WordsFault) → IsUsage fault → NamesNoMode rows → RefusesMode rows fault
 RefusesMode-usage rows Memory usage none = tt
 RefusesMode-usage rows (Help text) usage none = absurd usage
+RefusesMode-usage rows (Version text) usage none = absurd usage
 RefusesMode-usage rows (Usage text) usage none = none
 RefusesMode-usage rows Definition usage none = absurd usage
 
@@ -68,6 +70,7 @@ pub RefusesRender-definitions : (rows : List Row) (mode : UndefinedBehavior) (fa
     → RefusesDefinitions (values_of (codes "definition") rows) fault → RefusesRender rows fault
 RefusesRender-definitions rows mode Memory named h = tt
 RefusesRender-definitions rows mode (Help text) named h = absurd h
+RefusesRender-definitions rows mode (Version text) named h = absurd h
 RefusesRender-definitions rows mode (Usage text) named h = absurd h
 RefusesRender-definitions rows mode Definition named h = ((λ none. cc), h)
 
@@ -75,9 +78,10 @@ RefusesRender-definitions rows mode Definition named h = ((λ none. cc), h)
 pub RefusesWords-kind : (kinds : Kinds) (found : Option (List ℕ × List Row)) (kind : ErrorKind) (fault : WordsFault)
     → (kind ≡ OutOfMemory) ⊎ IsAmong kind kinds → IsWordsFault kind fault → RefusesWords kinds found fault
 RefusesWords-kind kinds found kind Memory among h = tt
-RefusesWords-kind kinds found kind (Help text) (inl e) (inl h) = cc
-RefusesWords-kind kinds found kind (Help text) (inl e) (inr h) = cc
-RefusesWords-kind kinds found kind (Help text) (inr a) h = (kind, a, h)
+RefusesWords-kind kinds found kind (Help text) (inl e) h = cc
+RefusesWords-kind kinds found kind (Help text) (inr a) h = subst (λ k. IsAmong k kinds) h a
+RefusesWords-kind kinds found kind (Version text) (inl e) h = cc
+RefusesWords-kind kinds found kind (Version text) (inr a) h = subst (λ k. IsAmong k kinds) h a
 RefusesWords-kind kinds found kind (Usage text) (inl e) h = absurd (h.2 e)
 RefusesWords-kind kinds found kind (Usage text) (inr a) h = inl (kind, a, h)
 RefusesWords-kind kinds found kind Definition among h = absurd h

@@ -8,20 +8,17 @@ use Rattle.template_program_words.specs.Definitions.{equals_sign}
 use Rattle.template_program_words.specs.Modes.{mode_of}
 use Rattle.template_program_words.specs.Reading.{values_of}
 use Rattle.template_program_words.specs.declared.faults.WordsFault.{WordsFault}
-use Rattle.template_program_words.specs.declared.faults.WordsFault.TheVariants.{Memory, Help, Usage, Definition}
+use Rattle.template_program_words.specs.declared.faults.WordsFault.TheVariants.{Memory, Help, Version, Usage, Definition}
 
--- help, or the version, was asked for
-abbrev pub IsRequest : ErrorKind → Type 0
-IsRequest kind = (kind ≡ DisplayHelp) ⊎ (kind ≡ DisplayVersion)
-
--- neither memory nor help
+-- neither help nor the version nor want of memory
 abbrev pub IsMistake : ErrorKind → Type 0
 IsMistake kind = (kind ≢ DisplayHelp) × (kind ≢ DisplayVersion) × (kind ≢ OutOfMemory)
 
 -- the fault that an error of this kind is; that no memory is left may also be seen late
 abbrev pub IsWordsFault : ErrorKind → WordsFault → Type 0
 IsWordsFault kind Memory = ⊤
-IsWordsFault kind (Help text) = IsRequest kind
+IsWordsFault kind (Help text) = kind ≡ DisplayHelp
+IsWordsFault kind (Version text) = kind ≡ DisplayVersion
 IsWordsFault kind (Usage text) = IsMistake kind
 IsWordsFault kind Definition = ⊥
 
@@ -53,6 +50,7 @@ RefusesMode rows fault = ⊥
 abbrev pub RefusesRender : List Row → WordsFault → Type 0
 RefusesRender rows Memory = ⊤
 RefusesRender rows (Help text) = ⊥
+RefusesRender rows (Version text) = ⊥
 RefusesRender rows (Usage text) = NamesNoMode rows
 RefusesRender rows Definition = ¬ (NamesNoMode rows) × LacksSign (values_of (codes "definition") rows)
 
@@ -63,7 +61,8 @@ RefusesFound found fault = (rows : List Row) × (found ≡ Some (codes "render",
 -- `clap`'s refusals come first
 abbrev pub RefusesWords : Kinds → Option (List ℕ × List Row) → WordsFault → Type 0
 RefusesWords kinds found Memory = ⊤
-RefusesWords kinds found (Help text) = (kind : ErrorKind) × IsAmong kind kinds × IsRequest kind
+RefusesWords kinds found (Help text) = IsAmong DisplayHelp kinds
+RefusesWords kinds found (Version text) = IsAmong DisplayVersion kinds
 RefusesWords kinds found (Usage text) = ((kind : ErrorKind) × IsAmong kind kinds × IsMistake kind)
     ⊎ ((kinds ≡ []) × (FindsNone found ⊎ RefusesFound found (Usage text)))
 RefusesWords kinds found Definition = (kinds ≡ []) × RefusesFound found Definition

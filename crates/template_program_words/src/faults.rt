@@ -12,8 +12,10 @@ use std::alloc::{AllocError, AllocFailed, Global};
 pub enum WordsFault {
     /// No memory was left.
     Memory,
-    /// Help, or the version, was asked for: its text.
+    /// Help was asked for: its text.
     Help(String),
+    /// The version was asked for: its text.
+    Version(String),
     /// The words are none that the program takes: the text for the user, in lines.
     Usage(String),
     /// A definition has no `=`.
@@ -43,10 +45,13 @@ pub(crate) fn fault_from(alloc: Global, error: &clap::Error) -> WordsFault
     if error.kind() == ErrorKind::OutOfMemory {
         return WordsFault::Memory;
     }
-    match error.to_string(alloc) {
-        Ok(text) if error.use_stderr() => WordsFault::Usage(text),
-        Ok(text) => WordsFault::Help(text),
-        Err(_refused) => WordsFault::Memory,
+    let Ok(text) = error.to_string(alloc) else {
+        return WordsFault::Memory;
+    };
+    match error.kind() {
+        ErrorKind::DisplayHelp => WordsFault::Help(text),
+        ErrorKind::DisplayVersion => WordsFault::Version(text),
+        _ => WordsFault::Usage(text),
     }
 }
 
