@@ -19,11 +19,12 @@ fn run(rt: &HostRuntime) -> io::Result<u8> {
     for word in &given {
         words.push(word.as_str())?;
     }
-    Ok(start(
+    let (status, _stdout) = start(
         rt,
         words.as_slice(),
         &mut rt.stdin(),
-        &mut rt.stdout(),
+        rt.stdout(),
         &mut rt.stderr(),
-    ))
+    );
+    Ok(status)
 }

@@ -7,7 +7,7 @@ use Rattle.template_program_output.specs.declared.buffered.Buffered.{Buffered}
 
 -- the output behind it
 abbrev pub output_in : {O : Type 0} → Buffered O → O
-output_in b = b.out.now
+output_in b = b.out
 
 -- what it holds back
 abbrev pub held_in : {O : Type 0} → Buffered O → List ℕ

@@ -14,24 +14,36 @@ use template_machine_output::{Sink, SinkFault};
 /// A sink in front of an output, which holds bytes back until its buffer is full. It takes each piece as a
 /// whole, or fails.
 #[derive(Drop)]
-pub struct Buffered<'a, O> {
-    out: &'a mut O,
+pub struct Buffered<O> {
+    out: O,
     held: Vec<u8>,
     failed: u64,
 }
 
-impl<'a, O: Output> Buffered<'a, O> {
+impl<O: Output> Buffered<O> {
     /// A sink in front of `out`, which holds back as much as `buffer` has room for.
-    pub fn new(out: &'a mut O, buffer: Vec<u8>) -> Buffered<'a, O>
-        ensures out { output_in result ≡ out.entry.now }
+    pub fn new(out: O, buffer: Vec<u8>) -> Buffered<O>
+        ensures out { output_in result ≡ out }
         ensures held { held_in result ≡ buffer.items }
-        ensures failed { failure_count O.shown result ≡ failures_told (O.shown out.entry.now).answers 0 }
+        ensures failed { failure_count O.shown result ≡ failures_told (O.shown out).answers 0 }
     {
         Buffered {
             out,
             held: buffer,
             failed: 0,
         }
+    }
+
+    /// The output. What is held back is not written.
+    pub fn into_output(self) -> O
+        ensures { result ≡ output_in self }
+    {
+        let Buffered {
+            out,
+            held: _,
+            failed: _,
+        } = self;
+        out
     }
 
     /// Writes what is held back, and flushes the output.
@@ -57,7 +69,7 @@ impl<'a, O: Output> Buffered<'a, O> {
         ensures told { TellsResult (O.shown (output_in self.old)).answers (O.shown (output_in self.new)).answers result }
         ensures counted { self.new.failed ≡ self.old.failed }
     {
-        let (count, written) = write_out(self.out, self.held.as_slice());
+        let (count, written) = write_out(&mut self.out, self.held.as_slice());
         remove_front(&mut self.held, count);
         written
     }
@@ -70,7 +82,7 @@ impl<'a, O: Output> Buffered<'a, O> {
     {
         self.write_held()?;
         if bytes.len() >= self.held.capacity() {
-            return write_whole(self.out, bytes);
+            return write_whole(&mut self.out, bytes);
         }
         Ok(self.held.extend_from_slice(bytes)?)
     }
@@ -102,7 +114,7 @@ impl<'a, O: Output> Buffered<'a, O> {
 
 /// Want of memory is told as [`SinkFault::Memory`], every other failure of the output as [`SinkFault::Device`]. A
 /// sink that has failed `u64::MAX` times takes no more, and wants memory.
-impl<O: Output> Sink for Buffered<'_, O> {
+impl<O: Output> Sink for Buffered<O> {
     ghost taken = { taken_by O.shown };
 
     ghost failures = { failure_count O.shown };

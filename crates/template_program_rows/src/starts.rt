@@ -51,8 +51,8 @@ fn start_into(
     out: &mut Report,
 ) -> Result<(), AllocError> {
     let mut told = Vec::with_capacity(rt.alloc(), READY)?;
-    let mut output = output_of(rt.alloc(), entries, out)?;
-    let status = start(rt, words, input, &mut output, &mut told);
+    let output = output_of(rt.alloc(), entries, out)?;
+    let (status, output) = start(rt, words, input, output, &mut told);
     tell(output.bytes.as_slice(), status, told.as_slice(), out);
     Ok(())
 }

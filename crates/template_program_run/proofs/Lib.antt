@@ -4,3 +4,4 @@ pub mod MainStands
 pub mod Rendering
 pub mod Counting
 pub mod Flushing
+pub mod Refusing

@@ -1,29 +1,39 @@
 -- How the program's body ends, by its words.
-use Rattle.std.specs.Prelude.{◌≡◌, ◌⊎◌, ℕ, List, [], ◌∷◌, map, codes, All, IfSome, IsSomeAnd, Option, None, Some, Result, option_map, unwrap_or, string_bytes}
-use Rattle.std.specs.Io.KnownBytes.{append_known}
+use Rattle.std.specs.Prelude.{◌≡◌, ◌^◌, ◌⊎◌, ℕ, Bool, false, List, [], ◌∷◌, map, codes, All, Contains, IfSome, IsSomeAnd, OnOk, Option, None, Some, Result, option_map, unwrap_or, string_bytes}
+use Rattle.std.specs.Io.KnownBytes.{Keeps, append_known}
 use Rattle.std.specs.declared.io.Error.{Error}
+use Rattle.std.specs.declared.io.ErrorKind.{ErrorKind as IoKind}
+use Rattle.std.specs.declared.io.ErrorKind.TheVariants as io
 use Rattle.clap.specs.Words.{Kinds, Row}
+use Rattle.template_values_errors.specs.declared.ErrorKind.TheVariants.{OutOfMemory}
 use Rattle.template_values_errors.specs.declared.modes.UndefinedBehavior.{UndefinedBehavior}
 use Rattle.template_values_errors.specs.declared.modes.UndefinedBehavior.TheVariants.{Lenient}
 use Rattle.template_program_parts.specs.declared.faults.FileFault.{FileFault}
+use Rattle.template_program_parts.specs.declared.faults.FileFault.TheVariants as refusal
 use Rattle.template_program_words.specs.Reading.{ReadsWords, default_limit, parts_of}
 use Rattle.template_program_words.specs.Refusals.{RefusesWords}
 use Rattle.template_program_words.specs.declared.faults.WordsFault.{WordsFault}
-use Rattle.template_program_words.specs.declared.faults.WordsFault.TheVariants.{Memory, Help, Usage, Definition}
+use Rattle.template_program_words.specs.declared.faults.WordsFault.TheVariants.{Memory, Help, Version, Usage, Definition}
 use Rattle.template_program_words.specs.declared.words.Words.{Words}
 use Rattle.template_program_words.specs.declared.words.Words.TheVariants as asks
 use Rattle.template_program_run.specs.Answers.{AnswersRequest, definitions_of}
 use Rattle.template_program_parts.specs.declared.outcome.Outcome.{Outcome}
+use Rattle.template_program_parts.specs.declared.outcome.Outcome.TheVariants.{Done, Render, Context, Template}
 use Rattle.template_program_parts.specs.declared.command.Command.TheVariants as asked
 use Rattle.template_program_run.specs.declared.request.Request.{Request}
 use Rattle.template_program_parts.specs.Flushes.{flushed}
+use Rattle.template_program_parts.specs.Reading.{LacksFile, LacksText}
 use Rattle.template_program_parts.specs.Status.{IsStatusOf}
 use Rattle.template_program_run.specs.Status.{file_status}
+use Rattle.template_program_output.specs.Answer.{Answer, failures_among}
+use Rattle.template_program_output.specs.Lines.{error_line, fault_line}
+use Rattle.template_program_output.specs.Shown.{IsFlushed, Puts, PutsFlushed, Shown, TellsResult}
 
 -- the status of words that are refused, or that ask for help
 abbrev pub words_status : WordsFault → ℕ
 words_status Memory = 6
 words_status (Help text) = 0
+words_status (Version text) = 0
 words_status (Usage text) = 2
 words_status Definition = 2
 
@@ -88,23 +98,114 @@ AreRead content input (asks.Render read) additions json =
 AreRead content input (asks.Names read) additions json =
     AreTemplates content input (map (λ path. path.now) read.files.items) additions × (json ≡ None)
 
--- The request is run over an output that held these bytes, and the output is flushed.
-abbrev pub RunsFlushed : Request → List (List ℕ × List ℕ) → Option (List ℕ) → Option (List ℕ) → Outcome → Type 0
-RunsFlushed request additions json before outcome =
-    (ran : Outcome) × (flush : Result (Unit {0}) Error) × (outcome ≡ flushed flush ran)
-    × ((written : Option (List ℕ)) × (fails : ℕ) × AnswersRequest request additions json 0 ran before written 0 fails)
+-- an input of so many bytes or more is refused
+abbrev pub input_limit : ℕ
+input_limit = 2 ^ 32
 
--- The status is that of the outcome; it is 6 where there is no memory for the output's buffer.
-abbrev pub PerformsRequest : Request → List (List ℕ × List ℕ) → Option (List ℕ) → Option (List ℕ) → ℕ → Type 0
-PerformsRequest request additions json before result = (result ≡ 6)
-    ⊎ ((outcome : Outcome) × RunsFlushed request additions json (append_known before []) outcome × IsStatusOf outcome result)
+-- an input of which no read may fail is too long, or no text, where its bytes are told
+abbrev pub LacksInput : Bool → Option (List ℕ) → Type 0
+LacksInput may_fail input = may_fail ≡ false → LacksText input input_limit
 
--- Words that are refused have their status. Else the files are read, or refused with the status of the fault, and what
--- the words ask for is done with them.
-abbrev pub Starts : Kinds → Option (List ℕ × List Row) → (List ℕ → Option (List ℕ)) → Option (List ℕ) → Option (List ℕ) → ℕ → Type 0
-Starts kinds found content input before result =
-    ((fault : WordsFault) × RefusesWords kinds found fault × (result ≡ words_status fault))
-    ⊎ ((words : Words) × ReadsWords found words × (kinds ≡ []) × (((fault : FileFault) × (result ≡ file_status fault))
+-- one of these files cannot be had
+abbrev pub LacksFiles : (List ℕ → Option (List ℕ)) → List (List ℕ) → Type 0
+LacksFiles content paths = (path : List ℕ) × Contains paths path × LacksText (content path) input_limit
+
+-- a template cannot be had: one of the files, or the input where there are none
+abbrev pub LacksTemplate : (List ℕ → Option (List ℕ)) → Bool → Option (List ℕ) → List (List ℕ) → Type 0
+LacksTemplate content may_fail input [] = LacksInput may_fail input
+LacksTemplate content may_fail input (path ∷ paths) = LacksFiles content (path ∷ paths)
+
+-- the file of the context cannot be had
+abbrev pub LacksContext : (List ℕ → Option (List ℕ)) → Option (List ℕ) → Type 0
+LacksContext content path = IsSomeAnd path (λ lacking. LacksFile (content lacking) input_limit)
+
+-- a file that the words name, or the input, cannot be had
+abbrev pub LacksOne : (List ℕ → Option (List ℕ)) → Bool → Option (List ℕ) → Words → Type 0
+LacksOne content may_fail input (asks.Render read) =
+    LacksTemplate content may_fail input (map (λ path. path.now) read.files.items)
+    ⊎ LacksContext content (option_map (λ path. path.now) read.context)
+LacksOne content may_fail input (asks.Names read) =
+    LacksTemplate content may_fail input (map (λ path. path.now) read.files.items)
+
+-- a file or an input is refused: want of memory may be seen at any time
+abbrev pub RefusesInputs : (List ℕ → Option (List ℕ)) → Bool → Option (List ℕ) → Words → FileFault → Type 0
+RefusesInputs content may_fail input words refusal.File = LacksOne content may_fail input words
+RefusesInputs content may_fail input words refusal.Memory = Unit {0}
+
+-- how often an output has failed, where it tells
+abbrev pub HasFailed : Option (List Answer) → ℕ → Type 0
+HasFailed answers fails = IfSome answers (λ told. fails ≡ failures_among told)
+
+-- The request is run over an output, and what it wrote is flushed. Where that goes well the output holds all of it, and
+-- its last answer was to a flush. Else it holds a beginning, the rest was not written, and the output failed, if not for
+-- want of memory.
+pub record RunsFlushed (request : Request) (additions : List (List ℕ × List ℕ)) (json : Option (List ℕ))
+    (before after : Shown) (outcome : Outcome) : Type 0 where
+  pub ran : Outcome
+  pub flush : Result (Unit {0}) Error
+  pub written : Option (List ℕ)
+  pub rest : List ℕ
+  pub answers : Option (List Answer)
+  pub failed : ℕ
+  pub fails : ℕ
+  pub runs : AnswersRequest request additions json 0 ran before.bytes written failed fails
+  pub becomes : outcome ≡ flushed flush ran
+  pub holds : Keeps written (append_known after.bytes rest)
+  pub all : OnOk flush (rest ≡ [])
+  pub last : OnOk flush (IsFlushed after.answers)
+  pub failed_before : HasFailed before.answers failed
+  pub failed_then : HasFailed answers fails
+  pub told : TellsResult answers after.answers flush
+
+-- the line that tells want of memory
+abbrev pub memory_line : List ℕ
+memory_line = error_line (OutOfMemory ∷ [])
+
+-- the fault line of an outcome is written, or a beginning of it where that fails; none is where all is done
+abbrev pub TellsOutcome : Outcome → Shown → Shown → Type 0
+TellsOutcome Done before after = after ≡ before
+TellsOutcome (Render kinds) before after = Puts before after (error_line kinds)
+TellsOutcome (Context kinds) before after = Puts before after (error_line kinds)
+TellsOutcome (Template kinds) before after = Puts before after (error_line kinds)
+
+-- The status is that of the outcome, and its fault is told. Where there is no memory for the output's buffer, nothing is
+-- written, and that is told.
+abbrev pub PerformsRequest : Request → List (List ℕ × List ℕ) → Option (List ℕ) → Shown → Shown → Shown → Shown → ℕ → Type 0
+PerformsRequest request additions json out out_after fault fault_after result =
+    ((result ≡ 6) × (out_after ≡ out) × Puts fault fault_after memory_line)
+    ⊎ ((outcome : Outcome) × RunsFlushed request additions json out out_after outcome × IsStatusOf outcome result
+    × TellsOutcome outcome fault fault_after)
+
+-- what is written to the output, and told, of words that are refused
+abbrev pub TellsWords : WordsFault → Shown → Shown → Shown → Shown → Type 0
+TellsWords Memory out out_after fault fault_after = (out_after ≡ out) × Puts fault fault_after memory_line
+TellsWords (Help text) out out_after fault fault_after = PutsFlushed out out_after (string_bytes text) × (fault_after ≡ fault)
+TellsWords (Version text) out out_after fault fault_after =
+    PutsFlushed out out_after (string_bytes text) × (fault_after ≡ fault)
+TellsWords (Usage text) out out_after fault fault_after = (out_after ≡ out) × Puts fault fault_after (string_bytes text)
+TellsWords Definition out out_after fault fault_after =
+    (out_after ≡ out) × Puts fault fault_after (fault_line (codes "Arguments"))
+
+-- the line of a file or an input that is refused
+abbrev pub file_line : FileFault → List ℕ
+file_line refusal.File = fault_line (codes "File")
+file_line refusal.Memory = memory_line
+
+-- the line of arguments that cannot be had
+abbrev pub arguments_line : IoKind → List ℕ
+arguments_line io.OutOfMemory = memory_line
+arguments_line _ = fault_line (codes "Arguments")
+
+-- Words that are refused have their status, and are told. Else the files are read, or one is refused with the status and
+-- the line of its fault, and what the words ask for is done with them.
+abbrev pub Starts : Kinds → Option (List ℕ × List Row) → (List ℕ → Option (List ℕ)) → Bool → Option (List ℕ)
+    → Shown → Shown → Shown → Shown → ℕ → Type 0
+Starts kinds found content may_fail input out out_after fault fault_after result =
+    ((refused : WordsFault) × RefusesWords kinds found refused × (result ≡ words_status refused)
+    × TellsWords refused out out_after fault fault_after)
+    ⊎ ((words : Words) × ReadsWords found words × (kinds ≡ []) × (((refused : FileFault)
+    × RefusesInputs content may_fail input words refused × (result ≡ file_status refused)
+    × (out_after ≡ out) × Puts fault fault_after (file_line refused))
     ⊎ ((request : Request) × (additions : List (List ℕ × List ℕ)) × (json : Option (List ℕ))
     × IsAsked words request additions × AreRead content input words additions json
-    × PerformsRequest request additions json before result)))
+    × PerformsRequest request additions json out out_after fault fault_after result)))

@@ -1,8 +1,8 @@
 //! The templates, the context and the request, by the words.
-ghost use Rattle.std.specs.Prelude.{◌≡◌, [], All, map, IfOk, unwrap_or, option_map, string_bytes};
+ghost use Rattle.std.specs.Prelude.{◌≡◌, [], All, map, IfErr, IfOk, IsErrOf, unwrap_or, option_map, string_bytes};
 ghost use Rattle.template_program_parts.specs.Context.{text_pairs};
 ghost use Rattle.template_program_words.specs.Reading.{parts_of};
-ghost use Rattle.template_program_run.specs.Starts.{AreRead, AreTemplates, IsAsked, IsContextFile, IsInput, IsReadFrom, first_name, addition_names, template_names};
+ghost use Rattle.template_program_run.specs.Starts.{AreRead, AreTemplates, IsAsked, IsContextFile, IsInput, IsReadFrom, LacksContext, LacksFiles, LacksInput, LacksOne, LacksTemplate, first_name, addition_names, template_names};
 
 use crate::{Command, Request};
 use std::alloc::Global;
@@ -35,6 +35,7 @@ pub(crate) fn read_inputs<R: FileSystem + AllocGlobal, I: Reader>(
     ensures asked { IfOk result (λ inputs. IsAsked words.now inputs.request (text_pairs inputs.templates.items)) }
     ensures read { IfOk result (λ inputs. AreRead (R.content rt.now) (I.remaining input.old) words.now
         (text_pairs inputs.templates.items) (option_map (λ bytes. bytes.items) inputs.context)) }
+    ensures refused { IsErrOf result FileFault.File → LacksOne (R.content rt.now) (I.may_fail input.old) (I.remaining input.old) words.now }
 {
     match words {
         Words::Render(words) => read_render(rt, words, input),
@@ -50,6 +51,7 @@ fn read_render<R: FileSystem + AllocGlobal, I: Reader>(
     ensures asked { IfOk result (λ inputs. IsAsked (Words.Render words.now) inputs.request (text_pairs inputs.templates.items)) }
     ensures read { IfOk result (λ inputs. AreRead (R.content rt.now) (I.remaining input.old) (Words.Render words.now)
         (text_pairs inputs.templates.items) (option_map (λ bytes. bytes.items) inputs.context)) }
+    ensures refused { IsErrOf result FileFault.File → LacksOne (R.content rt.now) (I.may_fail input.old) (I.remaining input.old) (Words.Render words.now) }
 {
     let templates = read_templates(rt, words.files.as_slice(), input)?;
     let context = read_context_file(rt, words.context)?;
@@ -76,6 +78,7 @@ fn read_names<R: FileSystem + AllocGlobal, I: Reader>(
     ensures asked { IfOk result (λ inputs. IsAsked (Words.Names words.now) inputs.request (text_pairs inputs.templates.items)) }
     ensures read { IfOk result (λ inputs. AreRead (R.content rt.now) (I.remaining input.old) (Words.Names words.now)
         (text_pairs inputs.templates.items) (option_map (λ bytes. bytes.items) inputs.context)) }
+    ensures refused { IsErrOf result FileFault.File → LacksOne (R.content rt.now) (I.may_fail input.old) (I.remaining input.old) (Words.Names words.now) }
 {
     let templates = read_templates(rt, words.files.as_slice(), input)?;
     let request = Request {
@@ -103,6 +106,8 @@ fn read_templates<R: FileSystem + AllocGlobal, I: Reader>(
         ≡ template_names (map (λ path. path.now) paths.now)) }
     ensures read { IfOk result (λ templates. AreTemplates (R.content rt.now) (I.remaining input.old)
         (map (λ path. path.now) paths.now) (text_pairs templates.items)) }
+    ensures refused { IsErrOf result FileFault.File → LacksTemplate (R.content rt.now) (I.may_fail input.old) (I.remaining input.old)
+        (map (λ path. path.now) paths.now) }
 {
     if paths.is_empty() {
         return read_input(rt.alloc(), input);
@@ -114,6 +119,7 @@ fn read_templates<R: FileSystem + AllocGlobal, I: Reader>(
 fn read_input<I: Reader>(alloc: Global, input: &mut I) -> Result<Vec<(String, String)>, FileFault>
     ensures named { IfOk result (λ templates. addition_names (text_pairs templates.items) ≡ template_names []) }
     ensures read { IfOk result (λ templates. IsInput (I.remaining input.old) (text_pairs templates.items)) }
+    ensures refused { IsErrOf result FileFault.File → LacksInput (I.may_fail input.old) (I.remaining input.old) }
 {
     let name = String::from_str(alloc, "<stdin>")?;
     let source = read_text(alloc, &mut ReadWrapper::new(input), INPUT_LIMIT)?;
@@ -129,6 +135,7 @@ fn read_files<R: FileSystem + AllocGlobal>(
 ) -> Result<Vec<(String, String)>, FileFault>
     ensures named { IfOk result (λ templates. addition_names (text_pairs templates.items) ≡ map (λ path. path.now) paths.now) }
     ensures read { IfOk result (λ templates. All (IsReadFrom (R.content rt.now)) (text_pairs templates.items)) }
+    ensures refused { IsErrOf result FileFault.File → LacksFiles (R.content rt.now) (map (λ path. path.now) paths.now) }
 {
     let alloc = rt.alloc();
     let mut templates = Vec::new(alloc);
@@ -145,8 +152,9 @@ fn read_context_file<R: FileSystem + AllocGlobal>(
     rt: &R,
     path: Option<&str>,
 ) -> Result<Option<Vec<u8>>, FileFault>
-    ensures { IfOk result (λ bytes. IsContextFile (R.content rt.now) (option_map (λ path. path.now) path.entry)
+    ensures read { IfOk result (λ bytes. IsContextFile (R.content rt.now) (option_map (λ path. path.now) path.entry)
         (option_map (λ bytes. bytes.items) bytes)) }
+    ensures refused { IsErrOf result FileFault.File → LacksContext (R.content rt.now) (option_map (λ path. path.now) path.entry) }
 {
     match path {
         Some(path) => Ok(Some(read_file(rt, path, INPUT_LIMIT)?)),
@@ -160,7 +168,8 @@ fn main_name(
     main: Option<&str>,
     templates: &[(String, String)],
 ) -> Result<String, FileFault>
-    ensures { IfOk result (λ name. string_bytes name
+    ensures memory { IfErr result (λ fault. fault ≡ FileFault.Memory) }
+    ensures name { IfOk result (λ name. string_bytes name
         ≡ unwrap_or (option_map (λ main. main.now) main.entry) (first_name (addition_names (text_pairs templates.now)))) }
 {
     match (main, templates.first()) {
@@ -175,7 +184,8 @@ fn owned_definitions(
     alloc: Global,
     definitions: &[Definition<'_>],
 ) -> Result<Vec<(String, String)>, FileFault>
-    ensures { IfOk result (λ texts. text_pairs texts.items ≡ map parts_of definitions.now) }
+    ensures memory { IfErr result (λ fault. fault ≡ FileFault.Memory) }
+    ensures texts { IfOk result (λ texts. text_pairs texts.items ≡ map parts_of definitions.now) }
 {
     let mut texts = Vec::new(alloc);
     for definition in definitions {

@@ -3,13 +3,13 @@
 #![tactic(auto)]
 
 mod additions;
-mod faults;
 mod inputs;
 mod names;
 mod performing;
 mod request;
 mod running;
 mod starting;
+mod telling;
 
 pub use request::Request;
 pub use running::run;

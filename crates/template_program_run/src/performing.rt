@@ -1,59 +1,69 @@
 //! The run of a request over a buffered output.
-ghost use Rattle.std.specs.Prelude.{◌≡◌, option_copied, option_map};
-ghost use Rattle.template_machine_output.specs.Wrapper.{failure_count};
+ghost use Rattle.std.specs.Prelude.{◌≡◌, [], option_copied, option_map};
 ghost use Rattle.template_program_parts.specs.Context.{text_pairs};
-ghost use Rattle.template_program_run.specs.Starts.{PerformsRequest, RunsFlushed};
+ghost use Rattle.template_program_run.specs.Starts.{PerformsRequest, RunsFlushed, TellsOutcome};
 
-use crate::faults::write_error;
 use crate::inputs::Inputs;
 use crate::run;
+use crate::telling::{tell_error, tell_memory};
 use std::alloc::Global;
-use std::io::{BufWriter, Write};
-use template_machine_output::WriteWrapper;
 use template_machine_surroundings::StateIds;
+use template_program_output::{Buffered, Output};
 use template_program_parts::{MEMORY, Outcome, after_flush, status_of};
-use template_values_errors::{Error, ErrorKind};
+
+/// How many bytes are held back before they are written to the output.
+const BUFFER: usize = 8192;
 
 /// Runs the request over a buffer, which is flushed after a fault too, and tells a fault on one line.
-pub(crate) fn perform<O: Write + Drop, F: Write>(
+pub(crate) fn perform<O: Output, F: Output>(
     alloc: Global,
     inputs: &Inputs,
-    out: &mut O,
+    out: O,
     fault: &mut F,
-) -> u8
+) -> (u8, O)
     ensures { PerformsRequest inputs.now.request (text_pairs inputs.now.templates.items)
-        (option_map (λ bytes. bytes.items) inputs.now.context) (O.contents out.old) result }
+        (option_map (λ bytes. bytes.items) inputs.now.context) (O.shown out) (O.shown result.1)
+        (F.shown fault.old) (F.shown fault.new) result.0 }
 {
-    let Ok(buffer) = BufWriter::new(alloc, out) else {
-        let _ = write_error(fault, &Error::new(ErrorKind::OutOfMemory));
-        return MEMORY;
+    let Ok(buffer) = Vec::with_capacity(alloc, BUFFER) else {
+        tell_memory(fault);
+        return (MEMORY, out);
     };
-    let outcome = run_flushed(alloc, inputs, &mut WriteWrapper::new(buffer));
-    match &outcome {
-        Outcome::Done => {}
-        Outcome::Render(error) | Outcome::Context(error) | Outcome::Template(error) => {
-            let _ = write_error(fault, error);
-        }
-    }
-    status_of(&outcome)
+    let (outcome, out) = run_flushed(alloc, inputs, out, buffer);
+    tell_outcome(&outcome, fault);
+    (status_of(&outcome), out)
 }
 
-// Runs the request, and flushes what it has written.
-fn run_flushed<W: Write>(alloc: Global, inputs: &Inputs, sink: &mut WriteWrapper<W>) -> Outcome
-    requires { failure_count sink.old ≡ 0 }
+// Runs the request over an empty buffer, and flushes what it has written.
+fn run_flushed<O: Output>(alloc: Global, inputs: &Inputs, out: O, buffer: Vec<u8>) -> (Outcome, O)
+    requires { buffer.items ≡ [] }
     ensures { RunsFlushed inputs.now.request (text_pairs inputs.now.templates.items)
-        (option_map (λ bytes. bytes.items) inputs.now.context) (W.contents sink.old.w) result }
+        (option_map (λ bytes. bytes.items) inputs.now.context) (O.shown out) (O.shown result.1) result.0 }
 {
     let mut ids = StateIds::new(0);
+    let mut sink = Buffered::new(out, buffer);
     let outcome = run(
         alloc,
         &inputs.request,
         inputs.templates.as_slice(),
         context_bytes(&inputs.context),
         &mut ids,
-        sink,
+        &mut sink,
     );
-    after_flush(outcome, sink.w.flush())
+    let outcome = after_flush(outcome, sink.flush());
+    (outcome, sink.into_output())
+}
+
+// Writes the fault line of an outcome, if it has one.
+fn tell_outcome<F: Output>(outcome: &Outcome, fault: &mut F)
+    ensures { TellsOutcome outcome.now (F.shown fault.old) (F.shown fault.new) }
+{
+    match outcome {
+        Outcome::Done => {}
+        Outcome::Render(error) | Outcome::Context(error) | Outcome::Template(error) => {
+            tell_error(fault, error);
+        }
+    }
 }
 
 fn context_bytes(context: &Option<Vec<u8>>) -> Option<&[u8]>

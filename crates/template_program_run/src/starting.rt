@@ -3,16 +3,17 @@ ghost use Rattle.std.specs.Prelude.{◌≡◌, map};
 ghost use Rattle.std.specs.IoError.{error_kind};
 ghost use Rattle.clap.specs.Words.{fault_of, subcommand_of};
 ghost use Rattle.template_program_words.specs.CommandLine.{program};
-ghost use Rattle.template_program_run.specs.Starts.{Starts, words_status};
+ghost use Rattle.template_program_output.specs.Shown.{Puts};
+ghost use Rattle.template_program_run.specs.Starts.{Starts, TellsWords, arguments_line, file_line, words_status};
 ghost use Rattle.template_program_run.specs.Status.{arguments_status, file_status};
 
-use crate::faults::{write_error, write_fault};
-use crate::inputs::{Inputs, read_inputs};
+use crate::inputs::read_inputs;
 use crate::performing::perform;
-use std::io::{self, Write};
+use crate::telling::{tell_memory, tell_text, tell_word};
+use std::io;
+use template_program_output::{Output, write_flushed};
 use template_program_parts::{DONE, FILE, FileFault, FileSystem, MEMORY, Reader, WORDS};
 use template_program_words::{WordsFault, read_words};
-use template_values_errors::ErrorKind;
 
 /// Runs the program: reads the words, then the templates' files (or the input, where no file is named),
 /// then the context's file, and writes what is asked to `out` through a buffer, and a fault to `fault`
@@ -23,78 +24,82 @@ use template_values_errors::ErrorKind;
 /// render, 2 for words that are refused, 3 for a file, 4 for the context, 5 for a template that is refused
 /// or a main one that does not stand, and 6 where memory was refused.
 ///
-/// Holds all templates, the context and the output's buffer of 8 KiB in memory.
-pub fn start<R: FileSystem + AllocGlobal, I: Reader, O: Write + Drop, F: Write>(
+/// Gives the output back behind the status. Holds all templates, the context and the output's buffer of 8 KiB in
+/// memory.
+pub fn start<R: FileSystem + AllocGlobal, I: Reader, O: Output, F: Output>(
     rt: &R,
     words: &[&str],
     input: &mut I,
-    out: &mut O,
+    out: O,
     fault: &mut F,
-) -> u8
+) -> (u8, O)
     ensures { Starts (fault_of program (map (λ word. word.now) words.now))
         (subcommand_of program (map (λ word. word.now) words.now))
-        (R.content rt.now) (I.remaining input.old) (O.contents out.old) result }
+        (R.content rt.now) (I.may_fail input.old) (I.remaining input.old)
+        (O.shown out) (O.shown result.1) (F.shown fault.old) (F.shown fault.new) result.0 }
 {
     match read_words(rt.alloc(), words) {
         Ok(words) => match read_inputs(rt, &words, input) {
             Ok(inputs) => perform(rt.alloc(), &inputs, out, fault),
-            Err(refused) => refuse_file(refused, fault),
+            Err(refused) => (refuse_file(refused, fault), out),
         },
         Err(refused) => refuse_words(&refused, out, fault),
     }
 }
 
-fn refuse_words<O: Write, F: Write>(refused: &WordsFault, out: &mut O, fault: &mut F) -> u8
-    ensures { result ≡ words_status refused.now }
+fn refuse_words<O: Output, F: Output>(refused: &WordsFault, mut out: O, fault: &mut F) -> (u8, O)
+    ensures status { result.0 ≡ words_status refused.now }
+    ensures told { TellsWords refused.now (O.shown out) (O.shown result.1) (F.shown fault.old) (F.shown fault.new) }
 {
     match refused {
         WordsFault::Memory => {
-            let _ = write_fault(fault, ErrorKind::OutOfMemory.name());
-            MEMORY
+            tell_memory(fault);
+            (MEMORY, out)
         }
-        WordsFault::Help(text) => {
-            let _ = out.write_all(text.as_bytes());
-            let _ = out.flush();
-            DONE
+        WordsFault::Help(text) | WordsFault::Version(text) => {
+            let _ = write_flushed(&mut out, text.as_bytes());
+            (DONE, out)
         }
         WordsFault::Usage(text) => {
-            let _ = fault.write_all(text.as_bytes());
-            WORDS
+            tell_text(fault, text.as_str());
+            (WORDS, out)
         }
         WordsFault::Definition => {
-            let _ = write_fault(fault, "Arguments");
-            WORDS
+            tell_word(fault, "Arguments");
+            (WORDS, out)
         }
     }
 }
 
 /// Tells that the arguments cannot be had, before [`start`]: for want of memory, with status 6, or because
 /// one of them is no UTF-8, with status 2.
-pub fn refuse_arguments<F: Write>(refused: &io::Error, fault: &mut F) -> u8
-    ensures { result ≡ arguments_status (error_kind refused.now) }
+pub fn refuse_arguments<F: Output>(refused: &io::Error, fault: &mut F) -> u8
+    ensures status { result ≡ arguments_status (error_kind refused.now) }
+    ensures told { Puts (F.shown fault.old) (F.shown fault.new) (arguments_line (error_kind refused.now)) }
 {
     match refused.kind() {
         io::ErrorKind::OutOfMemory => {
-            let _ = write_fault(fault, ErrorKind::OutOfMemory.name());
+            tell_memory(fault);
             MEMORY
         }
         _ => {
-            let _ = write_fault(fault, "Arguments");
+            tell_word(fault, "Arguments");
             WORDS
         }
     }
 }
 
-fn refuse_file<F: Write>(refused: FileFault, fault: &mut F) -> u8
-    ensures { result ≡ file_status refused }
+fn refuse_file<F: Output>(refused: FileFault, fault: &mut F) -> u8
+    ensures status { result ≡ file_status refused }
+    ensures told { Puts (F.shown fault.old) (F.shown fault.new) (file_line refused) }
 {
     match refused {
         FileFault::File => {
-            let _ = write_fault(fault, "File");
+            tell_word(fault, "File");
             FILE
         }
         FileFault::Memory => {
-            let _ = write_fault(fault, ErrorKind::OutOfMemory.name());
+            tell_memory(fault);
             MEMORY
         }
     }
