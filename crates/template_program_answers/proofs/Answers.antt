@@ -1,5 +1,6 @@
 -- Two answers to one request.
 use Rattle.std.proofs.Common.{◌≡◌, ◌∙◌, ℕ, ◌+◌, List, [], Option, None, Some, inl, inr, refl, sym, ap, subst, append-nil, string_bytes}
+use Rattle.std.proofs.lemmas.Option.{none-some, same_Some}
 use Rattle.std.specs.BTreeSet.{BTreeSet}
 use Rattle.std.specs.Io.KnownBytes.{Appends}
 use Rattle.std.specs.Prelude.{String}
@@ -33,26 +34,17 @@ use Rattle.template_program_answers.proofs.Renders.{IsWhole, one_end, quiet_rend
 use Rattle.template_program_answers.proofs.Settings.{one_fuel, one_setting, one_template, same_sets}
 use Rattle.template_program_answers.proofs.Told.{same_lines}
 
-some_is : {x y : List ℕ} → Some x ≡ Some y → x ≡ y
-some_is at = cc
-
-none_some : {x : List ℕ} → None ≡ Some x → ⊥
-none_some at = cc
-
-some_none : {x : List ℕ} → Some x ≡ None → ⊥
-some_none at = cc
-
 -- where nothing was written, the text is empty
 writes_nothing : (before after : Option (List ℕ)) → after ≡ before → Appends before after []
 writes_nothing None after same = tt
-writes_nothing (Some bytes) None same = absurd (none_some same)
-writes_nothing (Some bytes) (Some others) same = some_is same ∙ sym (append-nil bytes)
+writes_nothing (Some bytes) None same = absurd (none-some _ same)
+writes_nothing (Some bytes) (Some others) same = same_Some _ _ same ∙ sym (append-nil bytes)
 
 -- answers that end with one outcome and wrote nothing
-nothing_written : (additions : List (List ℕ × List ℕ)) (a b : Answer) → a.outcome ≡ b.outcome → IsUntouched a.before a.after a.failed a.fails
-    → IsUntouched b.before b.after b.failed b.fails → AreAlike additions a b
-nothing_written additions a b same untouched too = record {
-  end = inl same;
+nothing_written : (a b : Answer) → a.outcome ≡ b.outcome → IsUntouched a.before a.after a.failed a.fails
+    → IsUntouched b.before b.after b.failed b.fails → AreAlike a b
+nothing_written a b same untouched too = record {
+  end = same;
   write = (
     [],
     record {
@@ -75,10 +67,10 @@ refuses additions next kinds (inl last) more = absurd (more last.0)
 refuses additions next kinds (inr refused) more = refused.1
 
 -- two renders of one run
-rendered_alike : (additions : List (List ℕ × List ℕ)) (a b : Answer) (r q : Run World) → IsSameRun r q
-    → IsWhole a.outcome a.before a.after r → IsWhole b.outcome b.before b.after q → a.fails ≡ a.failed → b.fails ≡ b.failed → AreAlike additions a b
-rendered_alike additions a b r q same one other quiet too = record {
-  end = inl (one_end a.outcome b.outcome a.before a.after b.before b.after r q same one other);
+rendered_alike : (a b : Answer) (r q : Run World) → IsSameRun r q
+    → IsWhole a.outcome a.before a.after r → IsWhole b.outcome b.before b.after q → a.fails ≡ a.failed → b.fails ≡ b.failed → AreAlike a b
+rendered_alike a b r q same one other quiet too = record {
+  end = one_end a.outcome b.outcome a.before a.after b.before b.after r q same one other;
   write = (
     text_of r.items,
     record {
@@ -95,7 +87,7 @@ renders_alike : IsolatesNames → (request : Request) (additions : List (List �
     → IsMade request additions e → IsMade request additions f → (t u : Standing) → t ≡ u → (c d : Val) → ((name : List ℕ) → AgreesAt c d name)
     → Rendered e t c (a.next + 1) a.outcome a.before a.after a.failed a.fails
     → Rendered f u d (b.next + 1) b.outcome b.before b.after b.failed b.fails
-    → IsUnwanting a → IsUnwanting b → AreAlike additions a b
+    → IsUnwanting a → IsUnwanting b → AreAlike a b
 renders_alike isolates request additions a b e f made more t u standing c d agree one other ua ub =
     let ra = one.1 ua.second_id in
     let rb = other.1 ub.second_id in
@@ -108,7 +100,7 @@ renders_alike isolates request additions a b e f made more t u standing c d agre
     subst (λ (r : Run World). IsFinished r.end) there (subst IsFinished (isolated None).1 ra.3.finished.1) in
     let back : Renders rb.0 b.before b.after (under e.fuel (rendered (setting_of e) n t d)) =
     subst (λ (r : Run World). Renders rb.0 b.before b.after r) (sym (λ i. under (fuel i) (there i))) (rb.3.renders n finished) in
-    rendered_alike additions a b (under e.fuel (rendered (setting_of e) n t c)) (under e.fuel (rendered (setting_of e) n t d)) (isolated e.fuel)
+    rendered_alike a b (under e.fuel (rendered (setting_of e) n t c)) (under e.fuel (rendered (setting_of e) n t d)) (isolated e.fuel)
     (whole_render a.outcome ra.0 a.before a.after (under e.fuel (rendered (setting_of e) n t c)) ra.1 ua.unwanted (ra.3.renders n ra.3.finished.1))
     (whole_render b.outcome rb.0 b.before b.after (under e.fuel (rendered (setting_of e) n t d)) rb.1 ub.unwanted back)
     (quiet_render a.outcome ra.0 a.failed a.fails ra.1 ua.unwanted ra.2)
@@ -133,14 +125,14 @@ told e t (Template kinds) before after failed fails tells room = absurd (room (i
 -- two tellings of the names of one template
 tells_alike : (request : Request) (additions : List (List ℕ × List ℕ)) (a b : Answer) (e f : Registry)
     → IsMade request additions e → IsMade request additions f → (t u : Standing) → t ≡ u
-    → IsTold e t a.outcome a.before a.after a.failed a.fails → IsTold f u b.outcome b.before b.after b.failed b.fails → AreAlike additions a b
+    → IsTold e t a.outcome a.before a.after a.failed a.fails → IsTold f u b.outcome b.before b.after b.failed b.fails → AreAlike a b
 tells_alike request additions a b e f made more t u standing one other =
     let setting = one_setting request additions e f made more in
     let lines : lines_of one.names.keys ≡ lines_of other.names.keys =
     same_lines one.names other.names one.has.0 other.has.0
     (same_sets (setting_of e) (setting_of f) t u setting standing one.names other.names one.has.1 other.has.1) in
     record {
-      end = inl (one.done ∙ sym other.done);
+      end = one.done ∙ sym other.done;
       write = (
         lines_of one.names.keys,
         record {
@@ -156,17 +148,17 @@ tells_alike request additions a b e f made more t u standing one other =
 performed_alike : IsolatesNames → (command : Command) (request : Request) (additions : List (List ℕ × List ℕ)) (json : Option (List ℕ)) (a b : Answer)
     → Performed command request additions json a.next a.outcome a.before a.after a.failed a.fails
     → Performed command request additions json b.next b.outcome b.before b.after b.failed b.fails
-    → IsUnwanting a → IsUnwanting b → AreAlike additions a b
+    → IsUnwanting a → IsUnwanting b → AreAlike a b
 performed_alike isolates asked.Render request additions json a b p q ua ub =
     let main = string_bytes request.main in
-    let template = one_template main p.2.0 q.2.0 p.2.2.0 q.2.2.0 (some_is (sym p.2.1 ∙ q.2.1)) p.2.2.1 q.2.2.1 in
+    let template = one_template main p.2.0 q.2.0 p.2.2.0 q.2.2.0 (same_Some _ _ (sym p.2.1 ∙ q.2.1)) p.2.2.1 q.2.2.1 in
     let one = p.2.2.2 in
     let other = q.2.2.2 in
     renders_alike isolates request additions a b p.0 q.0 p.1 q.1 p.2.2.0 q.2.2.0 template one.0 other.0
     (agree_everywhere json (definitions_of request) one.0 other.0 one.1 other.1) one.2 other.2 ua ub
 performed_alike isolates asked.Names request additions json a b p q ua ub =
     let main = string_bytes request.main in
-    let template = one_template main p.2.0 q.2.0 p.2.2.0 q.2.2.0 (some_is (sym p.2.1 ∙ q.2.1)) p.2.2.1 q.2.2.1 in
+    let template = one_template main p.2.0 q.2.0 p.2.2.0 q.2.2.0 (same_Some _ _ (sym p.2.1 ∙ q.2.1)) p.2.2.1 q.2.2.1 in
     tells_alike request additions a b p.0 q.0 p.1 q.1 p.2.2.0 q.2.2.0 template
     (told p.0 p.2.2.0 a.outcome a.before a.after a.failed a.fails p.2.2.2 ua.unwanted)
     (told q.0 q.2.2.0 b.outcome b.before b.after b.failed b.fails q.2.2.2 ub.unwanted)
@@ -174,39 +166,24 @@ performed_alike isolates asked.Names request additions json a b p q ua ub =
 pub one_answer : IsolatesNames → OneAnswer
 one_answer isolates request additions json a b (inl p) (inl q) ua ub =
     let same = one_refusal request.command json p.0 q.0 p.2 q.2 (unwanted a ua (Context p.0) p.1) (unwanted b ub (Context q.0) q.1) in
-    nothing_written additions a b (p.1 ∙ ap (λ (ks : List ErrorKind). Context ks) same ∙ sym q.1) p.3 q.3
+    nothing_written a b (p.1 ∙ ap (λ (ks : List ErrorKind). Context ks) same ∙ sym q.1) p.3 q.3
 one_answer isolates request additions json a b (inl p) (inr (had, q)) ua ub =
     absurd (refused_or_had request.command json (definitions_of request) p.0 had.0 p.2 (unwanted a ua (Context p.0) p.1) had.1)
 one_answer isolates request additions json a b (inr (had, p)) (inl q) ua ub =
     absurd (refused_or_had request.command json (definitions_of request) q.0 had.0 q.2 (unwanted b ub (Context q.0) q.1) had.1)
-one_answer isolates request additions json a b (inr (had, inl p)) (inr (has, inl q)) ua ub = record {
-  end = inr (
-    p.0,
-    q.0,
-    p.1,
-    q.1,
-    same_refused additions p.0 q.0 (refuses additions a.next p.0 p.2 ua.first_id) (refuses additions b.next q.0 q.2 ub.first_id)
-        (unwanted a ua (Template p.0) p.1) (unwanted b ub (Template q.0) q.1),
-  );
-  write = (
-    [],
-    record {
-      first = writes_nothing a.before a.after p.3.0;
-      second = writes_nothing b.before b.after q.3.0;
-      quiet = p.3.1;
-      quiet_too = q.3.1;
-    },
-  );
-}
+one_answer isolates request additions json a b (inr (had, inl p)) (inr (has, inl q)) ua ub =
+    let same = same_refused additions p.0 q.0 (refuses additions a.next p.0 p.2 ua.first_id) (refuses additions b.next q.0 q.2 ub.first_id)
+    (unwanted a ua (Template p.0) p.1) (unwanted b ub (Template q.0) q.1) in
+    nothing_written a b (p.1 ∙ ap (λ (ks : List ErrorKind). Template ks) same ∙ sym q.1) p.3 q.3
 one_answer isolates request additions json a b (inr (had, inl p)) (inr (has, inr q)) ua ub =
     absurd (all_or_refused additions p.0 (refuses additions a.next p.0 p.2 ua.first_id) (unwanted a ua (Template p.0) p.1) q.1)
 one_answer isolates request additions json a b (inr (had, inr p)) (inr (has, inl q)) ua ub =
     absurd (all_or_refused additions q.0 (refuses additions b.next q.0 q.2 ub.first_id) (unwanted b ub (Template q.0) q.1) p.1)
 one_answer isolates request additions json a b (inr (had, inr (first, all, inl p))) (inr (has, inr (next, each, inl q))) ua ub =
-    nothing_written additions a b (p.0 ∙ sym q.0) p.2 q.2
+    nothing_written a b (p.0 ∙ sym q.0) p.2 q.2
 one_answer isolates request additions json a b (inr (had, inr (first, all, inl p))) (inr (has, inr (next, each, inr q))) ua ub =
-    absurd (none_some (sym p.1 ∙ q.2.1))
+    absurd (none-some _ (sym p.1 ∙ q.2.1))
 one_answer isolates request additions json a b (inr (had, inr (first, all, inr p))) (inr (has, inr (next, each, inl q))) ua ub =
-    absurd (some_none (sym p.2.1 ∙ q.1))
+    absurd (none-some _ (sym q.1 ∙ p.2.1))
 one_answer isolates request additions json a b (inr (had, inr (first, all, inr p))) (inr (has, inr (next, each, inr q))) ua ub =
     performed_alike isolates request.command request additions json a b p q ua ub

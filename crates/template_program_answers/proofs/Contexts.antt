@@ -1,5 +1,6 @@
 -- Contexts that are refused, and those that are had.
 use Rattle.std.proofs.Common.{◌≡◌, ◌∙◌, ℕ, List, [], ◌∷◌, Option, None, Some, inl, inr, sym, ap}
+use Rattle.std.proofs.lemmas.Option.{none-some, same_Some}
 use Rattle.template_values_errors.specs.declared.ErrorKind.{ErrorKind}
 use Rattle.template_values_errors.specs.Memory.{NoMemory}
 use Rattle.template_values_model.specs.Val.{Val}
@@ -9,17 +10,11 @@ use Rattle.template_program_parts.specs.Asked.{HasContext, IsRefusedContext}
 use Rattle.template_program_parts.specs.declared.command.Command.{Command}
 use Rattle.template_program_parts.specs.declared.command.Command.TheVariants as asked
 
-some_is : {x y : ErrorKind} → Some x ≡ Some y → x ≡ y
-some_is at = cc
-
-none_some : {x : ErrorKind} → None ≡ Some x → ⊥
-none_some at = cc
-
 -- a context that is refused is not had
 pub refused_or_had : (command : Command) (json : Option (List ℕ)) (definitions : List (List ℕ × List ℕ)) (kinds : List ErrorKind) (context : Val)
     → IsRefusedContext command json kinds → ¬ NoMemory kinds → HasContext command json definitions context → ⊥
 refused_or_had asked.Render json definitions kinds context (inl want) room has = room want
-refused_or_had asked.Render json definitions kinds context (inr (kind, fault, alone)) room has = none_some (sym has.0 ∙ fault)
+refused_or_had asked.Render json definitions kinds context (inr (kind, fault, alone)) room has = none-some _ (sym has.0 ∙ fault)
 refused_or_had asked.Names json definitions kinds context refused room has = refused
 
 -- it is refused with one kind
@@ -28,7 +23,7 @@ pub one_refusal : (command : Command) (json : Option (List ℕ)) (kinds others :
 one_refusal asked.Render json kinds others (inl want) other room more = absurd (room want)
 one_refusal asked.Render json kinds others (inr refused) (inl want) room more = absurd (more want)
 one_refusal asked.Render json kinds others (inr (kind, fault, alone)) (inr (found, same, lone)) room more =
-    alone ∙ ap (λ (k : ErrorKind). k ∷ []) (some_is (sym fault ∙ same)) ∙ sym lone
+    alone ∙ ap (λ (k : ErrorKind). k ∷ []) (same_Some _ _ (sym fault ∙ same)) ∙ sym lone
 one_refusal asked.Names json kinds others refused other room more = absurd refused
 
 -- contexts of one JSON and the same definitions agree at each name

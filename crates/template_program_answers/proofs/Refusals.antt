@@ -1,16 +1,13 @@
--- Sources that are refused are not accepted, where there is room for them.
-use Rattle.std.proofs.Common.{◌≡◌, ◌∙◌, ℕ, List, [], ◌∷◌, inl, inr, sym, ap, subst, get_or, arith}
+-- Where there is room for sources, those that are refused are not accepted, and one kind is told.
+use Rattle.std.proofs.Common.{◌≡◌, ℕ, List, [], ◌∷◌, inl, inr, ap, get_or, arith}
 use Rattle.template_values_errors.specs.declared.ErrorKind.{ErrorKind}
-use Rattle.template_tree.specs.Tree.{Statements, template}
-use Rattle.template_walk.specs.Runnable.{IsRunnableTemplate}
 use Rattle.template_compiler_syntax.specs.Syntax.{IsUsable, default_syntax}
 use Rattle.template_compiler_syntax.proofs.Apart.{all_apart}
 use Rattle.template_environment_settings.specs.Sources.{IsAccepted, IsRefusedWith}
-use Rattle.template_compiled.proofs.Trees.{one_tree}
+use Rattle.template_compiled.proofs.Refusals as refusals
 use Rattle.template_environment_settings.specs.Plain.{IsRefusedForRoom}
 use Rattle.template_program_run.specs.Additions.{AllAreAccepted, RefusesOne}
 use Rattle.template_program_run.specs.History.{source_for}
-use Rattle.template_program_answers.specs.Law.{RefuseTheSame}
 
 -- the syntax of the program is usable
 usable : IsUsable default_syntax
@@ -40,16 +37,7 @@ usable = record {
 -- a source is not both accepted and refused, but for want of room
 accepted_or_refused : (text : List ℕ) (kinds : List ErrorKind) → IsAccepted (source_for text) → IsRefusedWith (source_for text) kinds
     → ¬ IsRefusedForRoom kinds → ⊥
-accepted_or_refused text kinds accepted (inl (inl want)) room = room (inr want)
-accepted_or_refused text kinds accepted (inl (inr (inl large))) room = room (inl large.0)
-accepted_or_refused text kinds accepted (inl (inr (inr (fault, alone, faulty)))) room =
-    faulty.treeless (template accepted.0) accepted.1.0
-accepted_or_refused text kinds accepted (inr (inl (alone, unsupported))) room =
-    let same = sym (one_tree (source_for text) accepted.0 usable accepted.1.0)
-    ∙ one_tree (source_for text) unsupported.0 usable unsupported.1 in
-    unsupported.2 (subst (λ (tree : Statements). IsRunnableTemplate tree) same accepted.1.1)
-accepted_or_refused text kinds accepted (inr (inr (inl large))) room = room (inl large)
-accepted_or_refused text kinds accepted (inr (inr (inr want))) room = room (inr want)
+accepted_or_refused text kinds = refusals.accepted_or_refused (source_for text) kinds usable
 
 -- nor are all of the additions accepted where one is refused
 pub all_or_refused : (additions : List (List ℕ × List ℕ)) (kinds : List ErrorKind) → RefusesOne additions kinds → ¬ IsRefusedForRoom kinds
@@ -58,14 +46,15 @@ all_or_refused [] kinds refused room all = refused
 all_or_refused (addition ∷ later) kinds (inl refused) room all = accepted_or_refused addition.1 kinds all.0 refused room
 all_or_refused (addition ∷ later) kinds (inr (accepted, refused)) room all = all_or_refused later kinds refused room all.1
 
--- it is the same one that is refused twice
+-- the same one is refused twice, with one kind
 pub same_refused : (additions : List (List ℕ × List ℕ)) (kinds others : List ErrorKind) → RefusesOne additions kinds → RefusesOne additions others
-    → ¬ IsRefusedForRoom kinds → ¬ IsRefusedForRoom others → RefuseTheSame additions kinds others
-same_refused [] kinds others refused other room more = refused
-same_refused (addition ∷ later) kinds others (inl refused) (inl other) room more = inl (refused, other)
+    → ¬ IsRefusedForRoom kinds → ¬ IsRefusedForRoom others → kinds ≡ others
+same_refused [] kinds others refused other room more = absurd refused
+same_refused (addition ∷ later) kinds others (inl refused) (inl other) room more =
+    refusals.one_refusal (source_for addition.1) kinds others usable refused other room more
 same_refused (addition ∷ later) kinds others (inl refused) (inr (accepted, other)) room more =
     absurd (accepted_or_refused addition.1 kinds accepted refused room)
 same_refused (addition ∷ later) kinds others (inr (accepted, refused)) (inl other) room more =
     absurd (accepted_or_refused addition.1 others accepted other more)
 same_refused (addition ∷ later) kinds others (inr (accepted, refused)) (inr (again, other)) room more =
-    inr (accepted, same_refused later kinds others refused other room more)
+    same_refused later kinds others refused other room more

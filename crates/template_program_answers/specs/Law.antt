@@ -1,13 +1,10 @@
 -- That a request has one answer.
-use Rattle.std.specs.Prelude.{◌≡◌, ℕ, ◌+◌, ◌⊎◌, List, [], ◌∷◌, Option}
+use Rattle.std.specs.Prelude.{◌≡◌, ℕ, ◌+◌, List, Option}
 use Rattle.std.specs.Io.KnownBytes.{Appends}
-use Rattle.template_values_errors.specs.declared.ErrorKind.{ErrorKind}
 use Rattle.template_values_errors.specs.Memory.{NoMemory}
 use Rattle.template_environment_settings.specs.Outcomes.{IsWant}
 use Rattle.template_environment_settings.specs.Plain.{IsRefusedForRoom}
-use Rattle.template_environment_settings.specs.Sources.{IsAccepted, IsRefusedWith}
 use Rattle.template_program_run.specs.Answers.{AnswersRequest}
-use Rattle.template_program_run.specs.History.{source_for}
 use Rattle.template_program_run.specs.Ids.{IsLastId}
 use Rattle.template_program_parts.specs.Status.{IsStatusOf}
 use Rattle.template_program_parts.specs.declared.outcome.Outcome.{Outcome}
@@ -41,19 +38,6 @@ pub record IsUnwanting (a : Answer) : Type 0 where
   pub first_id : ¬ IsLastId a.next
   pub second_id : ¬ IsLastId (a.next + 1)
 
--- the first source that is not accepted is refused with the first kinds, and with the others
-abbrev pub RefuseTheSame : List (List ℕ × List ℕ) → List ErrorKind → List ErrorKind → Type 0
-RefuseTheSame [] kinds others = ⊥
-RefuseTheSame (addition ∷ later) kinds others =
-    (IsRefusedWith (source_for addition.1) kinds × IsRefusedWith (source_for addition.1) others)
-    ⊎ (IsAccepted (source_for addition.1) × RefuseTheSame later kinds others)
-
--- the answers end with the same outcome; or both tell that the same template is refused
-abbrev pub EndAlike : List (List ℕ × List ℕ) → Answer → Answer → Type 0
-EndAlike additions a b = (a.outcome ≡ b.outcome)
-    ⊎ ((kinds : List ErrorKind) × (others : List ErrorKind)
-    × (a.outcome ≡ Template kinds) × (b.outcome ≡ Template others) × RefuseTheSame additions kinds others)
-
 -- both write this text, and count no failure
 pub record WriteBoth (a b : Answer) (text : List ℕ) : Type 0 where
   pub first : Appends a.before a.after text
@@ -61,16 +45,16 @@ pub record WriteBoth (a b : Answer) (text : List ℕ) : Type 0 where
   pub quiet : a.fails ≡ a.failed
   pub quiet_too : b.fails ≡ b.failed
 
--- they end alike, and there is one text that both write
-pub record AreAlike (additions : List (List ℕ × List ℕ)) (a b : Answer) : Type 0 where
-  pub end : EndAlike additions a b
+-- they end with the same outcome, and there is one text that both write
+pub record AreAlike (a b : Answer) : Type 0 where
+  pub end : a.outcome ≡ b.outcome
   pub write : (text : List ℕ) × WriteBoth a b text
 
 -- Two answers to one request, with the same templates and context, are alike, where nothing is wanted.
 abbrev pub OneAnswer : Type 0
 OneAnswer = (request : Request) (additions : List (List ℕ × List ℕ)) (json : Option (List ℕ)) (a b : Answer)
     → IsAnswerTo request additions json a → IsAnswerTo request additions json b → IsUnwanting a → IsUnwanting b
-    → AreAlike additions a b
+    → AreAlike a b
 
 -- Where a render's outcome has status 6, a growth was refused in it: no fault of a template is told so, at any depth.
 abbrev pub SixIsWant : Type 0

@@ -6,10 +6,9 @@ ghost use Rattle.template_program_answers.specs.Law.{OneAnswer, SixIsWant};
 
 use template_machine_meaning::isolation;
 
-/// Two answers to one request with the same templates and the same context, as the contract of `run` tells them, end
-/// alike and write the same bytes, where neither wants anything: memory, a sink that works, room for a source or its code,
-/// or a state id. They may differ in one thing: where a template is refused, each tells a fault that stands in the first
-/// template that is not accepted, and it need not be the same one.
+/// Two answers to one request with the same templates and the same context, as the contract of `run` tells them, end with
+/// the same outcome, kinds of errors and all, and write the same bytes, where neither wants anything: memory, a sink that
+/// works, room for a source or its code, or a state id.
 pub fn one_answer()
     ensures { OneAnswer }
 {
