@@ -13,7 +13,8 @@ use Rattle.template_machine_meaning.specs.World.{World, first_world}
 use Rattle.template_machine_renders.specs.Renders.{Renders, whole, broken}
 use Rattle.template_compiled.specs.Compiled.{Compiled}
 use Rattle.template_compiled.specs.Plain.{text_tree}
-use Rattle.template_environment.specs.Plain.{text_run, GivesItself, WritesItself}
+use Rattle.template_compiled.specs.Sources.{HasNoRoom}
+use Rattle.template_environment.specs.Plain.{text_run, GivesItself, IsRefusedForRoom, WritesItself}
 use Rattle.template_environment.specs.Renderings.{GivesText, rendering}
 use Rattle.template_environment.specs.declared.registry.Registry.{Registry}
 
@@ -109,3 +110,8 @@ plain_writes e c bytes context before after result is renders =
     let w = first_world c.escape context in
     writes_itself e.fuel bytes w before after result (subst (λ r. Renders result before after (under e.fuel r)) (is 0 context)
     (renders 0 (subst (λ (r : Run World). IsFinished r.end) (sym (is 0 context)) (text_finished bytes w))))
+
+-- where there is no room for the code of a source, it is refused for room
+pub refused_for_room : {text : List ℕ} {kinds : List ErrorKind} → HasNoRoom text kinds → IsRefusedForRoom kinds
+refused_for_room (inl large) = inl large.0
+refused_for_room (inr want) = inr want

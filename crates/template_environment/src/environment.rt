@@ -1,5 +1,5 @@
 //! Environments.
-ghost use Rattle.std.specs.Prelude.{◌≡◌, ◌+◌, ◌≢◌, ◌∷◌, [], ℕ, List, None, Some, Option, Err, IfOk, IfErr, OnOk, OnErr, bytes_eq, min, map, option_map, All, string_bytes};
+ghost use Rattle.std.specs.Prelude.{◌≡◌, ◌+◌, ◌≢◌, ◌≤◌, ◌^◌, ◌∷◌, [], ℕ, List, length, None, Some, Option, Err, IfOk, IfErr, OnOk, OnErr, bytes_eq, min, map, option_map, All, string_bytes};
 ghost use Rattle.std.specs.Cmp.Lexicographic.{slice_cmp};
 ghost use Rattle.std.specs.Cow.{cow_str_bytes};
 ghost use Rattle.std.specs.List.{find};
@@ -171,6 +171,7 @@ impl<'source, R: AutoEscapeRule> Environment<'source, R> {
         ensures settings { settings_of (registry_of self.new) ≡ settings_of (registry_of self.old) }
         ensures callback { callback_of self.new ≡ callback_of self.old }
         ensures refused { IfErr result (IsRefusedWith (read_under R.answer self.old name.now source.now)) }
+        ensures too_large { 2 ^ 32 ≤ length source.now → result ≡ Err (ErrorKind.TooLarge ∷ []) }
         ensures plain { IsPlain (read_under R.answer self.old name.now source.now) → IfErr result IsRefusedForRoom }
         ensures stays { OnErr result
             (Changes (changes.refused name.now (read_under R.answer self.old name.now source.now)) self.old self.new) }
@@ -194,6 +195,7 @@ impl<'source, R: AutoEscapeRule> Environment<'source, R> {
         ensures callback { callback_of self.new ≡ callback_of self.old }
         ensures refused { IfErr result
             (IsRefusedWith (read_under R.answer self.old (cow_str_bytes name.entry) (cow_str_bytes source.entry))) }
+        ensures too_large { 2 ^ 32 ≤ length (cow_str_bytes source.entry) → result ≡ Err (ErrorKind.TooLarge ∷ []) }
         ensures plain { IsPlain (read_under R.answer self.old (cow_str_bytes name.entry) (cow_str_bytes source.entry)) →
             IfErr result IsRefusedForRoom }
         ensures stays { OnErr result (Changes (changes.refused (cow_str_bytes name.entry)
@@ -216,6 +218,7 @@ impl<'source, R: AutoEscapeRule> Environment<'source, R> {
         ensures source { IfOk result (λ t. t.source ≡ read_under R.answer self.now name.now source.now) }
         ensures faithful { IfOk result IsFaithful }
         ensures refused { IfErr result (IsRefusedWith (read_under R.answer self.now name.now source.now)) }
+        ensures too_large { 2 ^ 32 ≤ length source.now → result ≡ Err (ErrorKind.TooLarge ∷ []) }
         ensures plain { IsPlain (read_under R.answer self.now name.now source.now) → IfErr result IsRefusedForRoom }
     {
         let alloc = self.registry.alloc;
@@ -391,6 +394,7 @@ impl<'source, R: AutoEscapeRule> Environment<'source, R> {
         ensures escape { IfOk result (λ t. IsEscapeOf (source_of t).escapes unnamed (escape_of t)) }
         ensures here { IfOk result (λ t. environment_of t ≡ self.now) }
         ensures refused { IfErr result (IsRefusedWith (read_under R.answer self.now unnamed source.now)) }
+        ensures too_large { 2 ^ 32 ≤ length source.now → result ≡ Err (ErrorKind.TooLarge ∷ []) }
         ensures plain { IsPlain (read_under R.answer self.now unnamed source.now) → IfErr result IsRefusedForRoom }
     {
         self.template_from_named_str(UNNAMED, source)
@@ -413,6 +417,7 @@ impl<'source, R: AutoEscapeRule> Environment<'source, R> {
         ensures escape { IfOk result (λ t. IsEscapeOf (source_of t).escapes name.now (escape_of t)) }
         ensures here { IfOk result (λ t. environment_of t ≡ self.now) }
         ensures refused { IfErr result (IsRefusedWith (read_under R.answer self.now name.now source.now)) }
+        ensures too_large { 2 ^ 32 ≤ length source.now → result ≡ Err (ErrorKind.TooLarge ∷ []) }
         ensures plain { IsPlain (read_under R.answer self.now name.now source.now) → IfErr result IsRefusedForRoom }
     {
         let own = self.compile(name, source)?;

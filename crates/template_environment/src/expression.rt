@@ -1,5 +1,5 @@
 //! Expressions of an environment, and their values.
-ghost use Rattle.std.specs.Prelude.{◌≡◌, ◌≢◌, ◌↔◌, ◌+◌, ◌∷◌, [], ℕ, List, IsTrue, IfOk, IfErr, OnOk, Err};
+ghost use Rattle.std.specs.Prelude.{◌≡◌, ◌≢◌, ◌≤◌, ◌^◌, ◌↔◌, ◌+◌, ◌∷◌, [], ℕ, List, length, IsTrue, IfOk, IfErr, OnOk, Err};
 ghost use Rattle.std.specs.BTreeSet.{contains_text};
 ghost use Rattle.std.specs.Cow.{cow_str_bytes};
 ghost use Rattle.template_values_errors.specs.Memory.{NoMemory};
@@ -56,6 +56,7 @@ impl<'source, R: AutoEscapeRule> Environment<'source, R> {
         ensures source { IfOk result (λ e. text_of e ≡ source.now) }
         ensures here { IfOk result (λ e. environment_under e ≡ self.now) }
         ensures refused { IfErr result (IsExpressionRefusedWith source.now) }
+        ensures too_large { 2 ^ 32 ≤ length source.now → result ≡ Err (ErrorKind.TooLarge ∷ []) }
     {
         let compiled = CompiledExpression::new(self.allocator(), source)?;
         Ok(Expression {
@@ -77,6 +78,7 @@ impl<'source, R: AutoEscapeRule> Environment<'source, R> {
         ensures source { IfOk result (λ e. text_of e ≡ cow_str_bytes source.entry) }
         ensures here { IfOk result (λ e. environment_under e ≡ self.now) }
         ensures refused { IfErr result (IsExpressionRefusedWith (cow_str_bytes source.entry)) }
+        ensures too_large { 2 ^ 32 ≤ length (cow_str_bytes source.entry) → result ≡ Err (ErrorKind.TooLarge ∷ []) }
     {
         let compiled = CompiledExpression::from_owned(self.allocator(), source)?;
         Ok(Expression {

@@ -1,3 +1,4 @@
+use Rattle.template_environment.proofs.Plain.{refused_for_room}
 use Rattle.template_environment.proofs.Sourced.{read_so}
 use Rattle.template_environment.proofs.environment.Environment.compile.Goals as goal
 
@@ -7,3 +8,6 @@ returns-clause-source g c =
     let kept = c.ruled.ensures in
     read_so _ c.args.self.now.callback c.args.self.now.registry.config c.in_ok-compiled.compiled c.ruled.result.source c.args.name.now c.args.source.now
     made.name made.source kept.text kept.syntax kept.escapes
+
+pub returns-in_err-compiled-clause-plain : goal.returns-in_err-compiled-clause-plain
+returns-in_err-compiled-clause-plain g c = λ plain. refused_for_room (c.in_err-compiled.ensures.plain plain)
