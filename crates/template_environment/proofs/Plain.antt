@@ -112,6 +112,6 @@ plain_writes e c bytes context before after result is renders =
     (renders 0 (subst (λ (r : Run World). IsFinished r.end) (sym (is 0 context)) (text_finished bytes w))))
 
 -- where there is no room for the code of a source, it is refused for room
-pub refused_for_room : {text : List ℕ} {kinds : List ErrorKind} → HasNoRoom text kinds → IsRefusedForRoom kinds
-refused_for_room (inl large) = inl large.0
-refused_for_room (inr want) = inr want
+pub refused_for_room : (text : List ℕ) {kinds : List ErrorKind} → HasNoRoom text kinds → IsRefusedForRoom kinds
+refused_for_room text (inl large) = inl large.0
+refused_for_room text (inr want) = inr want

@@ -1,3 +1,4 @@
+use Rattle.std.proofs.Common.{rules}
 use Rattle.template_environment.proofs.Plain.{refused_for_room}
 use Rattle.template_environment.proofs.Sourced.{read_so}
 use Rattle.template_environment.proofs.environment.Environment.compile.Goals as goal
@@ -10,4 +11,6 @@ returns-clause-source g c =
     made.name made.source kept.text kept.syntax kept.escapes
 
 pub returns-in_err-compiled-clause-plain : goal.returns-in_err-compiled-clause-plain
-returns-in_err-compiled-clause-plain g c = λ plain. refused_for_room (c.in_err-compiled.ensures.plain plain)
+returns-in_err-compiled-clause-plain g c = λ plain.
+    let room = refused_for_room _ (c.in_err-compiled.ensures.plain plain) in
+    search rules
