@@ -42,7 +42,7 @@ fn report(
     let taken = write_report(rt, environment, ids, tenant)?;
     match taken {
         Some(steps) => println!(rt; "\n  took {steps} steps")?,
-        None => println!(rt; "\n  stopped after {} steps", tenant.fuel)?,
+        None => println!(rt; "\n  stopped at step {}", tenant.fuel)?,
     }
     Ok(())
 }
