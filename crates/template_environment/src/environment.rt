@@ -460,6 +460,7 @@ impl<'source, R: AutoEscapeRule> Environment<'source, R> {
     ) -> Result<String, Error>
         ensures renders { RendersSource (registry_of self.now) unnamed (read_under R.answer self.now unnamed source.now)
             context ids.old ids.new (λ text. string_bytes text) result }
+        ensures too_large { 2 ^ 32 ≤ length source.now → result ≡ Err (ErrorKind.TooLarge ∷ []) }
 
         // Where no marker starts in the source, that is its text.
         ensures plain { ids.old ≢ u64.MAX → IsPlain (read_under R.answer self.now unnamed source.now) →
@@ -490,6 +491,7 @@ impl<'source, R: AutoEscapeRule> Environment<'source, R> {
     ) -> Result<String, Error>
         ensures renders { RendersSource (registry_of self.now) name.now (read_under R.answer self.now name.now source.now)
             context ids.old ids.new (λ text. string_bytes text) result }
+        ensures too_large { 2 ^ 32 ≤ length source.now → result ≡ Err (ErrorKind.TooLarge ∷ []) }
 
         // Where no marker starts in the source, that is its text.
         ensures plain { ids.old ≢ u64.MAX → IsPlain (read_under R.answer self.now name.now source.now) →
