@@ -1,0 +1,2 @@
+pub mod Closures
+pub use Rattle.template_names.specs.Among
