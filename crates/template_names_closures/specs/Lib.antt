@@ -1,2 +1,3 @@
 pub mod Closures
+pub mod Units
 pub use Rattle.template_names.specs.Among
