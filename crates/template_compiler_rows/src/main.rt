@@ -19,7 +19,9 @@
 //! - `references`: the names that the instructions up to each one refer to, and up to one past the last, the latest
 //!   first, as `(index name ..)`;
 //! - `runnable`: whether all of its constructs run; `names`: the names that it uses; `nested`: the same, each with the
-//!   dotted names that stand directly behind it;
+//!   dotted names that stand directly behind it; `closures`: the names that each macro and each body of a call block
+//!   encloses that stands in the template's body, after the macro's name; `used`: the names that the template uses, then
+//!   those of each block and each recursive loop in its body;
 //! - `generated`, with two more entries, `calls` of a generator and `places`: how many instructions come of the calls, the
 //!   hint of room for them and where those at the places come from, each with a `;` behind it, and then the instructions.
 //!   A call is its name, or an array of its name and a text, a line, or the line that a span starts in; `template`
@@ -48,6 +50,8 @@
 //!   are taken: what was taken, the lowest first, then the number on top, if there is one, each with a `;` behind it;
 //! - `stream`, an array of instructions, words or words with the place to which they lead: of what it is a stream, or
 //!   why it is none, and how many instructions come back;
+//! - `fuel`, a number and an array of instructions, as of a `stream`: whether the fuel lets each of them run, then what
+//!   remains of it and what was consumed, each with a `;` behind it;
 //! - `names`, two sources: the names that they use, put into one set;
 //! - `standing`, two sources that are put under one name: what stands there then, and what after it is removed.
 //!
@@ -58,6 +62,7 @@
 
 mod calls;
 mod code;
+mod fuels;
 mod generated;
 mod listed;
 mod made;
@@ -68,9 +73,11 @@ mod streams;
 mod syntax;
 mod tokens;
 mod trees;
+mod unit_names;
 
 use crate::calls::answers_of_stream;
 use crate::code::{about_code, standing};
+use crate::fuels::tracked;
 use crate::listed::listed;
 use crate::made::{chain, write_description};
 use crate::operands::about_operands;
@@ -216,6 +223,9 @@ fn about_parts(alloc: Global, name: &str, parts: &[Json], out: &mut Report) {
         }
         [Json::Array(steps), Json::Array(places)] if name == "listed" => {
             listed(alloc, steps.as_slice(), places.as_slice(), out)
+        }
+        [fuel, Json::Array(steps)] if name == "fuel" => {
+            tracked(fuel.as_u64().unwrap_or(0), steps.as_slice(), out)
         }
         _ => out.refuse(ErrorKind::SyntaxError),
     }

@@ -37,7 +37,7 @@ fn add(code: &mut Instructions<'static>, step: &Json) -> Result<(), Error> {
 }
 
 // The instruction that a word says, or a word and the place to which it leads.
-fn instruction(step: &Json) -> Option<Instruction<'static>> {
+pub(crate) fn instruction(step: &Json) -> Option<Instruction<'static>> {
     match step {
         Json::String(step) => plain(step.as_str()),
         Json::Array(pair) => match pair.as_slice() {

@@ -1,0 +1,19 @@
+//! What a fuel lets run of instructions that are listed one by one.
+use crate::report::{Report, unreadable};
+use crate::streams::instruction;
+use serde_json::Value as Json;
+use template_machine_fuel::FuelTracker;
+
+/// Whether each of the instructions is let run, then what remains of the fuel and what was consumed; each with a `;` behind
+/// it.
+pub(crate) fn tracked(fuel: u64, steps: &[Json], out: &mut Report) {
+    let mut tracker = FuelTracker::new(fuel);
+    for step in steps {
+        match &instruction(step) {
+            Some(instruction) => out.answer(&tracker.track(instruction).is_ok()),
+            None => out.done(unreadable()),
+        }
+    }
+    out.answer(&tracker.remaining());
+    out.answer(&tracker.consumed())
+}
