@@ -1,6 +1,7 @@
 -- That a request has one answer.
 use Rattle.std.specs.Prelude.{◌≡◌, ℕ, ◌+◌, List, Option}
 use Rattle.std.specs.Io.KnownBytes.{Appends}
+use Rattle.template_values_errors.specs.declared.ErrorKind.{ErrorKind}
 use Rattle.template_values_errors.specs.Memory.{NoMemory}
 use Rattle.template_environment_settings.specs.Outcomes.{IsWant}
 use Rattle.template_environment_settings.specs.Plain.{IsRefusedForRoom}
