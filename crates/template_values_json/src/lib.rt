@@ -1,7 +1,6 @@
 //! Values from JSON, as `serde_json` reads it.
 #![tactic(auto)]
 
-mod floats;
 mod members;
 mod values;
 

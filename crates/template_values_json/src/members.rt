@@ -1,15 +1,13 @@
 //! A JSON object as a context, and as the entries of a map.
-ghost use Rattle.std.specs.Prelude.{◌≡◌, ◌≤◌, ◌⊎◌, [], ◌∷◌, None, Some, false, IfOk, IfErr, option_map};
+ghost use Rattle.std.specs.Prelude.{◌≡◌, ◌≤◌, ◌⊎◌, [], ◌∷◌, None, Some, IfOk, IfErr, option_map};
 ghost use Rattle.serde_json.specs.Data.{depth as nesting};
 ghost use Rattle.serde_json.specs.Errors.{IsMemory};
 ghost use Rattle.serde_json.specs.Read.{max_depth};
 ghost use Rattle.serde_json.specs.View.{view};
-ghost use Rattle.serde_json.specs.Written.{has_float};
 ghost use Rattle.template_values_errors.specs.Memory.{NoMemory};
-ghost use Rattle.template_values_json.specs.Json.{data_in, fault_of_top, fault_in, value_of, IsRefusal};
+ghost use Rattle.template_values_json.specs.Json.{data_in, fault_of_data, fault_of_top, fault_in, value_of, IsRefusal};
 ghost use Rattle.template_values_json.specs.Entries.{SayData, SayMembers, ArePlain};
 
-use crate::floats::holds_float;
 use crate::values::{entries_from, value_from};
 use serde_json::Value as Json;
 use std::alloc::Global;
@@ -36,11 +34,7 @@ pub fn context_from_json(alloc: Global, bytes: &[u8]) -> Result<Value, Error>
     ensures is { IfOk result (λ v. option_map value_of (data_in bytes.now) ≡ Some v) }
     ensures refused { IfErr result (IsRefusal (fault_in bytes.now)) }
 {
-    let document = read_document(alloc, bytes)?;
-    if holds_float(&document) {
-        return Err(Error::new(ErrorKind::NoFloats));
-    }
-    object_value(alloc, document)
+    object_value(alloc, read_document(alloc, bytes)?)
 }
 
 /// One entry for each member of the JSON object that the bytes are, for a map that has more entries: a
@@ -55,11 +49,7 @@ pub fn entries_from_json(alloc: Global, bytes: &[u8]) -> Result<Vec<Entry>, Erro
     ensures plain { IfOk result (λ es. ArePlain es.items) }
     ensures refused { IfErr result (IsRefusal (fault_in bytes.now)) }
 {
-    let document = read_document(alloc, bytes)?;
-    if holds_float(&document) {
-        return Err(Error::new(ErrorKind::NoFloats));
-    }
-    object_entries(alloc, document)
+    object_entries(alloc, read_document(alloc, bytes)?)
 }
 
 /// What the bytes are as JSON.
@@ -87,31 +77,41 @@ fn refusal_of(error: serde_json::Error) -> Error
     }
 }
 
-/// One entry for each member, where the document is an object.
+/// One entry for each member, where the document is an object and no float stands in it.
 fn object_entries(alloc: Global, document: Json) -> Result<Vec<Entry>, Error>
-    requires whole { has_float (view document) ≡ false }
     requires shallow { nesting (view document) ≤ max_depth }
-    ensures faultless { IfOk result (λ _. fault_of_top (view document) ≡ None) }
+    ensures faultless { IfOk result (λ _. fault_of_data (Some (view document)) ≡ None) }
     ensures says { IfOk result (λ es. SayData (view document) es.items) }
     ensures plain { IfOk result (λ es. ArePlain es.items) }
-    ensures refused { IfErr result (IsRefusal (fault_of_top (view document))) }
+    ensures refused { IfErr result (IsRefusal (fault_of_data (Some (view document)))) }
 {
     match document {
         Json::Object(members) => entries_from(alloc, members),
-        _other => Err(Error::new(ErrorKind::InvalidOperation)),
+        other => Err(refusal_without_object(alloc, other)),
     }
 }
 
-/// The value of the document, where it is an object.
+/// The value of the document, where it is an object and no float stands in it.
 fn object_value(alloc: Global, document: Json) -> Result<Value, Error>
-    requires whole { has_float (view document) ≡ false }
     requires shallow { nesting (view document) ≤ max_depth }
-    ensures faultless { IfOk result (λ _. fault_of_top (view document) ≡ None) }
+    ensures faultless { IfOk result (λ _. fault_of_data (Some (view document)) ≡ None) }
     ensures is { IfOk result (λ v. v ≡ value_of (view document)) }
-    ensures refused { IfErr result (IsRefusal (fault_of_top (view document))) }
+    ensures refused { IfErr result (IsRefusal (fault_of_data (Some (view document)))) }
 {
     match document {
         Json::Object(_) => value_from(alloc, document),
-        _other => Err(Error::new(ErrorKind::InvalidOperation)),
+        other => Err(refusal_without_object(alloc, other)),
+    }
+}
+
+/// The refusal of a document that is no object: a float in it comes first.
+fn refusal_without_object(alloc: Global, document: Json) -> Error
+    requires shallow { nesting (view document) ≤ max_depth }
+    requires other { fault_of_top (view document) ≡ Some ErrorKind.InvalidOperation }
+    ensures { IsRefusal (fault_of_data (Some (view document))) result }
+{
+    match value_from(alloc, document) {
+        Ok(_value) => Error::new(ErrorKind::InvalidOperation),
+        Err(error) => error,
     }
 }

@@ -5,8 +5,8 @@ ghost use Rattle.serde_json.specs.Read.{max_depth};
 ghost use Rattle.serde_json.specs.View.{view, items_view, members_view};
 ghost use Rattle.serde_json.specs.Written.{has_float, items_have_float, members_have_float};
 ghost use Rattle.template_values_model.specs.Val.{vals_of};
-ghost use Rattle.template_values_errors.specs.Memory.{NoMemory};
 ghost use Rattle.template_values_core.specs.Shape.{pairs_in};
+ghost use Rattle.template_values_json_leaves.specs.Leaves.{IsFloatRefusal};
 ghost use Rattle.template_values_json.specs.Json.{value_of, values_of, named_values};
 ghost use Rattle.template_values_json.specs.Entries.{SayData};
 
@@ -16,13 +16,13 @@ use template_values_core::{Entry, Value};
 use template_values_errors::Error;
 use template_values_json_leaves::value_of_leaf;
 
-/// The value that the JSON stands for, moving its texts.
+/// The value that the JSON stands for, moving its texts, where no float stands in it.
 #[cycle(values)]
 pub(crate) fn value_from(alloc: Global, json: Json) -> Result<Value, Error>
-    requires whole { has_float (view json) ≡ false }
     requires shallow { depth (view json) ≤ max_depth }
+    ensures whole { IfOk result (λ _. has_float (view json) ≡ false) }
     ensures is { IfOk result (λ v. v ≡ value_of (view json)) }
-    ensures refused { IfErr result NoMemory }
+    ensures refused { IfErr result (IsFloatRefusal (has_float (view json))) }
 {
     match json {
         Json::Array(items) => Value::from_list(alloc, values_from(alloc, items)?),
@@ -34,10 +34,10 @@ pub(crate) fn value_from(alloc: Global, json: Json) -> Result<Value, Error>
 /// The values of the items.
 #[cycle(values)]
 fn values_from(alloc: Global, items: Vec<Json>) -> Result<Vec<Value>, Error>
-    requires whole { items_have_float (items_view items.items) ≡ false }
     requires shallow { items_depth (items_view items.items) < max_depth }
+    ensures whole { IfOk result (λ _. items_have_float (items_view items.items) ≡ false) }
     ensures are { IfOk result (λ vs. vals_of vs.items ≡ values_of (items_view items.items)) }
-    ensures refused { IfErr result NoMemory }
+    ensures refused { IfErr result (IsFloatRefusal (items_have_float (items_view items.items))) }
 {
     let mut values = Vec::with_capacity(alloc, items.len())?;
     for item in items {
@@ -49,11 +49,11 @@ fn values_from(alloc: Global, items: Vec<Json>) -> Result<Vec<Value>, Error>
 /// One entry for each member.
 #[cycle(values)]
 pub(crate) fn entries_from(alloc: Global, members: Map<String, Json>) -> Result<Vec<Entry>, Error>
-    requires whole { members_have_float (members_view members.entries) ≡ false }
     requires shallow { members_depth (members_view members.entries) < max_depth }
+    ensures whole { IfOk result (λ _. members_have_float (members_view members.entries) ≡ false) }
     ensures are { IfOk result (λ es. pairs_in es.items ≡ named_values (members_view members.entries)) }
     ensures says { IfOk result (λ es. SayData (object (members_view members.entries)) es.items) }
-    ensures refused { IfErr result NoMemory }
+    ensures refused { IfErr result (IsFloatRefusal (members_have_float (members_view members.entries))) }
 {
     let mut entries = Vec::with_capacity(alloc, members.len())?;
     for (name, member) in members {

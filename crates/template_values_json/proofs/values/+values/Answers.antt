@@ -10,7 +10,7 @@ use Rattle.template_values_core.specs.Shape.{pairs_in}
 use Rattle.template_values_core.specs.declared.value.Entry.{Entry}
 use Rattle.template_values_json.specs.Json.{values_of, named_values}
 use Rattle.template_values_json.proofs.Levels.{vals_depth-values_of, pairs_depth-named_values, put_within, items_within, members_within}
-use Rattle.template_values_json.proofs.Made.{never_deep}
+use Rattle.template_values_json.proofs.Made.{never_deeper}
 use Rattle.template_values_json.proofs.Named.{names_say}
 use Rattle.template_values_json.proofs.Steps.{all_values, entry_more}
 use Rattle.template_values_json.proofs.values.+values.Goals as goal
@@ -21,7 +21,7 @@ value_from-returns-in_ok-values_from-in-Array-clause-refused t c =
     let values = c.in_ok-values_from-in-Array.field-0.items in
     let shallow : items_depth (items_view items) < 127 = items_within c.args.json c.in-Array.items 127 c.in-Array.is c.requires.shallow in
     let are : vals_of values ≡ values_of (items_view items) = c.in_ok-values_from-in-Array.ensures.are in
-    never_deep (list (vals_of values)) c.from_list.result (rw are (omega (arith, shallow, vals_depth-values_of (items_view items)))) c.from_list.ensures.refused
+    never_deeper _ (list (vals_of values)) c.from_list.result (rw are (omega (arith, shallow, vals_depth-values_of (items_view items)))) c.from_list.ensures.refused
 
 pub value_from-returns-in_ok-entries_from-in-Object-clause-refused : goal.value_from-returns-in_ok-entries_from-in-Object-clause-refused
 value_from-returns-in_ok-entries_from-in-Object-clause-refused t c =
@@ -29,7 +29,7 @@ value_from-returns-in_ok-entries_from-in-Object-clause-refused t c =
     let entries = c.in_ok-entries_from-in-Object.field-0.items in
     let shallow : members_depth (members_view members) < 127 = members_within c.args.json c.in-Object.members 127 c.in-Object.is c.requires.shallow in
     let are : pairs_in entries ≡ named_values (members_view members) = c.in_ok-entries_from-in-Object.ensures.are in
-    never_deep (map (collected (pairs_in entries))) c.from_map.result
+    never_deeper _ (map (collected (pairs_in entries))) c.from_map.result
     (rw are (omega (arith, shallow, put_within [] (named_values (members_view members)), pairs_depth-named_values (members_view members)))) c.from_map.ensures.refused
 
 pub values_from-returns-clause-are : goal.values_from-returns-clause-are
@@ -45,7 +45,7 @@ entries_from-loop-name-preserved t c =
     let left = c.next.new.self in
     let steps : c.loop-name.name-iterator ≡ m ∷ left = c.in-Some.ensures.steps in
     record {
-      whole = search rules;
+      floats = search rules;
       shallow = search rules;
       all = rw c.in_ok-push.ensures.items (entry_more c.loop-name.entries.items e m left _ c.in_ok-key.ensures.made c.in_ok-value.ensures.is (rw steps at c.loop-name.invariant.all));
     }

@@ -1,4 +1,4 @@
-use Rattle.std.proofs.Common.{◌≡◌, ◌≤◌, ◌+◌, ◌*◌, ◌++◌, false}
+use Rattle.std.proofs.Common.{◌≡◌, ◌≤◌, ◌+◌, ◌*◌, ◌++◌}
 use Rattle.std.specs.Vec.Iter.{into_iter_items}
 use Rattle.serde_json.specs.Data.{depth, items_depth, members_depth}
 use Rattle.serde_json.specs.View.{view, items_view, members_view}
@@ -20,7 +20,7 @@ decreases-entries_from l = 2 * members_depth (members_view l.members.entries) + 
 -- the values so far and those of the items that are left are those of all
 abbrev pub invariant-values_from-loop-item : goal.invariant-values_from-loop-item
 invariant-values_from-loop-item l = record {
-  whole : items_have_float (items_view (into_iter_items l.item-iterator)) ≡ false;
+  floats : items_have_float (items_view (into_iter_items l.item-iterator)) ≡ items_have_float (items_view l.fn.items.items);
   shallow : items_depth (items_view (into_iter_items l.item-iterator)) ≤ items_depth (items_view l.fn.items.items);
   all : l.values.items ++ items_of (values_of (items_view (into_iter_items l.item-iterator))) ≡ items_of (values_of (items_view l.fn.items.items));
 }
@@ -28,7 +28,7 @@ invariant-values_from-loop-item l = record {
 -- the entries so far and the members that are left say what all do
 abbrev pub invariant-entries_from-loop-name : goal.invariant-entries_from-loop-name
 invariant-entries_from-loop-name l = record {
-  whole : members_have_float (members_view l.name-iterator) ≡ false;
+  floats : members_have_float (members_view l.name-iterator) ≡ members_have_float (members_view l.fn.members.entries);
   shallow : members_depth (members_view l.name-iterator) ≤ members_depth (members_view l.fn.members.entries);
   all : pairs_in l.entries.items ++ named_values (members_view l.name-iterator) ≡ named_values (members_view l.fn.members.entries);
 }
