@@ -2,6 +2,7 @@
 #![tactic(auto)]
 
 mod members;
+mod names;
 mod values;
 
 pub use members::{context_from_json, entries_from_json};

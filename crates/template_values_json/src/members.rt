@@ -86,7 +86,7 @@ fn object_entries(alloc: Global, document: Json) -> Result<Vec<Entry>, Error>
     ensures refused { IfErr result (IsRefusal (fault_of_data (Some (view document)))) }
 {
     match document {
-        Json::Object(members) => entries_from(alloc, members),
+        Json::Object(members) => entries_from(alloc, members, &[]),
         other => Err(refusal_without_object(alloc, other)),
     }
 }
@@ -99,7 +99,7 @@ fn object_value(alloc: Global, document: Json) -> Result<Value, Error>
     ensures refused { IfErr result (IsRefusal (fault_of_data (Some (view document)))) }
 {
     match document {
-        Json::Object(_) => value_from(alloc, document),
+        Json::Object(_) => value_from(alloc, document, None),
         other => Err(refusal_without_object(alloc, other)),
     }
 }
@@ -110,7 +110,7 @@ fn refusal_without_object(alloc: Global, document: Json) -> Error
     requires other { fault_of_top (view document) ≡ Some ErrorKind.InvalidOperation }
     ensures { IsRefusal (fault_of_data (Some (view document))) result }
 {
-    match value_from(alloc, document) {
+    match value_from(alloc, document, None) {
         Ok(_value) => Error::new(ErrorKind::InvalidOperation),
         Err(error) => error,
     }

@@ -10,30 +10,35 @@ ghost use Rattle.template_values_json_leaves.specs.Leaves.{IsFloatRefusal};
 ghost use Rattle.template_values_json.specs.Json.{value_of, values_of, named_values};
 ghost use Rattle.template_values_json.specs.Entries.{SayData};
 
+use crate::names::{entries_of, first_of, key_of, value_in};
 use serde_json::{Map, Value as Json};
 use std::alloc::Global;
 use template_values_core::{Entry, Value};
 use template_values_errors::Error;
 use template_values_json_leaves::value_of_leaf;
 
-/// The value that the JSON stands for, moving its texts, where no float stands in it.
+/// The value that the JSON stands for, moving its texts, where no float stands in it. A name that `like` has at the same
+/// place is shared with it: rows of a table mostly have the names of the row before.
 #[cycle(values)]
-pub(crate) fn value_from(alloc: Global, json: Json) -> Result<Value, Error>
+pub(crate) fn value_from(alloc: Global, json: Json, like: Option<&Value>) -> Result<Value, Error>
     requires shallow { depth (view json) ≤ max_depth }
     ensures whole { IfOk result (λ _. has_float (view json) ≡ false) }
     ensures is { IfOk result (λ v. v ≡ value_of (view json)) }
     ensures refused { IfErr result (IsFloatRefusal (has_float (view json))) }
 {
     match json {
-        Json::Array(items) => Value::from_list(alloc, values_from(alloc, items)?),
-        Json::Object(members) => Value::from_map(alloc, entries_from(alloc, members)?),
+        Json::Array(items) => Value::from_list(alloc, values_from(alloc, items, first_of(like))?),
+        Json::Object(members) => Value::from_map(
+            alloc,
+            entries_from(alloc, members, entries_of(like))?,
+        ),
         leaf => value_of_leaf(leaf),
     }
 }
 
 /// The values of the items.
 #[cycle(values)]
-fn values_from(alloc: Global, items: Vec<Json>) -> Result<Vec<Value>, Error>
+fn values_from(alloc: Global, items: Vec<Json>, like: Option<&Value>) -> Result<Vec<Value>, Error>
     requires shallow { items_depth (items_view items.items) < max_depth }
     ensures whole { IfOk result (λ _. items_have_float (items_view items.items) ≡ false) }
     ensures are { IfOk result (λ vs. vals_of vs.items ≡ values_of (items_view items.items)) }
@@ -41,14 +46,19 @@ fn values_from(alloc: Global, items: Vec<Json>) -> Result<Vec<Value>, Error>
 {
     let mut values = Vec::with_capacity(alloc, items.len())?;
     for item in items {
-        values.push(value_from(alloc, item)?)?;
+        let value = value_from(alloc, item, values.last().or(like))?;
+        values.push(value)?;
     }
     Ok(values)
 }
 
 /// One entry for each member.
 #[cycle(values)]
-pub(crate) fn entries_from(alloc: Global, members: Map<String, Json>) -> Result<Vec<Entry>, Error>
+pub(crate) fn entries_from(
+    alloc: Global,
+    members: Map<String, Json>,
+    like: &[Entry],
+) -> Result<Vec<Entry>, Error>
     requires shallow { members_depth (members_view members.entries) < max_depth }
     ensures whole { IfOk result (λ _. members_have_float (members_view members.entries) ≡ false) }
     ensures are { IfOk result (λ es. pairs_in es.items ≡ named_values (members_view members.entries)) }
@@ -57,8 +67,9 @@ pub(crate) fn entries_from(alloc: Global, members: Map<String, Json>) -> Result<
 {
     let mut entries = Vec::with_capacity(alloc, members.len())?;
     for (name, member) in members {
-        let key = Value::from_text(name)?;
-        let value = value_from(alloc, member)?;
+        let before = like.get(entries.len());
+        let key = key_of(name, before)?;
+        let value = value_from(alloc, member, value_in(before))?;
         entries.push(Entry { key, value })?;
     }
     Ok(entries)
