@@ -20,6 +20,7 @@ use template_values_json_leaves::value_of_leaf;
 /// The value that the JSON stands for, moving its texts, where no float stands in it. A name that `like` has at the same
 /// place is shared with it: rows of a table mostly have the names of the row before.
 #[cycle(values)]
+#[inline(always)]
 pub(crate) fn value_from(alloc: Global, json: Json, like: Option<&Value>) -> Result<Value, Error>
     requires shallow { depth (view json) ≤ max_depth }
     ensures whole { IfOk result (λ _. has_float (view json) ≡ false) }
@@ -38,6 +39,7 @@ pub(crate) fn value_from(alloc: Global, json: Json, like: Option<&Value>) -> Res
 
 /// The values of the items.
 #[cycle(values)]
+#[inline(never)]
 fn values_from(alloc: Global, items: Vec<Json>, like: Option<&Value>) -> Result<Vec<Value>, Error>
     requires shallow { items_depth (items_view items.items) < max_depth }
     ensures whole { IfOk result (λ _. items_have_float (items_view items.items) ≡ false) }
@@ -54,6 +56,7 @@ fn values_from(alloc: Global, items: Vec<Json>, like: Option<&Value>) -> Result<
 
 /// One entry for each member.
 #[cycle(values)]
+#[inline(never)]
 pub(crate) fn entries_from(
     alloc: Global,
     members: Map<String, Json>,
