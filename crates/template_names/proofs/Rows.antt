@@ -61,6 +61,19 @@ macro_row : uses (codes "a" ∷ codes "b" ∷ codes "c" ∷ codes "m" ∷ codes 
     ≡ true ∷ true ∷ false ∷ true ∷ false ∷ []
 macro_row = refl
 
+-- `{% macro m(a, b=caller, c=caller.x) %}{% endmacro %}`: in a macro `caller` is stored from its beginning on
+caller_row : uses (codes "caller" ∷ []) (macro (codes "m") (expressions (name (codes "a") ∷ name (codes "b") ∷ name (codes "c") ∷ [])) (expressions (name (codes "caller") ∷ attribute (name (codes "caller")) (codes "x") ∷ [])) no_statements ∷ []) ≡ false ∷ []
+caller_row = refl
+
+-- `{% macro m() %}{% endmacro %}{{ caller }}`: behind it, it is not
+caller_behind_row : uses (codes "caller" ∷ []) (macro (codes "m") no_expressions no_expressions no_statements ∷ print (name (codes "caller")) ∷ []) ≡ true ∷ []
+caller_behind_row = refl
+
+-- `{% macro m(a=b) %}{% macro n(c=caller) %}{{ a }}{% endmacro %}{% endmacro %}`
+inner_macro_row : uses (codes "a" ∷ codes "b" ∷ codes "caller" ∷ []) (macro (codes "m") (expressions (name (codes "a") ∷ [])) (expressions (name (codes "b") ∷ [])) (statements (macro (codes "n") (expressions (name (codes "c") ∷ [])) (expressions (name (codes "caller") ∷ [])) (statements (print (name (codes "a")) ∷ [])) ∷ [])) ∷ [])
+    ≡ false ∷ true ∷ false ∷ []
+inner_macro_row = refl
+
 -- `{% macro m(a, b=a) %}{% endmacro %}`
 default_row : uses (codes "a" ∷ codes "b" ∷ codes "m" ∷ []) (macro (codes "m") (expressions (name (codes "a") ∷ name (codes "b") ∷ [])) (expressions (name (codes "a") ∷ [])) no_statements ∷ []) ≡ true ∷ false ∷ false ∷ []
 default_row = refl

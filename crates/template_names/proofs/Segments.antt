@@ -128,7 +128,7 @@ of_arguments_split name (expressions_more argument arguments) (expressions_more 
 macro_splits : (name : List ℕ) (arguments defaults : Expressions) {b : Bool} {f : List (List ℕ) → Bool} → Splits b f →
     Splits (place_of_macro (anywhere name) arguments defaults b) (λ fields. place_of_macro (along name fields) arguments defaults (f fields))
 macro_splits name arguments defaults h =
-    of_arguments_split name (reversed arguments no_expressions) (reversed defaults no_expressions) (and_splits (not (bytes_eq name (codes "caller"))) h)
+    and_splits (not (bytes_eq name (codes "caller"))) (of_arguments_split name (reversed arguments no_expressions) (reversed defaults no_expressions) h)
 
 mutual
   by_splits : (name : List ℕ) (s : Statement) → Splits (place_by (anywhere name) s) (λ fields. place_by (along name fields) s)

@@ -122,11 +122,11 @@ place_of_arguments places (expressions_more argument arguments) no_expressions b
 place_of_arguments places (expressions_more argument arguments) (expressions_more default defaults) body =
     place_in places default || not (is_stored_in places.name argument) && place_of_arguments places arguments defaults body
 
--- in a macro `caller` is stored
+-- in a macro `caller` is stored from its beginning on, so that no default uses it either
 abbrev pub place_of_macro : Places → Expressions → Expressions → Bool → Bool
 place_of_macro places arguments defaults body =
-    let inside = not (bytes_eq places.name (codes "caller")) && body in
-    place_of_arguments places (reversed arguments no_expressions) (reversed defaults no_expressions) inside
+    not (bytes_eq places.name (codes "caller"))
+    && place_of_arguments places (reversed arguments no_expressions) (reversed defaults no_expressions) body
 
 -- an import stores each name, or the other name that is given for it
 abbrev pub is_imported : List ℕ → Imports → Bool

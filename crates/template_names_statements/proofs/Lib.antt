@@ -1,5 +1,5 @@
-mod Bodies
-mod Deep
+pub mod Bodies
+pub mod Deep
 mod Walking
 mod Nodes
 pub mod Storing

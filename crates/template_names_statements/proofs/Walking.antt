@@ -17,21 +17,20 @@ use Rattle.template_names_statements.specs.Stores.{backwards}
 use Rattle.template_names.proofs.Laws.{and_false, or_false, turned, uses_as, uses_then}
 use Rattle.template_names_statements.proofs.Storing.{used_by_arguments}
 
-behind : (a k c u : Bool) → ((a || (not k && false)) || (not (k || c) && u)) ≡ (a || (not k && (not c && u)))
-behind true k c u = refl
-behind false true c u = refl
-behind false false c u = refl
+behind : (c a k u : Bool) → ((not c && a) || (not (c || k) && u)) ≡ (not c && (a || (not k && u)))
+behind true a k u = refl
+behind false a k u = refl
 
 pub macro_uses : (q : Places) (arguments defaults : Items _) (u : Bool) →
-    ((place_of_arguments q (backwards arguments) (backwards defaults) false || (not (is_stored_in_one q.name (backwards arguments)) && false))
-    || (not (is_stored_in_one q.name (backwards arguments) || just (codes "caller") q.name) && u))
+    ((not (just (codes "caller") q.name) && place_of_arguments q (backwards arguments) (backwards defaults) false)
+    || (not (just (codes "caller") q.name || is_stored_in_one q.name (backwards arguments)) && u))
     ≡ place_of_macro q (expressions_in arguments) (expressions_in defaults) u
 macro_uses q arguments defaults u =
     let xs = backwards arguments in
     let ds = backwards defaults in
-    behind (place_of_arguments q xs ds false) (is_stored_in_one q.name xs) (just (codes "caller") q.name) u ∙
-    ap (λ b. place_of_arguments q xs ds false || (not (is_stored_in_one q.name xs) && (not b && u))) (turned (codes "caller") q.name) ∙
-    sym (used_by_arguments q xs ds (not (bytes_eq q.name (codes "caller")) && u))
+    behind (just (codes "caller") q.name) (place_of_arguments q xs ds false) (is_stored_in_one q.name xs) u ∙
+    ap (λ b. not (just (codes "caller") q.name) && b) (sym (used_by_arguments q xs ds u)) ∙
+    ap (λ b. not b && place_of_arguments q xs ds u) (turned (codes "caller") q.name)
 
 -- chains of `elif`
 if_uses : (q : Places) (n : Box (Spanned IfCondNode) Global) →

@@ -32,10 +32,17 @@ fn use_statements<'source>(
     Ok(())
 }
 
-// A region of its own.
+/// Uses the names in the statements of a region of its own.
+///
+/// # Errors
+///
+/// Want of memory.
 #[cycle(statement)]
 #[inline(never)]
-fn use_region<'source>(names: &mut Names<'source>, body: &[Stmt<'source>]) -> Result<(), AllocError>
+pub fn use_region<'source>(
+    names: &mut Names<'source>,
+    body: &[Stmt<'source>],
+) -> Result<(), AllocError>
     ensures { OnOk result (Goes (λ places. place_within places (statements_in body.now)) nothing names.old names.new) }
 {
     if body.is_empty() {
@@ -105,10 +112,15 @@ fn use_with<'source>(
     Ok(())
 }
 
-// The body of a macro behind its arguments, in a region of its own.
+/// Uses the names in a macro: in the defaults of its arguments and in its body, in a region of its own where `caller` is
+/// stored.
+///
+/// # Errors
+///
+/// Want of memory.
 #[cycle(statement)]
 #[inline(never)]
-fn use_macro<'source>(
+pub fn use_macro<'source>(
     names: &mut Names<'source>,
     body: &[Stmt<'source>],
     arguments: &[Expr<'source>],
@@ -118,8 +130,8 @@ fn use_macro<'source>(
         (place_within places (statements_in body.now))) nothing names.old names.new) }
 {
     let around = names.open()?;
-    bind_arguments(names, arguments, defaults)?;
     names.store("caller")?;
+    bind_arguments(names, arguments, defaults)?;
     use_statements(names, body)?;
     names.close(around);
     Ok(())

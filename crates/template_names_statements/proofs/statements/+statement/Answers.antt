@@ -57,8 +57,8 @@ pub use_macro-returns : goal.use_macro-returns
 use_macro-returns t c =
     uses_as (λ q. macro_uses q c.args.arguments.now c.args.defaults.now (place_within q (statements_in c.args.body.now)))
     (goes_inside c.args.names.now c.open.new.self c.use_statements.new.names c.close.new.self c.in_ok-around.around c.in_ok-around.ensures
-    (goes_then c.open.new.self c.store.new.self c.use_statements.new.names
-    (goes_then c.open.new.self c.bind_arguments.new.names c.store.new.self c.in_ok-bind_arguments.ensures c.in_ok-store.ensures)
+    (goes_then c.open.new.self c.bind_arguments.new.names c.use_statements.new.names
+    (goes_then c.open.new.self c.store.new.self c.bind_arguments.new.names c.in_ok-store.ensures c.in_ok-bind_arguments.ensures)
     c.in_ok-use_statements.ensures) c.close.ensures)
 
 pub use_chain-returns-then-len-ne1 : goal.use_chain-returns-then-len-ne1
