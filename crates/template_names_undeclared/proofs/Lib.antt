@@ -1,3 +1,4 @@
 mod Adding
+pub mod Taking
 pub mod Walking
 mod Whole

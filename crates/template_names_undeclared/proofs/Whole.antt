@@ -1,20 +1,66 @@
 -- The names that a whole tree uses.
-use Rattle.std.proofs.Common.{Global, Result, Ok, Err, ◌≡◌, ℕ, Bool, true, false, not, ◌&&◌, ◌||◌, List, String, codes, bytes_eq, IsTrue, inl, inr, ◌↔◌, refl, sym, ap, subst, ◌∙◌}
+use Rattle.std.proofs.Common.{Global, Result, Ok, Err, ◌≡◌, ℕ, Bool, true, false, not, ◌&&◌, ◌||◌, List, String, codes, IsTrue, inl, inr, ◌↔◌, refl, sym, ap, subst, ◌∙◌}
 use Rattle.std.specs.Prelude.{IfOk}
 use Rattle.std.specs.BTreeSet.{BTreeSet, contains_text}
 use Rattle.template_tree.specs.Tree.{Statement, template, raw, print, for_loop, if_condition, with_block, set, set_block, auto_escape, filter_block, block, import, from_import, extends, include, macro, call_block, continue_loop, break_loop, do_call}
 use Rattle.template_names.specs.Names.{IsToldFor, Places, anywhere, is_stored_by, is_stored_everywhere, place_by}
 use Rattle.template_names.specs.declared.state.Names.{Names}
 use Rattle.template_names_undeclared.specs.Found.{HasJust, has_place, uses}
-use Rattle.template_names.specs.Among.{just}
+use Rattle.template_names.specs.Among.{Among, just}
 use Rattle.template_names.specs.Goes.{Goes, knows, no_place, tells}
-use Rattle.template_names.proofs.Laws.{goes_then, turned}
+use Rattle.template_names.proofs.Laws.{and_false, goes_then, turned}
 
--- nothing was found or known before
-from_nothing : (k s e u : Bool) → k ≡ false → IsTrue (not k && ((false || (not s && false)) || (not e && u))) ↔ IsTrue (not e && u)
-from_nothing true s e u known = cc
-from_nothing false true e u known = (λ h. h, λ h. h)
-from_nothing false false e u known = (λ h. h, λ h. h)
+-- at the beginning nothing is told, and what is stored everywhere is known
+untold : (b : Bool) → (IsTrue b → ⊥) → b ≡ false
+untold true h = absurd (h refl)
+untold false h = refl
+
+none_told : {k : Among} (a b : Names) → ((q : List ℕ) → tells a q ≡ false) → Goes no_place k a b → (q : List ℕ) → tells b q ≡ false
+none_told a b fresh goes q =
+    untold (tells b q) (λ h. elim ((goes.found q).0 h) [
+      | inl o ↦ let none : false ≡ true = sym (fresh q) ∙ o in cc
+      | inr f ↦ let none : false ≡ true = sym (and_false (not (knows a f.0.name))) ∙ f.2 in cc
+    ])
+
+pub begun : (a b c : Names) → ((q : List ℕ) → tells a q ≡ false) → ((q : List ℕ) → knows a q ≡ false) → Goes no_place (just (codes "self")) a b →
+    Goes no_place (just (codes "super")) b c → ((q : List ℕ) → tells c q ≡ false) × ((q : List ℕ) → knows c q ≡ is_stored_everywhere q)
+begun a b c fresh unknown self super =
+    let both = goes_then a b c self super in (
+      none_told b c (none_told a b fresh self) super,
+      λ q.
+          both.knows q ∙ ap (λ k. k || (just (codes "self") q || just (codes "super") q)) (unknown q) ∙
+          ap (λ s. s || just (codes "super") q) (turned (codes "self") q) ∙ ap (λ s. just q (codes "self") || s) (turned (codes "super") q),
+    )
+
+-- and a walk that begins so tells what it uses
+pub found_from : {u : Places → Bool} {k : Among} (nested : Bool) (a d : Names) → a.nested ≡ nested → ((q : List ℕ) → tells a q ≡ false) →
+    ((q : List ℕ) → knows a q ≡ is_stored_everywhere q) → Goes u k a d →
+    (q : List ℕ) → IsTrue (tells d q) ↔ ((p : Places) × IsToldFor nested q p × IsTrue (not (is_stored_everywhere p.name) && u p))
+found_from {u} nested a d mode fresh known goes q = (
+  λ h. elim ((goes.found q).0 h) [
+    | inl o ↦ let none : false ≡ true = sym (fresh q) ∙ o in cc
+    | inr f ↦ (f.0, subst (λ n. IsToldFor n q f.0) mode f.1, ap (λ s. not s && u f.0) (sym (known f.0.name)) ∙ f.2)
+  ],
+  λ f. (goes.found q).1 (inr (f.0, subst (λ n. IsToldFor n q f.0) (sym mode) f.1, ap (λ s. not s && u f.0) (known f.0.name) ∙ f.2)),
+)
+
+same_truth : (a b : Bool) → IsTrue a ↔ IsTrue b → a ≡ b
+same_truth true b h = sym (h.0 refl)
+same_truth false true h = h.1 refl
+same_truth false false h = refl
+
+-- names alone
+pub plain_from : {u : Places → Bool} {k : Among} (a d : Names) → a.nested ≡ false → ((q : List ℕ) → tells a q ≡ false) →
+    ((q : List ℕ) → knows a q ≡ is_stored_everywhere q) → Goes u k a d → (q : List ℕ) → tells d q ≡ (not (is_stored_everywhere q) && u (anywhere q))
+plain_from {u} a d flat fresh known goes q =
+    let all = found_from false a d flat fresh known goes q in
+    same_truth (tells d q) (not (is_stored_everywhere q) && u (anywhere q))
+    (λ h. let f = all.0 h in subst (λ (p : Places). IsTrue (not (is_stored_everywhere p.name) && u p)) f.1 f.2) (λ h. all.1 (anywhere q, refl, h))
+
+pub in_plain_set : {E : Type 0} (among : Among) (d : Names) (r : Result (BTreeSet (String Global)) E) → ((q : List ℕ) → tells d q ≡ among q) →
+    IfOk r (λ names. (q : List ℕ) → contains_text names q ≡ tells d q) → IfOk r (λ names. (q : List ℕ) → contains_text names q ≡ among q)
+in_plain_set among d (Ok names) whole same = λ q. same q ∙ whole q
+in_plain_set among d (Err error) whole same = tt
 
 has_place_is : (t : Statement) (p : Places) → has_place t p ≡ (not (is_stored_everywhere p.name) && place_by p t)
 has_place_is (template body) p = refl
@@ -38,30 +84,13 @@ has_place_is continue_loop p = refl
 has_place_is break_loop p = refl
 has_place_is (do_call callee passed) p = refl
 
-pub whole_names : (t : Statement) (nested : Bool) (a b c d : Names) → a.nested ≡ nested → ((q : List ℕ) → tells a q ≡ false) →
-    ((q : List ℕ) → knows a q ≡ false) → Goes no_place (just (codes "self")) a b → Goes no_place (just (codes "super")) b c →
-    Goes (λ p. place_by p t) (λ q. is_stored_by q t) c d →
+pub whole_names : (t : Statement) (nested : Bool) (a d : Names) → a.nested ≡ nested → ((q : List ℕ) → tells a q ≡ false) →
+    ((q : List ℕ) → knows a q ≡ is_stored_everywhere q) → Goes (λ p. place_by p t) (λ q. is_stored_by q t) a d →
     (q : List ℕ) → IsTrue (tells d q) ↔ ((p : Places) × IsToldFor nested q p × IsTrue (has_place t p))
-whole_names t nested a b c d mode fresh unknown self super goes q =
-    let all = (goes_then a c d (goes_then a b c self super) goes).found q in
-    let s = λ (p : Places). just (codes "self") p.name in
-    let e = λ (p : Places). just (codes "self") p.name || just (codes "super") p.name in
-    let named : (p : Places) → (not (e p) && place_by p t) ≡ has_place t p = λ p.
-    ap (λ b. not (b || just (codes "super") p.name) && place_by p t) (turned (codes "self") p.name) ∙
-    ap (λ b. not (bytes_eq p.name (codes "self") || b) && place_by p t) (turned (codes "super") p.name) ∙ sym (has_place_is t p) in (
-      λ h. elim (all.0 h) [
-        | inl o ↦ let none : false ≡ true = sym (fresh q) ∙ o in cc
-        | inr f ↦ (
-          f.0,
-          subst (λ n. IsToldFor n q f.0) mode f.1,
-          sym (named f.0) ∙ (from_nothing (knows a f.0.name) (s f.0) (e f.0) (place_by f.0 t) (unknown f.0.name)).0 f.2,
-        )
-      ],
-      λ f. all.1 (inr (
-        f.0,
-        subst (λ n. IsToldFor n q f.0) (sym mode) f.1,
-        (from_nothing (knows a f.0.name) (s f.0) (e f.0) (place_by f.0 t) (unknown f.0.name)).1 (named f.0 ∙ f.2),
-      )),
+whole_names t nested a d mode fresh known goes q =
+    let all = found_from nested a d mode fresh known goes q in (
+      λ h. let f = all.0 h in (f.0, f.1, has_place_is t f.0 ∙ f.2),
+      λ f. all.1 (f.0, f.1, sym (has_place_is t f.0) ∙ f.2),
     )
 
 -- the texts that are found, in a set
@@ -74,11 +103,6 @@ in_set t nested d (Err error) whole same = tt
 -- of names alone
 told_plain : (t : Statement) (q : List ℕ) (f : (p : Places) × IsToldFor false q p × IsTrue (has_place t p)) → IsTrue (uses t q)
 told_plain t q f = subst (λ (p : Places). IsTrue (has_place t p)) f.1 f.2
-
-same_truth : (a b : Bool) → IsTrue a ↔ IsTrue b → a ≡ b
-same_truth true b h = sym (h.0 refl)
-same_truth false true h = h.1 refl
-same_truth false false h = refl
 
 pub plain_names : {A : Type 0} (t : Statement) (names : BTreeSet (String A)) → HasJust false t names → (q : List ℕ) → contains_text names q ≡ uses t q
 plain_names t names just q =

@@ -1,8 +1,9 @@
 //! The names that a whole template uses.
-ghost use Rattle.std.specs.Prelude.{◌≡◌, ◌↔◌, ℕ, List, IfOk, IsTrue};
+ghost use Rattle.std.specs.Prelude.{◌≡◌, ◌↔◌, ℕ, List, IfOk, IsTrue, false};
 ghost use Rattle.template_tree.specs.Tree.{Statements};
 ghost use Rattle.template_tree_statements.specs.View.{statement_of};
-ghost use Rattle.template_names.specs.Names.{along, is_used, uses_place};
+ghost use Rattle.template_names.specs.Goes.{knows, tells};
+ghost use Rattle.template_names.specs.Names.{along, is_stored_everywhere, is_used, uses_place};
 ghost use Rattle.template_names_undeclared.specs.Found.{HasJust};
 
 use std::alloc::{AllocError, Global};
@@ -25,11 +26,25 @@ pub fn find_undeclared(
 ) -> Result<BTreeSet<String>, AllocError>
     ensures { IfOk result (HasJust track_nested (statement_of tree.now)) }
 {
+    let mut names = begin(alloc, track_nested)?;
+    use_statement(&mut names, tree)?;
+    names.into_found()
+}
+
+// Nothing is found, and what is stored everywhere is known.
+#[inline(always)]
+pub(crate) fn begin<'source>(
+    alloc: Global,
+    track_nested: bool,
+) -> Result<Names<'source>, AllocError>
+    ensures nested { IfOk result (λ names. names.nested ≡ track_nested) }
+    ensures found { IfOk result (λ names. (text : List ℕ) → tells names text ≡ false) }
+    ensures known { IfOk result (λ names. (name : List ℕ) → knows names name ≡ is_stored_everywhere name) }
+{
     let mut names = Names::new(alloc, track_nested);
     names.store("self")?;
     names.store("super")?;
-    use_statement(&mut names, tree)?;
-    names.into_found()
+    Ok(names)
 }
 
 /// A law: the names that a template is told to use are the first ones of those with dotted names behind them.

@@ -4,7 +4,7 @@ use Rattle.template_names_undeclared.proofs.undeclared.find_undeclared.Goals as 
 
 pub returns : goal.returns
 returns c =
-    in_set (statement_of c.args.tree.now) c.args.track_nested c.use_statement.new.names c.into_found.result
-    (whole_names (statement_of c.args.tree.now) c.args.track_nested c.new-names.result c.store.new.self c.store-2.new.self c.use_statement.new.names
-    c.new-names.ensures.nested c.new-names.ensures.found c.new-names.ensures.known c.in_ok-store.ensures c.in_ok-store-2.ensures c.in_ok-use_statement.ensures)
-    c.into_found.ensures
+    let t = statement_of c.args.tree.now in
+    in_set t c.args.track_nested c.use_statement.new.names c.into_found.result
+    (whole_names t c.args.track_nested c.in_ok-names.names c.use_statement.new.names c.in_ok-names.ensures.nested c.in_ok-names.ensures.found
+    c.in_ok-names.ensures.known c.in_ok-use_statement.ensures) c.into_found.ensures

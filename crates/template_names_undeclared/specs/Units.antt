@@ -1,0 +1,60 @@
+-- What of a template is gone over by itself: its body, each block, and the rounds of each recursive loop. Where they run
+-- is not told by where they stand, so each of them is walked alone too.
+use Rattle.std.specs.Prelude.{ℕ, Bool, true, false, not, ◌&&◌, ◌||◌, List, [], ◌∷◌, ◌++◌, codes, map}
+use Rattle.std.specs.Str.{bytes_eq}
+use Rattle.template_tree.specs.Tree.{Expression, Statement, Statements, template, for_loop, if_condition, with_block, set_block, auto_escape, filter_block, block, macro, call_block, no_statements, statements_more}
+use Rattle.template_tree.specs.View.{expression_of}
+use Rattle.template_tree_parts.specs.Listed.{statements_in}
+use Rattle.template_names.specs.Names.{Places, anywhere, is_stored_everywhere, is_stored_in, place_in_target, place_within}
+use Rattle.template_names_undeclared.specs.declared.parts.Unit.{Unit}
+use Rattle.template_names_undeclared.specs.declared.parts.Unit.TheVariants.{Template, Block, Loop}
+
+pub data Part : Type 0 where
+  whole : Statements → Part  -- the body of a template, its blocks where they stand
+  block_body : Statements → Part
+  rounds : Expression → Statements → Part  -- a recursive loop's target and body
+
+-- one of the places is in it, and nothing before it there stores its name; in a loop's body `loop` is stored
+abbrev pub place_in_part : Places → Part → Bool
+place_in_part places (whole body) = place_within places body
+place_in_part places (block_body body) = place_within places body
+place_in_part places (rounds target body) =
+    place_in_target places target
+    || not (is_stored_in places.name target) && (not (bytes_eq places.name (codes "loop")) && place_within places body)
+
+-- whether it uses the name
+abbrev pub is_used_by_part : List ℕ → Part → Bool
+is_used_by_part name part = not (is_stored_everywhere name) && place_in_part (anywhere name) part
+
+abbrev pub rounds_of : Bool → Expression → Statements → List Part
+rounds_of true target body = rounds target body ∷ []
+rounds_of false target body = []
+
+abbrev mutual
+  -- those of a statement, in order of place
+  pub parts_of : Statement → List Part
+  parts_of (template body) = whole body ∷ parts_among body
+  parts_of (for_loop target _ _ recursive body otherwise) =
+      rounds_of recursive target body ++ (parts_among body ++ parts_among otherwise)
+  parts_of (if_condition _ body otherwise) = parts_among body ++ parts_among otherwise
+  parts_of (with_block _ body) = parts_among body
+  parts_of (set_block _ _ body) = parts_among body
+  parts_of (auto_escape _ body) = parts_among body
+  parts_of (filter_block _ body) = parts_among body
+  parts_of (block _ _ body) = block_body body ∷ parts_among body
+  parts_of (macro _ _ _ body) = parts_among body
+  parts_of (call_block _ _ _ _ body) = parts_among body
+  parts_of _ = []
+
+  pub parts_among : Statements → List Part
+  parts_among no_statements = []
+  parts_among (statements_more s ss) = parts_of s ++ parts_among ss
+
+-- the part that a reference to a node stands for
+abbrev pub part_of : Unit → Part
+part_of (Template n) = whole (statements_in n.now.children.items)
+part_of (Block n) = block_body (statements_in n.now.body.items)
+part_of (Loop n) = rounds (expression_of n.now.target) (statements_in n.now.body.items)
+
+abbrev pub parts_in : List Unit → List Part
+parts_in units = map part_of units
