@@ -28,6 +28,8 @@ pub use Rattle.template_compiler_sources.specs.Source
 pub use Rattle.template_compiler_sources.specs.Parsers
 pub use Rattle.template_names.specs.Names as UsedNames
 pub use Rattle.template_names_undeclared.specs.Found
+pub use Rattle.template_names_undeclared.specs.Closures
+pub use Rattle.template_names_undeclared.specs.Units
 pub use Rattle.template_process.specs.Process
 pub use Rattle.template_process.specs.Drive
 pub use Rattle.template_process.specs.Whole

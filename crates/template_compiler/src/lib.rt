@@ -24,7 +24,9 @@
 //!   source, and each knows its [`ast::Span`].
 //!   [`Parser`] does both for one source, and keeps a refusal.
 //! - [`find_undeclared`] gives the names that a tree uses, which a context may be asked for;
-//!   [`add_undeclared`] adds them to a set.
+//!   [`add_undeclared`] adds them to a set. [`units`] gives what of a template is gone over by itself, its body, each block
+//!   and the rounds of each recursive loop, [`used_names`] the names that such a [`Unit`] uses, and
+//!   [`find_macro_closure`] those that a macro encloses.
 //! - [`is_runnable`] tells whether all constructs of a template's tree have a walk yet, [`is_runnable_expr`] of an
 //!   expression's.
 //! - [`compile_template`] puts the code of a tree behind what stands in [`Instructions`], [`compile_expr`]
@@ -63,5 +65,7 @@ pub use template_compiler_statement_codegen::{compile_expr, compile_template};
 pub use template_compiler_syntax::{StartMarker, SyntaxConfig, SyntaxConfigBuilder};
 pub use template_compiler_tokenizer::{TokenStream, Tokenizer};
 pub use template_compiler_tokens::{Token, Tokens, one_token};
-pub use template_names_undeclared::{add_undeclared, find_undeclared, first_segments};
+pub use template_names_undeclared::{
+    Unit, add_undeclared, find_macro_closure, find_undeclared, first_segments, units, used_names,
+};
 pub use template_values_errors::{Error, ErrorKind};

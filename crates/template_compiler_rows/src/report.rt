@@ -1,5 +1,6 @@
 //! What comes of a line, as it is written.
 use std::alloc::{AllocError, Global};
+use std::collections::BTreeSet;
 use std::fmt::Debug;
 use template_tree::Span;
 use template_values_core::Value;
@@ -61,6 +62,16 @@ impl Report {
     pub(crate) fn word(&mut self, word: &str) {
         self.push(' ');
         self.push_str(word)
+    }
+
+    /// Names in order, behind a head, in parentheses.
+    pub(crate) fn names(&mut self, head: &str, names: &BTreeSet<String>) {
+        self.push('(');
+        self.push_str(head);
+        for name in names {
+            self.word(name.as_str())
+        }
+        self.push(')')
     }
 
     /// As `Debug` shows it, behind words.

@@ -2,6 +2,7 @@
 use crate::NAME;
 use crate::generated::generated;
 use crate::report::Report;
+use crate::unit_names::{closures, write_units};
 use serde_json::{Map, Value as Json};
 use std::alloc::Global;
 use std::collections::BTreeSet;
@@ -14,7 +15,8 @@ use template_tree::Expr;
 use template_tree_statements::Stmt;
 use template_values_errors::{Error, ErrorKind};
 
-/// What is asked of the tree of a template: `runnable`, `names`, `nested`, or what a generator makes of it.
+/// What is asked of the tree of a template: `runnable`, `names`, `nested`, `closures`, `units`, or what a generator makes of
+/// it.
 pub(crate) fn about_template<'line>(
     alloc: Global,
     source: &'line str,
@@ -51,6 +53,8 @@ fn about_tree<'line>(
         "runnable" => out.tell("", &is_runnable(tree)),
         "names" => names(alloc, tree, false, out),
         "nested" => names(alloc, tree, true, out),
+        "closures" => closures(alloc, tree, out),
+        "units" => write_units(alloc, tree, out),
         _ => out.refuse(ErrorKind::SyntaxError),
     }
 }
@@ -58,17 +62,9 @@ fn about_tree<'line>(
 // The names that a template uses; where `nested`, each with the dotted names that stand directly behind it.
 fn names(alloc: Global, tree: &Stmt<'_>, nested: bool, out: &mut Report) {
     match &find_undeclared(alloc, tree, nested) {
-        Ok(names) => write_names(names, out),
+        Ok(names) => out.names("names", names),
         Err(_refused) => out.refuse(ErrorKind::OutOfMemory),
     }
-}
-
-fn write_names(names: &BTreeSet<String>, out: &mut Report) {
-    out.push_str("(names");
-    for name in names {
-        out.word(name.as_str())
-    }
-    out.push(')')
 }
 
 /// The names that two templates use, put into one set.
@@ -76,7 +72,7 @@ pub(crate) fn names_of_both(alloc: Global, first: &str, second: &str, out: &mut 
     let mut names = BTreeSet::new(alloc);
     add_names(alloc, &mut names, first, out);
     add_names(alloc, &mut names, second, out);
-    write_names(&names, out)
+    out.names("names", &names)
 }
 
 fn add_names(alloc: Global, names: &mut BTreeSet<String>, source: &str, out: &mut Report) {

@@ -8,6 +8,6 @@ mod undeclared;
 
 pub use closures::find_macro_closure;
 pub use owned::add_undeclared;
-pub use parts::{Unit, used_names};
+pub use parts::{Unit, units, used_names};
 pub use template_names::add_name;
 pub use undeclared::{find_undeclared, first_segments};
