@@ -1,13 +1,12 @@
 -- The local goes behind the others, and its place is kept.
-use Rattle.std.proofs.Common.{◌≡◌, ◌∙◌, ℕ, sym, ap, subst, refl, List, ◌++◌, ◌∷◌, [], length, None, Some, arith}
+use Rattle.std.proofs.Common.{◌≡◌, ◌∙◌, ℕ, sym, ap, subst, refl, List, ◌++◌, ◌∷◌, [], length, Some, arith}
 use Rattle.std.specs.Borrow.{Bor}
-use Rattle.std.specs.BTreeMap.{BTreeMap, UpdatesBy}
+use Rattle.std.specs.BTreeMap.{UpdatesBy}
 use Rattle.std.specs.Cmp.Lexicographic.{slice_cmp}
-use Rattle.std.specs.List.{position}
 use Rattle.std.specs.Ordering.{nat_cmp}
 use Rattle.template_machine_meaning.specs.World.{local_at, put_local}
 use Rattle.template_machine_frames.specs.declared.local.Local.{Local}
-use Rattle.template_machine_frames.specs.Locals.{is_named, locals_of, TellPlaces}
+use Rattle.template_machine_frames.specs.Locals.{locals_of, TellPlaces}
 use Rattle.template_machine_frames.proofs.Named.{no_place, put_new}
 use Rattle.template_machine_frames.proofs.Places.{places_pushed}
 use Rattle.template_machine_frames.proofs.indexed.Indexed.add.Goals as goal

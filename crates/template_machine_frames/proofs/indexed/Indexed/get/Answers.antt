@@ -1,9 +1,6 @@
 -- The place that is kept of the name is its own.
-use Rattle.std.proofs.Common.{◌≡◌, ◌∙◌, ◌<◌, sym, ap, length, Some, None, arith}
-use Rattle.std.specs.List.{position}
-use Rattle.std.specs.Vec.{vec_len}
+use Rattle.std.proofs.Common.{◌∙◌, ◌<◌, sym, ap, length, arith}
 use Rattle.template_machine_meaning.specs.World.{local_at}
-use Rattle.template_machine_frames.specs.Locals.{is_named}
 use Rattle.template_machine_frames.proofs.Named.{found_here, not_found, within}
 use Rattle.template_machine_frames.proofs.indexed.Indexed.get.Goals as goal
 

@@ -1,5 +1,5 @@
 -- The value goes to the place that is kept of the name.
-use Rattle.std.proofs.Common.{◌≡◌, ◌∙◌, ◌<◌, sym, ap, length, arith}
+use Rattle.std.proofs.Common.{◌∙◌, ◌<◌, sym, ap, length, arith}
 use Rattle.template_machine_meaning.specs.World.{local_at, put_local}
 use Rattle.template_machine_frames.proofs.Named.{not_found, put_at, within}
 use Rattle.template_machine_frames.proofs.indexed.Indexed.insert.Goals as goal

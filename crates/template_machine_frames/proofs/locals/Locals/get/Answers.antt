@@ -1,5 +1,5 @@
 -- What is found has the value of the name.
-use Rattle.std.proofs.Common.{◌≡◌, ap, sym, ◌∙◌, ◌++◌, option_map, Option, Some, None}
+use Rattle.std.proofs.Common.{ap, ◌∙◌, option_map, Option}
 use Rattle.std.specs.List.{find}
 use Rattle.std.specs.Option.{option_or}
 use Rattle.template_values_model.specs.Val.{Val}

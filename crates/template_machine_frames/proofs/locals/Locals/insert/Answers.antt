@@ -1,10 +1,9 @@
 -- A store replaces what is found, or is put behind the others.
-use Rattle.std.proofs.Common.{◌≡◌, ◌∙◌, ◌++◌, ◌∷◌, [], ◌<◌, List, ℕ, sym, ap, subst, refl, length, None, Some, IsSome, arith, rules}
+use Rattle.std.proofs.Common.{◌≡◌, ◌∙◌, ◌++◌, ◌<◌, List, ℕ, sym, ap, subst, refl, length, None, Some, IsSome, arith, rules}
 use Rattle.std.specs.Vec.{vec_capacity}
 use Rattle.std.specs.List.{position}
 use Rattle.template_values_model.specs.Val.{Val}
 use Rattle.template_machine_meaning.specs.World.{local_at, put_local}
-use Rattle.template_machine_frames.specs.declared.local.Local.{Local}
 use Rattle.template_machine_frames.specs.declared.locals.TheConstants.{FEW}
 use Rattle.template_machine_frames.specs.Locals.{locals_of, is_named}
 use Rattle.template_machine_frames.proofs.Named.{found_here, not_found, put_at, put_new, where_made, where_stored}
@@ -58,10 +57,10 @@ returns-after-push_growing-clause-stored c =
     let found : position (is_named name) few.items ≡ None = ap (position (is_named name)) (sym c.as_slice.ensures.value) ∙ sym c.in-None.ensures in
     let short : length few.items < FEW = omega (arith, c.if-len-ge-FEW.false, c.len-else-len-capacity.ensures, few.ok.0) in
     elim c.if-push_growing.branch [
-      then-push_growing w ↦ where_made c.if-push_growing.result _
+      | then-push_growing w ↦ where_made c.if-push_growing.result _
           (put_alone name c.args.value (locals_of few.items) (locals_of c.push_growing.new.items.items) further (none_behind_few few further c.self.invariant short)
           (ap locals_of (c.push_growing.ensures.pushed w.if-push_growing.true)
           ∙ put_new name c.args.value few.items (record { name = c.args.name; value = c.args.value }) found refl refl)
           ∙ ap (put_local name c.args.value) c.self.view_is)
-    | else-push_growing w ↦ search (rules, w.result-is)
+      | else-push_growing w ↦ search (rules, w.result-is)
     ]

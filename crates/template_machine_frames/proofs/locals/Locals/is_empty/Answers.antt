@@ -1,4 +1,4 @@
-use Rattle.std.proofs.Common.{◌≡◌, ◌∙◌, ◌==◌, ◌++◌, ap, arith, length, ℕ, List}
+use Rattle.std.proofs.Common.{◌≡◌, ◌∙◌, ◌==◌, ap, arith, length, ℕ, List}
 use Rattle.std.specs.Vec.{vec_len}
 use Rattle.template_values_model.specs.Val.{Val}
 use Rattle.template_machine_frames.proofs.Behind.{empty_where_few}
