@@ -2,3 +2,5 @@ pub mod Named
 pub mod Known
 pub mod Innermost
 pub mod Knowing
+pub mod Behind
+pub mod Places

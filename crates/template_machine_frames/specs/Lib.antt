@@ -1,6 +1,7 @@
 pub mod Frames
 pub mod Codes
 pub mod Locals
+pub mod Further
 pub mod Names
 -- what contracts above cite of a crate below
 pub use Rattle.template_machine_loops.specs.Loops

@@ -25,7 +25,7 @@ pub(crate) fn push_to<T: Drop>(items: &mut Vec<T>, item: T) -> Result<(), Error>
 // The same where there may be no room for one more; tells whether memory was given.
 #[cold]
 #[inline(never)]
-fn push_growing<T: Drop>(items: &mut Vec<T>, item: T) -> bool
+pub(crate) fn push_growing<T: Drop>(items: &mut Vec<T>, item: T) -> bool
     ensures pushed { IsTrue result → items.new.items ≡ items.old.items ++ item ∷ [] }
     ensures unchanged { IsTrue (not result) → items.new.items ≡ items.old.items }
 {

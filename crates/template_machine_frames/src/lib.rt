@@ -3,7 +3,10 @@
 
 mod context;
 mod frame;
+mod further;
 mod growth;
+mod indexed;
+mod local;
 mod locals;
 mod names;
 

@@ -1,34 +1,32 @@
 //! The locals of a frame.
-ghost use Rattle.std.specs.Prelude.{◌≡◌, ◌==◌, ℕ, List, ◌||◌, ◌-◌, [], length, take, is_some, IfErr, OnOk, OnErr, option_copied};
+ghost use Rattle.std.specs.Prelude.{◌≡◌, ◌==◌, ℕ, List, ◌||◌, [], length, is_some, IfErr, OnOk, OnErr, option_copied};
 ghost use Rattle.std.specs.BTreeSet.{contains_text};
-ghost use Rattle.std.specs.List.{find, position};
 ghost use Rattle.template_values_errors.specs.Memory.{NoMemory};
 ghost use Rattle.template_machine_meaning.specs.World.{local_at, put_local};
-ghost use Rattle.template_machine_frames.specs.Locals.{is_named};
 ghost use Rattle.template_machine_frames.specs.Names.{exports_of};
 
-use crate::growth::push_to;
-use crate::names::{add_name, is_private};
+use crate::further::Further;
+use crate::growth::push_growing;
+use crate::local::{Local, add_exports, add_names, drop_last, find, position};
 use std::alloc::Global;
 use std::collections::BTreeSet;
 use std::marker::Model;
-use template_values_core::{Value, is_same};
-use template_values_errors::Error;
+use template_values_core::Value;
+use template_values_errors::{Error, ErrorKind};
 
-#[derive(Drop)]
-struct Local<'env> {
-    name: &'env str,
-    value: Value,
-}
+// So many names are looked through one by one, or more where memory was given for more.
+const FEW: usize = 16;
 
-/// Names with their values.
+/// Names with their values. The first few of them are looked through one by one, which is soonest where there are no
+/// others; further ones are found by their order.
 #[derive(Drop)]
 pub struct Locals<'env> {
-    locals: Vec<Local<'env>>,
+    few: Vec<Local<'env>>,
+    further: Further<'env>,
 }
 
 impl<'env> Model for Locals<'env> {
-    ghost use Rattle.std.specs.Prelude.{ℕ, List};
+    ghost use Rattle.std.specs.Prelude.{ℕ, List, ◌++◌};
     ghost use Rattle.template_values_model.specs.Val.{Val};
     ghost use Rattle.template_machine_frames.specs.Codes.{locals_code};
 
@@ -36,52 +34,11 @@ impl<'env> Model for Locals<'env> {
 
     ghost coded = { locals_code };
 
-    ghost use Rattle.template_machine_frames.specs.Locals.{locals_of};
+    ghost use Rattle.template_machine_frames.specs.Locals.{locals_of, StandBehind};
 
-    ghost view = { λ l. locals_of l.locals.items };
-}
+    ghost view = { λ l. locals_of l.few.items ++ l.further };
 
-impl<'env> Local<'env> {
-    fn set(&mut self, value: Value)
-        ensures name { self.new.name ≡ self.old.name }
-        ensures value { self.new.value ≡ value }
-    {
-        self.value = value;
-    }
-}
-
-// The local of a name.
-#[inline(always)]
-fn find<'a, 'env>(locals: &'a [Local<'env>], name: &str) -> Option<&'a Local<'env>>
-    ensures { option_copied result ≡ find (is_named name.now) locals.now }
-{
-    for local in locals {
-        if is_same(local.name, name) {
-            return Some(local);
-        }
-    }
-    None
-}
-
-// Where the local of a name stands.
-#[inline]
-fn position(locals: &[Local<'_>], name: &str) -> Option<usize>
-    ensures { result ≡ position (is_named name.now) locals.now }
-{
-    for (place, local) in locals.iter().enumerate() {
-        if is_same(local.name, name) {
-            return Some(place);
-        }
-    }
-    None
-}
-
-// The last local goes, where there is one.
-#[inline(always)]
-fn drop_last(locals: &mut Vec<Local<'_>>)
-    ensures { locals.new.items ≡ take (length locals.old.items - 1) locals.old.items }
-{
-    locals.pop();
+    ghost invariant = { λ l. StandBehind l.few l.further };
 }
 
 impl<'env> Locals<'env> {
@@ -90,22 +47,24 @@ impl<'env> Locals<'env> {
         ensures { result ≡ [] }
     {
         Locals {
-            locals: Vec::new(alloc),
+            few: Vec::new(alloc),
+            further: Further::new(alloc),
         }
     }
 
-    /// The value of a name. Linear in the number of names.
+    /// The value of a name. Looks through the first sixteen names; where there are more, logarithmic in their number.
     #[inline]
     pub fn get(&self, name: &str) -> Option<&Value>
         ensures { option_copied result ≡ local_at name.now self.now }
     {
-        match find(self.locals.as_slice(), name) {
+        match find(self.few.as_slice(), name) {
             Some(local) => Some(&local.value),
-            None => None,
+            None => self.further.get(name),
         }
     }
 
-    /// From now on the name has the value. Linear in the number of names.
+    /// From now on the name has the value. Looks through the first sixteen names; where there are more, logarithmic in their
+    /// number.
     ///
     /// # Errors
     ///
@@ -118,12 +77,23 @@ impl<'env> Locals<'env> {
         ensures refused { IfErr result NoMemory }
         ensures unchanged { OnErr result (self.new ≡ self.old) }
     {
-        match position(self.locals.as_slice(), name) {
+        match position(self.few.as_slice(), name) {
             Some(place) => {
-                self.locals[place].set(value);
+                self.few[place].set(value);
                 Ok(())
             }
-            None => push_to(&mut self.locals, Local { name, value }),
+            None => {
+                if self.few.len() < self.few.capacity() {
+                    self.few.push_reserved(Local { name, value });
+                    Ok(())
+                } else if FEW <= self.few.len() {
+                    self.further.insert(name, value)
+                } else if push_growing(&mut self.few, Local { name, value }) {
+                    Ok(())
+                } else {
+                    Err(Error::new(ErrorKind::OutOfMemory))
+                }
+            }
         }
     }
 
@@ -133,10 +103,8 @@ impl<'env> Locals<'env> {
             ≡ (contains_text names.old q || is_some (local_at q self.now))) }
         ensures refused { IfErr result NoMemory }
     {
-        for local in &self.locals {
-            add_name(alloc, names, local.name)?;
-        }
-        Ok(())
+        add_names(alloc, names, self.few.as_slice())?;
+        self.further.add_names(alloc, names)
     }
 
     // Adds the names that do not begin with `_`.
@@ -148,12 +116,8 @@ impl<'env> Locals<'env> {
         ensures added { OnOk result ((q : List ℕ) → contains_text names.new q ≡ (contains_text names.old q || exports_of self.now q)) }
         ensures refused { IfErr result NoMemory }
     {
-        for local in &self.locals {
-            if !is_private(local.name) {
-                add_name(alloc, names, local.name)?;
-            }
-        }
-        Ok(())
+        add_exports(alloc, names, self.few.as_slice())?;
+        self.further.add_exports(alloc, names)
     }
 
     // Whether there are no names.
@@ -161,7 +125,7 @@ impl<'env> Locals<'env> {
     pub(crate) fn is_empty(&self) -> bool
         ensures { result ≡ (length self.now == 0) }
     {
-        self.locals.is_empty()
+        self.few.is_empty()
     }
 
     /// No names any more.
@@ -170,10 +134,11 @@ impl<'env> Locals<'env> {
         ensures { self.new ≡ [] }
     {
         // There are mostly one or two, which go sooner alone.
-        drop_last(&mut self.locals);
-        drop_last(&mut self.locals);
-        if !self.locals.is_empty() {
-            self.locals.clear();
+        drop_last(&mut self.few);
+        drop_last(&mut self.few);
+        if !self.few.is_empty() {
+            self.few.clear();
+            self.further.clear();
         }
     }
 }

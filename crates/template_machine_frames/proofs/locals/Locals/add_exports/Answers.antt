@@ -1,18 +1,24 @@
-use Rattle.std.proofs.Common.{◌≡◌, ◌∙◌, ap, ℕ, List, take}
+-- Those of the first few, then the others.
+use Rattle.std.proofs.Common.{◌∙◌, ap, ℕ, List}
 use Rattle.std.specs.Prelude.{◌||◌}
 use Rattle.std.specs.BTreeSet.{contains_text}
-use Rattle.std.proofs.lemmas.List.{take_all}
 use Rattle.template_values_model.specs.Val.{Val}
+use Rattle.template_machine_frames.specs.declared.local.Local.{Local}
+use Rattle.template_machine_frames.specs.Locals.{locals_of}
 use Rattle.template_machine_frames.specs.Names.{exports_of}
-use Rattle.template_machine_frames.specs.declared.locals.Local.{Local}
-use Rattle.template_machine_frames.proofs.Knowing.{is_export, export_found}
+use Rattle.template_machine_frames.proofs.Behind.{exports_of_two}
+use Rattle.template_machine_frames.proofs.Named.{where_stored}
 use Rattle.template_machine_frames.proofs.locals.Locals.add_exports.Goals as goal
 
--- the loop has gone over all locals
 pub returns-clause-added : goal.returns-clause-added
-returns-clause-added c = λ q.
-    let items = c.deref-local-items.result.now in
-    let all : take c.loop-local.local-index items ≡ items = take_all c.loop-local.local-index items c.loop-local-test.false in
+returns-clause-added c =
+    where_stored c.add_exports-2.result _ _
+    (λ second q.
+    let few = c.self.inside.few.items in
+    let further = c.self.inside.further in
     let before = contains_text c.args.names.now q in
-    c.loop-local.invariant q ∙ ap (λ (ls : List Local). before || is_export q ls) (all ∙ c.deref-local-items.ensures.value)
-    ∙ ap (λ b. before || b) (export_found q c.self.inside.locals.items ∙ ap (λ (xs : List (List ℕ × Val)). exports_of xs q) c.self.view_is)
+    exports_of_two q (locals_of few) further before (contains_text c.add_exports.new.names q) (contains_text c.add_exports-2.new.names q)
+    (c.in_ok-add_exports.ensures.added q ∙ ap (λ (ls : List Local). before || exports_of (locals_of ls) q) c.as_slice.ensures.value)
+    (second q)
+    ∙ ap (λ (xs : List (List ℕ × Val)). before || exports_of xs q) c.self.view_is)
+    c.add_exports-2.ensures.added

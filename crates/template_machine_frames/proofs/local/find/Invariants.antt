@@ -1,7 +1,7 @@
 use Rattle.std.proofs.Common.{◌≡◌, drop}
 use Rattle.std.specs.List.{find}
 use Rattle.template_machine_frames.specs.Locals.{is_named}
-use Rattle.template_machine_frames.proofs.locals.find.Given as goal
+use Rattle.template_machine_frames.proofs.local.find.Given as goal
 
 -- none of the locals that were passed has the name
 abbrev pub invariant-loop-local : goal.invariant-loop-local
