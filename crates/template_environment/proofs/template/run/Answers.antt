@@ -1,4 +1,4 @@
-use Rattle.std.proofs.Common.{Some, refl, sym, ap, ◌∙◌}
+use Rattle.std.proofs.Common.{rules, Some, refl, sym, ap, ◌∙◌}
 use Rattle.std.proofs.lemmas.Result.{err_from_is_err_and}
 use Rattle.template_values_errors.specs.declared.modes.AutoEscape.{AutoEscape}
 use Rattle.template_machine_meaning.specs.World.{first_world}
@@ -6,6 +6,9 @@ use Rattle.template_machine_renders.specs.Renders.{whole}
 use Rattle.template_environment.specs.Standing.{unit_of}
 use Rattle.template_environment.proofs.Rendering.{ruled_programs, render_done, render_stopped}
 use Rattle.template_environment.proofs.template.run.Goals as goal
+
+pub levels-requires : goal.levels-requires
+levels-requires g c = let runs = c.in_ok-run_code.ensures.runs (Some (unit_of c.args.compiled.now)) in search rules
 
 pub returns-in_err-run_code-clause-renders : goal.returns-in_err-run_code-clause-renders
 returns-in_err-run_code-clause-renders g c = λ n finished.
