@@ -1,2 +1,4 @@
 mod Alone
+mod Bodies
 mod Rounds
+mod Taking

@@ -1,0 +1,135 @@
+use Rattle.std.proofs.Common.{◌≡◌, ◌≤◌, length, get_or, vec_len, ◌++◌, refl, ap, ◌∙◌, arith}
+use Rattle.template_tree.specs.declared.span.Spanned.{Spanned}
+use Rattle.template_tree_statements.specs.View.{statement_of}
+use Rattle.template_tree_statements.specs.declared.statements.IfCond.{IfCond as IfCondNode}
+use Rattle.template_tree_statements.specs.declared.statements.Stmt.{Stmt, size-Stmt, IfCond}
+use Rattle.template_names_statements.proofs.Deep.{body_deep, choice_deep, choice_other_deep, deep_at}
+use Rattle.template_names_closures.specs.Units.{parts_in, units_of}
+use Rattle.template_names_closures.proofs.Bodies.{units_of_body}
+use Rattle.template_names_closures.proofs.Taking.{at_end, body_done, body_falls, body_item, chain_end, chain_taken, else_below, held_taken, item_falls, node_falls, only_units, stands_as}
+use Rattle.template_names_closures.proofs.listing.+statement.Goals as goal
+
+pub take_units-take_units_of-requires : goal.take_units-take_units_of-requires
+take_units-take_units_of-requires t c = (
+  item_falls _ (body_deep c.args.body.now) t
+      (deep_at size-Stmt c.args.body.now c.loop-statement.statement-index c.statement-item.result (omega arith) c.statement-item.is) c.decreases,
+  tt,
+)
+
+pub take_units-loop-statement-preserved : goal.take_units-loop-statement-preserved
+take_units-loop-statement-preserved t c =
+    body_item (parts_in c.loop-statement.found.items) (parts_in c.take_units_of.new.found.items) c.args.body.now
+    c.loop-statement.statement-index c.statement-item.result (omega arith) c.statement-item.is c.in_ok-take_units_of.ensures
+    c.loop-statement.invariant
+
+pub take_units-returns : goal.take_units-returns
+take_units-returns t c =
+    body_done (parts_in c.loop-statement.found.items) c.args.body.now c.loop-statement.statement-index c.loop-statement-test.false c.loop-statement.invariant
+
+pub take_units_of-returns-in-IfCond : goal.take_units_of-returns-in-IfCond
+take_units_of-returns-in-IfCond t c = stands_as _ _ c.in-IfCond.is c.take_chain.result c.take_chain.ensures
+
+pub take_units_of-take_chain-requires : goal.take_units_of-take_chain-requires
+take_units_of-take_chain-requires t c =
+    (node_falls _ (size-Stmt c.args.statement.now) t (ap (λ (x : Stmt). size-Stmt x) c.in-IfCond.is) c.decreases, tt)
+
+pub take_held-take_units-requires : goal.take_held-take_units-requires
+take_held-take_units-requires t c =
+    (body_falls _ _ (size-Stmt c.args.statement.now) t c.held_in.ensures.body (omega arith) c.decreases, tt)
+
+pub take_held-take_units-requires-2 : goal.take_held-take_units-requires-2
+take_held-take_units-requires-2 t c =
+    (body_falls _ _ (size-Stmt c.args.statement.now) t c.held_in.ensures.other (omega arith) c.decreases, tt)
+
+pub take_held-returns : goal.take_held-returns
+take_held-returns t c =
+    at_end (parts_in c.take_units.new.found.items) (parts_in c.take_units-2.new.found.items) (units_of_body c.held_in.result.other.now)
+    c.take_units-2.result c.take_units-2.ensures
+    (held_taken (parts_in c.args.found.now.items) (parts_in c.take.new.found.items) (parts_in c.take_units.new.found.items) c.args.statement.now
+    c.unit_of.result c.held_in.result c.held_in.ensures c.unit_of.ensures c.in_ok-take.ensures c.in_ok-take_units.ensures refl)
+
+pub take_chain-take_units-requires : goal.take_chain-take_units-requires
+take_chain-take_units-requires t c =
+    let n = c.loop-found.at.now in
+    let read = c.deref-in-loop-found.ensures.value ∙ ap (λ (x : Spanned IfCondNode). x.node.true_body.items) c.deref.ensures in (
+      body_falls _ _ (size-Stmt (IfCond c.args.first.now)) t (choice_deep (IfCond n) n c.deref-in-loop-found.result.now refl read)
+          c.loop-found.invariant.deep c.decreases,
+      tt,
+    )
+
+pub take_chain-take_units-requires-then-len-ne1 : goal.take_chain-take_units-requires-then-len-ne1
+take_chain-take_units-requires-then-len-ne1 t c =
+    let n = c.loop-found.at.now in
+    let read = c.deref-then-len-ne1.ensures.value ∙ ap (λ (x : Spanned IfCondNode). x.node.false_body.items) c.deref.ensures in (
+      body_falls _ _ (size-Stmt (IfCond c.args.first.now)) t (choice_other_deep (IfCond n) n c.deref-then-len-ne1.result.now refl read)
+          c.loop-found.invariant.deep c.decreases,
+      tt,
+    )
+
+pub take_chain-take_units-requires-in_default : goal.take_chain-take_units-requires-in_default
+take_chain-take_units-requires-in_default t c =
+    let n = c.loop-found.at.now in
+    let read = c.deref-in_default.ensures.value ∙ ap (λ (x : Spanned IfCondNode). x.node.false_body.items) c.deref.ensures in (
+      body_falls _ _ (size-Stmt (IfCond c.args.first.now)) t (choice_other_deep (IfCond n) n c.deref-in_default.result.now refl read)
+          c.loop-found.invariant.deep c.decreases,
+      tt,
+    )
+
+pub take_chain-returns-then-len-ne1 : goal.take_chain-returns-then-len-ne1
+take_chain-returns-then-len-ne1 t c =
+    let n = c.loop-found.at.now in
+    let body = c.deref-in-loop-found.ensures.value ∙ ap (λ (x : Spanned IfCondNode). x.node.true_body.items) c.deref.ensures in
+    let other = c.deref-then-len-ne1.ensures.value ∙ ap (λ (x : Spanned IfCondNode). x.node.false_body.items) c.deref.ensures in
+    chain_end (parts_in c.take_units.new.found.items) (parts_in c.take_units-then-len-ne1.new.found.items) c.deref-then-len-ne1.result.now
+    n.value.node.false_body.items c.take_units-then-len-ne1.result other c.take_units-then-len-ne1.ensures
+    (chain_taken (parts_in c.loop-found.found.items) (parts_in c.take_units.new.found.items) n c.deref-in-loop-found.result.now body
+    c.in_ok-take_units.ensures c.loop-found.invariant.taken)
+
+pub take_chain-returns-in_default : goal.take_chain-returns-in_default
+take_chain-returns-in_default t c =
+    let n = c.loop-found.at.now in
+    let body = c.deref-in-loop-found.ensures.value ∙ ap (λ (x : Spanned IfCondNode). x.node.true_body.items) c.deref.ensures in
+    let other = c.deref-in_default.ensures.value ∙ ap (λ (x : Spanned IfCondNode). x.node.false_body.items) c.deref.ensures in
+    chain_end (parts_in c.take_units.new.found.items) (parts_in c.take_units-in_default.new.found.items) c.deref-in_default.result.now
+    n.value.node.false_body.items c.take_units-in_default.result other c.take_units-in_default.ensures
+    (chain_taken (parts_in c.loop-found.found.items) (parts_in c.take_units.new.found.items) n c.deref-in-loop-found.result.now body
+    c.in_ok-take_units.ensures c.loop-found.invariant.taken)
+
+pub take_chain-loop-found-init : goal.take_chain-loop-found-init
+take_chain-loop-found-init t c = record {
+  taken = refl;
+  deep = omega arith;
+}
+
+pub take_chain-loop-found-preserved : goal.take_chain-loop-found-preserved
+take_chain-loop-found-preserved t c =
+    let n = c.loop-found.at.now in
+    let items = n.value.node.false_body.items in
+    let body = c.deref-in-loop-found.ensures.value ∙ ap (λ (x : Spanned IfCondNode). x.node.true_body.items) c.deref.ensures in
+    let shared = ap (λ (x : Spanned IfCondNode). vec_len x.node.false_body) c.deref.ensures in
+    let counted = c.len.ensures in
+    let alone = c.if-len-ne1.false in
+    let one : length items ≡ 1 = omega (arith, shared, counted, alone, n.value.node.false_body.ok.0) in
+    let at : c.index.result.now ≡ get_or items 0 c.index.result.now =
+    c.index.ensures ∙ ap (λ (x : Spanned IfCondNode). get_or x.node.false_body.items 0 c.index.result.now) c.deref.ensures in
+    let less = else_below n c.in-IfCond.n c.index.result.now one at c.in-IfCond.is in
+    let deep : size-Stmt (IfCond n) ≤ size-Stmt (IfCond c.args.first.now) = c.loop-found.invariant.deep in
+    record {
+      taken =
+          ap (λ ps. parts_in c.take_units.new.found.items ++ ps) (only_units items c.in-IfCond.n c.index.result.now one at c.in-IfCond.is) ∙
+          chain_taken (parts_in c.loop-found.found.items) (parts_in c.take_units.new.found.items) n c.deref-in-loop-found.result.now body
+          c.in_ok-take_units.ensures c.loop-found.invariant.taken;
+      deep = omega (arith, less, deep);
+    }
+
+pub take_chain-loop-found-smaller : goal.take_chain-loop-found-smaller
+take_chain-loop-found-smaller t c =
+    let n = c.loop-found.at.now in
+    let items = n.value.node.false_body.items in
+    let shared = ap (λ (x : Spanned IfCondNode). vec_len x.node.false_body) c.deref.ensures in
+    let counted = c.len.ensures in
+    let alone = c.if-len-ne1.false in
+    let one : length items ≡ 1 = omega (arith, shared, counted, alone, n.value.node.false_body.ok.0) in
+    let at : c.index.result.now ≡ get_or items 0 c.index.result.now =
+    c.index.ensures ∙ ap (λ (x : Spanned IfCondNode). get_or x.node.false_body.items 0 c.index.result.now) c.deref.ensures in
+    else_below n c.in-IfCond.n c.index.result.now one at c.in-IfCond.is
