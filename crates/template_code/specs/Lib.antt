@@ -1,4 +1,5 @@
 pub mod Code
+pub mod Counting
 pub mod Prices
 pub mod Steps
 pub mod Laws

@@ -1,6 +1,6 @@
 -- A process that goes further, under surroundings that reply more, gives a run that extends.
 use Rattle.std.proofs.Common.{◌≡◌, inl, inr, List, [], ◌∷◌, ◌++◌, refl, sym, ap, subst, ◌∙◌, append_assoc, append-nil, arith}
-use Rattle.template_process.specs.Process.{Ask, Answer, Told, tells, fails, breaks_off, over, step, asks, amiss, cut_short, stuck, Below}
+use Rattle.template_process.specs.Process.{Ask, Answer, Told, tells, fails, breaks_off, leaves, over, step, asks, amiss, cut_short, stuck, Below}
 use Rattle.template_process.specs.Drive.{End}
 use Rattle.template_process.specs.Trace.{Item, paid, Reply, Run, run, behind, go_on, replied}
 use Rattle.template_process.specs.Fuel.{Begins}
@@ -21,6 +21,7 @@ told_further : {S : Type 0} (k l : Answer → S → Run S) (s : S) (told : Told)
 told_further k l s (tells a) further = further a
 told_further k l s (fails kinds) further = inl refl
 told_further k l s breaks_off further = inl refl
+told_further k l s leaves further = inl refl
 
 -- a reply that breaks off ends the run there
 broken_off : {S : Type 0} (k : Answer → S → Run S) (r : Reply S) (q : Run S) → r.told ≡ breaks_off → Begins r.items q.items → Extends (replied k r) q

@@ -1,8 +1,8 @@
 -- `Below` by its constructors, so that it can stay shut elsewhere.
-use Rattle.std.proofs.Common.{◌≡◌, ℕ, Bool, true, false, ◌==◌, List, length, refl, arith}
+use Rattle.std.proofs.Common.{◌≡◌, ℕ, Bool, true, false, ◌==◌, List, length, Option, refl, arith}
 use Rattle.std.specs.Prelude.{if◌then◌else◌}
 use Rattle.template_values_model.specs.Val.{Val}
-use Rattle.template_process.specs.Process.{Ask, Answer, done, value, truth, item, no_item, items, Process, over, step, asks, amiss, cut_short, stuck, on_done, on_value, on_truth, on_item, on_items, Below}
+use Rattle.template_process.specs.Process.{Ask, Answer, done, value, truth, item, no_item, items, closure, Process, over, step, asks, amiss, cut_short, stuck, on_done, on_value, on_truth, on_item, on_items, on_all, on_closure, Below}
 
 -- what is cut short is below everything
 pub below-cut_short : (q : Process) → Below cut_short q
@@ -55,6 +55,14 @@ below-on_items : (n : ℕ) (k l : List Val → Process) → ((vs : List Val) →
 below-on_items n k l h (items vs) = below-counted k l vs (length vs == n) h
 below-on_items n k l h _ = below-amiss
 
+below-on_all : (k l : List Val → Process) → ((vs : List Val) → Below (k vs) (l vs)) → (a : Answer) → Below (on_all k a) (on_all l a)
+below-on_all k l h (items vs) = h vs
+below-on_all k l h _ = below-amiss
+
+below-on_closure : (k l : Option ℕ → Process) → ((c : Option ℕ) → Below (k c) (l c)) → (a : Answer) → Below (on_closure k a) (on_closure l a)
+below-on_closure k l h (closure c) = h c
+below-on_closure k l h _ = below-amiss
+
 -- an event that is only done
 pub below-asks_done : (e : Ask) (p q : Process) → Below p q → Below (asks e (on_done p)) (asks e (on_done q))
 below-asks_done e p q h = below-asks e (on_done p) (on_done q) (below-on_done p q h)
@@ -74,6 +82,14 @@ below-asks_item e k l p q h i = below-asks e (on_item k p) (on_item l q) (below-
 -- an event that gives so many items
 pub below-asks_items : (e : Ask) (n : ℕ) (k l : List Val → Process) → ((vs : List Val) → Below (k vs) (l vs)) → Below (asks e (on_items n k)) (asks e (on_items n l))
 below-asks_items e n k l h = below-asks e (on_items n k) (on_items n l) (below-on_items n k l h)
+
+-- an event that gives items, however many
+pub below-asks_all : (e : Ask) (k l : List Val → Process) → ((vs : List Val) → Below (k vs) (l vs)) → Below (asks e (on_all k)) (asks e (on_all l))
+below-asks_all e k l h = below-asks e (on_all k) (on_all l) (below-on_all k l h)
+
+-- an event that gives a closure
+pub below-asks_closure : (e : Ask) (k l : Option ℕ → Process) → ((c : Option ℕ) → Below (k c) (l c)) → Below (asks e (on_closure k)) (asks e (on_closure l))
+below-asks_closure e k l h = below-asks e (on_closure k) (on_closure l) (below-on_closure k l h)
 
 pub below-refl : (p : Process) → Below p p
 below-refl (over operands) = below-over operands

@@ -1,6 +1,6 @@
 -- Processes that are below one another are driven alike, and run alike.
 use Rattle.std.proofs.Common.{◌≡◌, [], ◌∷◌, refl, ap, subst, arith}
-use Rattle.template_process.specs.Process.{Ask, Answer, Told, tells, fails, breaks_off, over, step, asks, amiss, cut_short, stuck, Below}
+use Rattle.template_process.specs.Process.{Ask, Answer, Told, tells, fails, breaks_off, leaves, over, step, asks, amiss, cut_short, stuck, Below}
 use Rattle.template_process.specs.Drive as drives
 use Rattle.template_process.specs.Drive.{Driven, drive, marked, asked, End, ends, faults, breaks, waits, IsUncut}
 use Rattle.template_process.specs.Trace.{Run, run, behind, go_on, paid}
@@ -14,6 +14,7 @@ driven_alike (asks e k) (asks f l) [] h uncut = cc
 driven_alike (asks e k) (asks f l) (tells a ∷ told) h uncut = let ih = driven_alike (k a) (l a) told (h.1 a) uncut in cc
 driven_alike (asks e k) (asks f l) (fails kinds ∷ told) h uncut = cc
 driven_alike (asks e k) (asks f l) (breaks_off ∷ told) h uncut = cc
+driven_alike (asks e k) (asks f l) (leaves ∷ told) h uncut = cc
 driven_alike amiss amiss told h uncut = refl
 driven_alike stuck stuck told h uncut = refl
 driven_alike cut_short q told h uncut = absurd uncut
@@ -24,6 +25,7 @@ told_alike : {S : Type 0} → (k l : Answer → S → Run S) (s : S) (told : Tol
 told_alike k l s (tells a) alike uncut = alike a uncut
 told_alike k l s (fails kinds) alike uncut = refl
 told_alike k l s breaks_off alike uncut = refl
+told_alike k l s leaves alike uncut = refl
 
 pub run_alike : (S : Type 0) → RunAlike S
 unfolding Below

@@ -1,6 +1,6 @@
 -- Whole processes come to proper ends.
 use Rattle.std.proofs.Common.{[], ◌∷◌}
-use Rattle.template_process.specs.Process.{Answer, Told, tells, fails, breaks_off, over, step, asks, amiss, cut_short, stuck}
+use Rattle.template_process.specs.Process.{Answer, Told, tells, fails, breaks_off, leaves, over, step, asks, amiss, cut_short, stuck}
 use Rattle.template_process.specs.Trace.{Run, run, go_on}
 use Rattle.template_process.specs.Whole.{IsProper}
 use Rattle.template_process.specs.Laws.{DrivenWhole, RunWhole}
@@ -12,6 +12,7 @@ driven_whole (asks e k) [] whole = record { uncut = tt; unstuck = λ e. cc }
 driven_whole (asks e k) (tells a ∷ told) whole = driven_whole (k a) told (whole a)
 driven_whole (asks e k) (fails kinds ∷ told) whole = record { uncut = tt; unstuck = λ e. cc }
 driven_whole (asks e k) (breaks_off ∷ told) whole = record { uncut = tt; unstuck = λ e. cc }
+driven_whole (asks e k) (leaves ∷ told) whole = record { uncut = tt; unstuck = λ e. cc }
 driven_whole amiss told whole = record { uncut = tt; unstuck = λ e. cc }
 driven_whole cut_short told whole = absurd whole
 driven_whole stuck told whole = absurd whole
@@ -21,6 +22,7 @@ told_whole : {S : Type 0} → (k : Answer → S → Run S) (s : S) (told : Told)
 told_whole k s (tells a) proper = proper a
 told_whole k s (fails kinds) proper = record { uncut = tt; unstuck = λ e. cc }
 told_whole k s breaks_off proper = record { uncut = tt; unstuck = λ e. cc }
+told_whole k s leaves proper = record { uncut = tt; unstuck = λ e. cc }
 
 pub run_whole : (S : Type 0) → RunWhole S
 run_whole S answer (over operands) s whole = record { uncut = tt; unstuck = λ e. cc }

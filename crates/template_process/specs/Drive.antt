@@ -2,7 +2,7 @@
 use Rattle.std.specs.Prelude.{List, [], ◌∷◌}
 use Rattle.template_values_errors.specs.declared.ErrorKind.{ErrorKind}
 use Rattle.template_values_model.specs.Val.{Val}
-use Rattle.template_process.specs.Process.{Ask, Told, tells, fails, breaks_off, Process, over, step, asks, amiss, cut_short, stuck}
+use Rattle.template_process.specs.Process.{Ask, Told, tells, fails, breaks_off, leaves, Process, over, step, asks, amiss, cut_short, stuck}
 
 -- what a process does in turn: a priced step, or an event
 pub data Mark : Type 0 where
@@ -35,6 +35,7 @@ drive (asks e k) [] = record { marks = asked e ∷ []; end = waits; rest = [] }
 drive (asks e k) (tells a ∷ ts) = marked (asked e) (drive (k a) ts)
 drive (asks e k) (fails ks ∷ ts) = record { marks = asked e ∷ []; end = faults ks; rest = ts }
 drive (asks e k) (breaks_off ∷ ts) = record { marks = asked e ∷ []; end = breaks; rest = ts }
+drive (asks e k) (leaves ∷ ts) = record { marks = asked e ∷ []; end = ends []; rest = ts }
 drive amiss ts = record { marks = []; end = mistaken; rest = ts }
 drive cut_short ts = record { marks = []; end = cuts; rest = ts }
 drive stuck ts = record { marks = []; end = sticks; rest = ts }

@@ -5,7 +5,7 @@ use Rattle.template_tree.specs.declared.operators.BinOpKind.{BinOpKind}
 use Rattle.template_tree.specs.declared.operators.BinOpKind.TheVariants.{ScAnd, ScOr}
 use Rattle.template_tree.specs.Tree.{Expression, Optional, Expressions, Links, variable, constant, slice, unary, binary, chain, conditional, attribute, item, list_literal, tuple_literal, map_literal, absent, given, no_expressions, expressions_more, no_links, links_more, Statement, Statements, Assignments, raw, print, for_loop, if_condition, with_block, set, auto_escape, include, continue_loop, break_loop, no_statements, statements_more, no_assignments, assignments_more}
 use Rattle.template_process.specs.Process as events
-use Rattle.template_process.specs.Process.{Ask, look_up, operate, compare, get_attribute, get_item, get_slice, build_list, build_tuple, build_map, store, truth_of, unpack, write_raw, write_value, open_frame, close_frame, open_loop, next_item, did_not_iterate, close_loop, open_escape, close_escape, Process, over, step, asks, cut_short, on_done, on_value, on_truth, on_item, Below}
+use Rattle.template_process.specs.Process.{Ask, look_up, operate, compare, get_attribute, get_item, get_slice, build_list, build_tuple, build_map, store, truth_of, unpack, write_raw, write_value, open_frame, close_frame, plain_loop, open_loop, next_item, did_not_iterate, close_loop, open_escape, close_escape, Process, over, step, asks, cut_short, on_done, on_value, on_truth, on_item, Below}
 use Rattle.template_process.proofs.Below.{below-cut_short, below-over, below-step, below-asks_done, below-asks_value, below-asks_truth, below-asks_item, below-asks_items}
 use Rattle.template_walk.specs.Constants.{constant_of}
 use Rattle.template_walk.specs.Expressions.{folded, unary_ask, binary_walk, expression_walk, optional_walk, expressions_walk, walks_of, entries_walk, chain_walk, linked_walk}
@@ -144,7 +144,7 @@ mutual
   lift_statement n m less (raw text) x y p q leads h = step_done (write_raw text) p q h
   lift_statement n m less (print e) x y p q leads h = lift e _ _ (λ v. step_done (write_value v) p q h)
   lift_statement n m less (for_loop target e absent false body otherwise) x y p q leads h =
-      lift e _ _ (λ v. below-asks_done (open_loop v) _ _
+      lift e _ _ (λ v. below-asks_done (open_loop plain_loop v) _ _
       (lift_rounds n m less _ _ (λ item k l r s inner i. lift_target target item _ _ (lift_statements n m less body k l r s inner i)) _ _
       (lift_end otherwise _ _ _ _ (lift_statements n m less otherwise x y p q leads h) h)))
   lift_statement n m less (if_condition e body otherwise) x y p q leads h =

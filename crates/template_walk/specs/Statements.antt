@@ -4,7 +4,7 @@ use Rattle.std.specs.Prelude.{ℕ, zero, suc, false, List, [], ◌∷◌}
 use Rattle.template_values_model.specs.Val.{Val}
 use Rattle.template_tree.specs.Tree.{Expression, Expressions, Statement, Statements, Assignments, variable, list_literal, absent, no_expressions, expressions_more, raw, print, for_loop, if_condition, with_block, set, auto_escape, include, continue_loop, break_loop, no_statements, statements_more, no_assignments, assignments_more}
 use Rattle.template_process.specs.Process as events
-use Rattle.template_process.specs.Process.{Ask, store, unpack, write_raw, write_value, open_frame, close_frame, open_loop, next_item, did_not_iterate, close_loop, open_escape, close_escape, Process, over, step, asks, cut_short, on_done, on_value, on_item, on_items, done_asked, truth_asked}
+use Rattle.template_process.specs.Process.{Ask, store, unpack, write_raw, write_value, open_frame, close_frame, plain_loop, open_loop, next_item, did_not_iterate, close_loop, open_escape, close_escape, Process, over, step, asks, cut_short, on_done, on_value, on_item, on_items, done_asked, truth_asked}
 use Rattle.template_walk.specs.Expressions.{expression_walk}
 
 -- where `break` and `continue` lead
@@ -65,7 +65,7 @@ abbrev mutual
   statement_walk n (raw text) exits go = done_asked (write_raw text) go
   statement_walk n (print e) exits go = expression_walk e (λ v. done_asked (write_value v) go)
   statement_walk n (for_loop target e absent false body otherwise) exits go =
-      expression_walk e (λ v. asks (open_loop v) (on_done
+      expression_walk e (λ v. asks (open_loop plain_loop v) (on_done
       (rounds n (λ item inner again. target_walk target item (statements_walk n body inner again))
       (loop_end otherwise (statements_walk n otherwise exits go) go))))
   statement_walk n (if_condition e body otherwise) exits go =
