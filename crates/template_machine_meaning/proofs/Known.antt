@@ -72,7 +72,7 @@ abbrev pub learnt : Known → Ask → Known
 learnt k (store name v) = stored name k
 learnt k open_frame = inner [] k
 learnt k close_frame = closed k
-learnt k (open_loop v) = inner [] k
+learnt k (open_loop how v) = inner [] k
 learnt k next_item = cleared k
 learnt k close_loop = closed k
 learnt k _ = k

@@ -11,7 +11,7 @@ use Rattle.template_values_forms.specs.Escaped.{escaped}
 use Rattle.template_values_operators.specs.Iterated.{iterated}
 use Rattle.template_tree.specs.Tree.{Expression, Statement, Statements, absent, raw, print, for_loop, if_condition, with_block, set, auto_escape, include, continue_loop, break_loop, no_statements, statements_more}
 use Rattle.template_process.specs.Process as events
-use Rattle.template_process.specs.Process.{Ask, truth_of, write_raw, write_value, open_frame, close_frame, open_loop, did_not_iterate, close_loop, open_escape, close_escape, Answer, done, value, truth, tells, Process, over, step, asks, cut_short, on_done, on_value, on_truth}
+use Rattle.template_process.specs.Process.{Ask, truth_of, write_raw, write_value, open_frame, close_frame, plain_loop, open_loop, did_not_iterate, close_loop, open_escape, close_escape, Answer, done, value, truth, tells, Process, over, step, asks, cut_short, on_done, on_value, on_truth}
 use Rattle.template_process.specs.Trace.{Item, written, run, replied}
 use Rattle.template_walk.specs.Expressions.{expression_walk}
 use Rattle.template_walk.specs.Statements.{closing, target_walk, assignments_walk, rounds, loop_end, past, statement_walk, statements_walk}
@@ -185,13 +185,13 @@ module _ (setting : Setting) (all : AreAllRunnable setting) (outer : ℕ) (deepe
 
   looped : (looping : Bool) (target : Expression) (body otherwise : Statements) (v : Val) → IsTarget target → BodySettles true body → BodySettles looping otherwise
       → (base : World) → Frames base → (w : World) → Keeps base w → (r : Result (List Val) ErrorKind) → guarded (forbids_iterating s.undefined v) (kinded (iterated nothing_known v)) ≡ r
-      → Settles {O = Leave} s w (LeavesTo looping base) (λ m go. asks (open_loop v) (on_done (rounds m (round_of target body m) (loop_end otherwise (statements_walk m otherwise (exits_of go) (go goes)) (go goes)))))
+      → Settles {O = Leave} s w (LeavesTo looping base) (λ m go. asks (open_loop plain_loop v) (on_done (rounds m (round_of target body m) (loop_end otherwise (statements_walk m otherwise (exits_of go) (go goes)) (go goes)))))
   looped looping target body otherwise v h bodies others base framed w kept (Ok vs) e =
-      settles_pushed s w (LeavesTo looping base) (open_loop v) (loop_frame vs) (λ m go. rounds m (round_of target body m) (loop_end otherwise (statements_walk m otherwise (exits_of go) (go goes)) (go goes))) (has_room s.limit 1 w) refl
+      settles_pushed s w (LeavesTo looping base) (open_loop plain_loop v) (loop_frame vs) (λ m go. rounds m (round_of target body m) (loop_end otherwise (statements_walk m otherwise (exits_of go) (go goes)) (go goes))) (has_room s.limit 1 w) refl
       (λ n. ap (λ r. changed_with w (λ after. done) (λ after. after) (opened_loop s.limit w r)) e)
       (rounds_settle looping target body otherwise h bodies others base framed w kept vs)
   looped looping target body otherwise v h bodies others base framed w kept (Err kind) e =
-      settles_refused s w (LeavesTo looping base) (open_loop v) kind (λ m go. on_done (rounds m (round_of target body m) (loop_end otherwise (statements_walk m otherwise (exits_of go) (go goes)) (go goes))))
+      settles_refused s w (LeavesTo looping base) (open_loop plain_loop v) kind (λ m go. on_done (rounds m (round_of target body m) (loop_end otherwise (statements_walk m otherwise (exits_of go) (go goes)) (go goes))))
       (λ n. ap (λ r. changed_with w (λ after. done) (λ after. after) (opened_loop s.limit w r)) e)
 
   -- an escape for a body
@@ -215,7 +215,7 @@ module _ (setting : Setting) (all : AreAllRunnable setting) (outer : ℕ) (deepe
         valued looping base w kept e h (λ v m go. step (asks (write_value v) (on_done (go goes))))
         (λ v x k. printed_out looping base x k v (guarded (forbids_printing s.undefined v) (kinded (escaped x.escape nothing_known v))) refl)
     settles_statement looping (for_loop target e absent false body otherwise) h base framed w kept =
-        valued looping base w kept e h.1 (λ v m go. asks (open_loop v) (on_done (rounds m (round_of target body m) (loop_end otherwise (statements_walk m otherwise (exits_of go) (go goes)) (go goes)))))
+        valued looping base w kept e h.1 (λ v m go. asks (open_loop plain_loop v) (on_done (rounds m (round_of target body m) (loop_end otherwise (statements_walk m otherwise (exits_of go) (go goes)) (go goes)))))
         (λ v x k. looped looping target body otherwise v h.0 (settles_statements true body h.2) (settles_statements looping otherwise h.3) base framed x k (guarded (forbids_iterating s.undefined v) (kinded (iterated nothing_known v))) refl)
     settles_statement looping (if_condition e body otherwise) h base framed w kept =
         valued looping base w kept e h.0 (λ v m go. step (asks (truth_of v) (on_truth (statements_walk m body (exits_of go) (past otherwise (go goes))) (statements_walk m otherwise (exits_of go) (go goes)))))
