@@ -1,7 +1,7 @@
 //! What single instructions make of a run.
 #![tactic(auto)]
 
-ghost use Rattle.template_machine_acts.specs.Answers.{ConstantActs, DiscardActs, DoubleActs, JumpActs, LookupActs, SwapActs};
+ghost use Rattle.template_machine_acts.specs.Answers.{AddCountedActs, ConstantActs, DiscardActs, DoubleActs, JumpActs, LookupActs, SwapActs, SwapCountedActs, UndefinedActs};
 ghost use Rattle.template_machine_acts.specs.Events.{BreaksAstray, EventsAct, EventsFault, PassesActs, StuckAstray};
 ghost use Rattle.template_machine_acts.specs.Includes.{IncludeActs, IncludeFaults, IncludeRunsOut, IncludeStrays, IncludeWants};
 ghost use Rattle.template_machine_acts.specs.Refusals.{ChoiceRefused, IncludeRefused, MissingActs, RoomRefused};
@@ -22,11 +22,15 @@ pub fn events_stray<S>()
     ensures stuck { StuckAstray S }
 {}
 
-/// Jumps, constants and operands that change places ask nothing, and a look-up is always answered.
+/// Jumps, constants, operands that change places, counted runs that grow and the test for undefined ask nothing, and a
+/// look-up is always answered.
 pub fn operands_act()
     ensures jump { JumpActs }
     ensures constant { ConstantActs }
     ensures swap { SwapActs }
+    ensures swap_counted { SwapCountedActs }
+    ensures add_counted { AddCountedActs }
+    ensures undefined { UndefinedActs }
     ensures double { DoubleActs }
     ensures discard { DiscardActs }
     ensures lookup { LookupActs }
