@@ -5,7 +5,7 @@ use Rattle.template_values_errors.specs.declared.ErrorKind.{ErrorKind}
 use Rattle.template_values_errors.specs.declared.ErrorKind.TheVariants.{InvalidOperation}
 use Rattle.template_values_model.specs.Val.{Val}
 use Rattle.template_values_forms.specs.Known.{nothing_known}
-use Rattle.template_process.specs.Process.{Ask, include, Answer, Told, tells, fails, breaks_off, Process, over, step, asks, amiss, cut_short, stuck, Below}
+use Rattle.template_process.specs.Process.{Ask, include, Answer, Told, tells, fails, breaks_off, leaves, Process, over, step, asks, amiss, cut_short, stuck, Below}
 use Rattle.template_process.specs.Drive.{End, ends, faults, breaks, waits, mistaken, cuts, sticks}
 use Rattle.template_process.specs.Trace.{paid, Reply, Run, run, behind, ended, go_on, replied}
 use Rattle.template_process.specs.Approximants.{IsFinished}
@@ -143,6 +143,7 @@ told_alike : (setting : Setting) (n : ℕ) (k : Answer → Process) → ((a : An
 told_alike setting n k alike w (tells a) finished = let same = alike a w finished in (same.0, λ m le l h. same.1 m le (l a) (h a))
 told_alike setting n k alike w (fails kinds) finished = (0, λ m le l h. refl)
 told_alike setting n k alike w breaks_off finished = absurd finished
+told_alike setting n k alike w leaves finished = (0, λ m le l h. refl)
 
 -- whatever goes as far as an event and what follows it
 asked_below : (setting : Setting) (n m : ℕ) (e : Ask) (k : Answer → Process) (w : World) → answer (codes_of setting) m w e ≡ answer (walks_of setting) n w e
