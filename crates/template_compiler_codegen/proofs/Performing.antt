@@ -16,6 +16,7 @@ use Rattle.template_walk.specs.Statements.{number_of}
 use Rattle.template_walk.specs.Expressions.{unary_ask, binary_walk, expression_walk, optional_walk, expressions_walk, walks_of, entries_walk, chain_walk, linked_walk}
 use Rattle.template_code.specs.Code.{Operand, single, Code, lookup, get_attr, get_item, slice, build_map, build_list, build_tuple, operate, negate, invert, compare_and_preserve, swap, discard_top, jump_if_false_or_pop}
 use Rattle.template_code.specs.Steps.{exec}
+use Rattle.template_compiler_codegen.specs.Core.{Core, no_ways, flat}
 use Rattle.template_compiler_codegen.specs.Expressions.{Coded, then_code, one, nothing, dropped, skipped, either_code, unary_code, binary_code, expression_code, optional_code, expressions_code, codes_of, entry_count, entries_code, chain_code, linked_code}
 use Rattle.template_compiler_codegen.proofs.Standing.{StandsAt, behind_one, instruction_at, below_at, behind_then, stands_first, stands_second}
 use Rattle.template_compiler_codegen.proofs.Expressions.{Performs, Over, GivesAll, gives_to, behind_single, asks_at, performs_load, performs_loaded, gives_then, moved, longer, over_one, over_two, tests_at, behind_skipped, over_and, over_or, over_either, pushed, performs_built, built_list, built_tuple, builds_at, laid, built_map}
@@ -98,9 +99,9 @@ compares_then op piece walk links f rest code place at_drop h e drop k =
           (behind_then piece (one (compare_and_preserve op)) place ∙ sym (behind_single compare_at (compare_and_preserve op))) (later.1 w holds operands go below))),
     )
 
-data EachPerforms : List Coded → List ((Val → Process) → Process) → Type 0 where
+data EachPerforms : List Core → List ((Val → Process) → Process) → Type 0 where
   none_left : EachPerforms [] []
-  each_more : {piece : Coded} {walk : (Val → Process) → Process} {pieces : List Coded} {walks : List ((Val → Process) → Process)} → Performs piece walk → EachPerforms pieces walks → EachPerforms (piece ∷ pieces) (walk ∷ walks)
+  each_more : {piece : Core} {walk : (Val → Process) → Process} {pieces : List Core} {walks : List ((Val → Process) → Process)} → Performs (flat no_ways piece) walk → EachPerforms pieces walks → EachPerforms (piece ∷ pieces) (walk ∷ walks)
 
 -- the code of keys and values leaves them in turn, as many as there are
 abbrev GivesEntries : List Code → ((List (Val × Val) → Process) → Process) → ℕ → ℕ → ℕ → Type 0
@@ -289,11 +290,11 @@ mutual
   performs_each no_expressions = none_left
   performs_each (expressions_more e es) = each_more (performs e) (performs_each es)
 
-  performs_entries : (ks : Expressions) (pieces : List Coded) (walks : List ((Val → Process) → Process)) → EachPerforms pieces walks → EntriesPerform (entries_code ks pieces) (entries_walk ks walks) (entry_count ks pieces)
+  performs_entries : (ks : Expressions) (pieces : List Core) (walks : List ((Val → Process) → Process)) → EachPerforms pieces walks → EntriesPerform (entries_code ks pieces) (entries_walk ks walks) (entry_count ks pieces)
   performs_entries no_expressions pieces walks each = no_entries
   performs_entries (expressions_more key ks) _ _ none_left = no_entries
   performs_entries (expressions_more key ks) _ _ (each_more {piece = piece} {walk = walk} {pieces = pieces} {walks = walks} f each) =
-      more_entries (expression_code key) piece (entries_code ks pieces) (expression_walk key) walk (entries_walk ks walks) (entry_count ks pieces) (performs key) f (performs_entries ks pieces walks each)
+      more_entries (expression_code key) (flat no_ways piece) (entries_code ks pieces) (expression_walk key) walk (entries_walk ks walks) (entry_count ks pieces) (performs key) f (performs_entries ks pieces walks each)
 
   performs_chain : (links : Links) → Over (chain_code links) (λ v go. chain_walk v links go)
   performs_chain no_links = λ code place h k. (0, λ v operands go below. below-cut_short _)

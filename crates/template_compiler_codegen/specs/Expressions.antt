@@ -1,5 +1,5 @@
 -- The code of an expression, from the place where it begins.
-use Rattle.std.specs.Prelude.{ℕ, ◌+◌, suc, List, [], ◌∷◌, ◌++◌, length, Option, None, Some}
+use Rattle.std.specs.Prelude.{ℕ, suc, Bool, true, false, List, [], ◌∷◌}
 use Rattle.template_values_model.specs.Val.{Val, silent_undefined, none}
 use Rattle.template_tree.specs.declared.operators.UnaryOpKind.{UnaryOpKind}
 use Rattle.template_tree.specs.declared.operators.UnaryOpKind.TheVariants.{Not, Neg}
@@ -9,110 +9,117 @@ use Rattle.template_tree.specs.Tree.{Expression, Optional, Expressions, Links, v
 use Rattle.template_tree.specs.Tree as tree
 use Rattle.template_walk.specs.Constants.{constant_of}
 use Rattle.template_walk.specs.Statements.{number_of}
-use Rattle.template_code.specs.Code.{Code, lookup, load_const, get_attr, get_item, slice, build_map, build_list, build_tuple, operate, negate, invert, compare_and_preserve, swap, discard_top, jump, jump_if_false, jump_if_false_or_pop, jump_if_true_or_pop, unsupported}
+use Rattle.template_code.specs.Code.{Code, lookup, load_const, get_attr, get_item, slice, build_map, build_list, build_tuple, operate, negate, invert, compare_and_preserve, swap, discard_top, jump_if_false_or_pop, jump_if_true_or_pop, unsupported}
+use Rattle.template_compiler_codegen.specs.Core.{Core, empty, straight, both, leaping, either, loading, chosen, choose, no_ways, flat}
+pub use Rattle.template_compiler_codegen.specs.Core.{Coded, then_code, one, nothing, loaded, skipped, either_code}
 
 abbrev pub unary_code : UnaryOpKind → Code
 unary_code Not = invert
 unary_code Neg = negate
 
--- code that begins at any place
-abbrev pub Coded : Type 0
-Coded = ℕ → List Code
+abbrev pub is_and : BinOpKind → Bool
+is_and ScAnd = true
+is_and _ = false
 
--- one piece of code, and another behind it
-abbrev pub then_code : Coded → Coded → Coded
-then_code first second place = let code = first place in code ++ second (place + length code)
+abbrev pub is_or : BinOpKind → Bool
+is_or ScOr = true
+is_or _ = false
 
--- one instruction
-abbrev pub one : Code → Coded
-one c place = c ∷ []
-
-abbrev pub nothing : Coded
-nothing place = []
+-- both sides; of `and` and `or` the left one, whose value may lead past the right one
+abbrev pub binary_core : BinOpKind → Core → Core → Core
+binary_core op left right =
+    both left (chosen (is_and op) (leaping jump_if_false_or_pop right)
+    (chosen (is_or op) (leaping jump_if_true_or_pop right)
+    (both right (straight (operate op)))))
 
 -- the value below the top is dropped
 abbrev pub dropped : Coded
 dropped place = swap ∷ discard_top ∷ []
 
--- a constant is loaded; what is none has its own code
-abbrev pub loaded : Option Val → Coded → Coded
-loaded (Some v) code = one (load_const v)
-loaded None code = code
-
--- a piece of code behind an instruction that may lead past it
-abbrev pub skipped : (ℕ → Code) → Coded → Coded
-skipped leap code place = let inner = code (suc place) in leap (suc place + length inner) ∷ inner
-
--- two pieces of code of which the one or the other runs: a jump leads past the second
-abbrev pub either_code : Coded → Coded → Coded
-either_code first second place =
-    let yes_code = first (suc place) in
-    let begins = suc (suc place + length yes_code) in
-    let other = second begins in
-    jump_if_false begins ∷ (yes_code ++ (jump (begins + length other) ∷ other))
-
--- both sides; of `and` and `or` the left one, whose value may lead past the right one
-abbrev pub binary_code : BinOpKind → Coded → Coded → Coded
-binary_code ScAnd left right = then_code left (skipped jump_if_false_or_pop right)
-binary_code ScOr left right = then_code left (skipped jump_if_true_or_pop right)
-binary_code op left right = then_code left (then_code right (one (operate op)))
+abbrev pub dropped_core : Core
+dropped_core = both (straight swap) (straight discard_top)
 
 -- so many keys have a value
-abbrev pub entry_count : Expressions → List Coded → ℕ
-entry_count (expressions_more k ks) (value_code ∷ later) = suc (entry_count ks later)
+abbrev pub entry_count : Expressions → List Core → ℕ
+entry_count (expressions_more k ks) (piece ∷ later) = suc (entry_count ks later)
 entry_count _ _ = 0
 
 abbrev mutual
-  pub expression_code : Expression → Coded
-  expression_code (variable name) = one (lookup name)
-  expression_code (constant v) = one (load_const v)
-  expression_code (unary op e) = loaded (constant_of (unary op e)) (then_code (expression_code e) (one (unary_code op)))
-  expression_code (binary op left right) =
-      loaded (constant_of (binary op left right)) (binary_code op (expression_code left) (expression_code right))
-  expression_code (chain first links) = loaded (constant_of (chain first links)) (then_code (expression_code first) (chain_code links))
-  expression_code (conditional test branch otherwise) =
-      then_code (expression_code test) (either_code (expression_code branch) (optional_code silent_undefined otherwise))
-  expression_code (attribute e name) = then_code (expression_code e) (one (get_attr name))
-  expression_code (item e key) = then_code (expression_code e) (then_code (expression_code key) (one get_item))
-  expression_code (tree.slice e start stop by) =
-      then_code (expression_code e) (then_code (optional_code none start)
-      (then_code (optional_code none stop) (then_code (optional_code none by) (one slice))))
-  expression_code (list_literal es) =
-      loaded (constant_of (list_literal es)) (then_code (expressions_code es) (one (build_list (number_of es))))
-  expression_code (tuple_literal es) =
-      loaded (constant_of (tuple_literal es)) (then_code (expressions_code es) (one (build_tuple (number_of es))))
-  expression_code (map_literal ks vs) =
-      loaded (constant_of (map_literal ks vs))
-      (then_code (entries_code ks (codes_of vs)) (one (build_map (entry_count ks (codes_of vs)))))
-  expression_code _ = one unsupported
+  pub expression_core : Expression → Core
+  expression_core (variable name) = straight (lookup name)
+  expression_core (constant v) = straight (load_const v)
+  expression_core (unary op e) = loading (constant_of (unary op e)) (both (expression_core e) (straight (unary_code op)))
+  expression_core (binary op left right) =
+      loading (constant_of (binary op left right)) (binary_core op (expression_core left) (expression_core right))
+  expression_core (chain first links) = loading (constant_of (chain first links)) (both (expression_core first) (chain_core links))
+  expression_core (conditional test branch otherwise) =
+      both (expression_core test) (either (expression_core branch) (optional_core silent_undefined otherwise))
+  expression_core (attribute e name) = both (expression_core e) (straight (get_attr name))
+  expression_core (item e key) = both (expression_core e) (both (expression_core key) (straight get_item))
+  expression_core (tree.slice e start stop by) =
+      both (expression_core e) (both (optional_core none start)
+      (both (optional_core none stop) (both (optional_core none by) (straight slice))))
+  expression_core (list_literal es) =
+      loading (constant_of (list_literal es)) (both (expressions_core es) (straight (build_list (number_of es))))
+  expression_core (tuple_literal es) =
+      loading (constant_of (tuple_literal es)) (both (expressions_core es) (straight (build_tuple (number_of es))))
+  expression_core (map_literal ks vs) =
+      loading (constant_of (map_literal ks vs))
+      (both (entries_core ks (codes_of vs)) (straight (build_map (entry_count ks (codes_of vs)))))
+  expression_core _ = straight unsupported
 
   -- what is left out is a constant
-  pub optional_code : Val → Optional → Coded
-  optional_code missing absent = one (load_const missing)
-  optional_code missing (given e) = expression_code e
+  pub optional_core : Val → Optional → Core
+  optional_core missing absent = straight (load_const missing)
+  optional_core missing (given e) = expression_core e
 
-  pub expressions_code : Expressions → Coded
-  expressions_code no_expressions = nothing
-  expressions_code (expressions_more e es) = then_code (expression_code e) (expressions_code es)
+  pub expressions_core : Expressions → Core
+  expressions_core no_expressions = empty
+  expressions_core (expressions_more e es) = both (expression_core e) (expressions_core es)
 
-  -- the code of each of the expressions
-  pub codes_of : Expressions → List Coded
+  -- each of the expressions
+  pub codes_of : Expressions → List Core
   codes_of no_expressions = []
-  codes_of (expressions_more e es) = expression_code e ∷ codes_of es
+  codes_of (expressions_more e es) = expression_core e ∷ codes_of es
 
-  -- each key, and then the code of its value
-  pub entries_code : Expressions → List Coded → Coded
-  entries_code (expressions_more k ks) (value_code ∷ later) = then_code (expression_code k) (then_code value_code (entries_code ks later))
-  entries_code _ _ = nothing
+  -- each key, and then its value
+  pub entries_core : Expressions → List Core → Core
+  entries_core (expressions_more k ks) (piece ∷ later) = both (expression_core k) (both piece (entries_core ks later))
+  entries_core _ _ = empty
 
   -- the comparisons of a chain, behind the value at their left; in the end the value below the last truth is dropped
-  pub chain_code : Links → Coded
-  chain_code no_links = one unsupported
-  chain_code (links_more op e links) =
-      then_code (then_code (expression_code e) (one (compare_and_preserve op))) (then_code (linked_code links) dropped)
+  pub chain_core : Links → Core
+  chain_core no_links = straight unsupported
+  chain_core (links_more op e links) =
+      both (both (expression_core e) (straight (compare_and_preserve op))) (both (linked_core links) dropped_core)
 
   -- the later ones, each of which may be leapt over with all behind it
-  pub linked_code : Links → Coded
-  linked_code no_links = nothing
-  linked_code (links_more op e links) =
-      skipped jump_if_false_or_pop (then_code (then_code (expression_code e) (one (compare_and_preserve op))) (linked_code links))
+  pub linked_core : Links → Core
+  linked_core no_links = empty
+  linked_core (links_more op e links) =
+      leaping jump_if_false_or_pop (both (both (expression_core e) (straight (compare_and_preserve op))) (linked_core links))
+
+abbrev pub expression_code : Expression → Coded
+expression_code e = flat no_ways (expression_core e)
+
+abbrev pub optional_code : Val → Optional → Coded
+optional_code missing o = flat no_ways (optional_core missing o)
+
+abbrev pub expressions_code : Expressions → Coded
+expressions_code es = flat no_ways (expressions_core es)
+
+abbrev pub entries_code : Expressions → List Core → Coded
+entries_code ks values = flat no_ways (entries_core ks values)
+
+abbrev pub chain_code : Links → Coded
+chain_code links = flat no_ways (chain_core links)
+
+abbrev pub linked_code : Links → Coded
+linked_code links = flat no_ways (linked_core links)
+
+-- both sides, as they are laid out
+abbrev pub binary_code : BinOpKind → Coded → Coded → Coded
+binary_code op left right =
+    then_code left (choose (is_and op) (skipped jump_if_false_or_pop right)
+    (choose (is_or op) (skipped jump_if_true_or_pop right)
+    (then_code right (one (operate op)))))

@@ -1,3 +1,4 @@
+pub mod Core
 pub mod Expressions
 pub mod Statements
 pub mod Laws

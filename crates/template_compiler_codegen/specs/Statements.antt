@@ -1,96 +1,95 @@
 -- The code of statements, from the place where they begin.
-use Rattle.std.specs.Prelude.{ℕ, ◌+◌, suc, false, List, [], ◌∷◌, ◌++◌, length}
+use Rattle.std.specs.Prelude.{ℕ, Bool, true, false, List}
 use Rattle.template_tree.specs.Tree.{Expression, Expressions, Statement, Statements, Assignments, variable, list_literal, absent, no_expressions, expressions_more, raw, print, for_loop, if_condition, with_block, set, auto_escape, continue_loop, break_loop, no_statements, statements_more, no_assignments, assignments_more}
 use Rattle.template_tree.specs.Tree as tree
 use Rattle.template_walk.specs.Statements.{number_of}
-use Rattle.template_code.specs.Code.{Code, emit_raw, emit, store_local, unpack_list, jump, jump_if_false, push_with, pop_frame, push_loop, iterate, push_did_not_iterate, pop_loop_frame, push_auto_escape, pop_auto_escape, include, unsupported}
-use Rattle.template_compiler_codegen.specs.Expressions.{Coded, then_code, one, nothing, skipped, either_code, expression_code}
-
--- where `break` and `continue` lead, and what they close on the way, the innermost first
-pub record Ways : Type 0 where
-  pub closings : List Code
-  pub break_to : ℕ
-  pub continue_to : ℕ
-
--- outside of loops
-abbrev pub no_ways : Ways
-no_ways = record { closings = []; break_to = 0; continue_to = 0 }
-
--- a loop's own
-abbrev pub own_ways : ℕ → ℕ → Ways
-own_ways break_to continue_to = record { closings = []; break_to = break_to; continue_to = continue_to }
-
--- one more thing is open
-abbrev pub closing_with : Code → Ways → Ways
-closing_with close ways = record ways { closings = close ∷ ways.closings }
+use Rattle.template_code.specs.Code.{Code, emit_raw, emit, store_local, unpack_list, jump_if_false, push_with, pop_frame, push_loop, push_did_not_iterate, pop_loop_frame, push_auto_escape, pop_auto_escape, include, unsupported}
+use Rattle.template_compiler_codegen.specs.Core.{Core, empty, straight, both, leaping, either, rounds, within, leave, sealed, chosen, choose, flat}
+pub use Rattle.template_compiler_codegen.specs.Core.{Ways, no_ways, own_ways, closing_with, rounds_code, left_by}
+use Rattle.template_compiler_codegen.specs.Expressions.{Coded, then_code, one, skipped, either_code, expression_core, expression_code}
 
 abbrev mutual
   -- the value on top is stored in a target
-  pub target_code : Expression → Coded
-  target_code (variable name) = one (store_local name)
-  target_code (list_literal targets) = then_code (one (unpack_list (number_of targets))) (targets_code targets)
-  target_code _ = one unsupported
+  pub target_core : Expression → Core
+  target_core (variable name) = straight (store_local name)
+  target_core (list_literal targets) = both (straight (unpack_list (number_of targets))) (targets_core targets)
+  target_core _ = straight unsupported
 
-  pub targets_code : Expressions → Coded
-  targets_code no_expressions = nothing
-  targets_code (expressions_more target targets) = then_code (target_code target) (targets_code targets)
+  pub targets_core : Expressions → Core
+  targets_core no_expressions = empty
+  targets_core (expressions_more target targets) = both (target_core target) (targets_core targets)
 
-abbrev pub assignments_code : Assignments → Coded
-assignments_code no_assignments = nothing
-assignments_code (assignments_more target e more) = then_code (expression_code e) (then_code (target_code target) (assignments_code more))
+abbrev pub assignments_core : Assignments → Core
+assignments_core no_assignments = empty
+assignments_core (assignments_more target e more) = both (expression_core e) (both (target_core target) (assignments_core more))
 
 -- a loop has its variable
 abbrev pub loop_flags : ℕ
 loop_flags = 1
 
--- a loop from its frame on: the asking, the target, the body, the way back; `body` is told where the loop ends and where
--- it asks
-abbrev pub rounds_code : Coded → (ℕ → ℕ → Coded) → Coded
-rounds_code target body place =
-    let stored = target (suc place) in
-    let begins = suc place + length stored in
-    let ends_at = suc (begins + length (body 0 0 begins)) in
-    iterate ends_at ∷ (stored ++ (body ends_at place begins ++ (jump place ∷ [])))
+abbrev pub are_some : Statements → Bool
+are_some no_statements = false
+are_some (statements_more s ss) = true
 
 -- behind the rounds: the loop's frame is closed; an else part runs where no item was given
-abbrev pub loop_end_code : Statements → Coded → Coded
-loop_end_code no_statements otherwise = one pop_loop_frame
-loop_end_code (statements_more s ss) otherwise =
-    then_code (one push_did_not_iterate) (then_code (one pop_loop_frame) (skipped jump_if_false otherwise))
+abbrev pub loop_end_core : Statements → Core → Core
+loop_end_core ss otherwise =
+    chosen (are_some ss) (both (straight push_did_not_iterate) (both (straight pop_loop_frame) (leaping jump_if_false otherwise)))
+    (straight pop_loop_frame)
 
 -- a branch, with an else part where one follows
-abbrev pub branches_code : Statements → Coded → Coded → Coded
-branches_code no_statements body otherwise = skipped jump_if_false body
-branches_code (statements_more s ss) body otherwise = either_code body otherwise
-
-abbrev pub left_by : List Code → ℕ → Coded
-left_by closings to place = closings ++ (jump to ∷ [])
+abbrev pub branches_core : Statements → Core → Core → Core
+branches_core ss body otherwise = chosen (are_some ss) (either body otherwise) (leaping jump_if_false body)
 
 abbrev mutual
-  pub statement_code : Ways → Statement → Coded
-  statement_code ways (raw text) = one (emit_raw text)
-  statement_code ways (print e) = then_code (expression_code e) (one emit)
-  statement_code ways (for_loop target e absent false body otherwise) =
-      then_code (expression_code e) (then_code (one (push_loop loop_flags))
-      (then_code (rounds_code (target_code target) (λ break_to continue_to. statements_code (own_ways break_to continue_to) body))
-      (loop_end_code otherwise (statements_code ways otherwise))))
-  statement_code ways (if_condition e body otherwise) =
-      then_code (expression_code e) (branches_code otherwise (statements_code ways body) (statements_code ways otherwise))
-  statement_code ways (with_block assignments body) =
-      then_code (one push_with) (then_code (assignments_code assignments)
-      (then_code (statements_code (closing_with pop_frame ways) body) (one pop_frame)))
-  statement_code ways (set target e) = then_code (expression_code e) (target_code target)
-  statement_code ways (auto_escape e body) =
-      then_code (expression_code e) (then_code (one push_auto_escape)
-      (then_code (statements_code (closing_with pop_auto_escape ways) body) (one pop_auto_escape)))
-  statement_code ways (tree.include e ignore_missing) = then_code (expression_code e) (one (include ignore_missing))
-  statement_code ways continue_loop = left_by ways.closings ways.continue_to
-  statement_code ways break_loop = left_by ways.closings ways.break_to
-  statement_code ways _ = one unsupported
+  pub statement_core : Statement → Core
+  statement_core (raw text) = straight (emit_raw text)
+  statement_core (print e) = both (sealed (expression_core e)) (straight emit)
+  statement_core (for_loop target e absent false body otherwise) =
+      both (sealed (expression_core e)) (both (straight (push_loop loop_flags))
+      (both (rounds (target_core target) (statements_core body))
+      (loop_end_core otherwise (statements_core otherwise))))
+  statement_core (if_condition e body otherwise) =
+      both (sealed (expression_core e)) (branches_core otherwise (statements_core body) (statements_core otherwise))
+  statement_core (with_block assignments body) =
+      both (straight push_with) (both (sealed (assignments_core assignments))
+      (both (within pop_frame (statements_core body)) (straight pop_frame)))
+  statement_core (set target e) = both (sealed (expression_core e)) (sealed (target_core target))
+  statement_core (auto_escape e body) =
+      both (sealed (expression_core e)) (both (straight push_auto_escape)
+      (both (within pop_auto_escape (statements_core body)) (straight pop_auto_escape)))
+  statement_core (tree.include e ignore_missing) = both (sealed (expression_core e)) (straight (include ignore_missing))
+  statement_core continue_loop = leave false
+  statement_core break_loop = leave true
+  statement_core _ = straight unsupported
 
-  pub statements_code : Ways → Statements → Coded
-  statements_code ways no_statements = nothing
-  statements_code ways (statements_more s ss) = then_code (statement_code ways s) (statements_code ways ss)
+  pub statements_core : Statements → Core
+  statements_core no_statements = empty
+  statements_core (statements_more s ss) = both (statement_core s) (statements_core ss)
+
+abbrev pub target_code : Expression → Coded
+target_code target = flat no_ways (target_core target)
+
+abbrev pub targets_code : Expressions → Coded
+targets_code targets = flat no_ways (targets_core targets)
+
+abbrev pub assignments_code : Assignments → Coded
+assignments_code assignments = flat no_ways (assignments_core assignments)
+
+abbrev pub statement_code : Ways → Statement → Coded
+statement_code ways s = flat ways (statement_core s)
+
+abbrev pub statements_code : Ways → Statements → Coded
+statements_code ways ss = flat ways (statements_core ss)
+
+-- behind the rounds, and a branch, as they are laid out
+abbrev pub loop_end_code : Statements → Coded → Coded
+loop_end_code ss otherwise =
+    choose (are_some ss) (then_code (one push_did_not_iterate) (then_code (one pop_loop_frame) (skipped jump_if_false otherwise)))
+    (one pop_loop_frame)
+
+abbrev pub branches_code : Statements → Coded → Coded → Coded
+branches_code ss body otherwise = choose (are_some ss) (either_code body otherwise) (skipped jump_if_false body)
 
 -- a whole template, from the first place on
 abbrev pub template_code : Statements → List Code

@@ -15,6 +15,7 @@ use Rattle.template_walk.specs.Runnable.{IsRunnable, IsRunnableIfGiven, AreRunna
 use Rattle.template_code.specs.Code.{Code, store_local, lookup, load_const, get_attr, get_item, slice, build_map, build_list, build_tuple, unpack_list, operate, compare_and_preserve, swap, discard_top, jump, jump_if_false, jump_if_false_or_pop, jump_if_true_or_pop}
 use Rattle.template_code_shapes.specs.Shapes.{Shape, taken, given}
 use Rattle.template_code_shapes.specs.Effects.{Effect, falling, jumping, effect_of}
+use Rattle.template_compiler_codegen.specs.Core.{Core, no_ways, flat}
 use Rattle.template_compiler_codegen.specs.Expressions.{Coded, then_code, one, nothing, dropped, loaded, skipped, either_code, unary_code, binary_code, entry_count, expression_code, optional_code, expressions_code, codes_of, entries_code, chain_code, linked_code}
 use Rattle.template_compiler_codegen.specs.Statements.{target_code, targets_code, assignments_code}
 use Rattle.template_compiler_codegen.proofs.Standing.{StandsAt, behind_one, instruction_at, behind_then, stands_first, stands_second, stands_either, behind_either}
@@ -172,9 +173,9 @@ dropped_moves = moves_then (one swap) (one discard_top) 2 2 1 (moves_one swap 2 
     (λ code place s plain h. moves_one discard_top 1 0 (λ code place t plain. traded_plain 1 0 t plain) code place (given 1 s) plain h)
 
 -- each piece of code leaves a value
-abbrev EachMoves : List Coded → Type 0
+abbrev EachMoves : List Core → Type 0
 EachMoves [] = Unit {0}
-EachMoves (piece ∷ pieces) = Moves piece 0 1 × EachMoves pieces
+EachMoves (piece ∷ pieces) = Moves (flat no_ways piece) 0 1 × EachMoves pieces
 
 two_more : (n : ℕ) → n * 2 + 2 ≡ suc n * 2
 two_more n = omega arith
@@ -237,14 +238,15 @@ mutual
   each_moves no_expressions r = tt
   each_moves (expressions_more e es) r = (expression_moves e r.0, each_moves es r.1)
 
-  entries_move : (ks : Expressions) (pieces : List Coded) → AreRunnable ks → EachMoves pieces → Moves (entries_code ks pieces) 0 (entry_count ks pieces * 2)
+  entries_move : (ks : Expressions) (pieces : List Core) → AreRunnable ks → EachMoves pieces → Moves (entries_code ks pieces) 0 (entry_count ks pieces * 2)
   entries_move no_expressions pieces r each = moves_nothing 0
   entries_move (expressions_more k ks) [] r each = moves_nothing 0
   entries_move (expressions_more k ks) (piece ∷ pieces) r each =
       let n = entry_count ks pieces in
       let more = entries_code ks pieces in
       let later : Moves more 2 (suc n * 2) = (let P : ℕ → Type 0 = λ m. Moves more 2 m in subst P (two_more n) (over_many more (n * 2) 2 (entries_move ks pieces r.1 each.1))) in
-      moves_then (expression_code k) (then_code piece more) 0 1 (suc n * 2) (expression_moves k r.0) (moves_then piece more 1 2 (suc n * 2) (over_more piece 1 each.0) later)
+      let value = flat no_ways piece in
+      moves_then (expression_code k) (then_code value more) 0 1 (suc n * 2) (expression_moves k r.0) (moves_then value more 1 2 (suc n * 2) (over_more value 1 each.0) later)
 
   chain_moves : (links : Links) → IsRunnableChain links → Moves (chain_code links) 1 1
   chain_moves no_links r = absurd r

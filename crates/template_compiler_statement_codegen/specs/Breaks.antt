@@ -1,10 +1,10 @@
 -- The places of the jumps of a loop's breaks, which are told their target at the end of the loop.
-use Rattle.std.specs.Prelude.{ℕ, ◌+◌, suc, false, List, [], ◌∷◌, ◌++◌, length}
+use Rattle.std.specs.Prelude.{ℕ, ◌+◌, suc, Bool, true, false, List, [], ◌∷◌, ◌++◌, length}
 use Rattle.std.proofs.Math.ListN.{set}
-use Rattle.template_tree.specs.Tree.{Statement, Statements, absent, for_loop, if_condition, with_block, auto_escape, break_loop, no_statements, statements_more}
-use Rattle.template_code.specs.Code.{Code, push_with, pop_frame, push_loop, push_did_not_iterate, pop_loop_frame, push_auto_escape, pop_auto_escape, jump}
-use Rattle.template_compiler_codegen.specs.Expressions.{Coded, one, expression_code}
-use Rattle.template_compiler_codegen.specs.Statements.{Ways, own_ways, closing_with, target_code, assignments_code, loop_flags, rounds_code, statement_code, statements_code}
+use Rattle.template_tree.specs.Tree.{Statement, Statements}
+use Rattle.template_code.specs.Code.{Code, push_did_not_iterate, pop_loop_frame, jump}
+use Rattle.template_compiler_codegen.specs.Core.{Coded, one, Ways, closing_with, Core, both, leaping, either, within, leave, chosen, flat}
+use Rattle.template_compiler_codegen.specs.Statements.{are_some, statement_core, statements_core}
 
 -- places in a piece of code that begins at any place
 abbrev pub Places : Type 0
@@ -25,37 +25,35 @@ next_places places place = places (suc place)
 abbrev pub either_places : Coded → Places → Places → Places
 either_places first places others place = places (suc place) ++ others (suc (suc place + length (first (suc place))))
 
+-- those of the piece that is told by the choice
+abbrev pub choose_places : Bool → Places → Places → Places
+choose_places true first second = first
+choose_places false first second = second
+
+-- the breaks in a core; of a loop the own breaks lead to its own end
+abbrev pub breaks : Ways → Core → Places
+breaks ways (both a b) = then_places (flat ways a) (breaks ways a) (breaks ways b)
+breaks ways (leaping leap c) = next_places (breaks ways c)
+breaks ways (either a b) = either_places (flat ways a) (breaks ways a) (breaks ways b)
+breaks ways (within close c) = breaks (closing_with close ways) c
+breaks ways (leave true) = λ place. (place + length ways.closings) ∷ []
+breaks ways (chosen holds a b) = choose_places holds (breaks ways a) (breaks ways b)
+breaks ways _ = no_places
+
+abbrev pub breaks_of : Ways → Statement → Places
+breaks_of ways s = breaks ways (statement_core s)
+
+abbrev pub breaks_in : Ways → Statements → Places
+breaks_in ways ss = breaks ways (statements_core ss)
+
 abbrev pub branches_places : Statements → Coded → Places → Places → Places
-branches_places no_statements body places others = next_places places
-branches_places (statements_more s ss) body places others = either_places body places others
+branches_places ss body places others = choose_places (are_some ss) (either_places body places others) (next_places places)
 
--- an else part stands behind the end of the rounds
+-- those in an else part, which stands behind the end of the rounds
 abbrev pub loop_end_places : Statements → Places → Places
-loop_end_places no_statements others = no_places
-loop_end_places (statements_more s ss) others =
-    then_places (one push_did_not_iterate) no_places (then_places (one pop_loop_frame) no_places (next_places others))
-
--- of a loop the own breaks lead to its own end
-abbrev mutual
-  pub breaks_of : Ways → Statement → Places
-  breaks_of ways (for_loop target e absent false body otherwise) =
-      then_places (expression_code e) no_places (then_places (one (push_loop loop_flags)) no_places
-      (then_places (rounds_code (target_code target) (λ break_to continue_to. statements_code (own_ways break_to continue_to) body)) no_places
-      (loop_end_places otherwise (breaks_in ways otherwise))))
-  breaks_of ways (if_condition e body otherwise) =
-      then_places (expression_code e) no_places (branches_places otherwise (statements_code ways body) (breaks_in ways body) (breaks_in ways otherwise))
-  breaks_of ways (with_block assignments body) =
-      then_places (one push_with) no_places (then_places (assignments_code assignments) no_places
-      (then_places (statements_code (closing_with pop_frame ways) body) (breaks_in (closing_with pop_frame ways) body) no_places))
-  breaks_of ways (auto_escape e body) =
-      then_places (expression_code e) no_places (then_places (one push_auto_escape) no_places
-      (then_places (statements_code (closing_with pop_auto_escape ways) body) (breaks_in (closing_with pop_auto_escape ways) body) no_places))
-  breaks_of ways break_loop = λ place. (place + length ways.closings) ∷ []
-  breaks_of ways _ = no_places
-
-  pub breaks_in : Ways → Statements → Places
-  breaks_in ways no_statements = no_places
-  breaks_in ways (statements_more s ss) = then_places (statement_code ways s) (breaks_of ways s) (breaks_in ways ss)
+loop_end_places ss others =
+    choose_places (are_some ss) (then_places (one push_did_not_iterate) no_places (then_places (one pop_loop_frame) no_places (next_places others)))
+    no_places
 
 -- the jumps at the places lead to a target
 abbrev pub led : ℕ → List ℕ → List Code → List Code

@@ -10,18 +10,19 @@ use Rattle.template_tree_statements.specs.declared.statements.WithBlock.{WithBlo
 use Rattle.template_tree.specs.View.{expression_of}
 use Rattle.template_walk.specs.Runnable.{AreRunnableStatements, IsRunnableStatement}
 use Rattle.template_code.specs.Listing.{code_in}
-use Rattle.template_compiler_codegen.specs.Statements.{target_code}
+use Rattle.template_compiler_codegen.specs.Statements.{statements_code, target_code}
 use Rattle.template_compiler_emission.specs.declared.leaps.Leap.TheVariants.{IfFalse}
 use Rattle.template_compiler_expression_codegen.proofs.Putting.{landed_at, puts_as}
 use Rattle.template_tree.specs.declared.span.Spanned.{Spanned}
 use Rattle.template_tree_parts.specs.Listed.{statements_in}
+use Rattle.template_compiler_statement_codegen.specs.Breaks.{breaks_in}
 use Rattle.template_compiler_statement_codegen.specs.Listed.{body_deep, condition_deep, condition_of}
 use Rattle.template_compiler_statement_codegen.specs.Rounds.{LowersBody, places_in, ways_of}
 use Rattle.template_compiler_statement_codegen.specs.declared.rounds.Round.{Round}
 use Rattle.template_compiler_statement_codegen.proofs.Bodies.{no_items, some_items, statement_deep, statement_runnable}
 use Rattle.template_compiler_statement_codegen.proofs.Closings.{lowers_closed}
 use Rattle.template_compiler_statement_codegen.proofs.Elifs.{RemainsAt, alone, before_other, chain_begins, chain_ends, chain_next, later_runs}
-use Rattle.template_compiler_statement_codegen.proofs.Looping.{ends_otherwise, puts_rounds}
+use Rattle.template_compiler_statement_codegen.proofs.Looping.{ends_alone, ends_otherwise, puts_rounds}
 use Rattle.template_compiler_statement_codegen.proofs.Lowering.{lowers_behind, remains_told}
 use Rattle.template_compiler_statement_codegen.proofs.Nodes.{call_no_statement, condition_is, condition_within, elif_smaller, elif_tree, escape_deep, escape_is, loop_deep, loop_is, loop_other_deep, with_deep, with_is}
 use Rattle.template_compiler_statement_codegen.proofs.statements.+statement.Goals as goal
@@ -151,6 +152,14 @@ compile_chain-loop-end-smaller t c =
     let read : c.index.result.now ≡ get_or at.false_body.items 0 c.index.result.now =
     c.index.ensures ∙ ap (λ (x : Spanned IfCondNode). get_or x.node.false_body.items 0 c.index.result.now) c.deref.ensures in
     omega (arith, elif_smaller at.false_body.items c.index.result.now c.in-IfCond.n c.in-IfCond.n.value.node one read c.in-IfCond.is refl)
+
+pub compile_loop_end-returns-then-is_empty-clause-lowered : goal.compile_loop_end-returns-then-is_empty-clause-lowered
+compile_loop_end-returns-then-is_empty-clause-lowered t c =
+    let ss = c.args.otherwise.now in
+    let w = ways_of c.args.round.now in
+    let none = no_items ss (length ss) c.is_empty.result refl c.is_empty.ensures c.if-is_empty.true in
+    on_ok_weaker c.put.result (λ put. ends_alone ss (statements_code w (statements_in ss)) (breaks_in w (statements_in ss)) c.args.round.now none put)
+    c.put.ensures.put
 
 pub compile_loop_end-returns-clause-lowered : goal.compile_loop_end-returns-clause-lowered
 compile_loop_end-returns-clause-lowered t c =
