@@ -85,11 +85,11 @@ mutual
       (then_most (optional_code none stop) last (optional_size stop) c b (optional_most none stop)
       (and_one_most slice (optional_code none by) (optional_size by) (optional_most none by)) (omega arith)) (omega arith)) (omega arith)
   expression_most (list_literal es) =
-      loaded_most (constant_of (list_literal es)) (then_code (expressions_code es) (one (build_list (number_of es)))) (suc (expressions_size es))
-      (and_one_most (build_list (number_of es)) (expressions_code es) (expressions_size es) (expressions_most es)) (omega arith)
+      loaded_most (constant_of (list_literal es)) (then_code (expressions_code es) (one (build_list (Some (number_of es))))) (suc (expressions_size es))
+      (and_one_most (build_list (Some (number_of es))) (expressions_code es) (expressions_size es) (expressions_most es)) (omega arith)
   expression_most (tuple_literal es) =
-      loaded_most (constant_of (tuple_literal es)) (then_code (expressions_code es) (one (build_tuple (number_of es)))) (suc (expressions_size es))
-      (and_one_most (build_tuple (number_of es)) (expressions_code es) (expressions_size es) (expressions_most es)) (omega arith)
+      loaded_most (constant_of (tuple_literal es)) (then_code (expressions_code es) (one (build_tuple (Some (number_of es))))) (suc (expressions_size es))
+      (and_one_most (build_tuple (Some (number_of es))) (expressions_code es) (expressions_size es) (expressions_most es)) (omega arith)
   expression_most (map_literal ks vs) =
       let count = entry_count ks (codes_of vs) in
       loaded_most (constant_of (map_literal ks vs)) (then_code (entries_code ks (codes_of vs)) (one (build_map count))) (suc (expressions_size ks + expressions_size vs))

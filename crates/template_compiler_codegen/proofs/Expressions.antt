@@ -2,10 +2,11 @@
 use Rattle.std.proofs.Common.{◌≡◌, ℕ, ◌+◌, ◌*◌, ◌≤◌, suc, List, [], ◌∷◌, ◌++◌, length, Option, None, Some, append-nil, refl, sym, ap, subst, ◌∙◌, arith}
 use Rattle.template_values_model.specs.Val.{Val}
 use Rattle.template_process.specs.Process as events
-use Rattle.template_process.specs.Process.{Ask, truth_of, Process, step, asks, on_value, on_truth, Below}
+use Rattle.template_process.specs.Process.{Counts, Ask, truth_of, Process, step, asks, on_value, on_truth, Below}
 use Rattle.template_process.proofs.Below.{below-step, below-asks_value, below-asks_truth, below-trans}
 use Rattle.template_walk.specs.Expressions.{folded}
 use Rattle.template_code.specs.Code.{Operand, single, Code, load_const, build_map, build_list, build_tuple, jump, jump_if_false, jump_if_false_or_pop, jump_if_true_or_pop}
+use Rattle.template_code.specs.Counting.{counts_before}
 use Rattle.template_code.specs.Steps.{taken, on_taken, paired, act, exec}
 use Rattle.template_code.proofs.Rising.{exec_more}
 use Rattle.template_compiler_codegen.specs.Expressions.{Coded, then_code, one, loaded, skipped, either_code}
@@ -29,7 +30,7 @@ behind_single place c = omega arith
 
 -- one instruction that asks for a value
 pub asks_at : (code : List Code) (place : ℕ) (c : Code) (piece : List Code) → StandsAt code place (c ∷ piece) → (k : ℕ) (operands rest : List Operand) (e : Ask) (go : Val → Process)
-    → act (exec code k) (Some c) place operands ≡ step (asks e (on_value (λ w. exec code k (suc place) (single w ∷ rest))))
+    → act (exec code k) (counts_before code place) (Some c) place operands ≡ step (asks e (on_value (λ w. exec code k (suc place) (single w ∷ rest))))
     → ((v : Val) → Below (go v) (exec code k (suc place) (single v ∷ rest))) → Below (step (asks e (on_value go))) (exec code (suc k) place operands)
 asks_at code place c piece h k operands rest e go is below =
     let P : Process → Type 0 = λ q. Below (step (asks e (on_value go))) q in
@@ -76,31 +77,31 @@ pub longer : (code : List Code) (k m place : ℕ) (operands : List Operand) (p :
 longer code k m place operands p less h = below-trans p (exec code k place operands) (exec code m place operands) h (exec_more code k m less place operands)
 
 -- one instruction over one value
-pub over_one : (c : Code) (e : Val → Ask) → ((next : ℕ → List Operand → Process) (place : ℕ) (v : Val) (operands : List Operand)
-    → act next (Some c) place (single v ∷ operands) ≡ step (asks (e v) (on_value (λ w. next (suc place) (single w ∷ operands)))))
+pub over_one : (c : Code) (e : Val → Ask) → ((next : ℕ → List Operand → Process) (before : Counts) (place : ℕ) (v : Val) (operands : List Operand)
+    → act next before (Some c) place (single v ∷ operands) ≡ step (asks (e v) (on_value (λ w. next (suc place) (single w ∷ operands)))))
     → Over (one c) (λ v go. step (asks (e v) (on_value go)))
 over_one c e is code place h k = (
   suc k,
-  λ v operands go below. asks_at code place c [] h k (single v ∷ operands) operands (e v) go (is (exec code k) place v operands)
+  λ v operands go below. asks_at code place c [] h k (single v ∷ operands) operands (e v) go (is (exec code k) (counts_before code place) place v operands)
       (λ w. moved code k (place + length (one c place)) (suc place) (single w ∷ operands) (go w) (sym (behind_single place c)) (below w)),
 )
 
 -- a piece, and one instruction over the value below and the one that the piece gives
-pub over_two : (piece : Coded) (walk : (Val → Process) → Process) (c : Code) (e : Val → Val → Ask) → Performs piece walk → ((next : ℕ → List Operand → Process) (place : ℕ) (v w : Val) (operands : List Operand)
-    → act next (Some c) place (single w ∷ single v ∷ operands) ≡ step (asks (e v w) (on_value (λ u. next (suc place) (single u ∷ operands)))))
+pub over_two : (piece : Coded) (walk : (Val → Process) → Process) (c : Code) (e : Val → Val → Ask) → Performs piece walk → ((next : ℕ → List Operand → Process) (before : Counts) (place : ℕ) (v w : Val) (operands : List Operand)
+    → act next before (Some c) place (single w ∷ single v ∷ operands) ≡ step (asks (e v w) (on_value (λ u. next (suc place) (single u ∷ operands)))))
     → Over (then_code piece (one c)) (λ v go. walk (λ w. step (asks (e v w) (on_value go))))
 over_two piece walk c e f is code place h k =
     let mid = place + length (piece place) in
     let earlier = f code place (stands_first code place piece (one c) h) (suc k) in (
       earlier.0,
       λ v operands go below. earlier.1 (single v ∷ operands) (λ w. step (asks (e v w) (on_value go)))
-          (λ w. asks_at code mid c [] (stands_second code place piece (one c) h) k (single w ∷ single v ∷ operands) operands (e v w) go (is (exec code k) mid v w operands)
+          (λ w. asks_at code mid c [] (stands_second code place piece (one c) h) k (single w ∷ single v ∷ operands) operands (e v w) go (is (exec code k) (counts_before code mid) mid v w operands)
           (λ u. moved code k (place + length (then_code piece (one c) place)) (suc mid) (single u ∷ operands) (go u) (behind_then piece (one c) place ∙ sym (behind_single mid c)) (below u))),
     )
 
 -- a test of the value on top
 pub tests_at : (code : List Code) (place : ℕ) (c : Code) (piece : List Code) → StandsAt code place (c ∷ piece) → (k : ℕ) (operands : List Operand) (e : Ask) (p q r s : Process)
-    → act (exec code k) (Some c) place operands ≡ step (asks e (on_truth r s)) → Below p r → Below q s → Below (step (asks e (on_truth p q))) (exec code (suc k) place operands)
+    → act (exec code k) (counts_before code place) (Some c) place operands ≡ step (asks e (on_truth r s)) → Below p r → Below q s → Below (step (asks e (on_truth p q))) (exec code (suc k) place operands)
 tests_at code place c piece h k operands e p q r s is f g =
     let P : Process → Type 0 = λ x. Below (step (asks e (on_truth p q))) x in
     below_at code place c (instruction_at code place c piece h) k operands (step (asks e (on_truth p q))) (subst P (sym is) (below-step _ _ (below-asks_truth e p r q s f g)))
@@ -186,7 +187,7 @@ GivesAll code walk count from to = (k : ℕ) → (j : ℕ) × ((operands : List 
 
 -- a container is built of them
 pub builds_at : (code : List Code) (place : ℕ) (c : Code) → StandsAt code place (c ∷ []) → (k : ℕ) (vs : List Val) (operands : List Operand) (e : Ask) (go : Val → Process)
-    → act (exec code k) (Some c) place (pushed vs operands) ≡ step (asks e (on_value (λ w. exec code k (suc place) (single w ∷ operands))))
+    → act (exec code k) (counts_before code place) (Some c) place (pushed vs operands) ≡ step (asks e (on_value (λ w. exec code k (suc place) (single w ∷ operands))))
     → ((w : Val) → Below (go w) (exec code k (place + length (one c place)) (single w ∷ operands))) → Below (step (asks e (on_value go))) (exec code (suc k) place (pushed vs operands))
 builds_at code place c h k vs operands e go is below =
     asks_at code place c [] h k (pushed vs operands) operands e go is (λ w. moved code k (place + length (one c place)) (suc place) (single w ∷ operands) (go w) (sym (behind_single place c)) (below w))
@@ -194,8 +195,8 @@ builds_at code place c h k vs operands e go is below =
 -- the parts of a container, and its instruction
 pub performs_built : (piece : Coded) (walk : (List Val → Process) → Process) (count : ℕ) (c : Code) (e : List Val → Ask)
     → ((code : List Code) (place : ℕ) → StandsAt code place (piece place) → GivesAll code walk count place (place + length (piece place)))
-    → ((next : ℕ → List Operand → Process) (place : ℕ) (vs : List Val) (operands : List Operand) → length vs ≡ count
-    → act next (Some c) place (pushed vs operands) ≡ step (asks (e vs) (on_value (λ w. next (suc place) (single w ∷ operands)))))
+    → ((next : ℕ → List Operand → Process) (before : Counts) (place : ℕ) (vs : List Val) (operands : List Operand) → length vs ≡ count
+    → act next before (Some c) place (pushed vs operands) ≡ step (asks (e vs) (on_value (λ w. next (suc place) (single w ∷ operands)))))
     → Performs (then_code piece (one c)) (λ go. walk (λ vs. step (asks (e vs) (on_value go))))
 performs_built piece walk count c e f is code place h =
     let mid = place + length (piece place) in
@@ -204,16 +205,16 @@ performs_built piece walk count c e f is code place h =
     let earlier = f code place (stands_first code place piece (one c) h) (suc k) in (
       earlier.0,
       λ operands go below. earlier.1 operands (λ vs. step (asks (e vs) (on_value go)))
-          (λ vs many. builds_at code mid c (stands_second code place piece (one c) h) k vs operands (e vs) go (is (exec code k) mid vs operands many) below),
+          (λ vs many. builds_at code mid c (stands_second code place piece (one c) h) k vs operands (e vs) go (is (exec code k) (counts_before code mid) mid vs operands many) below),
     ))
 
-pub built_list : (n : ℕ) (next : ℕ → List Operand → Process) (place : ℕ) (vs : List Val) (operands : List Operand) → length vs ≡ n
-    → act next (Some (build_list n)) place (pushed vs operands) ≡ step (asks (events.build_list vs) (on_value (λ w. next (suc place) (single w ∷ operands))))
-built_list n next place vs operands many = ap (λ o. step (on_taken o (λ us rest. asks (events.build_list us) (on_value (λ w. next (suc place) (single w ∷ rest)))))) (taken_all vs n operands many)
+pub built_list : (n : ℕ) (next : ℕ → List Operand → Process) (before : Counts) (place : ℕ) (vs : List Val) (operands : List Operand) → length vs ≡ n
+    → act next before (Some (build_list (Some n))) place (pushed vs operands) ≡ step (asks (events.build_list vs) (on_value (λ w. next (suc place) (single w ∷ operands))))
+built_list n next before place vs operands many = ap (λ o. step (on_taken o (λ us rest. asks (events.build_list us) (on_value (λ w. next (suc place) (single w ∷ rest)))))) (taken_all vs n operands many)
 
-pub built_tuple : (n : ℕ) (next : ℕ → List Operand → Process) (place : ℕ) (vs : List Val) (operands : List Operand) → length vs ≡ n
-    → act next (Some (build_tuple n)) place (pushed vs operands) ≡ step (asks (events.build_tuple vs) (on_value (λ w. next (suc place) (single w ∷ operands))))
-built_tuple n next place vs operands many = ap (λ o. step (on_taken o (λ us rest. asks (events.build_tuple us) (on_value (λ w. next (suc place) (single w ∷ rest)))))) (taken_all vs n operands many)
+pub built_tuple : (n : ℕ) (next : ℕ → List Operand → Process) (before : Counts) (place : ℕ) (vs : List Val) (operands : List Operand) → length vs ≡ n
+    → act next before (Some (build_tuple (Some n))) place (pushed vs operands) ≡ step (asks (events.build_tuple vs) (on_value (λ w. next (suc place) (single w ∷ operands))))
+built_tuple n next before place vs operands many = ap (λ o. step (on_taken o (λ us rest. asks (events.build_tuple us) (on_value (λ w. next (suc place) (single w ∷ rest)))))) (taken_all vs n operands many)
 
 -- keys and values in turn, as they stand on the operands
 abbrev pub laid : List (Val × Val) → List Val
@@ -228,8 +229,8 @@ laid_length : (entries : List (Val × Val)) → length (laid entries) ≡ length
 laid_length [] = omega arith
 laid_length (entry ∷ entries) = omega (arith, laid_length entries)
 
-pub built_map : (n : ℕ) (next : ℕ → List Operand → Process) (place : ℕ) (entries : List (Val × Val)) (operands : List Operand) → length entries ≡ n
-    → act next (Some (build_map n)) place (pushed (laid entries) operands) ≡ step (asks (events.build_map entries) (on_value (λ w. next (suc place) (single w ∷ operands))))
-built_map n next place entries operands many =
+pub built_map : (n : ℕ) (next : ℕ → List Operand → Process) (before : Counts) (place : ℕ) (entries : List (Val × Val)) (operands : List Operand) → length entries ≡ n
+    → act next before (Some (build_map n)) place (pushed (laid entries) operands) ≡ step (asks (events.build_map entries) (on_value (λ w. next (suc place) (single w ∷ operands))))
+built_map n next before place entries operands many =
     ap (λ o. step (on_taken o (λ us rest. asks (events.build_map (paired us)) (on_value (λ w. next (suc place) (single w ∷ rest)))))) (taken_all (laid entries) (n * 2) operands (laid_length entries ∙ ap (λ m. m * 2) many))
     ∙ ap (λ es. step (asks (events.build_map es) (on_value (λ w. next (suc place) (single w ∷ operands))))) (paired_laid entries)

@@ -1,5 +1,5 @@
 -- The code of each expression performs its walk.
-use Rattle.std.proofs.Common.{◌≡◌, ℕ, ◌+◌, suc, List, [], ◌∷◌, length, refl, sym, ap, subst, ◌∙◌, arith}
+use Rattle.std.proofs.Common.{◌≡◌, ℕ, ◌+◌, suc, List, [], ◌∷◌, length, Some, refl, sym, ap, subst, ◌∙◌, arith}
 use Rattle.template_values_model.specs.Val.{Val, silent_undefined, none}
 use Rattle.template_tree.specs.declared.operators.UnaryOpKind.{UnaryOpKind}
 use Rattle.template_tree.specs.declared.operators.UnaryOpKind.TheVariants.{Not, Neg}
@@ -15,6 +15,7 @@ use Rattle.template_walk.specs.Constants.{constant_of}
 use Rattle.template_walk.specs.Statements.{number_of}
 use Rattle.template_walk.specs.Expressions.{unary_ask, binary_walk, expression_walk, optional_walk, expressions_walk, walks_of, entries_walk, chain_walk, linked_walk}
 use Rattle.template_code.specs.Code.{Operand, single, Code, lookup, get_attr, get_item, slice, build_map, build_list, build_tuple, operate, negate, invert, compare_and_preserve, swap, discard_top, jump_if_false_or_pop}
+use Rattle.template_code.specs.Counting.{counts_before}
 use Rattle.template_code.specs.Steps.{exec}
 use Rattle.template_compiler_codegen.specs.Core.{Core, no_ways, flat}
 use Rattle.template_compiler_codegen.specs.Expressions.{Coded, then_code, one, nothing, dropped, skipped, either_code, unary_code, binary_code, expression_code, optional_code, expressions_code, codes_of, entry_count, entries_code, chain_code, linked_code}
@@ -27,15 +28,15 @@ looks_up name code place h =
     (λ k. (suc k, λ operands go below. asks_at code place (lookup name) [] h k operands operands (events.look_up name) go refl below))
 
 over_unary : (op : UnaryOpKind) → Over (one (unary_code op)) (λ v go. step (asks (unary_ask op v) (on_value go)))
-over_unary Not = over_one invert events.invert (λ next place v operands. refl)
-over_unary Neg = over_one negate events.negate (λ next place v operands. refl)
+over_unary Not = over_one invert events.invert (λ next before place v operands. refl)
+over_unary Neg = over_one negate events.negate (λ next before place v operands. refl)
 
 performs_binary : (op : BinOpKind) (left right : Coded) (f g : (Val → Process) → Process) → Performs left f → Performs right g → Performs (binary_code op left right) (binary_walk op f g)
 performs_binary ScAnd left right f g h i = gives_then left (skipped jump_if_false_or_pop right) f (λ v go. step (asks (truth_of v) (on_truth (g go) (go v)))) h (over_and right g i)
 performs_binary ScOr left right f g h i = gives_then left _ f (λ v go. step (asks (truth_of v) (on_truth (go v) (g go)))) h (over_or right g i)
 performs_binary op left right f g h i =
     gives_then left (then_code right (one (operate op))) f (λ v go. g (λ w. step (asks (events.operate op v w) (on_value go)))) h
-    (over_two right g (operate op) (events.operate op) i (λ next place v w operands. refl))
+    (over_two right g (operate op) (events.operate op) i (λ next before place v w operands. refl))
 
 -- a slice, over its object
 over_slice : (first second third : Coded) (f g h : (Val → Process) → Process) → Performs first f → Performs second g → Performs third h
@@ -152,7 +153,7 @@ performs_map piece walk count f code place h =
     let earlier = f code place (stands_first code place piece (one (build_map count)) h) (suc k) in (
       earlier.0,
       λ operands go below. earlier.1 operands (λ entries. step (asks (events.build_map entries) (on_value go)))
-          (λ entries many. builds_at code mid (build_map count) (stands_second code place piece (one (build_map count)) h) k (laid entries) operands (events.build_map entries) go (built_map count (exec code k) mid entries operands many) below),
+          (λ entries many. builds_at code mid (build_map count) (stands_second code place piece (one (build_map count)) h) k (laid entries) operands (events.build_map entries) go (built_map count (exec code k) (counts_before code mid) mid entries operands many) below),
     ))
 
 -- several expressions
@@ -258,21 +259,21 @@ mutual
       (over_either (expression_code branch) (optional_code silent_undefined otherwise) (expression_walk branch) (optional_walk silent_undefined otherwise) (performs branch) (performs_optional otherwise silent_undefined))
   performs (attribute e name) =
       gives_then (expression_code e) (one (get_attr name)) (expression_walk e) (λ v go. step (asks (events.get_attribute v name) (on_value go))) (performs e)
-      (over_one (get_attr name) (λ v. events.get_attribute v name) (λ next place v operands. refl))
+      (over_one (get_attr name) (λ v. events.get_attribute v name) (λ next before place v operands. refl))
   performs (item e key) =
       gives_then (expression_code e) (then_code (expression_code key) (one get_item)) (expression_walk e) (λ v go. expression_walk key (λ k. step (asks (events.get_item v k) (on_value go)))) (performs e)
-      (over_two (expression_code key) (expression_walk key) get_item events.get_item (performs key) (λ next place v w operands. refl))
+      (over_two (expression_code key) (expression_walk key) get_item events.get_item (performs key) (λ next before place v w operands. refl))
   performs (tree.slice e start stop by) =
       gives_then (expression_code e) (then_code (optional_code none start) (then_code (optional_code none stop) (then_code (optional_code none by) (one slice)))) (expression_walk e)
       (λ v go. optional_walk none start (λ a. optional_walk none stop (λ b. optional_walk none by (λ c. step (asks (events.get_slice v a b c) (on_value go)))))) (performs e)
       (over_slice (optional_code none start) (optional_code none stop) (optional_code none by) (optional_walk none start) (optional_walk none stop) (optional_walk none by)
       (performs_optional start none) (performs_optional stop none) (performs_optional by none))
   performs (list_literal es) =
-      performs_loaded (constant_of (list_literal es)) (then_code (expressions_code es) (one (build_list (number_of es)))) (λ go. expressions_walk es (λ vs. step (asks (events.build_list vs) (on_value go))))
-      (performs_built (expressions_code es) (expressions_walk es) (number_of es) (build_list (number_of es)) events.build_list (performs_all es) (built_list (number_of es)))
+      performs_loaded (constant_of (list_literal es)) (then_code (expressions_code es) (one (build_list (Some (number_of es))))) (λ go. expressions_walk es (λ vs. step (asks (events.build_list vs) (on_value go))))
+      (performs_built (expressions_code es) (expressions_walk es) (number_of es) (build_list (Some (number_of es))) events.build_list (performs_all es) (built_list (number_of es)))
   performs (tuple_literal es) =
-      performs_loaded (constant_of (tuple_literal es)) (then_code (expressions_code es) (one (build_tuple (number_of es)))) (λ go. expressions_walk es (λ vs. step (asks (events.build_tuple vs) (on_value go))))
-      (performs_built (expressions_code es) (expressions_walk es) (number_of es) (build_tuple (number_of es)) events.build_tuple (performs_all es) (built_tuple (number_of es)))
+      performs_loaded (constant_of (tuple_literal es)) (then_code (expressions_code es) (one (build_tuple (Some (number_of es))))) (λ go. expressions_walk es (λ vs. step (asks (events.build_tuple vs) (on_value go))))
+      (performs_built (expressions_code es) (expressions_walk es) (number_of es) (build_tuple (Some (number_of es))) events.build_tuple (performs_all es) (built_tuple (number_of es)))
   performs (map_literal ks vs) =
       performs_loaded (constant_of (map_literal ks vs)) (then_code (entries_code ks (codes_of vs)) (one (build_map (entry_count ks (codes_of vs))))) (λ go. entries_walk ks (walks_of vs) (λ entries. step (asks (events.build_map entries) (on_value go))))
       (performs_map (entries_code ks (codes_of vs)) (entries_walk ks (walks_of vs)) (entry_count ks (codes_of vs)) (performs_entries ks (codes_of vs) (walks_of vs) (performs_each vs)))

@@ -2,6 +2,7 @@
 use Rattle.std.proofs.Common.{◌≡◌, ℕ, ◌+◌, suc, List, [], ◌∷◌, ◌++◌, length, Some, slice_get, refl, sym, ap, subst, ◌∙◌, append_assoc, length-append, arith}
 use Rattle.template_process.specs.Process.{Process, Below}
 use Rattle.template_code.specs.Code.{Operand, Code, jump, jump_if_false}
+use Rattle.template_code.specs.Counting.{counts_before}
 use Rattle.template_code.specs.Steps.{act, exec}
 use Rattle.template_compiler_codegen.specs.Expressions.{Coded, then_code, either_code}
 
@@ -39,12 +40,12 @@ instruction_at code place c piece h =
     ap (λ n. slice_get code n) (sym h.at) ∙ ap (λ (all : List Code). slice_get all (length h.front)) h.is ∙ at_front h.front c (piece ++ h.back)
 
 -- what runs there is the instruction
-pub exec_at : (code : List Code) (place : ℕ) (c : Code) → slice_get code place ≡ Some c → (k : ℕ) (operands : List Operand) → exec code (suc k) place operands ≡ act (exec code k) (Some c) place operands
-exec_at code place c h k operands = ap (λ o. act (exec code k) o place operands) h
+pub exec_at : (code : List Code) (place : ℕ) (c : Code) → slice_get code place ≡ Some c → (k : ℕ) (operands : List Operand) → exec code (suc k) place operands ≡ act (exec code k) (counts_before code place) (Some c) place operands
+exec_at code place c h k operands = ap (λ o. act (exec code k) (counts_before code place) o place operands) h
 
 -- a process is below what runs there, if it is below the instruction
 pub below_at : (code : List Code) (place : ℕ) (c : Code) → slice_get code place ≡ Some c → (k : ℕ) (operands : List Operand) (p : Process)
-    → Below p (act (exec code k) (Some c) place operands) → Below p (exec code (suc k) place operands)
+    → Below p (act (exec code k) (counts_before code place) (Some c) place operands) → Below p (exec code (suc k) place operands)
 below_at code place c h k operands p below =
     let P : Process → Type 0 = λ q. Below p q in
     subst P (sym (exec_at code place c h k operands)) below

@@ -5,11 +5,12 @@ use Rattle.template_values_model.specs.Val.{Val}
 use Rattle.template_tree.specs.Tree.{Expression, Expressions, Statement, Statements, Assignments, variable, list_literal, absent, no_expressions, expressions_more, raw, print, for_loop, if_condition, with_block, set, auto_escape, continue_loop, break_loop, no_statements, statements_more, no_assignments, assignments_more}
 use Rattle.template_tree.specs.Tree as tree
 use Rattle.template_process.specs.Process as events
-use Rattle.template_process.specs.Process.{Ask, store, truth_of, unpack, write_raw, write_value, open_frame, close_frame, open_loop, next_item, did_not_iterate, close_loop, open_escape, close_escape, Process, over, step, asks, cut_short, on_done, on_value, on_truth, on_item, on_items, Below}
+use Rattle.template_process.specs.Process.{Counts, Ask, store, truth_of, unpack, write_raw, write_value, open_frame, close_frame, plain_loop, open_loop, next_item, did_not_iterate, close_loop, open_escape, close_escape, Process, over, step, asks, cut_short, on_done, on_value, on_truth, on_item, on_items, Below}
 use Rattle.template_process.proofs.Below.{below-cut_short, below-step, below-asks_done, below-asks_value, below-asks_item, below-asks_items_of}
 use Rattle.template_walk.specs.Expressions.{expression_walk}
 use Rattle.template_walk.specs.Statements.{Exits, closing, number_of, target_walk, targets_walk, assignments_walk, rounds, loop_end, past, statement_walk, statements_walk}
 use Rattle.template_code.specs.Code.{Operand, single, Code, emit_raw, emit, store_local, unpack_list, jump, jump_if_false, push_with, pop_frame, push_loop, iterate, push_did_not_iterate, pop_loop_frame, push_auto_escape, pop_auto_escape, include}
+use Rattle.template_code.specs.Counting.{counts_before}
 use Rattle.template_code.specs.Steps.{act, exec}
 use Rattle.template_compiler_codegen.specs.Expressions.{Coded, then_code, one, nothing, skipped, either_code, expression_code}
 use Rattle.template_compiler_codegen.specs.Statements.{Ways, closing_with, target_code, targets_code, assignments_code, loop_flags, rounds_code, loop_end_code, branches_code, left_by, statement_code, statements_code}
@@ -97,39 +98,39 @@ taken_then ways first second walk more f g code place h k =
 
 -- one instruction that asks for something to be done
 done_at : (code : List Code) (place : ℕ) (c : Code) (piece : List Code) → StandsAt code place (c ∷ piece) → (k : ℕ) (operands rest : List Operand) (e : Ask) (p : Process)
-    → act (exec code k) (Some c) place operands ≡ step (asks e (on_done (exec code k (suc place) rest))) → Below p (exec code k (suc place) rest) → Below (step (asks e (on_done p))) (exec code (suc k) place operands)
+    → act (exec code k) (counts_before code place) (Some c) place operands ≡ step (asks e (on_done (exec code k (suc place) rest))) → Below p (exec code k (suc place) rest) → Below (step (asks e (on_done p))) (exec code (suc k) place operands)
 done_at code place c piece h k operands rest e p is below =
     let P : Process → Type 0 = λ q. Below (step (asks e (on_done p))) q in
     below_at code place c (instruction_at code place c piece h) k operands (step (asks e (on_done p))) (subst P (sym is) (below-step _ _ (below-asks_done e p (exec code k (suc place) rest) below)))
 
 -- the same for nothing
 done_free : (code : List Code) (place : ℕ) (c : Code) (piece : List Code) → StandsAt code place (c ∷ piece) → (k : ℕ) (operands rest : List Operand) (e : Ask) (p : Process)
-    → act (exec code k) (Some c) place operands ≡ asks e (on_done (exec code k (suc place) rest)) → Below p (exec code k (suc place) rest) → Below (asks e (on_done p)) (exec code (suc k) place operands)
+    → act (exec code k) (counts_before code place) (Some c) place operands ≡ asks e (on_done (exec code k (suc place) rest)) → Below p (exec code k (suc place) rest) → Below (asks e (on_done p)) (exec code (suc k) place operands)
 done_free code place c piece h k operands rest e p is below =
     let P : Process → Type 0 = λ q. Below (asks e (on_done p)) q in
     below_at code place c (instruction_at code place c piece h) k operands (asks e (on_done p)) (subst P (sym is) (below-asks_done e p (exec code k (suc place) rest) below))
 
-takes_one : (ways : Ways) (c : Code) (e : Val → Ask) → ((next : ℕ → List Operand → Process) (place : ℕ) (v : Val) (operands : List Operand) → act next (Some c) place (single v ∷ operands) ≡ step (asks (e v) (on_done (next (suc place) operands))))
+takes_one : (ways : Ways) (c : Code) (e : Val → Ask) → ((next : ℕ → List Operand → Process) (before : Counts) (place : ℕ) (v : Val) (operands : List Operand) → act next before (Some c) place (single v ∷ operands) ≡ step (asks (e v) (on_done (next (suc place) operands))))
     → TakesAs ways (one c) (λ v x go. step (asks (e v) (on_done go)))
 takes_one ways c e is code place h k = (
   suc k,
-  λ v operands x go below outs. done_at code place c [] h k (single v ∷ operands) operands (e v) go (is (exec code k) place v operands)
+  λ v operands x go below outs. done_at code place c [] h k (single v ∷ operands) operands (e v) go (is (exec code k) (counts_before code place) place v operands)
       (moved code k (place + length (one c place)) (suc place) operands go (sym (behind_single place c)) below),
 )
 
-takes_free : (ways : Ways) (c : Code) (e : Val → Ask) → ((next : ℕ → List Operand → Process) (place : ℕ) (v : Val) (operands : List Operand) → act next (Some c) place (single v ∷ operands) ≡ asks (e v) (on_done (next (suc place) operands)))
+takes_free : (ways : Ways) (c : Code) (e : Val → Ask) → ((next : ℕ → List Operand → Process) (before : Counts) (place : ℕ) (v : Val) (operands : List Operand) → act next before (Some c) place (single v ∷ operands) ≡ asks (e v) (on_done (next (suc place) operands)))
     → TakesAs ways (one c) (λ v x go. asks (e v) (on_done go))
 takes_free ways c e is code place h k = (
   suc k,
-  λ v operands x go below outs. done_free code place c [] h k (single v ∷ operands) operands (e v) go (is (exec code k) place v operands)
+  λ v operands x go below outs. done_free code place c [] h k (single v ∷ operands) operands (e v) go (is (exec code k) (counts_before code place) place v operands)
       (moved code k (place + length (one c place)) (suc place) operands go (sym (behind_single place c)) below),
 )
 
-does_free : (ways : Ways) (c : Code) (e : Ask) → ((next : ℕ → List Operand → Process) (place : ℕ) (operands : List Operand) → act next (Some c) place operands ≡ asks e (on_done (next (suc place) operands)))
+does_free : (ways : Ways) (c : Code) (e : Ask) → ((next : ℕ → List Operand → Process) (before : Counts) (place : ℕ) (operands : List Operand) → act next before (Some c) place operands ≡ asks e (on_done (next (suc place) operands)))
     → PerformsAs ways (one c) (λ x go. asks e (on_done go))
 does_free ways c e is code place h k = (
   suc k,
-  λ operands x go below outs. done_free code place c [] h k operands operands e go (is (exec code k) place operands)
+  λ operands x go below outs. done_free code place c [] h k operands operands e go (is (exec code k) (counts_before code place) place operands)
       (moved code k (place + length (one c place)) (suc place) operands go (sym (behind_single place c)) below),
 )
 
@@ -267,17 +268,17 @@ takes_branches ways no_statements body other walk more f g same code place h k =
 takes_branches ways (statements_more s ss) body other walk more f g same code place h k = takes_either ways body other walk more f g code place h k
 
 -- a body with something open, and its closing
-closed_body : (ways : Ways) (c : Code) (e : Ask) (body : Coded) (walk : Walk) → ((next : ℕ → List Operand → Process) (place : ℕ) (operands : List Operand) → act next (Some c) place operands ≡ asks e (on_done (next (suc place) operands)))
+closed_body : (ways : Ways) (c : Code) (e : Ask) (body : Coded) (walk : Walk) → ((next : ℕ → List Operand → Process) (before : Counts) (place : ℕ) (operands : List Operand) → act next before (Some c) place operands ≡ asks e (on_done (next (suc place) operands)))
     → PerformsAs (closing_with c ways) body walk → PerformsAs ways (then_code body (one c)) (λ x go. walk (closing e x) (asks e (on_done go)))
 closed_body ways c e body walk is f code place h k =
     let mid = place + length (body place) in
     let b = f code place (stands_first code place body (one c) h) (suc k) in
     let way_out : (to : ℕ) (p : Process) (operands : List Operand) → WayOut code ways.closings to k p operands → WayOut code (c ∷ ways.closings) to (suc k) (asks e (on_done p)) operands =
-    λ to p operands out at stands. done_free code at c (left_by ways.closings to at) stands k operands operands e p (is (exec code k) at operands) (out (suc at) (behind_one code at c (left_by ways.closings to at) stands)) in (
+    λ to p operands out at stands. done_free code at c (left_by ways.closings to at) stands k operands operands e p (is (exec code k) (counts_before code at) at operands) (out (suc at) (behind_one code at c (left_by ways.closings to at) stands)) in (
       b.0,
       λ operands x go below outs.
           b.1 operands (closing e x) (asks e (on_done go))
-          (done_free code mid c [] (stands_second code place body (one c) h) k operands operands e go (is (exec code k) mid operands)
+          (done_free code mid c [] (stands_second code place body (one c) h) k operands operands e go (is (exec code k) (counts_before code mid) mid operands)
           (moved code k (place + length (then_code body (one c) place)) (suc mid) operands go (behind_then body (one c) place ∙ sym (behind_single mid c)) below))
           (record { on_break = way_out ways.break_to x.on_break operands outs.on_break; on_continue = way_out ways.continue_to x.on_continue operands outs.on_continue }),
     )
@@ -289,7 +290,7 @@ leaves ways to walk out code place h k = (k, λ operands x go below outs. out co
 
 -- behind a loop
 ends_loop : (ways : Ways) (otherwise : Statements) (other : Coded) (more : Walk) → PerformsAs ways other more → PerformsAs ways (loop_end_code otherwise other) (λ x go. loop_end otherwise (more x go) go)
-ends_loop ways no_statements other more f code place h k = does_free ways pop_loop_frame close_loop (λ next place operands. refl) code place h k
+ends_loop ways no_statements other more f code place h k = does_free ways pop_loop_frame close_loop (λ next before place operands. refl) code place h k
 ends_loop ways (statements_more s ss) other more f code place h k =
     let tail = skipped jump_if_false other in
     let rest = then_code (one pop_loop_frame) tail in
@@ -387,14 +388,14 @@ writes ways text code place h k = (
 mutual
   performs_statement : (n : ℕ) (s : Statement) (ways : Ways) → PerformsAs ways (statement_code ways s) (statement_walk n s)
   performs_statement n (raw text) ways = writes ways text
-  performs_statement n (print e) ways = done_with ways e (one emit) (λ v x go. step (asks (write_value v) (on_done go))) (takes_one ways emit write_value (λ next place v operands. refl))
+  performs_statement n (print e) ways = done_with ways e (one emit) (λ v x go. step (asks (write_value v) (on_done go))) (takes_one ways emit write_value (λ next before place v operands. refl))
   performs_statement n (for_loop target e absent false body otherwise) ways =
       let looped = rounds_code (target_code target) (λ a b. statements_code (loop_ways a b) body) in
       let last = loop_end_code otherwise (statements_code ways otherwise) in
       let round : Round = λ v inner again. target_walk target v (statements_walk n body inner again) in
-      done_with ways e (then_code (one (push_loop loop_flags)) (then_code looped last)) (λ v x go. asks (open_loop v) (on_done (rounds n round (loop_end otherwise (statements_walk n otherwise x go) go))))
-      (taken_then ways (one (push_loop loop_flags)) (then_code looped last) (λ v x go. asks (open_loop v) (on_done go)) (λ x go. rounds n round (loop_end otherwise (statements_walk n otherwise x go) go))
-      (takes_free ways (push_loop loop_flags) open_loop (λ next place v operands. refl))
+      done_with ways e (then_code (one (push_loop loop_flags)) (then_code looped last)) (λ v x go. asks (open_loop plain_loop v) (on_done (rounds n round (loop_end otherwise (statements_walk n otherwise x go) go))))
+      (taken_then ways (one (push_loop loop_flags)) (then_code looped last) (λ v x go. asks (open_loop plain_loop v) (on_done go)) (λ x go. rounds n round (loop_end otherwise (statements_walk n otherwise x go) go))
+      (takes_free ways (push_loop loop_flags) (open_loop plain_loop) (λ next before place v operands. refl))
       (done_then ways looped last (λ x finished. rounds n round finished) (λ x go. loop_end otherwise (statements_walk n otherwise x go) go)
       (does_rounds n target body (statements_walk n body) (λ w. performs_statements n body w) ways)
       (ends_loop ways otherwise (statements_code ways otherwise) (statements_walk n otherwise) (performs_statements n otherwise ways))))
@@ -406,19 +407,19 @@ mutual
   performs_statement n (with_block assignments body) ways =
       let bodied = then_code (statements_code (closing_with pop_frame ways) body) (one pop_frame) in
       done_then ways (one push_with) (then_code (assignments_code assignments) bodied) (λ x go. asks open_frame (on_done go))
-      (λ x go. assignments_walk assignments (statements_walk n body (closing close_frame x) (asks close_frame (on_done go)))) (does_free ways push_with open_frame (λ next place operands. refl))
+      (λ x go. assignments_walk assignments (statements_walk n body (closing close_frame x) (asks close_frame (on_done go)))) (does_free ways push_with open_frame (λ next before place operands. refl))
       (done_then ways (assignments_code assignments) bodied (λ x go. assignments_walk assignments go) (λ x go. statements_walk n body (closing close_frame x) (asks close_frame (on_done go))) (assigns ways assignments)
-      (closed_body ways pop_frame close_frame (statements_code (closing_with pop_frame ways) body) (statements_walk n body) (λ next place operands. refl) (performs_statements n body (closing_with pop_frame ways))))
+      (closed_body ways pop_frame close_frame (statements_code (closing_with pop_frame ways) body) (statements_walk n body) (λ next before place operands. refl) (performs_statements n body (closing_with pop_frame ways))))
   performs_statement n (set target e) ways =
       done_with ways e (target_code target) (λ v x go. target_walk target v go) (takes_stored ways (target_code target) (target_walk target) (stores target))
   performs_statement n (auto_escape e body) ways =
       let bodied = then_code (statements_code (closing_with pop_auto_escape ways) body) (one pop_auto_escape) in
       done_with ways e (then_code (one push_auto_escape) bodied) (λ v x go. asks (open_escape v) (on_done (statements_walk n body (closing close_escape x) (asks close_escape (on_done go)))))
       (taken_then ways (one push_auto_escape) bodied (λ v x go. asks (open_escape v) (on_done go)) (λ x go. statements_walk n body (closing close_escape x) (asks close_escape (on_done go)))
-      (takes_free ways push_auto_escape open_escape (λ next place v operands. refl))
-      (closed_body ways pop_auto_escape close_escape (statements_code (closing_with pop_auto_escape ways) body) (statements_walk n body) (λ next place operands. refl) (performs_statements n body (closing_with pop_auto_escape ways))))
+      (takes_free ways push_auto_escape open_escape (λ next before place v operands. refl))
+      (closed_body ways pop_auto_escape close_escape (statements_code (closing_with pop_auto_escape ways) body) (statements_walk n body) (λ next before place operands. refl) (performs_statements n body (closing_with pop_auto_escape ways))))
   performs_statement n (tree.include e ignore_missing) ways =
-      done_with ways e (one (include ignore_missing)) (λ v x go. step (asks (events.include ignore_missing v) (on_done go))) (takes_one ways (include ignore_missing) (events.include ignore_missing) (λ next place v operands. refl))
+      done_with ways e (one (include ignore_missing)) (λ v x go. step (asks (events.include ignore_missing v) (on_done go))) (takes_one ways (include ignore_missing) (events.include ignore_missing) (λ next before place v operands. refl))
   performs_statement n continue_loop ways = leaves ways ways.continue_to (λ x go. x.on_continue) (λ code k x go operands outs. outs.on_continue)
   performs_statement n break_loop ways = leaves ways ways.break_to (λ x go. x.on_break) (λ code k x go operands outs. outs.on_break)
   performs_statement n _ ways = λ code place h k. (0, λ operands x go below outs. below-cut_short _)

@@ -5,6 +5,7 @@ use Rattle.template_process.specs.Process.{Process, over, Below}
 use Rattle.template_process.proofs.Below.{below-cut_short, below-over}
 use Rattle.template_walk.specs.Statements.{outside}
 use Rattle.template_code.specs.Code.{Operand, single, Code}
+use Rattle.template_code.specs.Counting.{counts_before}
 use Rattle.template_code.specs.Steps.{values_in, act, exec}
 use Rattle.template_compiler_codegen.specs.Statements.{no_ways, template_code, standalone_code}
 use Rattle.template_compiler_codegen.specs.Laws.{TemplatesPerform, ExpressionsPerform}
@@ -19,7 +20,7 @@ stands_whole code = record { front = []; back = []; is = sym (append-nil code); 
 over_at_end : (code : List Code) (place : ℕ) (operands : List Operand) → place ≡ length code → Below (over (values_in operands)) (exec code 1 place operands)
 over_at_end code place operands e =
     let P : Process → Type 0 = λ q. Below (over (values_in operands)) q in
-    subst P (sym (ap (λ o. act (exec code 0) o place operands) (slice_get_past code place (omega arith)))) (below-over (values_in operands))
+    subst P (sym (ap (λ o. act (exec code 0) (counts_before code place) o place operands) (slice_get_past code place (omega arith)))) (below-over (values_in operands))
 
 pub templates_perform : TemplatesPerform
 templates_perform tree n =

@@ -1,5 +1,5 @@
 -- The code of an expression, from the place where it begins.
-use Rattle.std.specs.Prelude.{ℕ, suc, Bool, true, false, List, [], ◌∷◌}
+use Rattle.std.specs.Prelude.{ℕ, suc, Bool, true, false, List, [], ◌∷◌, Some}
 use Rattle.template_values_model.specs.Val.{Val, silent_undefined, none}
 use Rattle.template_tree.specs.declared.operators.UnaryOpKind.{UnaryOpKind}
 use Rattle.template_tree.specs.declared.operators.UnaryOpKind.TheVariants.{Not, Neg}
@@ -9,7 +9,7 @@ use Rattle.template_tree.specs.Tree.{Expression, Optional, Expressions, Links, v
 use Rattle.template_tree.specs.Tree as tree
 use Rattle.template_walk.specs.Constants.{constant_of}
 use Rattle.template_walk.specs.Statements.{number_of}
-use Rattle.template_code.specs.Code.{Code, lookup, load_const, get_attr, get_item, slice, build_map, build_list, build_tuple, operate, negate, invert, compare_and_preserve, swap, discard_top, jump_if_false_or_pop, jump_if_true_or_pop, unsupported}
+use Rattle.template_code.specs.Code.{Code, lookup, load_const, get_attr, get_item, slice, build_map, build_list, build_tuple, operate, negate, invert, compare_and_preserve, swap, discard_top, jump_if_false_or_pop, jump_if_true_or_pop}
 use Rattle.template_compiler_codegen.specs.Core.{Core, empty, straight, both, leaping, either, loading, chosen, choose, no_ways, flat}
 pub use Rattle.template_compiler_codegen.specs.Core.{Coded, then_code, one, nothing, loaded, skipped, either_code}
 
@@ -60,13 +60,13 @@ abbrev mutual
       both (expression_core e) (both (optional_core none start)
       (both (optional_core none stop) (both (optional_core none by) (straight slice))))
   expression_core (list_literal es) =
-      loading (constant_of (list_literal es)) (both (expressions_core es) (straight (build_list (number_of es))))
+      loading (constant_of (list_literal es)) (both (expressions_core es) (straight (build_list (Some (number_of es)))))
   expression_core (tuple_literal es) =
-      loading (constant_of (tuple_literal es)) (both (expressions_core es) (straight (build_tuple (number_of es))))
+      loading (constant_of (tuple_literal es)) (both (expressions_core es) (straight (build_tuple (Some (number_of es)))))
   expression_core (map_literal ks vs) =
       loading (constant_of (map_literal ks vs))
       (both (entries_core ks (codes_of vs)) (straight (build_map (entry_count ks (codes_of vs)))))
-  expression_core _ = straight unsupported
+  expression_core _ = empty  -- what has no walk yet has no code
 
   -- what is left out is a constant
   pub optional_core : Val → Optional → Core
@@ -89,7 +89,7 @@ abbrev mutual
 
   -- the comparisons of a chain, behind the value at their left; in the end the value below the last truth is dropped
   pub chain_core : Links → Core
-  chain_core no_links = straight unsupported
+  chain_core no_links = empty
   chain_core (links_more op e links) =
       both (both (expression_core e) (straight (compare_and_preserve op))) (both (linked_core links) dropped_core)
 

@@ -3,7 +3,7 @@ use Rattle.std.specs.Prelude.{ℕ, Bool, true, false, List}
 use Rattle.template_tree.specs.Tree.{Expression, Expressions, Statement, Statements, Assignments, variable, list_literal, absent, no_expressions, expressions_more, raw, print, for_loop, if_condition, with_block, set, auto_escape, continue_loop, break_loop, no_statements, statements_more, no_assignments, assignments_more}
 use Rattle.template_tree.specs.Tree as tree
 use Rattle.template_walk.specs.Statements.{number_of}
-use Rattle.template_code.specs.Code.{Code, emit_raw, emit, store_local, unpack_list, jump_if_false, push_with, pop_frame, push_loop, push_did_not_iterate, pop_loop_frame, push_auto_escape, pop_auto_escape, include, unsupported}
+use Rattle.template_code.specs.Code.{Code, emit_raw, emit, store_local, unpack_list, jump_if_false, push_with, pop_frame, push_loop, push_did_not_iterate, pop_loop_frame, push_auto_escape, pop_auto_escape, include}
 use Rattle.template_compiler_codegen.specs.Core.{Core, empty, straight, both, leaping, either, rounds, within, leave, sealed, chosen, choose, flat}
 pub use Rattle.template_compiler_codegen.specs.Core.{Ways, no_ways, own_ways, closing_with, rounds_code, left_by}
 use Rattle.template_compiler_codegen.specs.Expressions.{Coded, then_code, one, skipped, either_code, expression_core, expression_code}
@@ -13,7 +13,7 @@ abbrev mutual
   pub target_core : Expression → Core
   target_core (variable name) = straight (store_local name)
   target_core (list_literal targets) = both (straight (unpack_list (number_of targets))) (targets_core targets)
-  target_core _ = straight unsupported
+  target_core _ = empty
 
   pub targets_core : Expressions → Core
   targets_core no_expressions = empty
@@ -61,7 +61,7 @@ abbrev mutual
   statement_core (tree.include e ignore_missing) = both (sealed (expression_core e)) (straight (include ignore_missing))
   statement_core continue_loop = leave false
   statement_core break_loop = leave true
-  statement_core _ = straight unsupported
+  statement_core _ = empty  -- what has no walk yet has no code
 
   pub statements_core : Statements → Core
   statements_core no_statements = empty

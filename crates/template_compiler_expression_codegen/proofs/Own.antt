@@ -10,7 +10,7 @@ use Rattle.template_tree_parts.specs.Spine.{left_of, before}
 use Rattle.template_walk.specs.Constants.{constant_of, binary_constant, chain_constant}
 use Rattle.template_walk.specs.Runnable.{IsRunnable}
 use Rattle.template_walk.specs.Statements.{number_of}
-use Rattle.template_code.specs.Code.{Code, load_const, get_attr, get_item, slice, build_list, build_tuple, build_map, unsupported}
+use Rattle.template_code.specs.Code.{Code, load_const, get_attr, get_item, slice, build_list, build_tuple, build_map}
 use Rattle.template_compiler_codegen.specs.Expressions.{Coded, one, then_code, loaded, unary_code, binary_code, expression_code, optional_code, expressions_code, entries_code, entry_count, codes_of, chain_code}
 use Rattle.template_compiler_emission.specs.Puts.{unless, held, behind}
 use Rattle.template_compiler_expression_codegen.specs.Own.{own_constant, own_code, operator_code}
@@ -25,9 +25,9 @@ constants_load (unary op e) v h = loads_known (constant_of (unary op e)) (then_c
 constants_load (binary op l r) v h = loads_known (constant_of (binary op l r)) (binary_code op (expression_code l) (expression_code r)) v h
 constants_load (chain first links) v h = loads_known (constant_of (chain first links)) (then_code (expression_code first) (chain_code links)) v h
 constants_load (list_literal es) v h =
-    loads_known (constant_of (list_literal es)) (then_code (expressions_code es) (one (build_list (number_of es)))) v h
+    loads_known (constant_of (list_literal es)) (then_code (expressions_code es) (one (build_list (Some (number_of es))))) v h
 constants_load (tuple_literal es) v h =
-    loads_known (constant_of (tuple_literal es)) (then_code (expressions_code es) (one (build_tuple (number_of es)))) v h
+    loads_known (constant_of (tuple_literal es)) (then_code (expressions_code es) (one (build_tuple (Some (number_of es))))) v h
 constants_load (map_literal ks vs) v h =
     loads_known (constant_of (map_literal ks vs)) (then_code (entries_code ks (codes_of vs)) (one (build_map (entry_count ks (codes_of vs))))) v h
 constants_load _ v h = cc
@@ -47,9 +47,9 @@ abbrev pub no_left : Option Val × List Code
 no_left = (None, [])
 
 abbrev pub add_own : ℕ → Option Val × List Code → Expression → Option Val × List Code
-add_own p left (filtered name value args) = (None, unsupported ∷ [])
-add_own p left (tested name value args) = (None, unsupported ∷ [])
-add_own p left (call callee args) = (None, unsupported ∷ [])
+add_own p left (filtered name value args) = (None, [])
+add_own p left (tested name value args) = (None, [])
+add_own p left (call callee args) = (None, [])
 add_own p left e = with_own p left e
 
 pub own_runnable : (p : ℕ) (left : Option Val × List Code) (e : Expression) → IsRunnable e → add_own p left e ≡ with_own p left e
@@ -113,11 +113,11 @@ own_step p (tree.slice e start stop by) =
     (along p e None (then_code (optional_code none start) (then_code (optional_code none stop) (then_code (optional_code none by) (one slice)))) (λ h. refl))
 own_step p (list_literal es) =
     let o = constant_of (list_literal es) in
-    let code = then_code (expressions_code es) (one (build_list (number_of es))) in
+    let code = then_code (expressions_code es) (one (build_list (Some (number_of es)))) in
     at_first o (expression_code (list_literal es)) code p (unless_loaded o code)
 own_step p (tuple_literal es) =
     let o = constant_of (tuple_literal es) in
-    let code = then_code (expressions_code es) (one (build_tuple (number_of es))) in
+    let code = then_code (expressions_code es) (one (build_tuple (Some (number_of es)))) in
     at_first o (expression_code (tuple_literal es)) code p (unless_loaded o code)
 own_step p (map_literal ks vs) =
     let o = constant_of (map_literal ks vs) in

@@ -39,7 +39,7 @@ own_code left (attribute e name) = behind left (one (get_attr name))
 own_code left (item e key) = behind left (then_code (expression_code key) (one get_item))
 own_code left (tree.slice e start stop by) =
     behind left (then_code (optional_code none start) (then_code (optional_code none stop) (then_code (optional_code none by) (one slice))))
-own_code left (list_literal es) = then_code (expressions_code es) (one (build_list (number_of es)))
-own_code left (tuple_literal es) = then_code (expressions_code es) (one (build_tuple (number_of es)))
+own_code left (list_literal es) = then_code (expressions_code es) (one (build_list (Some (number_of es))))
+own_code left (tuple_literal es) = then_code (expressions_code es) (one (build_tuple (Some (number_of es))))
 own_code left (map_literal ks vs) = then_code (entries_code ks (codes_of vs)) (one (build_map (entry_count ks (codes_of vs))))
 own_code left e = expression_code e

@@ -531,7 +531,7 @@ fn fold_list_literal<'source>(
     requires { AreRunnable (expressions_in items.now) }
     ensures constant { OnOk result (value.new ≡ constant_of (list_literal (expressions_in items.now))) }
     ensures put { OnOk result (Puts (unless value.new
-        (then_code (expressions_code (expressions_in items.now)) (one (build_list (number_of (expressions_in items.now))))))
+        (then_code (expressions_code (expressions_in items.now)) (one (build_list (Some (number_of (expressions_in items.now)))))))
         code.old code.new) }
     ensures refused { IfErr result (λ kind. TakesNoMore (code_in code.new) (kind ∷ [])) }
 {
@@ -561,7 +561,7 @@ fn fold_tuple_literal<'source>(
     requires { AreRunnable (expressions_in items.now) }
     ensures constant { OnOk result (value.new ≡ constant_of (tuple_literal (expressions_in items.now))) }
     ensures put { OnOk result (Puts (unless value.new
-        (then_code (expressions_code (expressions_in items.now)) (one (build_tuple (number_of (expressions_in items.now))))))
+        (then_code (expressions_code (expressions_in items.now)) (one (build_tuple (Some (number_of (expressions_in items.now)))))))
         code.old code.new) }
     ensures refused { IfErr result (λ kind. TakesNoMore (code_in code.new) (kind ∷ [])) }
 {

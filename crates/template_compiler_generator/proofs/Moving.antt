@@ -210,11 +210,11 @@ mutual
       (moves_then (optional_code none stop) third 2 3 1 (over_more (optional_code none stop) 2 (optional_moves stop none r.2))
       (moves_then (optional_code none by) sliced 3 4 1 (over_more (optional_code none by) 3 (optional_moves by none r.3)) (moves_one slice 4 1 (λ code place s plain. traded_plain 4 1 s plain)))))
   expression_moves (list_literal es) r =
-      moves_loaded (constant_of (list_literal es)) (then_code (expressions_code es) (one (build_list (number_of es))))
-      (moves_then (expressions_code es) (one (build_list (number_of es))) 0 (number_of es) 1 (all_move es r) (moves_one (build_list (number_of es)) (number_of es) 1 (λ code place s plain. traded_plain (number_of es) 1 s plain)))
+      moves_loaded (constant_of (list_literal es)) (then_code (expressions_code es) (one (build_list (Some (number_of es)))))
+      (moves_then (expressions_code es) (one (build_list (Some (number_of es)))) 0 (number_of es) 1 (all_move es r) (moves_one (build_list (Some (number_of es))) (number_of es) 1 (λ code place s plain. traded_plain (number_of es) 1 s plain)))
   expression_moves (tuple_literal es) r =
-      moves_loaded (constant_of (tuple_literal es)) (then_code (expressions_code es) (one (build_tuple (number_of es))))
-      (moves_then (expressions_code es) (one (build_tuple (number_of es))) 0 (number_of es) 1 (all_move es r) (moves_one (build_tuple (number_of es)) (number_of es) 1 (λ code place s plain. traded_plain (number_of es) 1 s plain)))
+      moves_loaded (constant_of (tuple_literal es)) (then_code (expressions_code es) (one (build_tuple (Some (number_of es)))))
+      (moves_then (expressions_code es) (one (build_tuple (Some (number_of es)))) 0 (number_of es) 1 (all_move es r) (moves_one (build_tuple (Some (number_of es))) (number_of es) 1 (λ code place s plain. traded_plain (number_of es) 1 s plain)))
   expression_moves (map_literal ks vs) r =
       let count = entry_count ks (codes_of vs) in
       moves_loaded (constant_of (map_literal ks vs)) (then_code (entries_code ks (codes_of vs)) (one (build_map count)))

@@ -1,4 +1,4 @@
-use Rattle.std.proofs.Common.{◌≡◌, ℕ, ◌+◌, ◌<◌, ◌++◌, List, length, take, drop, false, Option, None, ap, sym, subst, ◌∙◌, arith, refl}
+use Rattle.std.proofs.Common.{◌≡◌, ℕ, ◌+◌, ◌<◌, ◌++◌, List, length, take, drop, false, Option, None, Some, ap, sym, subst, ◌∙◌, arith, refl}
 use Rattle.std.proofs.lemmas.Result.{IfOk-at_ok, on_ok_weaker}
 use Rattle.std.specs.Prelude.{IfOk, OnOk, option_and_then}
 use Rattle.template_values_model.specs.Val.{Val}
@@ -199,11 +199,11 @@ compile_links-loop-next-preserved t c =
 
 pub fold_list_literal-returns-in_ok-compile_items-in-None-clause-put : goal.fold_list_literal-returns-in_ok-compile_items-in-None-clause-put
 fold_list_literal-returns-in_ok-compile_items-in-None-clause-put t c = rw c.let_go.ensures (on_ok_weaker c.push.result (λ last.
-    puts_then c.in_ok-compile_items-in-None.ensures.put (puts_as (ap build_list (sym (number_is c.args.items.now))) last)) c.push.ensures.put)
+    puts_then c.in_ok-compile_items-in-None.ensures.put (puts_as (ap (λ n. build_list (Some n)) (sym (number_is c.args.items.now))) last)) c.push.ensures.put)
 
 pub fold_tuple_literal-returns-in_ok-compile_items-in-None-clause-put : goal.fold_tuple_literal-returns-in_ok-compile_items-in-None-clause-put
 fold_tuple_literal-returns-in_ok-compile_items-in-None-clause-put t c = rw c.let_go.ensures (on_ok_weaker c.push.result (λ last.
-    puts_then c.in_ok-compile_items-in-None.ensures.put (puts_as (ap build_tuple (sym (number_is c.args.items.now))) last)) c.push.ensures.put)
+    puts_then c.in_ok-compile_items-in-None.ensures.put (puts_as (ap (λ n. build_tuple (Some n)) (sym (number_is c.args.items.now))) last)) c.push.ensures.put)
 
 pub fold_node-fold_list_literal-requires : goal.fold_node-fold_list_literal-requires
 fold_node-fold_list_literal-requires t c =
