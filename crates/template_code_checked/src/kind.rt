@@ -19,20 +19,20 @@ pub(crate) fn kind_of(alloc: Global, code: &Instructions<'_>) -> Result<StreamKi
     ensures bad { IsErrOf result Stop.Bad → IsBad (code_in code.now) }
 {
     let hand = shape_at_end(alloc, code)?;
-    match kind_at_end(hand) {
+    match kind_at_end(alloc, hand) {
         Some(kind) => Ok(kind),
         None => Err(Stop::Bad),
     }
 }
 
 // What kind of stream ends with a shape; where none reaches the end, a template's.
-fn kind_at_end(hand: Option<Outline>) -> Option<StreamKind>
+fn kind_at_end(alloc: Global, hand: Option<Outline>) -> Option<StreamKind>
     ensures kind { IfSome result (λ kind. (s : Shape) → option_map shape_of hand ≡ Some s → s ≡ end_of kind) }
     ensures expression { IfSome result (λ kind. kind ≡ StreamKind.Expression → option_map shape_of hand ≡ Some (end_of kind)) }
     ensures none { IsNone result → IsSomeAnd (option_map shape_of hand) (λ s. (kind : StreamKind) → s ≡ end_of kind → ⊥) }
 {
     match hand {
-        Some(shape) => shape.end_kind(),
+        Some(shape) => shape.end_kind(alloc),
         None => Some(StreamKind::Template),
     }
 }

@@ -21,8 +21,9 @@ use template_values_errors::{Error, ErrorKind};
 /// Accepts a stream in which each place has one shape however it is reached, each reached instruction
 /// is admissible with that shape, and at the end nothing is open and no operand is left, which is a
 /// template's, or one value, which is an expression's. What is good as both, since no way leads to its end, is told as
-/// a template's. Takes one pass over the instructions, at each as long as the shape there is deep, and memory for a
-/// shape at each target of a jump.
+/// a template's. The body of each macro that is made is checked so as well: it ends by its `Return`, with nothing left.
+/// Takes one pass over the instructions, at each as long as the shape there is deep, and memory for two flags a place and
+/// for a shape at each place to which an instruction may lead but the one before it.
 ///
 /// # Errors
 ///

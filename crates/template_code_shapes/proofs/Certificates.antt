@@ -5,7 +5,7 @@ use Rattle.template_code.specs.Code.{Code}
 use Rattle.template_code_shapes.specs.declared.StreamKind.{StreamKind}
 use Rattle.template_code_shapes.specs.Shapes.{Shape}
 use Rattle.template_code_shapes.specs.Effects.{effect_of}
-use Rattle.template_code_shapes.specs.Streams.{Reached, begins, falls_to, jumps_to, IsGood, Leads, IsCertificate}
+use Rattle.template_code_shapes.specs.Streams.{Reached, begins, falls_to, jumps_to, enters_at, IsGood, Leads, IsCertificate}
 
 some_of : {A : Type 0} (x y : A) → Some x ≡ Some y → x ≡ y
 some_of x y e = cc
@@ -25,6 +25,8 @@ in_certificate kind code table k _ _ (falls_to {place} {s} {t} {c} {e} r at is g
     (of_some (Leads table place) (effect_of code place c s) e (k.fine place s c (in_certificate kind code table k place s r) at) is).falls t goes
 in_certificate kind code table k _ _ (jumps_to {place} {to} {s} {t} {c} {e} r at is goes) =
     (of_some (Leads table place) (effect_of code place c s) e (k.fine place s c (in_certificate kind code table k place s r) at) is).jumps to t goes
+in_certificate kind code table k _ _ (enters_at {place} {to} {s} {t} {c} {e} r at is goes) =
+    (of_some (Leads table place) (effect_of code place c s) e (k.fine place s c (in_certificate kind code table k place s r) at) is).enters to t goes
 
 pub good_by : (kind : StreamKind) (code : List Code) (table : ℕ → Option Shape) → IsCertificate kind code table → IsGood kind code
 good_by kind code table k = record {

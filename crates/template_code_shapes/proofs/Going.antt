@@ -1,17 +1,17 @@
 -- A good stream goes on from answer to answer: between two of them it runs forward, but for one jump to an `Iterate`, which asks.
 use Rattle.std.proofs.Common.{◌≡◌, ℕ, zero, suc, ◌+◌, ◌*◌, ◌-◌, ◌<◌, ◌≤◌, ◌⊎◌, inl, inr, true, false, List, [], ◌∷◌, length, map, Option, None, Some, slice_get, refl, sym, ap, subst, ◌∙◌, arith}
-use Rattle.std.specs.Prelude.{IfSome, IsSomeAnd}
-use Rattle.template_process.specs.Process.{Ask, asks, Answer, Process, amiss}
+use Rattle.std.specs.Prelude.{IsSomeAnd}
+use Rattle.template_process.specs.Process.{Counts, Ask, asks, Answer, Process, amiss}
 use Rattle.template_code.specs.Code.{Operand, Code}
+use Rattle.template_code.specs.Counting.{counts_before}
 use Rattle.template_code.specs.Prices.{price_of, steps}
 use Rattle.template_code.specs.Steps.{act, exec}
 use Rattle.template_code_shapes.specs.declared.StreamKind.{StreamKind}
-use Rattle.template_code_shapes.specs.Shapes.{Form, form_of, Opened, with_frame, loop_frame, recursive_frame, Shape}
+use Rattle.template_code_shapes.specs.Shapes.{Form, form_of, Shape}
 use Rattle.template_code_shapes.specs.Effects.{is_iterate, effect_of}
-use Rattle.template_code_shapes.specs.Passes.{EachLoop}
 use Rattle.template_code_shapes.specs.Streams.{Reached, falls_to, jumps_to, IsGood}
 use Rattle.template_code_shapes.specs.Laws.{LastsFor}
-use Rattle.template_code_shapes.proofs.Leading.{LeadsWell, leads}
+use Rattle.template_code_shapes.proofs.Aiming.{Jumps, effect_leads}
 use Rattle.template_code_shapes.proofs.Ending.{Continues, shape_over, continues, unstuck_deed}
 
 -- behind one of so many answers
@@ -30,15 +30,6 @@ asked (suc n) e k h = h
 lasts_steps : (n count : ℕ) (p : Process) → LastsFor n p → LastsFor n (steps count p)
 lasts_steps n zero p h = h
 lasts_steps n (suc count) p h = lasts_steps n count p h
-
-any_loops : (frames : List Opened) → EachLoop (λ p. Unit {0}) frames
-any_loops [] = tt
-any_loops (with_frame ∷ frames) = any_loops frames
-any_loops (loop_frame place ∷ frames) = (tt, any_loops frames)
-any_loops (recursive_frame place floor ∷ frames) = (tt, any_loops frames)
-
-in_some : {A : Type 0} (P : A → Type 0) (o : Option A) (x : A) → o ≡ Some x → IfSome o P → P x
-in_some {A = A} P o x e h = let Q : Option A → Type 0 = λ p. IfSome p P in subst Q e h
 
 held : {A : Type 0} (xs : List A) (i : ℕ) (x : A) → slice_get xs i ≡ Some x → i < length xs
 held [] i x e = absurd cc
@@ -66,11 +57,12 @@ some_bound code n place (inl h) = absurd (omega arith)
 some_bound code n place (inr h) = absurd (omega arith)
 
 -- where a jump leads, there is enough for the same answers
-jumped : (code : List Code) (n place to bound : ℕ) → n * (length code + 1) + (length code - place) ≤ bound → place < length code
-    → ((place < to) × (to ≤ length code)) ⊎ ((to ≤ place) × ((push : ℕ) × (to ≡ suc push) × Unit {0}) × (is_iterate (slice_get code to) ≡ true))
-    → Enough code n to bound
-jumped code n place to bound h inside (inl w) = let a = w.0 in let b = w.1 in inl (omega arith)
-jumped code n place to bound h inside (inr w) = inr (omega arith, w.2)
+jumped : (code : List Code) (n place to bound : ℕ) (c : Code) → n * (length code + 1) + (length code - place) ≤ bound → place < length code → Jumps code place to c → Enough code n to bound
+jumped code n place to bound c h inside way = by_way way.within way.way
+  where
+    by_way : to ≤ length code → (place < to) ⊎ (is_iterate (slice_get code to) ≡ true) → Enough code n to bound
+    by_way low (inl forward) = inl (omega arith)
+    by_way low (inr asks_next) = inr (omega arith, asks_next)
 
 -- where the run may go on: everywhere that is reached, with enough for so many answers
 abbrev GoesOn : List Code → ℕ → (ℕ → List Operand → Process) → Type 0
@@ -87,9 +79,9 @@ module _ (kind : StreamKind) (code : List Code) (good : IsGood kind code) where
 
   lasts_at : (n bound : ℕ) (next : ℕ → List Operand → Process) → GoesOn code bound next → (place : ℕ) (s : Shape) (operands : List Operand)
       → Reached code place s → map form_of operands ≡ s.operands → Enough code n place (suc bound)
-      → (o : Option Code) → slice_get code place ≡ o → LastsFor n (act next o place operands)
-  lasts_at n bound next on place s operands r is enough None there = tt
-  lasts_at n bound next on place s operands r is enough (Some c) there =
+      → (before : Counts) (o : Option Code) → slice_get code place ≡ o → LastsFor n (act next before o place operands)
+  lasts_at n bound next on place s operands r is enough before None there = tt
+  lasts_at n bound next on place s operands r is enough before (Some c) there =
       let room : n * (length code + 1) ≤ bound = one code n place bound enough in
       let inside : place < length code = held code place c there in
       let At : (Process → Type 0) → List Form → Type 0 = λ E forms. IsSomeAnd (effect_of code place c (record s { operands = forms })) (Continues E next place) in
@@ -103,15 +95,14 @@ module _ (kind : StreamKind) (code : List Code) (good : IsGood kind code) where
       subst (At (LastsFor n)) (sym is) (continues (LastsFor n) next place (effect_of code place c s) (good.fine place s c r there) (λ e leads_on. record {
         falls = λ t falls above forms. on n (suc place) t above (falls_to r there leads_on falls) forms (inl (omega arith));
         jumps = λ to t jumps above forms. on n to t above (jumps_to r there leads_on jumps) forms
-            (jumped code n place to bound left inside
-            ((in_some (LeadsWell (λ p. Unit {0}) code place) (effect_of code place c s) e leads_on (leads (λ p. Unit {0}) code place c s (any_loops s.frames))).jumps to t jumps));
+            (jumped code n place to bound c left inside ((effect_leads code place c s e there leads_on).jumps to t jumps));
       })) in
-      lasts_steps n (price_of c) _ (unstuck_deed (LastsFor n) (Behind n) (gone n) (asked n) code next c place operands s at_once later)
+      lasts_steps n (price_of c) _ (unstuck_deed (LastsFor n) (Behind n) (gone n) (asked n) code next before c place operands s at_once later (λ e. tt))
 
   lasts : (bound : ℕ) → GoesOn code bound (exec code bound)
   lasts zero n place s operands r is enough = absurd (some_bound code n place enough)
   lasts (suc bound) n place s operands r is enough =
-      lasts_at n bound (exec code bound) (lasts bound) place s operands r is enough (slice_get code place) refl
+      lasts_at n bound (exec code bound) (lasts bound) place s operands r is enough (counts_before code place) (slice_get code place) refl
 
 pub goes_on : (kind : StreamKind) (code : List Code) → IsGood kind code → (answers bound place : ℕ) (s : Shape) (operands : List Operand)
     → Reached code place s → map form_of operands ≡ s.operands → (answers + 1) * (length code + 1) ≤ bound

@@ -1,9 +1,11 @@
 pub mod Certificates
-pub mod Leading
-pub mod Within
+pub mod Aiming
 pub mod Ending
 pub mod Going
-pub mod Passes
 pub mod OutlineLemmas
-pub mod Standing
+pub mod DeskLemmas
+pub mod Claims
+pub mod Working
 pub mod Visiting
+pub mod Finishing
+pub mod WayLemmas

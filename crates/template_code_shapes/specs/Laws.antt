@@ -1,5 +1,5 @@
 -- The laws of good streams.
-use Rattle.std.specs.Prelude.{◌≡◌, ℕ, zero, suc, ◌+◌, ◌*◌, ◌≤◌, List, length, map, Option}
+use Rattle.std.specs.Prelude.{◌≡◌, ℕ, zero, suc, ◌+◌, ◌*◌, ◌≤◌, if◌then◌else◌, List, length, map, Option}
 use Rattle.template_process.specs.Process.{Answer, Process, over, step, asks, amiss, cut_short, stuck}
 use Rattle.template_code.specs.Code.{Operand, Code}
 use Rattle.template_code.specs.Steps.{exec}
@@ -20,11 +20,15 @@ EndsWith n amiss = Unit {0}
 EndsWith n cut_short = Unit {0}
 EndsWith n stuck = ⊥
 
+-- how many values a run leaves that goes on with a shape: the body of a macro none
+abbrev pub left_by : StreamKind → Shape → ℕ
+left_by kind s = if s.in_macro then 0 else length (end_of kind).operands
+
 -- A good stream is never stuck, from any place that is reached with a shape, over operands of that shape's forms; and at
--- its end it leaves no operand, or an expression's one value.
+-- its end it leaves no operand, or an expression's one value, and at the end of a macro's body none.
 abbrev pub GoodEndsWell : Type 0
 GoodEndsWell = (kind : StreamKind) (code : List Code) → IsGood kind code → (bound place : ℕ) (s : Shape) (operands : List Operand)
-    → Reached code place s → map form_of operands ≡ s.operands → EndsWith (length (end_of kind).operands) (exec code bound place operands)
+    → Reached code place s → map form_of operands ≡ s.operands → EndsWith (left_by kind s) (exec code bound place operands)
 
 -- for so many answers, whatever they are, the process is not cut short
 abbrev pub LastsFor : ℕ → Process → Type 0

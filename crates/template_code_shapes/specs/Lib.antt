@@ -5,6 +5,6 @@ pub mod Laws
 pub mod Outlines
 pub mod Ways
 pub mod Passes
-pub mod Noted
+pub mod Desks
 -- what contracts here cite of a crate below
 pub use Rattle.template_code_references.specs.Loops

@@ -4,12 +4,13 @@
 
 ghost use Rattle.template_code_shapes.specs.Laws.{CertifiedIsGood, GoodEndsWell, GoodGoesOn};
 
-mod notes;
+mod beside;
+mod desk;
 mod outline;
 mod pass;
 mod ways;
 
-pub use notes::Stop;
+pub use desk::Stop;
 pub use outline::Outline;
 pub use pass::shape_at_end;
 
@@ -29,7 +30,7 @@ pub fn certified_is_good()
 
 /// A good stream is never stuck, and ends well: from any place that is reached with a shape, whatever is
 /// answered, no instruction lacks an operand, and at the end no operand is left, or an expression's
-/// value.
+/// value; and none at the end of a macro's body.
 pub fn good_ends_well()
     ensures { GoodEndsWell }
 {}

@@ -1,15 +1,19 @@
 //! Where an instruction leads, with which shapes.
 
-ghost use Rattle.std.specs.Prelude.{◌≡◌, IsTrue, Some, None, IfOk, option_map, slice_get, length, suc, ◌<◌, ◌*◌};
+ghost use Rattle.std.specs.Prelude.{◌≡◌, ◌&&◌, Some, None, IfOk, option_map, slice_get, suc, if◌then◌else◌, ◌*◌};
 ghost use Rattle.template_code.specs.Listing.{code_in};
-ghost use Rattle.template_code_shapes.specs.Effects.{traded, may_jump, falling, jumping, effect_of, is_iterate};
-ghost use Rattle.template_code.specs.Code.{jump_if_false, jump_if_false_or_pop, iterate, push_loop};
+ghost use Rattle.template_code.specs.Code.{export_locals, jump_if_false, jump_if_false_or_pop, iterate, push_loop, return};
 ghost use Rattle.template_code.specs.View.{code_of};
-ghost use Rattle.template_code_shapes.specs.Outlines.{shape_of};
+ghost use Rattle.template_code_shapes.specs.Shapes.{single_form, counted_form, counting_form, given, handed, taken};
+ghost use Rattle.template_code_shapes.specs.Effects.{traded, made, making, swapped, operated, may_jump, falling, jumping, effect_of, code_before, loads_one, adds, texts_loaded};
+ghost use Rattle.template_code_shapes.specs.Outlines.{form_in, shape_of, pair_taken};
 ghost use Rattle.template_code_shapes.specs.Ways.{effect_in, IsScope};
 
-use crate::outline::{Opened, Outline};
-use std::alloc::AllocError;
+use crate::beside::{
+    adds_one, asks_item, before, count_of_texts, is_end_of_capture, may_lead_to, next,
+};
+use crate::outline::{Opened, Other, Outline};
+use std::alloc::Global;
 use template_code::{Instruction, Instructions};
 use template_code_references::iterates_past;
 use template_values_errors::{Error, ErrorKind};
@@ -21,11 +25,12 @@ pub struct Jump {
     pub shape: Outline,
 }
 
-/// The ways on from an instruction: behind it, and by a jump.
+/// The ways on from an instruction: behind it, by a jump, and into the body of a macro that it makes.
 #[derive(Drop)]
 pub struct Ways {
     pub falls: Option<Outline>,
     pub jumps: Option<Jump>,
+    pub enters: Option<Jump>,
 }
 
 /// The way behind an instruction alone.
@@ -35,7 +40,17 @@ pub fn falling_ways(shape: Outline) -> Ways
     Ways {
         falls: Some(shape),
         jumps: None,
+        enters: None,
     }
+}
+
+/// So many values are put on top.
+fn give(shape: Outline, gives: usize) -> Result<Option<Ways>, Error>
+    ensures { IfOk result (λ ways. option_map effect_in ways ≡ Some (falling (given gives (shape_of shape)))) }
+{
+    let mut shape = shape;
+    shape.give(gives)?;
+    Ok(Some(falling_ways(shape)))
 }
 
 /// So many values are taken, and so many given.
@@ -43,13 +58,160 @@ pub fn trade(shape: Outline, takes: usize, gives: usize) -> Result<Option<Ways>,
     ensures { IfOk result (λ ways. option_map effect_in ways ≡ traded takes gives (shape_of shape)) }
 {
     let mut shape = shape;
-    if !shape.take(takes) {
+    if !shape.take(takes)? {
         return Ok(None);
     }
-    if !shape.give(gives) {
-        return Err(Error::new(ErrorKind::OutOfMemory));
+    give(shape, gives)
+}
+
+/// So many values, or a counted run, are made into one.
+fn hand(shape: Outline, count: Option<usize>) -> Result<Option<Ways>, Error>
+    ensures { IfOk result (λ ways. option_map effect_in ways ≡ made single_form (handed count (shape_of shape))) }
+{
+    let mut shape = shape;
+    let is_taken = match count {
+        Some(count) => shape.take(count)?,
+        None => shape.take_run()?,
+    };
+    if !is_taken {
+        return Ok(None);
     }
+    give(shape, 1)
+}
+
+/// The same, where the count is that of a call.
+fn call(shape: Outline, count: Option<u16>) -> Result<Option<Ways>, Error>
+    ensures { IfOk result (λ ways. option_map effect_in ways ≡ made single_form (handed count (shape_of shape))) }
+{
+    match count {
+        Some(count) => hand(shape, Some(count as usize)),
+        None => hand(shape, None),
+    }
+}
+
+/// So many values are made into a counted run.
+fn spread(shape: Outline, count: usize) -> Result<Option<Ways>, Error>
+    ensures { IfOk result (λ ways. option_map effect_in ways ≡ made counted_form (taken count (shape_of shape))) }
+{
+    let mut shape = shape;
+    if !shape.take(count)? {
+        return Ok(None);
+    }
+    shape.top(Other::Counted)?;
     Ok(Some(falling_ways(shape)))
+}
+
+/// A value and such an operand under it are made into another one.
+fn lift(shape: Outline, under: Other, other: Other) -> Result<Option<Ways>, Error>
+    ensures { IfOk result (λ ways. option_map effect_in ways ≡ made (form_in other) (pair_taken (form_in under) (shape_of shape))) }
+{
+    let mut shape = shape;
+    if !shape.take_pair(under)? {
+        return Ok(None);
+    }
+    shape.top(other)?;
+    Ok(Some(falling_ways(shape)))
+}
+
+/// A value goes above the counted run under it, where 1 is loaded next and added.
+fn count_ways(code: &Instructions, place: u32, shape: Outline) -> Result<Option<Ways>, Error>
+    ensures { IfOk result (λ ways. option_map effect_in ways
+        ≡ (if loads_one (slice_get (code_in code.now) (suc place)) && adds (slice_get (code_in code.now) (suc (suc place)))
+        then made counting_form (pair_taken counted_form (shape_of shape))
+        else None)) }
+{
+    if adds_one(code, place) {
+        return lift(shape, Other::Counted, Other::Counting);
+    }
+    Ok(None)
+}
+
+/// Two values change places, or a value goes above the counted run under it.
+fn swap_ways(code: &Instructions, place: u32, shape: Outline) -> Result<Option<Ways>, Error>
+    ensures { IfOk result
+        (λ ways. option_map effect_in ways ≡ swapped (code_in code.now) place (shape_of shape) (shape_of shape).operands) }
+{
+    if shape.has_under(Other::Counted) {
+        let row = count_ways(code, place, shape)?;
+        return Ok(row);
+    }
+    let values = trade(shape, 2, 2)?;
+    Ok(values)
+}
+
+/// Two values make one, or 1 is added to a counted run and the value that goes into it.
+fn operate_ways(shape: Outline, adding: bool) -> Result<Option<Ways>, Error>
+    ensures { IfOk result
+        (λ ways. option_map effect_in ways ≡ operated adding (shape_of shape) (shape_of shape).operands) }
+{
+    if !shape.has_under(Other::Counting) {
+        return trade(shape, 2, 1);
+    }
+    if !adding {
+        return Ok(None);
+    }
+    let mut shape = shape;
+    if !shape.take_pair(Other::Counting)? {
+        return Ok(None);
+    }
+    shape.top(Other::Counted)?;
+    Ok(Some(falling_ways(shape)))
+}
+
+/// A macro is made, whose body begins at an offset.
+fn macro_ways(
+    alloc: Global,
+    code: &Instructions,
+    place: u32,
+    offset: u32,
+    shape: Outline,
+) -> Result<Option<Ways>, Error>
+    ensures { IfOk result (λ ways. option_map effect_in ways
+        ≡ making (code_in code.now) offset (texts_loaded (code_before (code_in code.now) place)) (shape_of shape)) }
+{
+    let Some(count) = count_of_texts(before(code, place)) else {
+        return Ok(None);
+    };
+    if !may_lead_to(code, offset) {
+        return Ok(None);
+    }
+    let mut shape = shape;
+    if !shape.take_pair(Other::Closure)? {
+        return Ok(None);
+    }
+    shape.give(1)?;
+    Ok(Some(Ways {
+        falls: Some(shape),
+        jumps: None,
+        enters: Some(Jump {
+            to: offset,
+            shape: Outline::body(alloc, count),
+        }),
+    }))
+}
+
+/// A module is made of the text of a capture.
+fn export_ways(code: &Instructions, place: u32, shape: Outline) -> Result<Option<Ways>, Error>
+    ensures { IfOk result (λ ways. option_map effect_in ways ≡ effect_of (code_in code.now) place export_locals (shape_of shape)) }
+{
+    if !is_end_of_capture(before(code, place)) {
+        return Ok(None);
+    }
+    trade(shape, 1, 1)
+}
+
+/// The body of a macro ends.
+fn return_ways(alloc: Global, code: &Instructions, place: u32, shape: Outline) -> Option<Ways>
+    ensures { option_map effect_in result ≡ effect_of (code_in code.now) place return (shape_of shape) }
+{
+    if !shape.is_over(alloc) {
+        return None;
+    }
+    Some(Ways {
+        falls: None,
+        jumps: None,
+        enters: None,
+    })
 }
 
 /// Whether a jump is admissible.
@@ -57,7 +219,7 @@ pub fn may_jump_to(code: &Instructions, place: u32, shape: &Outline, to: u32) ->
     ensures { result ≡ may_jump (code_in code.now) place (shape_of shape.now) to }
 {
     if place < to {
-        return to as usize <= code.len();
+        return may_lead_to(code, to);
     }
     match shape.innermost_loop() {
         Some(push) => {
@@ -84,6 +246,7 @@ pub fn jump_ways(
         Some(Ways {
             falls,
             jumps: Some(Jump { to, shape }),
+            enters: None,
         })
     } else {
         None
@@ -110,7 +273,7 @@ pub fn branch(
     ensures { IfOk result (λ ways. option_map effect_in ways ≡ effect_of (code_in code.now) place (jump_if_false to) (shape_of shape)) }
 {
     let mut below = shape;
-    if !below.take(1) {
+    if !below.take(1)? {
         return Ok(None);
     }
     let there = copied(&below)?;
@@ -128,7 +291,7 @@ pub fn branch_or_pop(
         (λ ways. option_map effect_in ways ≡ effect_of (code_in code.now) place (jump_if_false_or_pop to) (shape_of shape)) }
 {
     let mut below = copied(&shape)?;
-    if !below.take(1) {
+    if !below.take(1)? {
         return Ok(None);
     }
     Ok(jump_ways(code, place, Some(below), to, shape))
@@ -147,31 +310,16 @@ pub fn iterate_ways(
         Some(push) => place as u64 == push as u64 + 1,
         None => false,
     };
-    if !is_home || place >= to || to as usize > code.len() {
+    if !is_home || place >= to || !may_lead_to(code, to) {
         return Ok(None);
     }
     let mut falls = copied(&shape)?;
-    if !falls.give(1) {
-        return Err(Error::new(ErrorKind::OutOfMemory));
-    }
+    falls.give(1)?;
     Ok(Some(Ways {
         falls: Some(falls),
         jumps: Some(Jump { to, shape }),
+        enters: None,
     }))
-}
-
-/// Whether an `Iterate` stands directly behind a place.
-fn is_iterate_behind(code: &Instructions, place: u32) -> bool
-    requires { place < length (code_in code.now) }
-    ensures { result ≡ is_iterate (slice_get (code_in code.now) (suc place)) }
-{
-    if place as usize + 1 >= code.len() {
-        return false;
-    }
-    match code.get(place + 1) {
-        Some(Instruction::Iterate(_)) => true,
-        _ => false,
-    }
 }
 
 /// The ways of a `PushLoop`.
@@ -181,18 +329,18 @@ pub fn loop_ways(
     flags: u8,
     shape: Outline,
 ) -> Result<Option<Ways>, Error>
-    requires { place < length (code_in code.now) }
     ensures { IfOk result (λ ways. option_map effect_in ways ≡ effect_of (code_in code.now) place (push_loop flags) (shape_of shape)) }
 {
-    let mut shape = shape;
-    if !is_iterate_behind(code, place) || !shape.take(1) {
+    if !asks_item(next(code, place)) {
         return Ok(None);
     }
-    let frame = shape.loop_frame(flags, place);
-    match shape.open(frame) {
-        Ok(()) => Ok(Some(falling_ways(shape))),
-        Err(_refused) => Err(Error::new(ErrorKind::OutOfMemory)),
+    let mut shape = shape;
+    if !shape.take(1)? {
+        return Ok(None);
     }
+    let frame = shape.loop_frame(flags, place)?;
+    shape.open(frame)?;
+    Ok(Some(falling_ways(shape)))
 }
 
 /// The ways of the instructions that open or close something.
@@ -208,21 +356,26 @@ pub fn scope_ways(
 {
     let mut shape = shape;
     let admissible = match instruction {
-        Instruction::PushWith => match shape.open(Opened::With) {
-            Ok(()) => true,
-            Err(_refused) => return Err(Error::new(ErrorKind::OutOfMemory)),
-        },
+        Instruction::PushWith => {
+            shape.open(Opened::With)?;
+            true
+        }
         Instruction::PopFrame => shape.close_frame(),
         Instruction::PopLoopFrame => shape.close_loop(),
         Instruction::PopAutoEscape => shape.close_escape(),
         Instruction::PushAutoEscape => {
-            if !shape.take(1) {
-                false
-            } else if shape.open_escape() {
-                true
-            } else {
-                return Err(Error::new(ErrorKind::OutOfMemory));
-            }
+            let is_taken = shape.take(1)?;
+            shape.open_escape()?;
+            is_taken
+        }
+        Instruction::BeginCapture(_) => {
+            shape.open_capture()?;
+            true
+        }
+        Instruction::EndCapture => {
+            let is_closed = shape.close_capture();
+            shape.give(1)?;
+            is_closed
         }
         _ => false,
     };
@@ -250,42 +403,39 @@ fn trade_pairs(shape: Outline, pairs: usize) -> Result<Option<Ways>, Error>
 ///
 /// [`ErrorKind::OutOfMemory`].
 pub fn ways_at(
+    alloc: Global,
     code: &Instructions,
     place: u32,
     instruction: &Instruction,
     shape: Outline,
 ) -> Result<Option<Ways>, Error>
-    requires { place < length (code_in code.now) }
     ensures { IfOk result
         (λ ways. option_map effect_in ways ≡ effect_of (code_in code.now) place (code_of instruction.now) (shape_of shape)) }
 {
     match instruction {
-        Instruction::EmitRaw(_) => Ok(Some(falling_ways(shape))),
-        Instruction::Lookup(_) | Instruction::LoadConst(_) => {
-            let mut shape = shape;
-            if !shape.give(1) {
-                return Err(Error::new(ErrorKind::OutOfMemory));
-            }
-            Ok(Some(falling_ways(shape)))
-        }
+        Instruction::EmitRaw(_)
+        | Instruction::FastSuper
+        | Instruction::CallBlock(_)
+        | Instruction::Enclose(_) => Ok(Some(falling_ways(shape))),
+        Instruction::Lookup(_) | Instruction::LoadConst(_) => give(shape, 1),
         Instruction::PushDidNotIterate => {
-            let mut shape = shape;
             if shape.innermost_loop().is_none() {
                 return Ok(None);
             }
-            if !shape.give(1) {
-                return Err(Error::new(ErrorKind::OutOfMemory));
-            }
-            Ok(Some(falling_ways(shape)))
+            give(shape, 1)
         }
         Instruction::Emit
         | Instruction::StoreLocal(_)
         | Instruction::DiscardTop
+        | Instruction::FastRecurse
+        | Instruction::LoadBlocks
         | Instruction::Include(_) => trade(shape, 1, 0),
-        Instruction::GetAttr(_) | Instruction::Neg | Instruction::Not => trade(shape, 1, 1),
-        Instruction::GetItem
-        | Instruction::Add
-        | Instruction::Sub
+        Instruction::SetAttr(_) => trade(shape, 2, 0),
+        Instruction::GetAttr(_) | Instruction::Neg | Instruction::Not | Instruction::IsUndefined =>
+            trade(shape, 1, 1),
+        Instruction::GetItem => trade(shape, 2, 1),
+        Instruction::Add => operate_ways(shape, true),
+        Instruction::Sub
         | Instruction::Mul
         | Instruction::Div
         | Instruction::IntDiv
@@ -298,15 +448,23 @@ pub fn ways_at(
         | Instruction::Lt
         | Instruction::Lte
         | Instruction::StringConcat
-        | Instruction::In => trade(shape, 2, 1),
+        | Instruction::In => operate_ways(shape, false),
         Instruction::Slice => trade(shape, 4, 1),
-        Instruction::CompareAndPreserve(_) | Instruction::Swap => trade(shape, 2, 2),
+        Instruction::CompareAndPreserve(_) => trade(shape, 2, 2),
+        Instruction::Swap => swap_ways(code, place, shape),
         Instruction::DupTop => trade(shape, 1, 2),
-        Instruction::BuildMap(count) => trade_pairs(shape, *count),
-        Instruction::BuildList(Some(count)) | Instruction::BuildTuple(Some(count)) => trade(
-            shape, *count, 1,
+        Instruction::BuildMap(count) | Instruction::BuildKwargs(count) => trade_pairs(
+            shape, *count,
         ),
+        Instruction::MergeKwargs(count) => trade(shape, *count, 1),
+        Instruction::BuildList(count) | Instruction::BuildTuple(count) => hand(shape, *count),
         Instruction::UnpackList(count) => trade(shape, 1, *count),
+        Instruction::UnpackLists(count) => spread(shape, *count),
+        Instruction::ApplyFilter(_, count, _)
+        | Instruction::PerformTest(_, count, _)
+        | Instruction::CallFunction(_, count)
+        | Instruction::CallMethod(_, count)
+        | Instruction::CallObject(count) => call(shape, *count),
         Instruction::Jump(to) => Ok(jump_ways(code, place, None, *to, shape)),
         Instruction::JumpIfFalse(to) => branch(code, place, *to, shape),
         Instruction::JumpIfFalseOrPop(to) | Instruction::JumpIfTrueOrPop(to) => branch_or_pop(
@@ -318,7 +476,16 @@ pub fn ways_at(
         | Instruction::PopFrame
         | Instruction::PopLoopFrame
         | Instruction::PushAutoEscape
-        | Instruction::PopAutoEscape => scope_ways(code, place, instruction, shape),
-        _ => Ok(None),
+        | Instruction::PopAutoEscape
+        | Instruction::BeginCapture(_)
+        | Instruction::EndCapture => scope_ways(code, place, instruction, shape),
+        Instruction::ExportLocals => export_ways(code, place, shape),
+        Instruction::GetClosure => {
+            let mut shape = shape;
+            shape.top(Other::Closure)?;
+            Ok(Some(falling_ways(shape)))
+        }
+        Instruction::BuildMacro(_, offset, _) => macro_ways(alloc, code, place, *offset, shape),
+        Instruction::Return => Ok(return_ways(alloc, code, place, shape)),
     }
 }

@@ -2,21 +2,17 @@ use Rattle.std.proofs.Common.{refl}
 use Rattle.std.specs.Prelude.{option_map}
 use Rattle.template_code.specs.Listing.{code_in}
 use Rattle.template_code_shapes.specs.Outlines.{shape_of}
-use Rattle.template_code_shapes.proofs.Standing.{good_end}
-use Rattle.template_code_shapes.proofs.Visiting.{ends_badly, told_first}
+use Rattle.template_code_shapes.proofs.Finishing.{good_end, ends_badly, told_first}
 use Rattle.template_code_checked.proofs.kind.kind_of.Goals as goal
 
 pub returns-in-Some-clause-good : goal.returns-in-Some-clause-good
 returns-in-Some-clause-good c =
-    let ends = c.in_ok-hand.ensures.ends in
-    good_end (code_in c.args.code.now) ends.0 (option_map shape_of c.in_ok-hand.hand) c.in-Some.kind ends.1 c.in-Some.ensures.kind
+    good_end (code_in c.args.code.now) (option_map shape_of c.in_ok-hand.hand) c.in-Some.kind c.in_ok-hand.ensures.ends c.in-Some.ensures.kind
 
 pub returns-in-Some-clause-first : goal.returns-in-Some-clause-first
 returns-in-Some-clause-first c =
-    let ends = c.in_ok-hand.ensures.ends in
-    told_first (code_in c.args.code.now) ends.0 (option_map shape_of c.in_ok-hand.hand) ends.1 c.in-Some.kind c.in-Some.ensures.expression
+    told_first (code_in c.args.code.now) (option_map shape_of c.in_ok-hand.hand) c.in_ok-hand.ensures.ends c.in-Some.kind c.in-Some.ensures.expression
 
 pub returns-in-None-clause-bad : goal.returns-in-None-clause-bad
 returns-in-None-clause-bad c =
-    let ends = c.in_ok-hand.ensures.ends in
-    λ is. ends_badly (code_in c.args.code.now) ends.0 (option_map shape_of c.in_ok-hand.hand) ends.1 (c.in-None.ensures.none refl)
+    λ is. ends_badly (code_in c.args.code.now) (option_map shape_of c.in_ok-hand.hand) c.in_ok-hand.ensures.ends (c.in-None.ensures.none refl)

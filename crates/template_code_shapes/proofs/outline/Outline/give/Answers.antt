@@ -4,4 +4,4 @@ use Rattle.template_code_shapes.proofs.OutlineLemmas.{gives}
 use Rattle.template_code_shapes.proofs.outline.Outline.give.Goals as goal
 
 pub returns-in-Some : goal.returns-in-Some
-returns-in-Some c = record { given = λ yes. gives c.args.self.now c.args.count c.in-Some.operands (grind (arith, common_steps)) }
+returns-in-Some c = record { given = gives c.args.self.now c.args.count c.in-Some.values (grind (arith, common_steps)) }
