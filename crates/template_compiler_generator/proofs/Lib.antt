@@ -1,6 +1,7 @@
 pub mod Building
 pub mod Texts
 pub mod Segments
+pub mod Calm
 pub mod Plain
 pub mod Moving
 pub mod Running

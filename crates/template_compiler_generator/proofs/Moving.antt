@@ -28,7 +28,7 @@ some_is x y e = cc
 
 -- code that takes so many values, and leaves so many
 abbrev pub Moves : Coded → ℕ → ℕ → Type 0
-Moves piece m k = (code : List Code) (place : ℕ) (s : Shape) → IsPlain s → StandsAt code place (piece place) → Goes code place (place + length (piece place)) (given m s) (Some (given k s)) Free
+Moves piece m k = (code : List Code) (place : ℕ) (s : Shape) → IsPlain code s → StandsAt code place (piece place) → Goes code place (place + length (piece place)) (given m s) (Some (given k s)) Free
 
 -- a piece ends within the code
 pub stands_within : (code : List Code) (place : ℕ) (piece : List Code) → StandsAt code place piece → place + length piece ≤ length code
@@ -42,9 +42,9 @@ pub goes_single : (code : List Code) (place : ℕ) (c : Code) (s t : Shape) (N :
     → Goes code place (place + length (one c place)) s (Some t) N
 goes_single code place c s t N h is =
     goes_to code place (suc place) (place + length (one c place)) s (Some t) N (behind_single place c)
-    (goes_with code place (suc place) s (Some t) (Some t) (Lands (falling t)) N (goes_on code place c s (falling t) (instruction_at code place c [] h) is) (λ table flows. flows) (λ table stands flows needs to u e. absurd cc))
+    (goes_with code place (suc place) s (Some t) (Some t) (Lands (falling t)) N (goes_on code place c s (falling t) (instruction_at code place c [] h) is refl) (λ table flows. flows) (λ table stands flows needs to u e. absurd cc))
 
-pub moves_one : (c : Code) (m k : ℕ) → ((code : List Code) (place : ℕ) (s : Shape) → IsPlain s → effect_of code place c (given m s) ≡ Some (falling (given k s))) → Moves (one c) m k
+pub moves_one : (c : Code) (m k : ℕ) → ((code : List Code) (place : ℕ) (s : Shape) → IsPlain code s → effect_of code place c (given m s) ≡ Some (falling (given k s))) → Moves (one c) m k
 moves_one c m k is code place s plain h = goes_single code place c (given m s) (given k s) Free h (is code place s plain)
 
 pub moves_nothing : (m : ℕ) → Moves nothing m m
@@ -75,31 +75,31 @@ moves_loaded (Some v) f x = moves_one (load_const v) 0 1 (λ code place s plain.
 moves_loaded None f x = x
 
 -- code that is leapt over with a value on top
-moves_skipped : (leap : ℕ → Code) (f : Coded) (n : ℕ) → ((code : List Code) (place to : ℕ) (s : Shape) → IsPlain s → place < to → to ≤ length code
-    → effect_of code place (leap to) (given 1 s) ≡ Some (record { falls = Some s; jumps = Some (to, given 1 s) })) → Moves f n (suc n) → Moves (skipped leap f) (suc n) (suc n)
+moves_skipped : (leap : ℕ → Code) (f : Coded) (n : ℕ) → ((code : List Code) (place to : ℕ) (s : Shape) → IsPlain code s → place < to → to ≤ length code
+    → effect_of code place (leap to) (given 1 s) ≡ Some (record { falls = Some s; jumps = Some (to, given 1 s); enters = None })) → Moves f n (suc n) → Moves (skipped leap f) (suc n) (suc n)
 moves_skipped leap f n is x code place s plain h =
     let behind = suc place + length (f (suc place)) in
     let same : behind ≡ place + length (skipped leap f place) = behind_skipped leap f place in
     let within : behind ≤ length code = (let all = stands_within code place (skipped leap f place) h in omega arith) in
-    let e : Effect = record { falls = Some (given n s); jumps = Some (behind, given (suc n) s) } in
+    let e : Effect = record { falls = Some (given n s); jumps = Some (behind, given (suc n) s); enters = None } in
     goes_to code place behind (place + length (skipped leap f place)) (given (suc n) s) (Some (given (suc n) s)) Free same
     (goes_then code place (suc place) behind (given (suc n) s) (given n s) (Some (given n s)) (Some (given (suc n) s)) (Lands e) Free Free
-    (goes_on code place (leap behind) (given (suc n) s) e (instruction_at code place (leap behind) (f (suc place)) h) (is code place behind (given n s) plain (omega arith) within))
+    (goes_on code place (leap behind) (given (suc n) s) e (instruction_at code place (leap behind) (f (suc place)) h) (is code place behind (given n s) plain (omega arith) within) refl)
     (x code (suc place) s plain (behind_one code place (leap behind) (f (suc place)) h))
     (λ u g. some_is (given n s) u g)
     (λ table stands flows needs. (lands_at (Some (given n s)) behind (given (suc n) s) table (flows (given (suc n) s) refl), tt)))
 
-leaps_false : (code : List Code) (place to : ℕ) (s : Shape) → IsPlain s → place < to → to ≤ length code → effect_of code place (jump_if_false_or_pop to) (given 1 s) ≡ Some (record { falls = Some s; jumps = Some (to, given 1 s) })
+leaps_false : (code : List Code) (place to : ℕ) (s : Shape) → IsPlain code s → place < to → to ≤ length code → effect_of code place (jump_if_false_or_pop to) (given 1 s) ≡ Some (record { falls = Some s; jumps = Some (to, given 1 s); enters = None })
 leaps_false code place to s plain less within =
-    ap (option_and_then (λ below. jumping code place (Some below) to (given 1 s))) (taken_plain 1 s plain) ∙ jumps_forward code place (Some s) to (given 1 s) less within
+    ap (option_and_then (λ below. jumping code place (Some below) to (given 1 s))) (taken_plain 1 s plain.0) ∙ jumps_forward code place (Some s) to (given 1 s) plain.1 less within
 
-leaps_true : (code : List Code) (place to : ℕ) (s : Shape) → IsPlain s → place < to → to ≤ length code → effect_of code place (jump_if_true_or_pop to) (given 1 s) ≡ Some (record { falls = Some s; jumps = Some (to, given 1 s) })
+leaps_true : (code : List Code) (place to : ℕ) (s : Shape) → IsPlain code s → place < to → to ≤ length code → effect_of code place (jump_if_true_or_pop to) (given 1 s) ≡ Some (record { falls = Some s; jumps = Some (to, given 1 s); enters = None })
 leaps_true code place to s plain less within =
-    ap (option_and_then (λ below. jumping code place (Some below) to (given 1 s))) (taken_plain 1 s plain) ∙ jumps_forward code place (Some s) to (given 1 s) less within
+    ap (option_and_then (λ below. jumping code place (Some below) to (given 1 s))) (taken_plain 1 s plain.0) ∙ jumps_forward code place (Some s) to (given 1 s) plain.1 less within
 
-pub tests_on : (code : List Code) (place to : ℕ) (s : Shape) → IsPlain s → place < to → to ≤ length code → effect_of code place (jump_if_false to) (given 1 s) ≡ Some (record { falls = Some s; jumps = Some (to, s) })
+pub tests_on : (code : List Code) (place to : ℕ) (s : Shape) → IsPlain code s → place < to → to ≤ length code → effect_of code place (jump_if_false to) (given 1 s) ≡ Some (record { falls = Some s; jumps = Some (to, s); enters = None })
 tests_on code place to s plain less within =
-    ap (option_and_then (λ below. jumping code place (Some below) to below)) (taken_plain 1 s plain) ∙ jumps_forward code place (Some s) to s less within
+    ap (option_and_then (λ below. jumping code place (Some below) to below)) (taken_plain 1 s plain.0) ∙ jumps_forward code place (Some s) to s plain.1 less within
 
 -- two segments of which a value chooses one: the first leads past the second
 module _ (code : List Code) (place : ℕ) (first second : Coded) (s t : Shape) (N : (ℕ → Option Shape) → Type 0) where
@@ -115,31 +115,31 @@ module _ (code : List Code) (place : ℕ) (first second : Coded) (s t : Shape) (
   abbrev First : Bool → (ℕ → Option Shape) → Type 0
   First x table = (table begins_at ≡ Some s) × N table × Flows table (gate x t) behind_at
 
-  tested : (x : Bool) → IsPlain s → behind_at ≤ length code → StandsAt code place (either_code first second place) → Goes code (suc place) leap_at s (gate x t) N → Goes code place leap_at (given 1 s) (gate x t) (First x)
+  tested : (x : Bool) → IsPlain code s → behind_at ≤ length code → StandsAt code place (either_code first second place) → Goes code (suc place) leap_at s (gate x t) N → Goes code place leap_at (given 1 s) (gate x t) (First x)
   tested x plain within h f =
       let parts = stands_either code place first second h in
-      let e : Effect = record { falls = Some s; jumps = Some (begins_at, s) } in
+      let e : Effect = record { falls = Some s; jumps = Some (begins_at, s); enters = None } in
       goes_then code place (suc place) leap_at (given 1 s) s (Some s) (gate x t) (Lands e) N (First x)
-      (goes_on code place (jump_if_false begins_at) (given 1 s) e (instruction_at code place (jump_if_false begins_at) parts.test parts.tests) (tests_on code place begins_at s plain (omega arith) (omega arith)))
+      (goes_on code place (jump_if_false begins_at) (given 1 s) e (instruction_at code place (jump_if_false begins_at) parts.test parts.tests) (tests_on code place begins_at s plain (omega arith) (omega arith)) refl)
       f (λ u g. some_is s u g) (λ table stands flows needs. (lands_at (Some s) begins_at s table needs.0, needs.1))
 
-  led_past : (x : Bool) → behind_at ≤ length code → StandsAt code place (either_code first second place) → Goes code place leap_at (given 1 s) (gate x t) (First x) → Goes code place begins_at (given 1 s) None (First x)
-  led_past false within h f = goes_dead code place leap_at begins_at (given 1 s) (First false) (omega arith) f
-  led_past true within h f =
+  led_past : (x : Bool) → IsPlain code s → behind_at ≤ length code → StandsAt code place (either_code first second place) → Goes code place leap_at (given 1 s) (gate x t) (First x) → Goes code place begins_at (given 1 s) None (First x)
+  led_past false plain within h f = goes_dead code place leap_at begins_at (given 1 s) (First false) (omega arith) f
+  led_past true plain within h f =
       let parts = stands_either code place first second h in
-      let e : Effect = record { falls = None; jumps = Some (behind_at, t) } in
+      let e : Effect = record { falls = None; jumps = Some (behind_at, t); enters = None } in
       goes_then code place leap_at begins_at (given 1 s) t (Some t) None (First true) (Lands e) (First true)
-      f (goes_on code leap_at (jump behind_at) t e (instruction_at code leap_at (jump behind_at) parts.rest parts.leaps) (jumps_forward code leap_at None behind_at t (omega arith) within))
+      f (goes_on code leap_at (jump behind_at) t e (instruction_at code leap_at (jump behind_at) parts.rest parts.leaps) (jumps_forward code leap_at None behind_at t plain.1 (omega arith) within) refl)
       (λ u g. some_is t u g) (λ table stands flows needs. (needs, lands_at None behind_at t table (needs.2 t refl)))
 
-  pub goes_either : (x y : Bool) → IsPlain s → StandsAt code place (either_code first second place) → Goes code (suc place) leap_at s (gate x t) N → Goes code begins_at behind_at s (gate y t) N
+  pub goes_either : (x y : Bool) → IsPlain code s → StandsAt code place (either_code first second place) → Goes code (suc place) leap_at s (gate x t) N → Goes code begins_at behind_at s (gate y t) N
       → Goes code place (place + length (either_code first second place)) (given 1 s) (gate (x || y) t) N
   goes_either x y plain h f g =
       let same : behind_at ≡ place + length (either_code first second place) = behind_either first second place in
       let within : behind_at ≤ length code = (let all = stands_within code place (either_code first second place) h in omega arith) in
       goes_to code place behind_at (place + length (either_code first second place)) (given 1 s) (gate (x || y) t) N same
       (goes_then code place begins_at behind_at (given 1 s) s None (gate (x || y) t) (First x) N N
-      (led_past x within h (tested x plain within h f))
+      (led_past x plain within h (tested x plain within h f))
       (goes_with code begins_at behind_at s (gate y t) (gate (x || y) t) N N g (λ table flows. flows_right x y t table behind_at flows) (λ table stands flows needs. needs))
       (λ u e. absurd cc) (λ table stands flows needs. ((stands, needs, flows_left x y t table behind_at flows), needs)))
 
@@ -151,13 +151,13 @@ moves_either f g x y code place s plain h =
 -- operators
 
 unary_moves : (op : UnaryOpKind) → Moves (one (unary_code op)) 1 1
-unary_moves Not = moves_one (unary_code Not) 1 1 (λ code place s plain. traded_plain 1 1 s plain)
-unary_moves Neg = moves_one (unary_code Neg) 1 1 (λ code place s plain. traded_plain 1 1 s plain)
+unary_moves Not = moves_one (unary_code Not) 1 1 (λ code place s plain. traded_plain 1 1 s plain.0)
+unary_moves Neg = moves_one (unary_code Neg) 1 1 (λ code place s plain. traded_plain 1 1 s plain.0)
 
 operate_moves : (op : BinOpKind) (f g : Coded) → Moves f 0 1 → Moves g 0 1 → Moves (then_code f (then_code g (one (operate op)))) 0 1
 operate_moves op f g x y =
     moves_then f (then_code g (one (operate op))) 0 1 1 x
-    (moves_then g (one (operate op)) 1 2 1 (over_more g 1 y) (moves_one (operate op) 2 1 (λ code place s plain. traded_plain 2 1 s plain)))
+    (moves_then g (one (operate op)) 1 2 1 (over_more g 1 y) (moves_one (operate op) 2 1 (λ code place s plain. traded_plain 2 1 s plain.0)))
 
 binary_moves : (op : BinOpKind) (f g : Coded) → Moves f 0 1 → Moves g 0 1 → Moves (binary_code op f g) 0 1
 binary_moves ScAnd f g x y = moves_then f (skipped jump_if_false_or_pop g) 0 1 1 x (moves_skipped jump_if_false_or_pop g 0 leaps_false y)
@@ -166,11 +166,11 @@ binary_moves op f g x y = operate_moves op f g x y
 
 -- a comparison, and the links behind it
 compared_moves : (op : CompareOpKind) (f : Coded) → Moves f 0 1 → Moves (then_code f (one (compare_and_preserve op))) 1 2
-compared_moves op f x = moves_then f (one (compare_and_preserve op)) 1 2 2 (over_more f 1 x) (moves_one (compare_and_preserve op) 2 2 (λ code place s plain. traded_plain 2 2 s plain))
+compared_moves op f x = moves_then f (one (compare_and_preserve op)) 1 2 2 (over_more f 1 x) (moves_one (compare_and_preserve op) 2 2 (λ code place s plain. traded_plain 2 2 s plain.0))
 
 dropped_moves : Moves dropped 2 1
-dropped_moves = moves_then (one swap) (one discard_top) 2 2 1 (moves_one swap 2 2 (λ code place s plain. traded_plain 2 2 s plain))
-    (λ code place s plain h. moves_one discard_top 1 0 (λ code place t plain. traded_plain 1 0 t plain) code place (given 1 s) plain h)
+dropped_moves = moves_then (one swap) (one discard_top) 2 2 1 (moves_one swap 2 2 (λ code place s plain. traded_plain 2 2 s plain.0))
+    (λ code place s plain h. moves_one discard_top 1 0 (λ code place t plain. traded_plain 1 0 t plain.0) code place (given 1 s) plain h)
 
 -- each piece of code leaves a value
 abbrev EachMoves : List Core → Type 0
@@ -197,10 +197,10 @@ mutual
       moves_then (expression_code test) (either_code (expression_code branch) (optional_code silent_undefined otherwise)) 0 1 1 (expression_moves test r.0)
       (moves_either (expression_code branch) (optional_code silent_undefined otherwise) (expression_moves branch r.1) (optional_moves otherwise silent_undefined r.2))
   expression_moves (attribute e name) r =
-      moves_then (expression_code e) (one (get_attr name)) 0 1 1 (expression_moves e r) (moves_one (get_attr name) 1 1 (λ code place s plain. traded_plain 1 1 s plain))
+      moves_then (expression_code e) (one (get_attr name)) 0 1 1 (expression_moves e r) (moves_one (get_attr name) 1 1 (λ code place s plain. traded_plain 1 1 s plain.0))
   expression_moves (item e key) r =
       moves_then (expression_code e) (then_code (expression_code key) (one get_item)) 0 1 1 (expression_moves e r.0)
-      (moves_then (expression_code key) (one get_item) 1 2 1 (over_more (expression_code key) 1 (expression_moves key r.1)) (moves_one get_item 2 1 (λ code place s plain. traded_plain 2 1 s plain)))
+      (moves_then (expression_code key) (one get_item) 1 2 1 (over_more (expression_code key) 1 (expression_moves key r.1)) (moves_one get_item 2 1 (λ code place s plain. traded_plain 2 1 s plain.0)))
   expression_moves (tree.slice e start stop by) r =
       let sliced = one slice in
       let third = then_code (optional_code none by) sliced in
@@ -208,18 +208,18 @@ mutual
       moves_then (expression_code e) (then_code (optional_code none start) second) 0 1 1 (expression_moves e r.0)
       (moves_then (optional_code none start) second 1 2 1 (over_more (optional_code none start) 1 (optional_moves start none r.1))
       (moves_then (optional_code none stop) third 2 3 1 (over_more (optional_code none stop) 2 (optional_moves stop none r.2))
-      (moves_then (optional_code none by) sliced 3 4 1 (over_more (optional_code none by) 3 (optional_moves by none r.3)) (moves_one slice 4 1 (λ code place s plain. traded_plain 4 1 s plain)))))
+      (moves_then (optional_code none by) sliced 3 4 1 (over_more (optional_code none by) 3 (optional_moves by none r.3)) (moves_one slice 4 1 (λ code place s plain. traded_plain 4 1 s plain.0)))))
   expression_moves (list_literal es) r =
       moves_loaded (constant_of (list_literal es)) (then_code (expressions_code es) (one (build_list (Some (number_of es)))))
-      (moves_then (expressions_code es) (one (build_list (Some (number_of es)))) 0 (number_of es) 1 (all_move es r) (moves_one (build_list (Some (number_of es))) (number_of es) 1 (λ code place s plain. traded_plain (number_of es) 1 s plain)))
+      (moves_then (expressions_code es) (one (build_list (Some (number_of es)))) 0 (number_of es) 1 (all_move es r) (moves_one (build_list (Some (number_of es))) (number_of es) 1 (λ code place s plain. traded_plain (number_of es) 1 s plain.0)))
   expression_moves (tuple_literal es) r =
       moves_loaded (constant_of (tuple_literal es)) (then_code (expressions_code es) (one (build_tuple (Some (number_of es)))))
-      (moves_then (expressions_code es) (one (build_tuple (Some (number_of es)))) 0 (number_of es) 1 (all_move es r) (moves_one (build_tuple (Some (number_of es))) (number_of es) 1 (λ code place s plain. traded_plain (number_of es) 1 s plain)))
+      (moves_then (expressions_code es) (one (build_tuple (Some (number_of es)))) 0 (number_of es) 1 (all_move es r) (moves_one (build_tuple (Some (number_of es))) (number_of es) 1 (λ code place s plain. traded_plain (number_of es) 1 s plain.0)))
   expression_moves (map_literal ks vs) r =
       let count = entry_count ks (codes_of vs) in
       moves_loaded (constant_of (map_literal ks vs)) (then_code (entries_code ks (codes_of vs)) (one (build_map count)))
       (moves_then (entries_code ks (codes_of vs)) (one (build_map count)) 0 (count * 2) 1 (entries_move ks (codes_of vs) r.0 (each_moves vs r.1))
-      (moves_one (build_map count) (count * 2) 1 (λ code place s plain. traded_plain (count * 2) 1 s plain)))
+      (moves_one (build_map count) (count * 2) 1 (λ code place s plain. traded_plain (count * 2) 1 s plain.0)))
   expression_moves _ r = absurd r
 
   optional_moves : (o : Optional) (missing : Val) → IsRunnableIfGiven o → Moves (optional_code missing o) 0 1
@@ -264,10 +264,10 @@ mutual
 -- a value is stored in a target
 mutual
   pub target_moves : (e : Expression) → IsTarget e → Moves (target_code e) 1 0
-  target_moves (variable name) r = moves_one (store_local name) 1 0 (λ code place s plain. traded_plain 1 0 s plain)
+  target_moves (variable name) r = moves_one (store_local name) 1 0 (λ code place s plain. traded_plain 1 0 s plain.0)
   target_moves (list_literal targets) r =
       moves_then (one (unpack_list (number_of targets))) (targets_code targets) 1 (number_of targets) 0
-      (moves_one (unpack_list (number_of targets)) 1 (number_of targets) (λ code place s plain. traded_plain 1 (number_of targets) s plain)) (targets_move targets r)
+      (moves_one (unpack_list (number_of targets)) 1 (number_of targets) (λ code place s plain. traded_plain 1 (number_of targets) s plain.0)) (targets_move targets r)
   target_moves _ r = absurd r
 
   targets_move : (es : Expressions) → AreTargets es → Moves (targets_code es) (number_of es) 0

@@ -6,7 +6,7 @@ use Rattle.template_tree.specs.Tree as tree
 use Rattle.template_walk.specs.Runnable.{IsRunnable, IsTarget, AreAssignments, IsRunnableStatement, AreRunnableStatements}
 use Rattle.template_code.specs.Code.{Code, emit_raw, emit, jump, jump_if_false, push_with, pop_frame, push_loop, iterate, push_did_not_iterate, pop_loop_frame, push_auto_escape, pop_auto_escape, include}
 use Rattle.template_code_shapes.specs.declared.outline.Opened.TheVariants.{With as with_frame, Loop as loop_frame}
-use Rattle.template_code_shapes.specs.Shapes.{Shape, taken, given, opened, with_escape, innermost_loop}
+use Rattle.template_code_shapes.specs.Shapes.{Shape, floor_of, taken, given, opened, with_escape, innermost_loop}
 use Rattle.template_code_shapes.specs.Effects.{Effect, falling, jumping, is_iterate, effect_of}
 use Rattle.template_compiler_codegen.specs.Expressions.{Coded, then_code, one, nothing, skipped, either_code, expression_code}
 use Rattle.template_compiler_codegen.specs.Statements.{Ways, own_ways, closing_with, target_code, assignments_code, loop_flags, rounds_code, loop_end_code, branches_code, left_by, statement_code, statements_code}
@@ -14,7 +14,7 @@ use Rattle.template_compiler_codegen.proofs.Standing.{StandsAt, behind_one, inst
 use Rattle.template_compiler_codegen.proofs.Expressions.{behind_single, behind_skipped}
 use Rattle.template_compiler_codegen.proofs.Lengths.{long_statements}
 use Rattle.template_compiler_generator.proofs.Segments.{Flows, Free, Lands, Goes, goes_to, goes_out_as, goes_nowhere, goes_on, goes_then, goes_dead, goes_with, gate, gate_is, flows_any, lands_at}
-use Rattle.template_compiler_generator.proofs.Plain.{IsPlain, taken_plain, traded_plain, escape_plain, jumps_forward, jumps_back, iterates}
+use Rattle.template_compiler_generator.proofs.Plain.{ground, IsPlain, taken_plain, traded_plain, escape_plain, jumps_forward, jumps_back, iterates}
 use Rattle.template_compiler_generator.proofs.Moving.{Moves, stands_within, goes_single, moves_one, moves_nothing, tests_on, goes_either, expression_moves, target_moves, assignments_move}
 
 some_is : {A : Type 0} (x y : A) → Some x ≡ Some y → x ≡ y
@@ -54,7 +54,7 @@ inside_part code ways s base from to a b low high h = record {
 
 -- code over so many values, which keeps the shape below them or is left
 abbrev pub Runs : Bool → Ways → ℕ → Coded → Type 0
-Runs looping ways m piece = (code : List Code) (place : ℕ) (s base : Shape) → IsPlain s → StandsAt code place (piece place) → (IsTrue looping → IsInside code ways s base place (place + length (piece place)))
+Runs looping ways m piece = (code : List Code) (place : ℕ) (s base : Shape) → IsPlain code s → StandsAt code place (piece place) → (IsTrue looping → IsInside code ways s base place (place + length (piece place)))
     → (falls : Bool) × Goes code place (place + length (piece place)) (given m s) (gate falls s) (Outs looping ways base)
 
 runs_moves : (looping : Bool) (ways : Ways) (m : ℕ) (f : Coded) → Moves f m 0 → Runs looping ways m f
@@ -97,14 +97,14 @@ runs_with looping ways m k f g x y code place s base plain h inside =
 
 -- the way out of a loop
 goes_out : (closings : List Code) (code : List Code) (place to : ℕ) (s base : Shape) → Closes closings s base → StandsAt code place (closings ++ (jump to ∷ []))
-    → ((at : ℕ) → place ≤ at → at < place + length (closings ++ (jump to ∷ [])) → jumping code at None to base ≡ Some (record { falls = None; jumps = Some (to, base) }))
+    → ((at : ℕ) → place ≤ at → at < place + length (closings ++ (jump to ∷ [])) → jumping code at None to base ≡ Some (record { falls = None; jumps = Some (to, base); enters = None }))
     → Goes code place (place + length (closings ++ (jump to ∷ []))) s None (λ table. table to ≡ Some base)
 goes_out [] code place to s base closes h may =
-    let e : Effect = record { falls = None; jumps = Some (to, base) } in
+    let e : Effect = record { falls = None; jumps = Some (to, base); enters = None } in
     let same : suc place ≡ place + length (jump to ∷ []) = omega arith in
     let is : jumping code place None to s ≡ Some e = ap (jumping code place None to) closes ∙ may place (omega arith) (omega arith) in
     goes_to code place (suc place) (place + length (jump to ∷ [])) s None (λ table. table to ≡ Some base) same
-    (goes_with code place (suc place) s None None (Lands e) (λ table. table to ≡ Some base) (goes_on code place (jump to) s e (instruction_at code place (jump to) [] h) is) (λ table flows. flows)
+    (goes_with code place (suc place) s None None (Lands e) (λ table. table to ≡ Some base) (goes_on code place (jump to) s e (instruction_at code place (jump to) [] h) is refl) (λ table flows. flows)
     (λ table stands flows needs. lands_at None to base table needs))
 goes_out (c ∷ closings) code place to s base closes h may =
     let t = closes.0 in
@@ -112,7 +112,7 @@ goes_out (c ∷ closings) code place to s base closes h may =
     let same : suc place + length rest ≡ place + length (c ∷ rest) = omega arith in
     goes_to code place (suc place + length rest) (place + length (c ∷ rest)) s None (λ table. table to ≡ Some base) same
     (goes_then code place (suc place) (suc place + length rest) s t (Some t) None (Lands (falling t)) (λ table. table to ≡ Some base) (λ table. table to ≡ Some base)
-    (goes_on code place c s (falling t) (instruction_at code place c rest h) (closes.1 code place))
+    (goes_on code place c s (falling t) (instruction_at code place c rest h) (closes.1 code place) refl)
     (goes_out closings code (suc place) to t base closes.2 (behind_one code place c rest h) (λ at low high. may at (omega arith) (omega arith)))
     (λ u e. some_is t u e) (λ table stands flows needs. ((λ q u e. absurd cc), needs)))
 
@@ -122,7 +122,7 @@ runs_break ways looping is code place s base plain h inside =
     let past = i.past in (
       false,
       goes_with code place (place + length (left_by ways.closings ways.break_to place)) s None None (λ table. table ways.break_to ≡ Some base) (Outs looping ways base)
-          (goes_out ways.closings code place ways.break_to s base i.closes h (λ at low high. jumps_forward code at None ways.break_to base (omega arith) i.within))
+          (goes_out ways.closings code place ways.break_to s base i.closes h (λ at low high. jumps_forward code at None ways.break_to base plain.1 (omega arith) i.within))
           (λ table flows. flows) (λ table stands flows needs. (needs is).0),
     )
 
@@ -148,22 +148,22 @@ closes_then code place mid last behind s1 s N true same within p q = (
 )
 
 -- a body with something open, which is closed behind it
-runs_closed : (looping : Bool) (ways : Ways) (close : Code) (widen : Shape → Shape) (body : Coded) → ((s : Shape) → IsPlain s → IsPlain (widen s))
-    → ((code : List Code) (place : ℕ) (s : Shape) → IsPlain s → effect_of code place close (widen s) ≡ Some (falling s)) → Runs looping (closing_with close ways) 0 body
-    → (code : List Code) (place : ℕ) (s base : Shape) → IsPlain s → StandsAt code place (then_code body (one close) place) → (IsTrue looping → IsInside code ways s base place (place + length (then_code body (one close) place)))
+runs_closed : (looping : Bool) (ways : Ways) (close : Code) (widen : Shape → Shape) (body : Coded) → ((code : List Code) (s : Shape) → IsPlain code s → IsPlain code (widen s))
+    → ((code : List Code) (place : ℕ) (s : Shape) → floor_of s.frames ≡ ground → effect_of code place close (widen s) ≡ Some (falling s)) → Runs looping (closing_with close ways) 0 body
+    → (code : List Code) (place : ℕ) (s base : Shape) → IsPlain code s → StandsAt code place (then_code body (one close) place) → (IsTrue looping → IsInside code ways s base place (place + length (then_code body (one close) place)))
     → (falls : Bool) × Goes code place (place + length (then_code body (one close) place)) (widen s) (gate falls s) (Outs looping ways base)
 runs_closed looping ways close widen body plainly closes x code place s base plain h inside =
     let mid = place + length (body place) in
     let behind = place + length (then_code body (one close) place) in
     let last = mid + length (one close mid) in
     let same : behind ≡ last = behind_then body (one close) place in
-    let inner = x code place (widen s) base (plainly s plain) (stands_first code place body (one close) h) (λ t. inside_more behind mid (omega arith) (inside t)) in
+    let inner = x code place (widen s) base (plainly code s plain) (stands_first code place body (one close) h) (λ t. inside_more behind mid (omega arith) (inside t)) in
     closes_then code place mid last behind (widen s) s (Outs looping ways base) inner.0 (sym same) (omega arith) inner.1
-    (goes_single code mid close (widen s) s (Outs looping ways base) (stands_second code place body (one close) h) (closes code mid s plain))
+    (goes_single code mid close (widen s) s (Outs looping ways base) (stands_second code place body (one close) h) (closes code mid s plain.0))
   where
     inside_more : (behind mid : ℕ) → mid ≤ behind → IsInside code ways s base place behind → IsInside code (closing_with close ways) (widen s) base place mid
     inside_more behind mid less i = record {
-      closes = (s, (λ code place. closes code place s plain), i.closes);
+      closes = (s, (λ code place. closes code place s plain.0), i.closes);
       push = i.push;
       loop = i.loop;
       home = i.home;
@@ -174,18 +174,18 @@ runs_closed looping ways close widen body plainly closes x code place s base pla
     }
 
 -- a piece that is passed over where the value on top is false
-runs_skipped : (looping : Bool) (ways : Ways) (f : Coded) → Runs looping ways 0 f → (code : List Code) (place : ℕ) (s base : Shape) → IsPlain s → StandsAt code place (skipped jump_if_false f place)
+runs_skipped : (looping : Bool) (ways : Ways) (f : Coded) → Runs looping ways 0 f → (code : List Code) (place : ℕ) (s base : Shape) → IsPlain code s → StandsAt code place (skipped jump_if_false f place)
     → (IsTrue looping → IsInside code ways s base place (place + length (skipped jump_if_false f place))) → Goes code place (place + length (skipped jump_if_false f place)) (given 1 s) (Some s) (Outs looping ways base)
 runs_skipped looping ways f x code place s base plain h inside =
     let behind = suc place + length (f (suc place)) in
     let same : behind ≡ place + length (skipped jump_if_false f place) = behind_skipped jump_if_false f place in
     let within : behind ≤ length code = (let all = stands_within code place (skipped jump_if_false f place) h in omega arith) in
-    let e : Effect = record { falls = Some s; jumps = Some (behind, s) } in
+    let e : Effect = record { falls = Some s; jumps = Some (behind, s); enters = None } in
     let inner = x code (suc place) s base plain (behind_one code place (jump_if_false behind) (f (suc place)) h)
     (λ t. inside_part code ways s base place (place + length (skipped jump_if_false f place)) (suc place) behind (omega arith) (omega arith) (inside t)) in
     goes_to code place behind (place + length (skipped jump_if_false f place)) (given 1 s) (Some s) (Outs looping ways base) same
     (goes_then code place (suc place) behind (given 1 s) s (Some s) (Some s) (Lands e) (Outs looping ways base) (Outs looping ways base)
-    (goes_on code place (jump_if_false behind) (given 1 s) e (instruction_at code place (jump_if_false behind) (f (suc place)) h) (tests_on code place behind s plain (omega arith) within))
+    (goes_on code place (jump_if_false behind) (given 1 s) e (instruction_at code place (jump_if_false behind) (f (suc place)) h) (tests_on code place behind s plain (omega arith) within) refl)
     (goes_with code (suc place) behind s (gate inner.0 s) (Some s) (Outs looping ways base) (Outs looping ways base) inner.1 (λ table flows. flows_any inner.0 s table behind flows) (λ table stands flows needs. needs))
     (λ u g. some_is s u g) (λ table stands flows needs. (lands_at (Some s) behind s table (flows s refl), needs)))
 
@@ -209,7 +209,7 @@ bodied body break_to continue_to = statements_code (own_ways break_to continue_t
 -- the rounds of a loop, from the place behind its `PushLoop`: with the places of their parts as numbers
 module _ (target : Expression) (body : Statements) (code : List Code) (place push begins ends_at jump_at : ℕ) (s : Shape) where
   abbrev asking : Effect
-  asking = record { falls = Some (given 1 s); jumps = Some (ends_at, s) }
+  asking = record { falls = Some (given 1 s); jumps = Some (ends_at, s); enters = None }
 
   abbrev Asked : (ℕ → Option Shape) → Type 0
   Asked table = table ends_at ≡ Some s
@@ -221,22 +221,22 @@ module _ (target : Expression) (body : Statements) (code : List Code) (place pus
       → Goes code place jump_at s (gate falls s) Both → Goes code place (suc jump_at) s None Both
   led_back false low high loop home asks h p = goes_dead code place jump_at (suc jump_at) s Both (omega arith) p
   led_back true low high loop home asks h p =
-      let e : Effect = record { falls = None; jumps = Some (place, s) } in
+      let e : Effect = record { falls = None; jumps = Some (place, s); enters = None } in
       goes_then code place jump_at (suc jump_at) s s (Some s) None Both (Lands e) Both p
-      (goes_on code jump_at (jump place) s e (instruction_at code jump_at (jump place) [] h) (jumps_back code jump_at place push ends_at s low loop home asks high))
+      (goes_on code jump_at (jump place) s e (instruction_at code jump_at (jump place) [] h) (jumps_back code jump_at place push ends_at s low loop home asks high) refl)
       (λ u g. some_is s u g) (λ table stands flows needs. (needs, lands_at None place s table needs.1))
 
   -- the asking, the target, the body and the way back
-  goes_rounds : IsPlain s → innermost_loop s.frames ≡ Some push → place ≡ suc push → slice_get code place ≡ Some (iterate ends_at) → ends_at ≤ length code → suc jump_at ≡ ends_at → StandsAt code jump_at (jump place ∷ [])
+  goes_rounds : IsPlain code s → innermost_loop s.frames ≡ Some push → place ≡ suc push → slice_get code place ≡ Some (iterate ends_at) → ends_at ≤ length code → suc jump_at ≡ ends_at → StandsAt code jump_at (jump place ∷ [])
       → Goes code (suc place) begins (given 1 s) (Some s) Free → ((IsTrue true → IsInside code (own_ways ends_at place) s s begins jump_at) → (falls : Bool) × Goes code begins jump_at s (gate falls s) (Outs true (own_ways ends_at place) s))
       → Goes code place ends_at s (Some s) Free
   goes_rounds plain loop home asks within last h stored ran =
       let low = stored.ordered in
       let inner = ran (λ t. record { closes = refl; push = push; loop = loop; home = home; asks = asks; before = omega arith; past = omega arith; within = within }) in
       let more = inner.1.ordered in
-      let is : effect_of code place (iterate ends_at) s ≡ Some asking = ap (λ b. cond b (Some asking) None) (iterates code place ends_at push s loop home (omega arith) within) in
+      let is : effect_of code place (iterate ends_at) s ≡ Some asking = ap (λ b. cond b (Some asking) None) (iterates code place ends_at push s plain.1 loop home (omega arith) within) in
       let opening : Goes code place begins s (Some s) Asked =
-      goes_then code place (suc place) begins s (given 1 s) (Some (given 1 s)) (Some s) (Lands asking) Free Asked (goes_on code place (iterate ends_at) s asking asks is) stored
+      goes_then code place (suc place) begins s (given 1 s) (Some (given 1 s)) (Some s) (Lands asking) Free Asked (goes_on code place (iterate ends_at) s asking asks is refl) stored
       (λ u e. some_is (given 1 s) u e) (λ table stands flows needs. (lands_at (Some (given 1 s)) ends_at s table needs, tt)) in
       let opened_body : Goes code place jump_at s (gate inner.0 s) Both =
       goes_then code place begins jump_at s s (Some s) (gate inner.0 s) Asked (Outs true (own_ways ends_at place) s) Both opening inner.1 (λ u e. some_is s u e) (λ table stands flows needs. (needs.0, (λ t. needs))) in
@@ -245,7 +245,7 @@ module _ (target : Expression) (body : Statements) (code : List Code) (place pus
       (λ table stands flows needs. (let P : ℕ → Type 0 = λ n. table n ≡ Some s in subst P last (flows s refl), stands)))
 
 goes_round : (target : Expression) (body : Statements) → IsTarget target → ((ways : Ways) → Runs true ways 0 (statements_code ways body))
-    → (code : List Code) (place push : ℕ) (s : Shape) → IsPlain s → innermost_loop s.frames ≡ Some push → place ≡ suc push → StandsAt code place (rounds_code (target_code target) (bodied body) place)
+    → (code : List Code) (place push : ℕ) (s : Shape) → IsPlain code s → innermost_loop s.frames ≡ Some push → place ≡ suc push → StandsAt code place (rounds_code (target_code target) (bodied body) place)
     → Goes code place (place + length (rounds_code (target_code target) (bodied body) place)) s (Some s) Free
 goes_round target body targeted x code place push s plain loop home h =
     let stored = target_code target (suc place) in
@@ -266,7 +266,7 @@ goes_round target body targeted x code place push s plain loop home h =
     (λ inside. x (own_ways ends_at place) code begins s s plain (first_part code begins piece (jump place ∷ []) behind_stored) inside))
 
 -- behind the rounds
-goes_ended : (looping : Bool) (ways : Ways) (otherwise : Statements) (f : Coded) → Runs looping ways 0 f → (code : List Code) (place push : ℕ) (s base : Shape) → IsPlain s
+goes_ended : (looping : Bool) (ways : Ways) (otherwise : Statements) (f : Coded) → Runs looping ways 0 f → (code : List Code) (place push : ℕ) (s base : Shape) → IsPlain code s
     → StandsAt code place (loop_end_code otherwise f place) → (IsTrue looping → IsInside code ways s base place (place + length (loop_end_code otherwise f place)))
     → Goes code place (place + length (loop_end_code otherwise f place)) (opened (loop_frame push) s) (Some s) (Outs looping ways base)
 goes_ended looping ways no_statements f x code place push s base plain h inside = goes_single code place pop_loop_frame (opened (loop_frame push) s) s (Outs looping ways base) h refl
@@ -294,11 +294,11 @@ goes_ended looping ways (statements_more st sts) f x code place push s base plai
     (λ u e. some_is (given 1 s1) u e) (λ table stands flows needs. (needs, needs)))
 
 -- a loop's frame is opened
-pushes : (code : List Code) (place mid ends : ℕ) (s : Shape) → IsPlain s → mid ≡ suc place → slice_get code mid ≡ Some (iterate ends) → effect_of code place (push_loop loop_flags) (given 1 s) ≡ Some (falling (opened (loop_frame place) s))
+pushes : (code : List Code) (place mid ends : ℕ) (s : Shape) → IsPlain code s → mid ≡ suc place → slice_get code mid ≡ Some (iterate ends) → effect_of code place (push_loop loop_flags) (given 1 s) ≡ Some (falling (opened (loop_frame place) s))
 pushes code place mid ends s plain next at =
     let there : slice_get code (suc place) ≡ Some (iterate ends) = ap (slice_get code) (sym next) ∙ at in
     ap (λ o. cond (is_iterate o) (option_map (λ below. falling (opened (loop_frame place) below)) (taken 1 (given 1 s))) None) there
-    ∙ ap (option_map (λ below. falling (opened (loop_frame place) below))) (taken_plain 1 s plain)
+    ∙ ap (option_map (λ below. falling (opened (loop_frame place) below))) (taken_plain 1 s plain.0)
 
 -- a loop over the value on top
 runs_loop : (looping : Bool) (ways : Ways) (target : Expression) (body otherwise : Statements) → IsTarget target → ((w : Ways) → Runs true w 0 (statements_code w body)) → Runs looping ways 0 (statements_code ways otherwise)
@@ -355,7 +355,7 @@ runs_within looping ways assignments body r x code place s base plain h inside =
     let same : whole ≡ later_at = behind_then (one push_with) later place in
     let same_later : later_at ≡ behind = behind_then (assignments_code assignments) bare mid in
     let stands_later = stands_second code place (one push_with) later h in
-    let closed = runs_closed looping ways pop_frame (opened with_frame) body (λ t k. k) (λ code place t k. refl) x code body_at s base plain (stands_second code mid (assignments_code assignments) bare stands_later)
+    let closed = runs_closed looping ways pop_frame (opened with_frame) body (λ code t k. k) (λ code place t k. refl) x code body_at s base plain (stands_second code mid (assignments_code assignments) bare stands_later)
     (λ t. inside_part code ways s base place whole body_at behind (omega arith) (omega arith) (inside t)) in (
       closed.0,
       goes_to code place behind whole s (gate closed.0 s) N (sym (same ∙ same_later))
@@ -378,12 +378,12 @@ runs_escaped looping ways body x code place s base plain h inside =
     let behind = mid + length (bare mid) in
     let whole = place + length (then_code (one push_auto_escape) bare place) in
     let same : whole ≡ behind = behind_then (one push_auto_escape) bare place in
-    let closed = runs_closed looping ways pop_auto_escape with_escape body (λ t k. k) (λ code place t k. ap (option_map falling) (escape_plain t k)) x code mid s base plain (stands_second code place (one push_auto_escape) bare h)
+    let closed = runs_closed looping ways pop_auto_escape with_escape body (λ code t k. k) (λ code place t k. ap (option_map falling) (escape_plain t k)) x code mid s base plain (stands_second code place (one push_auto_escape) bare h)
     (λ t. inside_part code ways s base place whole mid behind (omega arith) (omega arith) (inside t)) in (
       closed.0,
       goes_to code place behind whole (given 1 s) (gate closed.0 s) N (sym same)
           (goes_then code place mid behind (given 1 s) s1 (Some s1) (gate closed.0 s) N N N
-          (goes_single code place push_auto_escape (given 1 s) s1 N (stands_first code place (one push_auto_escape) bare h) (ap (option_map (λ below. falling (with_escape below))) (taken_plain 1 s plain)))
+          (goes_single code place push_auto_escape (given 1 s) s1 N (stands_first code place (one push_auto_escape) bare h) (ap (option_map (λ below. falling (with_escape below))) (taken_plain 1 s plain.0)))
           closed.1 (λ u e. some_is s1 u e) (λ table stands flows needs. (needs, needs))),
     )
 
@@ -391,7 +391,7 @@ mutual
   pub statement_runs : (looping : Bool) (st : Statement) → IsRunnableStatement looping st → (ways : Ways) → Runs looping ways 0 (statement_code ways st)
   statement_runs looping (raw text) r ways = runs_moves looping ways 0 (one (emit_raw text)) (moves_one (emit_raw text) 0 0 (λ code place s plain. refl))
   statement_runs looping (print e) r ways =
-      runs_with looping ways 0 1 (expression_code e) (one emit) (expression_moves e r) (runs_moves looping ways 1 (one emit) (moves_one emit 1 0 (λ code place s plain. traded_plain 1 0 s plain)))
+      runs_with looping ways 0 1 (expression_code e) (one emit) (expression_moves e r) (runs_moves looping ways 1 (one emit) (moves_one emit 1 0 (λ code place s plain. traded_plain 1 0 s plain.0)))
   statement_runs looping (for_loop target e absent false body otherwise) r ways =
       runs_with looping ways 0 1 (expression_code e) (then_code (one (push_loop loop_flags)) (then_code (rounds_code (target_code target) (bodied body)) (loop_end_code otherwise (statements_code ways otherwise)))) (expression_moves e r.1)
       (runs_loop looping ways target body otherwise r.0 (λ w. statements_run true body r.2 w) (statements_run looping otherwise r.3 ways))
@@ -406,7 +406,7 @@ mutual
       (runs_escaped looping ways (statements_code (closing_with pop_auto_escape ways) body) (statements_run looping body r.1 (closing_with pop_auto_escape ways)))
   statement_runs looping (tree.include e ignore_missing) r ways =
       runs_with looping ways 0 1 (expression_code e) (one (include ignore_missing)) (expression_moves e r)
-      (runs_moves looping ways 1 (one (include ignore_missing)) (moves_one (include ignore_missing) 1 0 (λ code place s plain. traded_plain 1 0 s plain)))
+      (runs_moves looping ways 1 (one (include ignore_missing)) (moves_one (include ignore_missing) 1 0 (λ code place s plain. traded_plain 1 0 s plain.0)))
   statement_runs looping continue_loop r ways = runs_continue ways looping r
   statement_runs looping break_loop r ways = runs_break ways looping r
   statement_runs looping _ r ways = absurd r

@@ -63,17 +63,20 @@ goes_nowhere code at s N = record {
 }
 
 -- one instruction
-pub goes_on : (code : List Code) (place : ℕ) (c : Code) (s : Shape) (e : Effect) → slice_get code place ≡ Some c → effect_of code place c s ≡ Some e → Goes code place (suc place) s e.falls (Lands e)
-goes_on code place c s e at is = record {
+pub goes_on : (code : List Code) (place : ℕ) (c : Code) (s : Shape) (e : Effect) → slice_get code place ≡ Some c → effect_of code place c s ≡ Some e → ◌≡◌ {A = Option (ℕ × Shape)} e.enters None → Goes code place (suc place) s e.falls (Lands e)
+goes_on code place c s e at is nowhere = record {
   ordered = omega arith;
   own = λ q. Some s;
   enters = λ table agrees flows. agrees place (omega arith) (omega arith);
   fine = λ table agrees flows needs q low high.
       let here : place ≡ q = omega arith in
       let P : ℕ → Type 0 = λ n. Fine code table n in
-      subst P here (fine_here table (agrees place (omega arith) (omega arith)) (record { falls = flows; jumps = needs }));
+      subst P here (fine_here table (agrees place (omega arith) (omega arith)) (record { falls = flows; jumps = needs; enters = λ to t goes. absurd (unentered e.enters to t nowhere goes) }));
 }
   where
+    unentered : (o : Option (ℕ × Shape)) (to : ℕ) (t : Shape) → ◌≡◌ {A = Option (ℕ × Shape)} o None → ◌≡◌ {A = Option (ℕ × Shape)} o (Some (to, t)) → ⊥
+    unentered o to t e f = cc
+
     fine_here : (table : ℕ → Option Shape) → table place ≡ Some s → Leads table place e → Fine code table place
     fine_here table stood leads u d stands there =
         let Q : Shape → Type 0 = λ v. IsSomeAnd (effect_of code place d v) (Leads table place) in
@@ -162,7 +165,7 @@ flows_right true y s table to flows u e = flows u (ap Some (gate_is y s u e))
 flows_right false y s table to flows u e = flows u e
 
 -- what is jumped to stands in the table
-pub lands_at : (falls : Option Shape) (to : ℕ) (t : Shape) (table : ℕ → Option Shape) → table to ≡ Some t → Lands (record { falls = falls; jumps = Some (to, t) }) table
+pub lands_at : (falls : Option Shape) (to : ℕ) (t : Shape) (table : ℕ → Option Shape) → table to ≡ Some t → Lands (record { falls = falls; jumps = Some (to, t); enters = None }) table
 lands_at falls to t table stands q u e =
     let is : ◌≡◌ {A = ℕ × Shape} (to, t) (q, u) = some_is {A = ℕ × Shape} (to, t) (q, u) e in
     let P : ℕ → Type 0 = λ n. table n ≡ Some u in

@@ -10,10 +10,11 @@ use Rattle.template_code_shapes.specs.declared.StreamKind.{StreamKind}
 use Rattle.template_code_shapes.specs.declared.StreamKind.TheVariants.{Template, Expression as ExpressionStream}
 use Rattle.template_code_shapes.specs.Shapes.{Shape, start, given}
 use Rattle.template_code_shapes.specs.Streams.{end_of, IsCertificate}
-use Rattle.template_compiler_codegen.specs.Expressions.{expression_code}
-use Rattle.template_compiler_codegen.specs.Statements.{no_ways, statements_code, template_code, standalone_code}
+use Rattle.template_compiler_codegen.specs.Expressions.{expression_core, expression_code}
+use Rattle.template_compiler_codegen.specs.Statements.{no_ways, statements_core, statements_code, template_code, standalone_code}
 use Rattle.template_compiler_codegen.proofs.Standing.{StandsAt}
 use Rattle.template_compiler_generator.specs.Certificates.{TemplatesAreCertified, ExpressionsAreCertified}
+use Rattle.template_compiler_generator.proofs.Calm.{calm_everywhere, flat_calm, expression_calm, statements_calm}
 use Rattle.template_compiler_generator.proofs.Segments.{Agrees, Flows, Free, Goes, goes_to, gate, gate_is}
 use Rattle.template_compiler_generator.proofs.Moving.{expression_moves}
 use Rattle.template_compiler_generator.proofs.Running.{Outs, statements_run}
@@ -44,7 +45,8 @@ pub templates_certified : TemplatesAreCertified
 templates_certified tree r =
     let code = template_code tree in
     let same : 0 + length code ≡ length code = omega arith in
-    let g = statements_run false tree r no_ways code 0 start start refl (stands_whole code) (λ t. absurd cc) in
+    let calm = calm_everywhere code (flat_calm (statements_core tree) no_ways (statements_calm tree) tt 0) in
+    let g = statements_run false tree r no_ways code 0 start start (refl, calm) (stands_whole code) (λ t. absurd cc) in
     certified Template code (gate g.0 start) (free code (gate g.0 start) (goes_to code 0 (0 + length code) (length code) start (gate g.0 start) (Outs false no_ways start) same g.1)) (λ s e. sym (gate_is g.0 start s e))
   where
     free : (code : List Code) (exit : Option Shape) → Goes code 0 (length code) start exit (Outs false no_ways start) → Goes code 0 (length code) start exit Free
@@ -59,7 +61,8 @@ pub expressions_certified : ExpressionsAreCertified
 expressions_certified e r =
     let code = standalone_code e in
     let same : 0 + length code ≡ length code = omega arith in
-    let g = expression_moves e r code 0 start refl (stands_whole code) in
+    let calm = calm_everywhere code (flat_calm (expression_core e) no_ways (expression_calm e) tt 0) in
+    let g = expression_moves e r code 0 start (refl, calm) (stands_whole code) in
     certified ExpressionStream code (Some (given 1 start)) (goes_to code 0 (0 + length code) (length code) start (Some (given 1 start)) Free same g) (λ s h. some_is s h)
   where
     some_is : (s : Shape) → Some (given 1 start) ≡ Some s → s ≡ given 1 start
