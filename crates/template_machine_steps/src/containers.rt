@@ -1,5 +1,5 @@
 //! Containers that are built of operands, and items that are unpacked.
-ghost use Rattle.std.specs.Prelude.{◌≡◌, ◌++◌, ℕ, List, Option, map, OnOk, IfErr};
+ghost use Rattle.std.specs.Prelude.{◌≡◌, ◌++◌, ℕ, List, Option, Some, map, OnOk, IfErr};
 ghost use Rattle.template_values_errors.specs.Memory.{NoMemory};
 ghost use Rattle.template_values_errors.specs.declared.modes.UndefinedBehavior.{UndefinedBehavior};
 ghost use Rattle.template_code.specs.Code.{single, build_list, build_tuple, build_map, unpack_list};
@@ -22,7 +22,7 @@ use template_values_errors::{Error, ErrorKind};
 /// code meets.
 pub fn build_list(alloc: Global, count: usize, operands: &mut Operands) -> Result<(), Error>
     ensures { (program : ℕ → List ℕ → Option Program) (limit : ℕ) (mode : UndefinedBehavior) (w : World) →
-        Performs (ruled program limit mode) (build_list count) (operands_in operands.old) w result (operands_in operands.new) w }
+        Performs (ruled program limit mode) (build_list (Some count)) (operands_in operands.old) w result (operands_in operands.new) w }
 {
     let items = operands.take_many(count)?;
     let list = values::build_list(alloc, items)?;
@@ -36,7 +36,7 @@ pub fn build_list(alloc: Global, count: usize, operands: &mut Operands) -> Resul
 /// Those of [`values::build_tuple`], and as [`build_list`].
 pub fn build_tuple(alloc: Global, count: usize, operands: &mut Operands) -> Result<(), Error>
     ensures { (program : ℕ → List ℕ → Option Program) (limit : ℕ) (mode : UndefinedBehavior) (w : World) →
-        Performs (ruled program limit mode) (build_tuple count) (operands_in operands.old) w result (operands_in operands.new) w }
+        Performs (ruled program limit mode) (build_tuple (Some count)) (operands_in operands.old) w result (operands_in operands.new) w }
 {
     let items = operands.take_many(count)?;
     let tuple = values::build_tuple(alloc, items)?;

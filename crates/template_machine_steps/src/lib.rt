@@ -12,7 +12,7 @@ mod ways;
 pub use asides::{Aside, Tested, operate_aside, test_aside};
 pub use containers::{build_list, build_map, build_tuple, unpack_list};
 pub use operands::{discard_top, dup_top, load_const, load_const_at_once, swap};
-pub use operators::{compare_and_preserve, invert, negate, operate, operate_at_once};
+pub use operators::{compare_and_preserve, invert, is_undefined, negate, operate, operate_at_once};
 pub use parts::{get_attr, get_attr_at_once, get_item, slice};
 pub use truths::{
     jump, jump_if_false, jump_if_false_at_once, jump_if_false_or_pop, jump_if_false_or_pop_at_once,

@@ -17,7 +17,7 @@ use Rattle.template_machine_steps.proofs.containers.build_map.Goals as goal
 pub returns-in_err-entries : goal.returns-in_err-entries
 returns-in_err-entries c program limit mode w =
     many_refused (ruled program limit mode) (codes.build_map c.args.count) _ w _ _ _ _ _ (c.args.count * 2)
-    (λ lacks next place. ap (λ t. on_taken t (λ vs rest. giving next place rest (events.build_map (paired vs)))) lacks) c.in_err-entries.ensures.refused c.from_residual.ensures.1
+    (λ lacks next before place. ap (λ t. on_taken t (λ vs rest. giving next place rest (events.build_map (paired vs)))) lacks) c.in_err-entries.ensures.refused c.from_residual.ensures.1
 
 pub returns-in_err-built : goal.returns-in_err-built
 returns-in_err-built c program limit mode w =
@@ -25,11 +25,11 @@ returns-in_err-built c program limit mode w =
     refusal_out (ruled program limit mode) (codes.build_map c.args.count) _ w _ _ _ _ _
     (λ x u. behind_it x (single u ∷ operands_in c.take_pairs.new.self))
     (kinded (map_made (pairs_in c.in_ok-entries.entries.items)))
-    (λ x at around. pairs_act (ruled program limit mode) x c.args.count pairs.0 _ _ (ap (λ o. taken (c.args.count * 2) o []) at ∙ pairs.1.0) pairs.1.1) (kinded_spares (map_made (pairs_in c.in_ok-entries.entries.items))) c.in_err-built.ensures c.from_residual-in_err-built.ensures.1
+    (λ before x at around. pairs_act (ruled program limit mode) before x c.args.count pairs.0 _ _ (ap (λ o. taken (c.args.count * 2) o []) at ∙ pairs.1.0) pairs.1.1) (kinded_spares (map_made (pairs_in c.in_ok-entries.entries.items))) c.in_err-built.ensures c.from_residual-in_err-built.ensures.1
 
 pub returns : goal.returns
 returns c program limit mode w =
     let pairs = c.in_ok-entries.ensures.taken in
     given_out (ruled program limit mode) (codes.build_map c.args.count) _ w _ _ (operands_in c.take_pairs.new.self)
     (kinded (map_made (pairs_in c.in_ok-entries.entries.items))) _
-    (λ x at around. pairs_act (ruled program limit mode) x c.args.count pairs.0 _ _ (ap (λ o. taken (c.args.count * 2) o []) at ∙ pairs.1.0) pairs.1.1) c.in_ok-built.ensures c.push.ensures.pushed c.push.ensures.refused
+    (λ before x at around. pairs_act (ruled program limit mode) before x c.args.count pairs.0 _ _ (ap (λ o. taken (c.args.count * 2) o []) at ∙ pairs.1.0) pairs.1.1) c.in_ok-built.ensures c.push.ensures.pushed c.push.ensures.refused
