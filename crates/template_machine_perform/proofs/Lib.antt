@@ -4,3 +4,4 @@ pub mod Left
 mod Holding
 pub mod Scoping
 pub mod Straying
+mod Unanswered

@@ -1,4 +1,4 @@
-//! What a machine does at each instruction but an include.
+//! What a machine does at each instruction but an include and a return.
 #![tactic(auto)]
 
 mod asides;

@@ -2,7 +2,7 @@
 ghost use Rattle.std.specs.Prelude.{◌≡◌, ℕ, List, Option, None};
 ghost use Rattle.template_values_errors.specs.declared.modes.UndefinedBehavior.{UndefinedBehavior};
 ghost use Rattle.template_code.specs.Code.{build_list, build_tuple};
-ghost use Rattle.template_code.specs.View.{code_of, comparison_of, counted_code};
+ghost use Rattle.template_code.specs.View.{code_of, comparison_of};
 ghost use Rattle.template_machine_meaning.specs.World.{World};
 ghost use Rattle.template_machine_meaning.specs.Surroundings.{Program};
 ghost use Rattle.template_machine_operands.specs.Operands.{operands_in};
@@ -14,8 +14,8 @@ use template_code::{CompareOp, Instruction};
 use template_machine_operands::Operands;
 use template_machine_steps::{
     Way, build_list, build_map, build_tuple, compare_and_preserve, discard_top, dup_top, get_attr,
-    get_item, invert, jump, jump_if_false, jump_if_false_or_pop, jump_if_true_or_pop, load_const,
-    negate, operate, slice, swap, unpack_list,
+    get_item, invert, is_undefined, jump, jump_if_false, jump_if_false_or_pop, jump_if_true_or_pop,
+    load_const, negate, operate, slice, swap, unpack_list,
 };
 use template_tree::{BinOpKind, CompareOpKind};
 use template_values_errors::{Error, ErrorKind, UndefinedBehavior};
@@ -70,10 +70,10 @@ fn operator_of(instruction: &Instruction<'_>) -> Option<BinOpKind>
     }
 }
 
-// Builds a list; a counted run of values is not there yet.
+// Builds a list; a counted run of values is among no operands.
 fn build_list_of(alloc: Global, count: Option<usize>, operands: &mut Operands) -> Result<(), Error>
     ensures { (program : ℕ → List ℕ → Option Program) (limit : ℕ) (mode : UndefinedBehavior) (w : World) →
-        Performs (ruled program limit mode) (counted_code build_list count) (operands_in operands.old) w result
+        Performs (ruled program limit mode) (build_list count) (operands_in operands.old) w result
         (operands_in operands.new) w }
 {
     match count {
@@ -82,10 +82,10 @@ fn build_list_of(alloc: Global, count: Option<usize>, operands: &mut Operands) -
     }
 }
 
-// Builds a tuple; a counted run of values is not there yet.
+// Builds a tuple; a counted run of values is among no operands.
 fn build_tuple_of(alloc: Global, count: Option<usize>, operands: &mut Operands) -> Result<(), Error>
     ensures { (program : ℕ → List ℕ → Option Program) (limit : ℕ) (mode : UndefinedBehavior) (w : World) →
-        Performs (ruled program limit mode) (counted_code build_tuple count) (operands_in operands.old) w result
+        Performs (ruled program limit mode) (build_tuple count) (operands_in operands.old) w result
         (operands_in operands.new) w }
 {
     match count {
@@ -94,8 +94,7 @@ fn build_tuple_of(alloc: Global, count: Option<usize>, operands: &mut Operands) 
     }
 }
 
-// Does what an instruction does that only takes and gives operands. One of a construct that is not there yet is
-// refused.
+// Does what an instruction does that only takes and gives operands. One that asks what nothing answers is refused.
 #[inline(never)]
 pub(crate) fn perform_on_operands(
     alloc: Global,
@@ -141,6 +140,7 @@ fn perform_without_operator(
         Instruction::UnpackList(count) => straight(unpack_list(*count, operands)),
         Instruction::Neg => straight(negate(operands)),
         Instruction::Not => straight(invert(mode, operands)),
+        Instruction::IsUndefined => straight(is_undefined(operands)),
         Instruction::CompareAndPreserve(op) => {
             straight(compare_and_preserve(mode, comparison_of(*op), operands))
         }

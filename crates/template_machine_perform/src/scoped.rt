@@ -19,7 +19,7 @@ use template_machine_state::State;
 use template_machine_steps::Way;
 use template_values_errors::Error;
 
-// Does what an instruction does that neither writes nor runs a template.
+// Does what an instruction does that neither writes nor runs a template, nor ends the run.
 #[inline(never)]
 pub(crate) fn perform_quietly<'env>(
     alloc: Global,

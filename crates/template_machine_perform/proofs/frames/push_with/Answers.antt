@@ -9,4 +9,4 @@ use Rattle.template_machine_perform.proofs.frames.push_with.Goals as goal
 pub returns : goal.returns
 returns c program mode operands =
     became_out (ruled program c.args.limit mode) codes.push_with operands c.args.state.now _ operands _ (pushed c.args.limit c.args.state.now empty_frame)
-    (λ place left taken. open_frame_acts (ruled program c.args.limit mode) (spot place operands c.args.state.now left taken)) (pushed_spares c.args.limit c.args.state.now empty_frame) c.open_frame.ensures
+    (λ before place left taken. open_frame_acts (ruled program c.args.limit mode) before (spot place operands c.args.state.now left taken)) (pushed_spares c.args.limit c.args.state.now empty_frame) c.open_frame.ensures

@@ -1,10 +1,11 @@
-use Rattle.std.proofs.Common.{refl, ap, sym, ◌∙◌}
+use Rattle.std.proofs.Common.{ap, sym, ◌∙◌}
 use Rattle.template_code.specs.Code as codes
-use Rattle.template_code.specs.View.{code_of, counted_code}
-use Rattle.template_machine_steps.specs.Performs.{ruled}
+use Rattle.template_code.specs.View.{code_of}
+use Rattle.template_machine_steps.specs.Performs.{ruled, spot}
 use Rattle.template_machine_perform.proofs.Lifting.{straight_leads, leads_at}
-use Rattle.template_machine_steps.proofs.Stepping.{lost_out}
-use Rattle.template_machine_perform.proofs.Left.{none_left, none_stuck}
+use Rattle.template_machine_perform.proofs.Left.{none_left}
+use Rattle.template_machine_perform.proofs.Straying.{astray_out}
+use Rattle.template_machine_perform.proofs.Unanswered.{unanswered_astray}
 use Rattle.template_machine_perform.proofs.operands.perform_without_operator.Goals as goal
 
 pub returns-in-LoadConst : goal.returns-in-LoadConst
@@ -43,6 +44,10 @@ pub returns-in-Not : goal.returns-in-Not
 returns-in-Not c program limit w =
     straight_leads _ codes.invert _ _ _ _ _ _ _ (ap code_of c.in-Not.is) c.straight-in-Not.ensures (c.invert.ensures program limit w)
 
+pub returns-in-IsUndefined : goal.returns-in-IsUndefined
+returns-in-IsUndefined c program limit w =
+    straight_leads _ codes.is_undefined _ _ _ _ _ _ _ (ap code_of c.in-IsUndefined.is) c.straight-in-IsUndefined.ensures (c.is_undefined.ensures (ruled program limit c.args.mode) w)
+
 pub returns-in-CompareAndPreserve : goal.returns-in-CompareAndPreserve
 returns-in-CompareAndPreserve c program limit w =
     straight_leads _ (codes.compare_and_preserve _) _ _ _ _ _ _ _ (ap code_of c.in-CompareAndPreserve.is ∙ ap (λ o. codes.compare_and_preserve o) (sym c.comparison_of.ensures)) c.straight-in-CompareAndPreserve.ensures (c.compare_and_preserve.ensures program limit w)
@@ -65,11 +70,11 @@ returns-in-JumpIfTrueOrPop c program limit w =
 
 pub returns-in-BuildList : goal.returns-in-BuildList
 returns-in-BuildList c program limit w =
-    straight_leads _ (counted_code codes.build_list _) _ _ _ _ _ _ _ (ap code_of c.in-BuildList.is) c.straight-in-BuildList.ensures (c.build_list_of.ensures program limit c.args.mode w)
+    straight_leads _ (codes.build_list _) _ _ _ _ _ _ _ (ap code_of c.in-BuildList.is) c.straight-in-BuildList.ensures (c.build_list_of.ensures program limit c.args.mode w)
 
 pub returns-in-BuildTuple : goal.returns-in-BuildTuple
 returns-in-BuildTuple c program limit w =
-    straight_leads _ (counted_code codes.build_tuple _) _ _ _ _ _ _ _ (ap code_of c.in-BuildTuple.is) c.straight-in-BuildTuple.ensures (c.build_tuple_of.ensures program limit c.args.mode w)
+    straight_leads _ (codes.build_tuple _) _ _ _ _ _ _ _ (ap code_of c.in-BuildTuple.is) c.straight-in-BuildTuple.ensures (c.build_tuple_of.ensures program limit c.args.mode w)
 
 pub returns-in-BuildMap : goal.returns-in-BuildMap
 returns-in-BuildMap c program limit w =
@@ -82,6 +87,7 @@ returns-in-UnpackList c program limit w =
 pub returns-in_default : goal.returns-in_default
 returns-in_default c program limit w =
     let h = c.in_default in
-    lost_out (ruled program limit c.args.mode) (code_of c.args.instruction.now) _ w _ _ _ _ _
-    (λ next place. none_stuck _ (none_left c.args.instruction.now c.requires.operands c.requires.no_operator h.not-LoadConst h.not-Swap h.not-DupTop h.not-DiscardTop h.not-GetAttr h.not-GetItem h.not-Slice h.not-BuildList h.not-BuildTuple h.not-BuildMap h.not-UnpackList h.not-Neg h.not-Not h.not-CompareAndPreserve h.not-Jump h.not-JumpIfFalse h.not-JumpIfFalseOrPop h.not-JumpIfTrueOrPop) next place _)
-    c.new.ensures refl
+    astray_out (ruled program limit c.args.mode) (code_of c.args.instruction.now) _ w _ _ _ _
+    (λ before place left taken. unanswered_astray (ruled program limit c.args.mode) before _ (spot place _ w left taken)
+    (none_left c.args.instruction.now c.requires.operands c.requires.no_operator h.not-LoadConst h.not-Swap h.not-DupTop h.not-DiscardTop h.not-GetAttr h.not-GetItem h.not-Slice h.not-BuildList h.not-BuildTuple h.not-BuildMap h.not-UnpackList h.not-Neg h.not-Not h.not-IsUndefined h.not-CompareAndPreserve h.not-Jump h.not-JumpIfFalse h.not-JumpIfFalseOrPop h.not-JumpIfTrueOrPop))
+    c.new.ensures

@@ -13,7 +13,7 @@ returns-in_err-value-clause-failures g c = stray_tells c.from_residual.result _ 
 pub returns-in_err-value-clause-steps : goal.returns-in_err-value-clause-steps
 returns-in_err-value-clause-steps g c program limit =
     steps_write _ codes.emit _ c.args.state.now _ _ _ _ _
-    (lost_one (ruled program limit c.args.mode) codes.emit _ c.args.state.now _ _ _ _ _ (λ next place. refl) c.in_err-value.ensures.none c.in_err-value.ensures.kind c.from_residual.ensures.1)
+    (lost_one (ruled program limit c.args.mode) codes.emit _ c.args.state.now _ _ _ _ _ (λ next before place. refl) c.in_err-value.ensures.none c.in_err-value.ensures.kind c.from_residual.ensures.1)
 
 pub returns-clause-steps : goal.returns-clause-steps
 returns-clause-steps g c program limit =
