@@ -11,8 +11,9 @@ use Rattle.template_process.specs.Trace.{Run, paid, run, behind, replied}
 use Rattle.template_walk.specs.Constants.{constant_of}
 use Rattle.template_walk.specs.Expressions.{folded, unary_ask, binary_walk, expression_walk, optional_walk, expressions_walk, walks_of, entries_walk, chain_walk, linked_walk}
 use Rattle.template_machine_meaning.specs.World.{World}
-use Rattle.template_machine_meaning.specs.Includes.{Runner}
-use Rattle.template_machine_meaning.specs.Surroundings.{Programs, respond, runners}
+use Rattle.template_machine_meaning.specs.Keys.{Around}
+use Rattle.template_machine_meaning.specs.Plans.{Runners}
+use Rattle.template_machine_meaning.specs.Surroundings.{respond, runners}
 use Rattle.template_machine_meaning.specs.Meaning.{Setting, evaluation}
 use Rattle.template_machine_meaning.specs.Meaning as meanings
 use Rattle.template_machine_meaning.specs.Laws.{GivesOne, EveryEvaluationGives, EvaluationsNeedNoBound}
@@ -21,9 +22,9 @@ use Rattle.template_machine_meaning.proofs.Keeping.{keeps_itself}
 use Rattle.template_machine_meaning.proofs.Expressions.{Kept, settles_expression}
 
 -- whoever runs the templates that stand
-module _ (s : Programs) (r q : List ℕ → Option Runner) where
+module _ (around : Around) (r q : Runners) where
   abbrev Same : Process → Type 0
-  Same p = (w : World) → run (respond s r) p w ≡ run (respond s q) p w
+  Same p = (w : World) → run (respond around r) p w ≡ run (respond around q) p w
 
   -- a walk that is the same where what follows is
   abbrev Stays : ((Val → Process) → Process) → Type 0
@@ -37,10 +38,10 @@ module _ (s : Programs) (r q : List ℕ → Option Runner) where
   stepped p same w = ap (behind (paid [] ∷ [])) (same w)
 
   -- an event that starts no run
-  asked : (e : Ask) (k : Answer → Process) → ((w : World) → respond s r w e ≡ respond s q w e) → ((a : Answer) → Same (k a)) → Same (asks e k)
+  asked : (e : Ask) (k : Answer → Process) → ((w : World) → respond around r w e ≡ respond around q w e) → ((a : Answer) → Same (k a)) → Same (asks e k)
   asked e k answers same w =
-      ap (replied (λ a t. run (respond s r) (k a) t)) (answers w)
-      ∙ ap (λ (f : Answer → World → Run World). replied f (respond s q w e)) (λ i a t. same a t i)
+      ap (replied (λ a t. run (respond around r) (k a) t)) (answers w)
+      ∙ ap (λ (f : Answer → World → Run World). replied f (respond around q w e)) (λ i a t. same a t i)
 
   at_value : (go : Val → Process) → ((v : Val) → Same (go v)) → (a : Answer) → Same (on_value go a)
   at_value go same (value v) = same v
@@ -51,13 +52,13 @@ module _ (s : Programs) (r q : List ℕ → Option Runner) where
   at_truth go other same alike (truth false) = alike
   at_truth go other same alike _ = λ w. refl
 
-  value_same : (e : Ask) → ((w : World) → respond s r w e ≡ respond s q w e) → (go : Val → Process) → ((v : Val) → Same (go v)) → Same (step (asks e (on_value go)))
+  value_same : (e : Ask) → ((w : World) → respond around r w e ≡ respond around q w e) → (go : Val → Process) → ((v : Val) → Same (go v)) → Same (step (asks e (on_value go)))
   value_same e answers go same = stepped (asks e (on_value go)) (asked e (on_value go) answers (at_value go same))
 
   truth_same : (v : Val) (go other : Process) → Same go → Same other → Same (step (asks (truth_of v) (on_truth go other)))
   truth_same v go other same alike = stepped (asks (truth_of v) (on_truth go other)) (asked (truth_of v) (on_truth go other) (λ w. refl) (at_truth go other same alike))
 
-  unary_same : (op : UnaryOpKind) (v : Val) (w : World) → respond s r w (unary_ask op v) ≡ respond s q w (unary_ask op v)
+  unary_same : (op : UnaryOpKind) (v : Val) (w : World) → respond around r w (unary_ask op v) ≡ respond around q w (unary_ask op v)
   unary_same Not v w = refl
   unary_same Neg v w = refl
 
@@ -127,9 +128,9 @@ module _ (s : Programs) (r q : List ℕ → Option Runner) where
 
 pub evaluations_need_no_bound : EvaluationsNeedNoBound
 evaluations_need_no_bound setting n e w =
-    let s = meanings.walks_of setting in stays s (runners s n) (runners s 0) e (λ v. over (v ∷ [])) (λ v x. refl) w
+    let s = meanings.walks_of setting None in stays s.around (runners s n) (runners s 0) e (λ v. over (v ∷ [])) (λ v x. refl) w
 
-given_end : (setting : Setting) (e : Expression) (w : World) → Settles {O = Val} (meanings.walks_of setting) w (Kept w) (λ m go. expression_walk e go)
+given_end : (setting : Setting) (e : Expression) (w : World) → Settles {O = Val} (meanings.walks_of setting None) w (Kept w) (λ m go. expression_walk e go)
     → GivesOne (evaluation setting e w).end
 given_end setting e w (inl p) =
     let P : Run World → Type 0 = λ r. GivesOne r.end in
@@ -139,4 +140,4 @@ given_end setting e w (inr p) =
     subst P (sym (p.is p.least p.least (omega arith) (omega arith) (λ v. over (v ∷ []))) ∙ evaluations_need_no_bound setting p.least e w) tt
 
 pub every_evaluation_gives : EveryEvaluationGives
-every_evaluation_gives setting e h w = given_end setting e w (settles_expression (meanings.walks_of setting) w e h w (keeps_itself w))
+every_evaluation_gives setting e h w = given_end setting e w (settles_expression (meanings.walks_of setting None) w e h w (keeps_itself w))

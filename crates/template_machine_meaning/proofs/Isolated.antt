@@ -1,5 +1,5 @@
 -- Over contexts that agree on the used names a render leaves the same.
-use Rattle.std.proofs.Common.{◌≡◌, ℕ, zero, suc, inl, inr, Bool, true, false, List, [], Option, None, Some, option_map, codes, refl, sym, ap}
+use Rattle.std.proofs.Common.{◌≡◌, ℕ, zero, suc, inl, inr, Bool, true, false, List, [], Option, None, Some, option_map, codes, refl, sym, ap, subst}
 use Rattle.std.specs.Prelude.{IsTrue, not, ◌&&◌, ◌||◌}
 use Rattle.std.specs.Str.{bytes_eq}
 use Rattle.std.proofs.lemmas.Bool.{or_left, or_right}
@@ -13,8 +13,10 @@ use Rattle.template_process.specs.Fuel.{IsSameRun}
 use Rattle.template_process.proofs.Fuels.{cut_alike}
 use Rattle.template_walk.specs.Statements.{template_walk}
 use Rattle.template_machine_meaning.specs.World.{World, first_world}
-use Rattle.template_machine_meaning.specs.Surroundings.{Program, respond, runners}
-use Rattle.template_machine_meaning.specs.Meaning.{Standing, Setting, walks_of, rendered}
+use Rattle.template_machine_meaning.specs.Keys as keys
+use Rattle.template_machine_meaning.specs.Keys.{Home, Stream, own, block_of, Part, whole, body_of, rounds_of, Key}
+use Rattle.template_machine_meaning.specs.Surroundings.{Programs, respond, runners}
+use Rattle.template_machine_meaning.specs.Meaning.{Standing, Setting, template_at, tree_in, tree_at, walks_of, rendered}
 use Rattle.template_machine_meaning.specs.Isolation.{is_given, IsContextName, AgreesAt, IsolatesNames}
 use Rattle.template_machine_meaning.proofs.Known.{base}
 use Rattle.template_machine_meaning.proofs.Walks.{template_within}
@@ -40,29 +42,47 @@ module _ (names : List ℕ → Type 0) (given : (name : List ℕ) → IsTrue (is
   used_in : (tree : Statements) → Listed tree → (name : List ℕ) → IsTrue (is_used_in name tree) → names name
   used_in tree listed name used = shown name (is_stored_everywhere name) (is_used_in name tree) (is_everywhere name) (listed name) used
 
-  module _ (setting : Setting) (all : (name : List ℕ) (t : Standing) → setting.templates name ≡ Some t → Listed t.tree) where
-    runner_so : (n : ℕ) (f : Process → World → Run World) (o : Option Standing)
-        → ((t : Standing) → o ≡ Some t → RunsSo names d (Some (record { escape = t.escape; runs = f (template_walk n t.tree) })))
-        → RunsSo names d (option_map (λ (p : Program). record { escape = p.escape; runs = f p.process }) (option_map (λ (t : Standing). record { escape = t.escape; process = template_walk n t.tree }) o))
+  module _ (setting : Setting) (root : Standing) (first : Listed root.tree) (all : (name : List ℕ) (t : Standing) → setting.templates name ≡ Some t → Listed t.tree) where
+    -- each tree that a key runs
+    standing_listed : (name : List ℕ) (o : Option Standing) → setting.templates name ≡ o → (t : Statements) → option_map (λ (x : Standing). x.tree) o ≡ Some t → Listed t
+    standing_listed name None e t is = absurd (cc)
+    standing_listed name (Some x) e t is = let same : x.tree ≡ t = cc in subst Listed same (all name x e)
+
+    home_listed : (home : Home) (t : Statements) → option_map (λ (x : Standing). x.tree) (template_at setting (Some root) home) ≡ Some t → Listed t
+    home_listed keys.rendered t e = let same : root.tree ≡ t = cc in subst Listed same first
+    home_listed (keys.standing name) t e = standing_listed name (setting.templates name) refl t e
+    home_listed (keys.kept number) t e = absurd (cc)
+
+    part_listed : (stream : Stream) (part : Part) (t : Statements) → tree_in setting (Some root) stream part ≡ Some t → Listed t
+    part_listed (own home) whole t e = home_listed home t e
+    part_listed (own home) (body_of number operands) t e = absurd (cc)
+    part_listed (own home) (rounds_of number) t e = absurd (cc)
+    part_listed (block_of home name) part t e = absurd (cc)
+
+    abbrev s : Programs
+    s = walks_of setting (Some root)
+
+    runner_so : (n : ℕ) (f : Process → World → Run World) (o : Option Statements) → ((t : Statements) → o ≡ Some t → RunsSo names d (Some (f (template_walk n t))))
+        → RunsSo names d (option_map f (option_map (template_walk n) o))
     runner_so n f None so = tt
     runner_so n f (Some t) so = so t refl
 
-    -- the templates that stand, under each bound
-    runners_so : (n : ℕ) (name : List ℕ) → RunsSo names d (runners (walks_of setting) n name)
-    runners_so zero name = runner_so 0 (λ p. ended breaks) (setting.templates name) (λ t e k w fits. record { same = refl; fits = λ h. absurd h })
-    runners_so (suc n) name =
-        runner_so n (run (respond (walks_of setting) (runners (walks_of setting) n))) (setting.templates name)
-        (λ t e k w fits. runs_so names d (walks_of setting) (runners (walks_of setting) n) (runners_so n) k (template_walk n t.tree) k w fits
-        (template_within names is_loop n t.tree (used_in t.tree (all name t e)) k))
+    -- the keys, under each bound
+    runners_so : (n : ℕ) (key : Key) → RunsSo names d (runners s n key)
+    runners_so zero key = runner_so 0 (λ p w. ended breaks w) (tree_at setting (Some root) key) (λ t e k w fits. record { same = refl; fits = λ h. absurd h })
+    runners_so (suc n) key =
+        runner_so n (λ p. run (respond s.around (runners s n)) p) (tree_at setting (Some root) key)
+        (λ t e k w fits. runs_so names d s.around (runners s n) (runners_so n) k (template_walk n t) k w fits
+        (template_within names is_loop n t (used_in t (part_listed key.stream key.part t e)) k))
 
-    same_render : (t : Standing) → Listed t.tree → (c : Val) → ((name : List ℕ) → names name → AgreesAt d c name) → (n : ℕ) → IsSameRun (rendered setting n t c) (rendered setting n t d)
-    same_render t listed c agrees n =
-        let at = runs_so names d (walks_of setting) (runners (walks_of setting) n) (runners_so n) (base []) (template_walk n t.tree) (base []) (first_world t.escape c)
-        (λ name i. absurd i, agrees) (template_within names is_loop n t.tree (used_in t.tree listed) (base [])) in
+    same_render : (c : Val) → ((name : List ℕ) → names name → AgreesAt d c name) → (n : ℕ) → IsSameRun (rendered setting n root c) (rendered setting n root d)
+    same_render c agrees n =
+        let at = runs_so names d s.around (runners s n) (runners_so n) (base []) (template_walk n root.tree) (base []) (first_world root.escape c)
+        (λ name i. absurd i, agrees) (template_within names is_loop n root.tree (used_in root.tree first) (base [])) in
         (sym (ap (λ (r : Run World). r.items) at.same), sym (ap (λ (r : Run World). r.end) at.same))
 
 pub isolates_names : IsolatesNames
 isolates_names setting t c d agrees n fuel =
     cut_alike World World fuel (rendered setting n t c) (rendered setting n t d)
-    (same_render (IsContextName setting t.tree) (λ name h. inl h) d setting (λ other u e name h. inr (inr (other, u, e, h))) t (λ name h. inr (inl h)) c
+    (same_render (IsContextName setting t.tree) (λ name h. inl h) d setting t (λ name h. inr (inl h)) (λ other u e name h. inr (inr (other, u, e, h))) c
     (λ name h. sym (agrees name h)) n)

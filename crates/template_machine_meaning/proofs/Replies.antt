@@ -1,5 +1,5 @@
 -- The answers over one context are those over the other, where both agree on the names.
-use Rattle.std.proofs.Common.{◌≡◌, ℕ, ◌+◌, Bool, true, false, nat_le, List, [], ◌∷◌, Option, None, Some, Result, Ok, Err, refl, sym, ap, ◌∙◌}
+use Rattle.std.proofs.Common.{◌≡◌, ℕ, ◌+◌, Bool, true, false, nat_le, List, [], ◌∷◌, Option, None, Some, Result, Ok, Err, map, refl, sym, ap, subst, ◌∙◌}
 use Rattle.std.specs.Prelude.{if◌then◌else◌, slice_get, unwrap_or}
 use Rattle.template_values_errors.specs.declared.ErrorKind.{ErrorKind}
 use Rattle.template_values_errors.specs.declared.ErrorKind.TheVariants.{InvalidOperation}
@@ -17,11 +17,14 @@ use Rattle.template_process.specs.Drive.{End, ends, faults}
 use Rattle.template_process.specs.Trace.{paid, Reply, Run, run, behind, go_on, replied}
 use Rattle.template_walk.specs.Containers.{tuple_made, map_made}
 use Rattle.template_walk.specs.Operators.{operated, compared, inverted, negated}
-use Rattle.template_machine_meaning.specs.World.{Loop, Frame, World, has_room}
+use Rattle.template_machine_meaning.specs.World.{Loop, Frame, World, lookup, has_room}
 use Rattle.template_machine_meaning.specs.Undefined.{forbids_printing, forbids_iterating, forbids_truth, forbids_slicing, forbids_operator, forbids_link}
 use Rattle.template_machine_meaning.specs.Replies.{told, changed, refused, kinded, guarded, replied_with, changed_with}
-use Rattle.template_machine_meaning.specs.Includes.{Runner, choices_in, standing_or, named_or, first_standing, told_of, include_levels, within, wrapped, included_run, not_found, included_by, included_from}
-use Rattle.template_machine_meaning.specs.Surroundings.{Programs, printed_reply, attribute_given, item_given, unpacked, unpacked_into, empty_frame, loop_frame, opened_loop, asked_once, next_reply, escape_named, escape_put_back, respond}
+use Rattle.template_machine_meaning.specs.Keys.{Key, Around}
+use Rattle.template_machine_meaning.specs.Plans as plans
+use Rattle.template_machine_meaning.specs.Plans.{Purpose, includes, Plan, replies, enters, room_for, caller_of, after_by, given, wrapped_by, told_by, came, Runners, came_from, settled}
+use Rattle.template_machine_meaning.specs.Includes.{Found, choices_in, first_standing, include_levels, include_within, not_found, included_by, included_from}
+use Rattle.template_machine_meaning.specs.Surroundings.{printed_reply, attribute_given, item_given, unpacked, unpacked_into, empty_frame, loop_frame, opened_loop, asked_once, next_reply, escape_named, escape_put_back, plan, respond}
 use Rattle.template_machine_meaning.proofs.Known.{Known, inner, stored, closed, cleared, learnt, May, Within}
 use Rattle.template_machine_meaning.proofs.Turned.{context_before, over_frames, over_context, Fits, fits_less, finds, pushes, many, fits_stored, fits_cleared, fits_closed}
 
@@ -59,10 +62,23 @@ module _ (names : List ℕ → Type 0) (d : Val) where
     pub same : q ≡ over_run d r
     pub fits : IsOver r.end → Fits names d k r.after.frames
 
-  -- how templates run
-  abbrev pub RunsSo : Option Runner → Type 0
+  -- how keys run, whatever is known
+  abbrev pub RunsSo : Option (World → Run World) → Type 0
   RunsSo None = Unit {0}
-  RunsSo (Some runner) = (k : Known) (w : World) → Fits names d k w.frames → Runs k (runner.runs w) (runner.runs (over_context d w))
+  RunsSo (Some runs) = (k : Known) (w : World) → Fits names d k w.frames → Runs k (runs w) (runs (over_context d w))
+
+  -- The second run within is the first one over the context: it begins where something is known, and behind it all is there
+  -- that is to be known.
+  pub record Enters (k : Known) (w : World) (x y : plans.Within) : Type 0 where
+    pub start : Known
+    pub same : y ≡ record x { begins = over_context d x.begins }
+    pub fits : Fits names d start x.begins.frames
+    pub back : (v : World) → Fits names d start v.frames → Fits names d k (after_by x.purpose (caller_of w) v).frames
+
+  abbrev pub Plans : Known → World → Plan → Plan → Type 0
+  Plans k w (replies r) (replies q) = Replies k r q
+  Plans k w (enters x) (enters y) = Enters k w x y
+  Plans k w _ _ = ⊥
 
   module _ (k : Known) (w : World) (fits : Fits names d k w.frames) where
     abbrev other : World
@@ -72,8 +88,9 @@ module _ (names : List ℕ → Type 0) (d : Val) where
     replied_so answer (Ok x) = record { same = refl; stays = tt; fits = λ t. fits }
     replied_so answer (Err kind) = record { same = refl; stays = tt; fits = λ t. fits }
 
-    looked_up : (name : List ℕ) → May names k (look_up name) → (s : Programs) (r : List ℕ → Option Runner) → Replies k (respond s r w (look_up name)) (respond s r other (look_up name))
-    looked_up name may s r = record {
+    looked_up : (name : List ℕ) → May names k (look_up name)
+        → Replies k (told w (tells (value (lookup name w.frames)))) (told other (tells (value (lookup name other.frames))))
+    looked_up name may = record {
       same = ap (λ o. told other (tells (value (unwrap_or o undefined)))) (finds names d name k w.frames fits may);
       stays = tt;
       fits = λ t. fits;
@@ -137,100 +154,122 @@ module _ (names : List ℕ → Type 0) (d : Val) where
     put_back_so [] = record { same = refl; stays = tt; fits = λ t. fits }
     put_back_so (rule ∷ rules) = record { same = refl; stays = tt; fits = λ t. fits }
 
+    -- runs within
+    told_over : (wraps : List ErrorKind) (a : Answer) (e : End) → IsTold (told_by wraps a e) → IsOver e
+    told_over wraps a (ends operands) t = tt
+    told_over wraps a (faults kinds) t = absurd t
+    told_over wraps a _ t = absurd t
+
+    told_stays : (wraps : List ErrorKind) (a : Answer) (e : End) → Stays (told_by wraps a e)
+    told_stays wraps a (ends operands) = tt
+    told_stays wraps a (faults kinds) = tt
+    told_stays wraps a _ = tt
+
+    given_over : (p : Purpose) (v : World) → given p (caller_of other) (over_context d v) ≡ given p (caller_of w) v
+    given_over includes v = refl
+
+    after_over : (p : Purpose) (v : World) → after_by p (caller_of other) (over_context d v) ≡ over_context d (after_by p (caller_of w) v)
+    after_over includes v = refl
+
+    -- what comes of the same run over the context
+    came_over : (x : plans.Within) (r : Run World) → came other x (over_run d r) ≡ over_reply d (came w x r)
+    came_over x r = λ i. record {
+      told = told_by x.wraps (given_over x.purpose r.after i) r.end;
+      items = map (wrapped_by x.wraps) r.items;
+      after = after_over x.purpose r.after i;
+    }
+
+    came_so : (l : Known) (x y : plans.Within) → (so : Enters l w x y) → (r q : Run World) → Runs so.start r q → Replies l (came w x r) (came other y q)
+    came_so l x y so r q runs = record {
+      same = ap (λ z. came other z q) so.same ∙ ap (came other (record x { begins = over_context d x.begins })) runs.same ∙ came_over x r;
+      stays = told_stays x.wraps (given x.purpose (caller_of w) r.after) r.end;
+      fits = λ t. so.back r.after (runs.fits (told_over x.wraps (given x.purpose (caller_of w) r.after) r.end t));
+    }
+
+    nothing_so : (l : Known) (kind : ErrorKind) → Replies l (refused w kind) (refused other kind)
+    nothing_so l kind = record { same = refl; stays = tt; fits = λ t. absurd t }
+
+    came_from_so : (l : Known) (x y : plans.Within) → Enters l w x y → (o : Option (World → Run World)) → RunsSo o → Replies l (came_from w x o) (came_from other y o)
+    came_from_so l x y so None runs = nothing_so l InvalidOperation
+    came_from_so l x y so (Some runs) all =
+        let z : plans.Within = record x { begins = over_context d x.begins } in
+        subst (λ u. Replies l (came w x (runs x.begins)) (came other u (runs u.begins))) (sym so.same)
+        (came_so l x z (record { start = so.start; same = refl; fits = so.fits; back = so.back }) (runs x.begins) (runs z.begins) (all so.start x.begins so.fits))
+
+    settled_so : (l : Known) (runners : Runners) → ((key : Key) → RunsSo (runners key)) → (p q : Plan) → Plans l w p q → Replies l (settled runners w p) (settled runners other q)
+    settled_so l runners so (replies r) (replies q) same = same
+    settled_so l runners so (enters x) (enters y) same =
+        subst (λ (u : Key). Replies l (came_from w x (runners x.key)) (came_from other y (runners u))) (sym (ap (λ (u : plans.Within). u.key) same.same))
+        (came_from_so l x y same (runners x.key) (so x.key))
+    settled_so l runners so _ _ same = absurd same
+
     -- includes
-    abbrev FoundSo : Result (Option Runner) ErrorKind → Type 0
-    FoundSo (Ok o) = RunsSo o
-    FoundSo (Err kind) = Unit {0}
+    entered_so : (found : Found) → Enters k w (include_within w found) (include_within other found)
+    entered_so found = record { start = k; same = refl; fits = fits; back = λ v h. h }
 
-    standing_so : (o : Option Runner) (r : Result (Option Runner) ErrorKind) → RunsSo o → FoundSo r → FoundSo (standing_or o r)
-    standing_so None r so later = later
-    standing_so (Some runner) r so later = so
+    roomy_so : (found : Found) (room : Bool) → Plans k w (if room then enters (include_within w found) else replies (refused w InvalidOperation))
+        (if room then enters (include_within other found) else replies (refused other InvalidOperation))
+    roomy_so found true = entered_so found
+    roomy_so found false = nothing_so k InvalidOperation
 
-    named_so : (runners : List ℕ → Option Runner) → ((name : List ℕ) → RunsSo (runners name)) → (o : Option (List ℕ)) (r : Result (Option Runner) ErrorKind) → FoundSo r → FoundSo (named_or o runners r)
-    named_so runners so None r later = tt
-    named_so runners so (Some name) r later = standing_so (runners name) r (so name) later
-
-    first_so : (runners : List ℕ → Option Runner) → ((name : List ℕ) → RunsSo (runners name)) → (vs : List Val) → FoundSo (first_standing runners vs)
-    first_so runners so [] = tt
-    first_so runners so (v ∷ vs) = named_so runners so (text_in v) (first_standing runners vs) (first_so runners so vs)
-
-    told_over : (e : End) → IsTold (told_of e) → IsOver e
-    told_over (ends operands) t = tt
-    told_over (faults kinds) t = absurd t
-    told_over _ t = absurd t
-
-    told_stays : (e : End) → Stays (told_of e)
-    told_stays (ends operands) = tt
-    told_stays (faults kinds) = tt
-    told_stays _ = tt
-
-    wrapped_so : (r q : Run World) → Runs k r q → Replies k (wrapped w r) (wrapped other q)
-    wrapped_so r q so = record { same = ap (wrapped other) so.same; stays = told_stays r.end; fits = λ t. so.fits (told_over r.end t) }
-
-    roomy_so : (room : Bool) (r q : Run World) → Runs k r q
-        → Replies k (if room then wrapped w r else refused w InvalidOperation) (if room then wrapped other q else refused other InvalidOperation)
-    roomy_so true r q so = wrapped_so r q so
-    roomy_so false r q so = record { same = refl; stays = tt; fits = λ t. fits }
-
-    included_so : (limit : ℕ) (runner : Runner) → RunsSo (Some runner) → Replies k (included_run limit w runner) (included_run limit other runner)
-    included_so limit runner so =
-        let at = roomy_so (has_room limit include_levels w) (runner.runs (within runner w)) (runner.runs (within runner other)) (so k (within runner w) fits) in
-        record {
-          same = ap (λ room. if room then wrapped other (runner.runs (within runner other)) else refused other InvalidOperation) (room_so limit include_levels) ∙ at.same;
-          stays = at.stays;
-          fits = at.fits;
-        }
+    included_so : (limit : ℕ) (found : Found) → Plans k w (room_for limit include_levels w (include_within w found)) (room_for limit include_levels other (include_within other found))
+    included_so limit found =
+        subst (λ room. Plans k w (room_for limit include_levels w (include_within w found)) (if room then enters (include_within other found) else replies (refused other InvalidOperation)))
+        (sym (room_so limit include_levels)) (roomy_so found (has_room limit include_levels w))
 
     missing_so : (ignore_missing : Bool) (vs : List Val) → Replies k (not_found w ignore_missing vs) (not_found other ignore_missing vs)
     missing_so true vs = record { same = refl; stays = tt; fits = λ t. fits }
     missing_so false [] = record { same = refl; stays = tt; fits = λ t. fits }
     missing_so false (v ∷ vs) = record { same = refl; stays = tt; fits = λ t. fits }
 
-    by_so : (limit : ℕ) (ignore_missing : Bool) (vs : List Val) (r : Result (Option Runner) ErrorKind) → FoundSo r
-        → Replies k (included_by limit w ignore_missing vs r) (included_by limit other ignore_missing vs r)
-    by_so limit ignore_missing vs (Ok None) so = missing_so ignore_missing vs
-    by_so limit ignore_missing vs (Ok (Some runner)) so = included_so limit runner so
-    by_so limit ignore_missing vs (Err kind) so = record { same = refl; stays = tt; fits = λ t. fits }
+    by_so : (limit : ℕ) (ignore_missing : Bool) (vs : List Val) (r : Result (Option Found) ErrorKind)
+        → Plans k w (included_by limit w ignore_missing vs r) (included_by limit other ignore_missing vs r)
+    by_so limit ignore_missing vs (Ok None) = missing_so ignore_missing vs
+    by_so limit ignore_missing vs (Ok (Some found)) = included_so limit found
+    by_so limit ignore_missing vs (Err kind) = nothing_so k kind
 
-    from_so : (limit : ℕ) (runners : List ℕ → Option Runner) → ((name : List ℕ) → RunsSo (runners name)) → (ignore_missing : Bool) (choices : Result (List Val) ErrorKind)
-        → Replies k (included_from limit runners w ignore_missing choices) (included_from limit runners other ignore_missing choices)
-    from_so limit runners so ignore_missing (Ok vs) = by_so limit ignore_missing vs (first_standing runners vs) (first_so runners so vs)
-    from_so limit runners so ignore_missing (Err kind) = record { same = refl; stays = tt; fits = λ t. fits }
+    from_so : (a : Around) (ignore_missing : Bool) (choices : Result (List Val) ErrorKind)
+        → Plans k w (included_from a w ignore_missing choices) (included_from a other ignore_missing choices)
+    from_so a ignore_missing (Ok vs) = by_so a.limit ignore_missing vs (first_standing a vs)
+    from_so a ignore_missing (Err kind) = nothing_so k kind
 
     -- each event that may be asked
-    pub responds_so : (s : Programs) (runners : List ℕ → Option Runner) → ((name : List ℕ) → RunsSo (runners name)) → (e : Ask) → May names k e
-        → Replies (learnt k e) (respond s runners w e) (respond s runners other e)
-    responds_so s runners so (look_up name) may = looked_up name may s runners
-    responds_so s runners so (store name v) may =
+    plans_so : (a : Around) (e : Ask) → May names k e → Plans (learnt k e) w (plan a w e) (plan a other e)
+    plans_so a (look_up name) may = looked_up name may
+    plans_so a (store name v) may =
         framed_so (stored name k) _ _ w.frames fits (λ f gs h. record { same = refl; stays = tt; fits = λ t. fits_stored names d name v k f gs h })
-    responds_so s runners so (negate v) may = replied_so value (kinded (negated v))
-    responds_so s runners so (invert v) may = replied_so value (guarded (forbids_truth s.undefined v) (kinded (inverted nothing_known v)))
-    responds_so s runners so (operate op left right) may = replied_so value (guarded (forbids_operator s.undefined op left right) (kinded (operated nothing_known op left right)))
-    responds_so s runners so (compare op left right) may = replied_so value (guarded (forbids_link s.undefined op left right) (kinded (compared nothing_known op left right)))
-    responds_so s runners so (get_attribute v name) may = replied_so value (attribute_given s.undefined nothing_known v name)
-    responds_so s runners so (get_item v key) may = replied_so value (item_given s.undefined nothing_known v key)
-    responds_so s runners so (get_slice v start stop by) may = replied_so value (guarded (forbids_slicing s.undefined v) (kinded (slice_of v start stop by)))
-    responds_so s runners so (build_list vs) may = replied_so value (kinded (list_made vs))
-    responds_so s runners so (build_tuple vs) may = replied_so value (kinded (tuple_made vs))
-    responds_so s runners so (build_map entries) may = replied_so value (kinded (map_made entries))
-    responds_so s runners so (truth_of v) may = replied_so truth (guarded (forbids_truth s.undefined v) (kinded (truths.truth_of nothing_known v)))
-    responds_so s runners so (unpack n v) may = replied_so items (unpacked_into n (unpacked v))
-    responds_so s runners so (write_raw text) may = record { same = refl; stays = tt; fits = λ t. fits }
-    responds_so s runners so (write_value v) may = printed_so (guarded (forbids_printing s.undefined v) (kinded (escaped w.escape nothing_known v)))
-    responds_so s runners so open_frame may = opens_so s.limit empty_frame refl
-    responds_so s runners so close_frame may =
+    plans_so a (negate v) may = replied_so value (kinded (negated v))
+    plans_so a (invert v) may = replied_so value (guarded (forbids_truth a.undefined v) (kinded (inverted nothing_known v)))
+    plans_so a (operate op left right) may = replied_so value (guarded (forbids_operator a.undefined op left right) (kinded (operated nothing_known op left right)))
+    plans_so a (compare op left right) may = replied_so value (guarded (forbids_link a.undefined op left right) (kinded (compared nothing_known op left right)))
+    plans_so a (get_attribute v name) may = replied_so value (attribute_given a.undefined nothing_known v name)
+    plans_so a (get_item v key) may = replied_so value (item_given a.undefined nothing_known v key)
+    plans_so a (get_slice v start stop by) may = replied_so value (guarded (forbids_slicing a.undefined v) (kinded (slice_of v start stop by)))
+    plans_so a (build_list vs) may = replied_so value (kinded (list_made vs))
+    plans_so a (build_tuple vs) may = replied_so value (kinded (tuple_made vs))
+    plans_so a (build_map entries) may = replied_so value (kinded (map_made entries))
+    plans_so a (truth_of v) may = replied_so truth (guarded (forbids_truth a.undefined v) (kinded (truths.truth_of nothing_known v)))
+    plans_so a (unpack n v) may = replied_so items (unpacked_into n (unpacked v))
+    plans_so a (write_raw text) may = record { same = refl; stays = tt; fits = λ t. fits }
+    plans_so a (write_value v) may = printed_so (guarded (forbids_printing a.undefined v) (kinded (escaped w.escape nothing_known v)))
+    plans_so a open_frame may = opens_so a.limit empty_frame refl
+    plans_so a close_frame may =
         framed_so (closed k) _ _ w.frames fits (λ f gs h. record { same = refl; stays = tt; fits = λ t. fits_closed names d k f gs may h })
-    responds_so s runners so (open_loop how v) may = loop_so s.limit (guarded (forbids_iterating s.undefined v) (kinded (iterated nothing_known v)))
-    responds_so s runners so next_item may =
+    plans_so a (open_loop how v) may = loop_so a.limit (guarded (forbids_iterating a.undefined v) (kinded (iterated nothing_known v)))
+    plans_so a next_item may =
         framed_so (cleared k) _ _ w.frames fits (λ f gs h. looped_so (cleared k) _ _ f.loop (λ x. next_so f gs h x (slice_get x.items x.asked)))
-    responds_so s runners so did_not_iterate may =
+    plans_so a did_not_iterate may =
         framed_so k _ _ w.frames fits (λ f gs h. looped_so k _ _ f.loop (λ x. record { same = refl; stays = tt; fits = λ t. fits }))
-    responds_so s runners so close_loop may =
+    plans_so a close_loop may =
         framed_so (closed k) _ _ w.frames fits (λ f gs h. looped_so (closed k) _ _ f.loop (λ x. record { same = refl; stays = tt; fits = λ t. fits_closed names d k f gs may h }))
-    responds_so s runners so (open_escape v) may = escape_so (escape_named w.first v (text_in v))
-    responds_so s runners so close_escape may = put_back_so w.saved
-    responds_so s runners so (include ignore_missing v) may = from_so s.limit runners so ignore_missing (choices_in nothing_known v)
-    responds_so s runners so _ may = record { same = refl; stays = tt; fits = λ t. absurd t }
+    plans_so a (open_escape v) may = escape_so (escape_named w.first v (text_in v))
+    plans_so a close_escape may = put_back_so w.saved
+    plans_so a (include ignore_missing v) may = from_so a ignore_missing (choices_in nothing_known v)
+    plans_so a _ may = record { same = refl; stays = tt; fits = λ t. absurd t }
+
+    pub responds_so : (a : Around) (runners : Runners) → ((key : Key) → RunsSo (runners key)) → (e : Ask) → May names k e
+        → Replies (learnt k e) (respond a runners w e) (respond a runners other e)
+    responds_so a runners so e may = settled_so (learnt k e) runners so (plan a w e) (plan a other e) (plans_so a e may)
 
   -- a process that asks what it may
   told_so : (start : Known) (go on : Answer → World → Run World) (after : World) (t : Told) → Stays t
@@ -246,16 +285,16 @@ module _ (names : List ℕ → Type 0) (d : Val) where
       let at = told_so start go go r.after r.told stays so in
       record { same = ap (replied go) same ∙ ap (behind r.items) at.same; fits = at.fits }
 
-  pub runs_so : (s : Programs) (runners : List ℕ → Option Runner) → ((name : List ℕ) → RunsSo (runners name)) → (start : Known) (p : Process) (k : Known) (w : World)
-      → Fits names d k w.frames → Within names start k p → Runs start (run (respond s runners) p w) (run (respond s runners) p (over_context d w))
-  runs_so s runners so start (over operands) k w fits h = record { same = refl; fits = λ t. fits_less names d start k w.frames h fits }
-  runs_so s runners so start (step p) k w fits h =
-      let at = runs_so s runners so start p k w fits h in
+  pub runs_so : (a : Around) (runners : Runners) → ((key : Key) → RunsSo (runners key)) → (start : Known) (p : Process) (k : Known) (w : World)
+      → Fits names d k w.frames → Within names start k p → Runs start (run (respond a runners) p w) (run (respond a runners) p (over_context d w))
+  runs_so a runners so start (over operands) k w fits h = record { same = refl; fits = λ t. fits_less names d start k w.frames h fits }
+  runs_so a runners so start (step p) k w fits h =
+      let at = runs_so a runners so start p k w fits h in
       record { same = ap (behind (paid [] ∷ [])) at.same; fits = at.fits }
-  runs_so s runners so start (asks e go) k w fits h =
-      let at = responds_so k w fits s runners so e h.0 in
-      replied_on start (λ a v. run (respond s runners) (go a) v) (respond s runners w e) (respond s runners (over_context d w) e) at.same at.stays
-      (λ a t. runs_so s runners so start (go a) (learnt k e) (respond s runners w e).after (at.fits t) (h.1 a))
-  runs_so s runners so start amiss k w fits h = record { same = refl; fits = λ t. absurd t }
-  runs_so s runners so start cut_short k w fits h = record { same = refl; fits = λ t. absurd t }
-  runs_so s runners so start stuck k w fits h = record { same = refl; fits = λ t. absurd t }
+  runs_so a runners so start (asks e go) k w fits h =
+      let at = responds_so k w fits a runners so e h.0 in
+      replied_on start (λ b v. run (respond a runners) (go b) v) (respond a runners w e) (respond a runners (over_context d w) e) at.same at.stays
+      (λ b t. runs_so a runners so start (go b) (learnt k e) (respond a runners w e).after (at.fits t) (h.1 b))
+  runs_so a runners so start amiss k w fits h = record { same = refl; fits = λ t. absurd t }
+  runs_so a runners so start cut_short k w fits h = record { same = refl; fits = λ t. absurd t }
+  runs_so a runners so start stuck k w fits h = record { same = refl; fits = λ t. absurd t }

@@ -87,8 +87,8 @@ abbrev pub behind_frame : World → Frame → World
 behind_frame w f = record w { frames = f ∷ w.frames }
 
 -- where a frame is pushed there is room for it, or the event is refused
-pub settles_pushed : {O : Type 0} (s : Programs) (w : World) (shape : O → World → Type 0) (e : Ask) (f : Frame) (Q : Walk O) (room : Bool) → has_room s.limit 1 w ≡ room
-    → ((n : ℕ) → answer s n w e ≡ changed_with w (λ after. done) (λ after. after) (pushed s.limit w f)) → Settles {O = O} s (behind_frame w f) shape Q → Settles {O = O} s w shape (λ m go. asks e (on_done (Q m go)))
+pub settles_pushed : {O : Type 0} (s : Programs) (w : World) (shape : O → World → Type 0) (e : Ask) (f : Frame) (Q : Walk O) (room : Bool) → has_room s.around.limit 1 w ≡ room
+    → ((n : ℕ) → answer s n w e ≡ changed_with w (λ after. done) (λ after. after) (pushed s.around.limit w f)) → Settles {O = O} s (behind_frame w f) shape Q → Settles {O = O} s w shape (λ m go. asks e (on_done (Q m go)))
 settles_pushed s w shape e f Q true room is q =
     settles_to s w (behind_frame w f) shape e Q (λ n. is n ∙ ap (λ b. changed_with w (λ after. done) (λ after. after) (if b then Ok (behind_frame w f) else Err InvalidOperation)) room) q
 settles_pushed s w shape e f Q false room is q =

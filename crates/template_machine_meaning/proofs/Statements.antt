@@ -21,14 +21,13 @@ use Rattle.template_machine_meaning.specs.Undefined.{forbids_truth, forbids_prin
 use Rattle.template_machine_meaning.specs.Replies.{told, changed, guarded, changed_with, kinded}
 use Rattle.template_machine_meaning.specs.Includes.{include_levels}
 use Rattle.template_machine_meaning.specs.Surroundings.{Programs, printed_reply, empty_frame, loop_frame, opened_loop, gave_none, escape_named, escape_put_back, answer}
-use Rattle.template_machine_meaning.specs.Meaning.{Setting, walks_of}
-use Rattle.template_machine_meaning.specs.Laws.{AreAllRunnable}
 use Rattle.template_machine_meaning.proofs.Settling.{Walk, Settles, settles_then, settles_now, settles_step, settles_value, settles_refused, settles_before, settles_to, settles_weaker}
 use Rattle.template_machine_meaning.proofs.Keeping.{Keeps, keeps_itself, keeps_on, loops_of, top, on_loop_is}
 use Rattle.template_machine_meaning.proofs.Expressions.{Kept, settles_decided, settles_expression}
 use Rattle.template_machine_meaning.proofs.Scopes.{IsFramed, framed_on, settles_target, settles_assignments, behind_frame, settles_pushed, closed, settles_closed}
 use Rattle.template_machine_meaning.proofs.Loops.{Leave, goes, breaks_out, continues, exits_of, loop_at, frame_at, InRound, AtEnd, Round, settles_rounds}
-use Rattle.template_machine_meaning.proofs.Included.{AllSettle, settles_include}
+use Rattle.template_machine_meaning.proofs.Entering.{AllCome}
+use Rattle.template_machine_meaning.proofs.Included.{settles_include}
 
 -- `break` and `continue` lead out of loops alone
 abbrev pub MayLeave : Bool → Leave → Type 0
@@ -44,10 +43,7 @@ LeavesTo looping base o w = Keeps base w × MayLeave looping o
 abbrev pub body_walk : Statements → Walk Leave
 body_walk ss m go = statements_walk m ss (exits_of go) (go goes)
 
-module _ (setting : Setting) (all : AreAllRunnable setting) (outer : ℕ) (deeper : (outer + include_levels ≤ setting.limit) → AllSettle setting (outer + include_levels)) where
-  abbrev s : Programs
-  s = walks_of setting
-
+module _ (s : Programs) (outer : ℕ) (deeper : (outer + include_levels ≤ s.around.limit) → AllCome s (outer + include_levels)) where
   -- what settles from every world that keeps what the base has
   abbrev Leads : Bool → World → Walk Leave → Type 0
   Leads looping base P = (w : World) → Keeps base w → Settles {O = Leave} s w (LeavesTo looping base) P
@@ -64,7 +60,7 @@ module _ (setting : Setting) (all : AreAllRunnable setting) (outer : ℕ) (deepe
       (λ n m le ge go. ap (replied (λ a t. run (answer s n) (on_done (go goes) a) t)) (is n))
       (settles_now s w (LeavesTo looping base) goes (kept, tt)))
 
-  printed_out : (looping : Bool) (base w : World) → Keeps base w → (v : Val) (r : Result (List ℕ) ErrorKind) → guarded (forbids_printing s.undefined v) (kinded (escaped w.escape nothing_known v)) ≡ r
+  printed_out : (looping : Bool) (base w : World) → Keeps base w → (v : Val) (r : Result (List ℕ) ErrorKind) → guarded (forbids_printing s.around.undefined v) (kinded (escaped w.escape nothing_known v)) ≡ r
       → Settles {O = Leave} s w (LeavesTo looping base) (λ m go. step (asks (write_value v) (on_done (go goes))))
   printed_out looping base w kept v (Ok text) e = written_out looping base w kept (write_value v) (written text ∷ []) (λ n. ap (printed_reply w) e)
   printed_out looping base w kept v (Err kind) e =
@@ -81,7 +77,7 @@ module _ (setting : Setting) (all : AreAllRunnable setting) (outer : ℕ) (deepe
       → Settles {O = Leave} s w (LeavesTo looping base) (λ m go. step (asks (truth_of v) (on_truth (P m go) (Q m go))))
   tested looping base w v P Q p q =
       settles_step s w (LeavesTo looping base) (λ m go. asks (truth_of v) (on_truth (P m go) (Q m go)))
-      (settles_decided s w (LeavesTo looping base) (truth_of v) (guarded (forbids_truth s.undefined v) (kinded (truths.truth_of nothing_known v))) P Q (λ n. refl) p q)
+      (settles_decided s w (LeavesTo looping base) (truth_of v) (guarded (forbids_truth s.around.undefined v) (kinded (truths.truth_of nothing_known v))) P Q (λ n. refl) p q)
 
   -- a target last
   targeted : (looping : Bool) (base w : World) → Keeps base w → IsFramed base → (target : Expression) → IsTarget target → (v : Val) → Settles {O = Leave} s w (LeavesTo looping base) (λ m go. target_walk target v (go goes))
@@ -153,9 +149,9 @@ module _ (setting : Setting) (all : AreAllRunnable setting) (outer : ℕ) (deepe
   branch_settles looping base otherwise breaks_out w leaves = settles_now s w (LeavesTo looping base) breaks_out leaves
   branch_settles looping base otherwise continues w leaves = settles_now s w (LeavesTo looping base) continues leaves
 
-  deeper_from : (base : World) → Frames base → (w : World) → Keeps base w → (w.outer + include_levels ≤ setting.limit) → AllSettle setting (w.outer + include_levels)
+  deeper_from : (base : World) → Frames base → (w : World) → Keeps base w → (w.outer + include_levels ≤ s.around.limit) → AllCome s (w.outer + include_levels)
   deeper_from base framed w kept =
-      let P : ℕ → Type 0 = λ n. (n + include_levels ≤ setting.limit) → AllSettle setting (n + include_levels) in
+      let P : ℕ → Type 0 = λ n. (n + include_levels ≤ s.around.limit) → AllCome s (n + include_levels) in
       subst P (sym (kept.outer ∙ framed.1)) deeper
 
   -- statements that settle from every world that keeps what a base has, for each base
@@ -184,15 +180,15 @@ module _ (setting : Setting) (all : AreAllRunnable setting) (outer : ℕ) (deepe
       (λ z k. others w (framed_on base w framed.0 kept, kept.outer ∙ framed.1) z k))))
 
   looped : (looping : Bool) (target : Expression) (body otherwise : Statements) (v : Val) → IsTarget target → BodySettles true body → BodySettles looping otherwise
-      → (base : World) → Frames base → (w : World) → Keeps base w → (r : Result (List Val) ErrorKind) → guarded (forbids_iterating s.undefined v) (kinded (iterated nothing_known v)) ≡ r
+      → (base : World) → Frames base → (w : World) → Keeps base w → (r : Result (List Val) ErrorKind) → guarded (forbids_iterating s.around.undefined v) (kinded (iterated nothing_known v)) ≡ r
       → Settles {O = Leave} s w (LeavesTo looping base) (λ m go. asks (open_loop plain_loop v) (on_done (rounds m (round_of target body m) (loop_end otherwise (statements_walk m otherwise (exits_of go) (go goes)) (go goes)))))
   looped looping target body otherwise v h bodies others base framed w kept (Ok vs) e =
-      settles_pushed s w (LeavesTo looping base) (open_loop plain_loop v) (loop_frame vs) (λ m go. rounds m (round_of target body m) (loop_end otherwise (statements_walk m otherwise (exits_of go) (go goes)) (go goes))) (has_room s.limit 1 w) refl
-      (λ n. ap (λ r. changed_with w (λ after. done) (λ after. after) (opened_loop s.limit w r)) e)
+      settles_pushed s w (LeavesTo looping base) (open_loop plain_loop v) (loop_frame vs) (λ m go. rounds m (round_of target body m) (loop_end otherwise (statements_walk m otherwise (exits_of go) (go goes)) (go goes))) (has_room s.around.limit 1 w) refl
+      (λ n. ap (λ r. changed_with w (λ after. done) (λ after. after) (opened_loop s.around.limit w r)) e)
       (rounds_settle looping target body otherwise h bodies others base framed w kept vs)
   looped looping target body otherwise v h bodies others base framed w kept (Err kind) e =
       settles_refused s w (LeavesTo looping base) (open_loop plain_loop v) kind (λ m go. on_done (rounds m (round_of target body m) (loop_end otherwise (statements_walk m otherwise (exits_of go) (go goes)) (go goes))))
-      (λ n. ap (λ r. changed_with w (λ after. done) (λ after. after) (opened_loop s.limit w r)) e)
+      (λ n. ap (λ r. changed_with w (λ after. done) (λ after. after) (opened_loop s.around.limit w r)) e)
 
   -- an escape for a body
   escaping : (looping : Bool) (body : Statements) → BodySettles looping body → (base : World) → Frames base → (w : World) → Keeps base w → (v : Val) (r : Result AutoEscape ErrorKind) → escape_named w.first v (text_in v) ≡ r
@@ -213,10 +209,10 @@ module _ (setting : Setting) (all : AreAllRunnable setting) (outer : ℕ) (deepe
     settles_statement looping (raw text) h base framed w kept = written_out looping base w kept (write_raw text) (written text ∷ []) (λ n. refl)
     settles_statement looping (print e) h base framed w kept =
         valued looping base w kept e h (λ v m go. step (asks (write_value v) (on_done (go goes))))
-        (λ v x k. printed_out looping base x k v (guarded (forbids_printing s.undefined v) (kinded (escaped x.escape nothing_known v))) refl)
+        (λ v x k. printed_out looping base x k v (guarded (forbids_printing s.around.undefined v) (kinded (escaped x.escape nothing_known v))) refl)
     settles_statement looping (for_loop target e absent false body otherwise) h base framed w kept =
         valued looping base w kept e h.1 (λ v m go. asks (open_loop plain_loop v) (on_done (rounds m (round_of target body m) (loop_end otherwise (statements_walk m otherwise (exits_of go) (go goes)) (go goes)))))
-        (λ v x k. looped looping target body otherwise v h.0 (settles_statements true body h.2) (settles_statements looping otherwise h.3) base framed x k (guarded (forbids_iterating s.undefined v) (kinded (iterated nothing_known v))) refl)
+        (λ v x k. looped looping target body otherwise v h.0 (settles_statements true body h.2) (settles_statements looping otherwise h.3) base framed x k (guarded (forbids_iterating s.around.undefined v) (kinded (iterated nothing_known v))) refl)
     settles_statement looping (if_condition e body otherwise) h base framed w kept =
         valued looping base w kept e h.0 (λ v m go. step (asks (truth_of v) (on_truth (statements_walk m body (exits_of go) (past otherwise (go goes))) (statements_walk m otherwise (exits_of go) (go goes)))))
         (λ v x k. tested looping base x v (λ m go. statements_walk m body (exits_of go) (past otherwise (go goes))) (body_walk otherwise)
@@ -225,7 +221,7 @@ module _ (setting : Setting) (all : AreAllRunnable setting) (outer : ℕ) (deepe
     settles_statement looping (with_block assignments body) h base framed w kept =
         let inside : World = behind_frame w empty_frame in
         let framed_inside : Frames inside = (record { loop = None; others = loops_of w.frames; loops = refl }, kept.outer ∙ framed.1) in
-        settles_pushed s w (LeavesTo looping base) open_frame empty_frame (λ m go. assignments_walk assignments (statements_walk m body (closing close_frame (exits_of go)) (asks close_frame (on_done (go goes))))) (has_room s.limit 1 w) refl (λ n. refl)
+        settles_pushed s w (LeavesTo looping base) open_frame empty_frame (λ m go. assignments_walk assignments (statements_walk m body (closing close_frame (exits_of go)) (asks close_frame (on_done (go goes))))) (has_room s.around.limit 1 w) refl (λ n. refl)
         (settles_then s inside (Kept inside) (LeavesTo looping base) (λ m go. assignments_walk assignments (go tt)) (λ o m go. statements_walk m body (closing close_frame (exits_of go)) (asks close_frame (on_done (go goes))))
         (settles_assignments s inside framed_inside.0 assignments h.0 inside (keeps_itself inside))
         (λ o x k. settles_then s x (LeavesTo looping inside) (LeavesTo looping base) (body_walk body) (λ o m go. asks close_frame (on_done (go o))) (settles_statements looping body h.1 inside framed_inside x k)
@@ -239,7 +235,7 @@ module _ (setting : Setting) (all : AreAllRunnable setting) (outer : ℕ) (deepe
         valued looping base w kept e h (λ v m go. step (asks (events.include ignore_missing v) (on_done (go goes))))
         (λ v x k. settles_step s x (LeavesTo looping base) (λ m go. asks (events.include ignore_missing v) (on_done (go goes)))
         (settles_then s x (Kept x) (LeavesTo looping base) (λ m go. asks (events.include ignore_missing v) (on_done (go tt))) (λ o m go. go goes)
-        (settles_include setting x ignore_missing v all (framed_on base x framed.0 k) (deeper_from base framed x k))
+        (settles_include s x ignore_missing v (framed_on base x framed.0 k) (deeper_from base framed x k))
         (λ o y l. settles_now s y (LeavesTo looping base) goes (keeps_on base x y k l, tt))))
     settles_statement looping continue_loop h base framed w kept = settles_now s w (LeavesTo looping base) continues (kept, h)
     settles_statement looping break_loop h base framed w kept = settles_now s w (LeavesTo looping base) breaks_out (kept, h)

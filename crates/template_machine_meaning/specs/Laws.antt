@@ -1,6 +1,6 @@
 -- The laws of meanings under bounds.
-use Rattle.std.specs.Prelude.{◌≡◌, ℕ, ◌≤◌, List, [], ◌∷◌, Option, None, Some}
-use Rattle.template_tree.specs.Tree.{Expression, Statements}
+use Rattle.std.specs.Prelude.{◌≡◌, ℕ, ◌≤◌, List, [], ◌∷◌, Option, None, Some, IsSome}
+use Rattle.template_tree.specs.Tree.{Expression}
 use Rattle.template_process.specs.Process.{Process, Below}
 use Rattle.template_process.specs.Drive.{End, ends, faults}
 use Rattle.template_process.specs.Trace.{run}
@@ -8,18 +8,19 @@ use Rattle.template_process.specs.Approximants.{Extends, IsFinished}
 use Rattle.template_walk.specs.Runnable.{IsRunnable, IsRunnableTemplate}
 use Rattle.template_walk.specs.Statements.{standalone_walk}
 use Rattle.template_machine_meaning.specs.World.{Frame, World}
-use Rattle.template_machine_meaning.specs.Surroundings.{Program, Programs, answer}
-use Rattle.template_machine_meaning.specs.Meaning.{Standing, Setting, walks_of, meaning, evaluation}
+use Rattle.template_machine_meaning.specs.Keys.{Key}
+use Rattle.template_machine_meaning.specs.Surroundings.{Programs, runners, answer, ran}
+use Rattle.template_machine_meaning.specs.Meaning.{Standing, Setting, tree_at, walks_of, meaning, evaluation}
 
--- the second goes further, under the same escape
-abbrev pub ProgramGoesFurther : Option Program → Option Program → Type 0
-ProgramGoesFurther None None = Unit {0}
-ProgramGoesFurther (Some p) (Some q) = (q.escape ≡ p.escape) × Below p.process q.process
-ProgramGoesFurther _ _ = ⊥
+-- the second goes further
+abbrev pub ProcessGoesFurther : Option Process → Option Process → Type 0
+ProcessGoesFurther None None = Unit {0}
+ProcessGoesFurther (Some p) (Some q) = Below p q
+ProcessGoesFurther _ _ = ⊥
 
--- under greater bounds the programs go further
+-- under greater bounds the process of each key goes further
 abbrev pub Rises : Programs → Type 0
-Rises s = (n m : ℕ) (name : List ℕ) → n ≤ m → ProgramGoesFurther (s.program n name) (s.program m name)
+Rises s = (n m : ℕ) (key : Key) → n ≤ m → ProcessGoesFurther (s.process n key) (s.process m key)
 
 -- Under a greater bound a process that goes further gives a run that extends.
 abbrev pub BoundsExtend : Type 0
@@ -28,8 +29,13 @@ BoundsExtend = (s : Programs) → Rises s → (n m : ℕ) → n ≤ m → (p q :
 
 -- A meaning that is finished under a bound is the same under every greater one, and what is not has begun there.
 abbrev pub MeaningsExtend : Type 0
-MeaningsExtend = (setting : Setting) (n m : ℕ) → n ≤ m → (tree : Statements) (w : World)
-    → Extends (meaning setting n tree w) (meaning setting m tree w)
+MeaningsExtend = (setting : Setting) (n m : ℕ) → n ≤ m → (root : Standing) (w : World)
+    → Extends (meaning setting root n w) (meaning setting root m w)
+
+-- So it is of what each key comes to.
+abbrev pub KeysExtend : Type 0
+KeysExtend = (setting : Setting) (root : Option Standing) (n m : ℕ) → n ≤ m → (key : Key) (w : World)
+    → Extends (ran (runners (walks_of setting root) n key) w) (ran (runners (walks_of setting root) m key) w)
 
 -- each template that stands is made of constructs that have a walk
 abbrev pub AreAllRunnable : Setting → Type 0
@@ -37,14 +43,20 @@ AreAllRunnable setting = (name : List ℕ) (t : Standing) → setting.templates 
 
 -- Every run ends: under some bound it is finished.
 abbrev pub EveryRunEnds : Type 0
-EveryRunEnds = (setting : Setting) → AreAllRunnable setting → (tree : Statements) → IsRunnableTemplate tree
-    → (w : World) (f : Frame) (fs : List Frame) → w.frames ≡ f ∷ fs → (n : ℕ) × IsFinished (meaning setting n tree w).end
+EveryRunEnds = (setting : Setting) → AreAllRunnable setting → (root : Standing) → IsRunnableTemplate root.tree
+    → (w : World) (f : Frame) (fs : List Frame) → w.frames ≡ f ∷ fs → (n : ℕ) × IsFinished (meaning setting root n w).end
+
+-- So does what each key comes to that finds something, in the render of a template.
+abbrev pub EveryKeyEnds : Type 0
+EveryKeyEnds = (setting : Setting) → AreAllRunnable setting → (root : Standing) → IsRunnableTemplate root.tree
+    → (key : Key) → IsSome (tree_at setting (Some root) key) → (w : World) (f : Frame) (fs : List Frame) → w.frames ≡ f ∷ fs
+    → (n : ℕ) × IsFinished (ran (runners (walks_of setting (Some root)) n key) w).end
 
 -- A run that is finished under two bounds is the same under both.
 abbrev pub OneMeaning : Type 0
-OneMeaning = (setting : Setting) (n m : ℕ) (tree : Statements) (w : World)
-    → IsFinished (meaning setting n tree w).end → IsFinished (meaning setting m tree w).end
-    → meaning setting n tree w ≡ meaning setting m tree w
+OneMeaning = (setting : Setting) (n m : ℕ) (root : Standing) (w : World)
+    → IsFinished (meaning setting root n w).end → IsFinished (meaning setting root m w).end
+    → meaning setting root n w ≡ meaning setting root m w
 
 -- the run leaves one value, or ends with a fault
 abbrev pub GivesOne : End → Type 0
@@ -59,4 +71,4 @@ EveryEvaluationGives = (setting : Setting) (e : Expression) → IsRunnable e →
 -- Under every bound an expression does the same.
 abbrev pub EvaluationsNeedNoBound : Type 0
 EvaluationsNeedNoBound = (setting : Setting) (n : ℕ) (e : Expression) (w : World)
-    → run (answer (walks_of setting) n) (standalone_walk e) w ≡ evaluation setting e w
+    → run (answer (walks_of setting None) n) (standalone_walk e) w ≡ evaluation setting e w

@@ -1,6 +1,8 @@
 pub mod World
 pub mod Undefined
 pub mod Replies
+pub mod Keys
+pub mod Plans
 pub mod Includes
 pub mod Surroundings
 pub mod Meaning

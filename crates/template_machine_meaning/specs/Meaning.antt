@@ -1,5 +1,5 @@
 -- What a template means for a context, under a bound; and what an expression does, without one.
-use Rattle.std.specs.Prelude.{ℕ, List, Option, option_map}
+use Rattle.std.specs.Prelude.{ℕ, suc, List, Option, None, Some, option_map}
 use Rattle.template_values_errors.specs.declared.modes.AutoEscape.{AutoEscape}
 use Rattle.template_values_errors.specs.declared.modes.AutoEscape.TheVariants as escapes
 use Rattle.template_values_errors.specs.declared.modes.UndefinedBehavior.{UndefinedBehavior}
@@ -8,7 +8,9 @@ use Rattle.template_tree.specs.Tree.{Expression, Statements}
 use Rattle.template_process.specs.Trace.{Run, run}
 use Rattle.template_walk.specs.Statements.{standalone_walk, template_walk}
 use Rattle.template_machine_meaning.specs.World.{World, first_world}
-use Rattle.template_machine_meaning.specs.Surroundings.{Program, Programs, answer}
+use Rattle.template_machine_meaning.specs.Keys as keys
+use Rattle.template_machine_meaning.specs.Keys.{Home, standing, kept, Stream, own, Part, whole, Key, whole_of, Head, Around}
+use Rattle.template_machine_meaning.specs.Surroundings.{Programs, runners, answer, ran}
 
 -- a template that stands: its tree, and the escape of its name when it was added
 pub record Standing : Type 0 where
@@ -21,29 +23,53 @@ pub record Setting : Type 0 where
   pub limit : ℕ
   pub undefined : UndefinedBehavior
 
--- its walk, under a bound
-abbrev pub walk_of : ℕ → Standing → Program
-walk_of n t = record { escape = t.escape; process = template_walk n t.tree }
+-- the template at a home: the one that is rendered, if one is, or one that stands under a name; none was handed in
+abbrev pub template_at : Setting → Option Standing → Home → Option Standing
+template_at setting root keys.rendered = root
+template_at setting root (standing name) = setting.templates name
+template_at setting root (kept number) = None
 
--- the walk of each template that stands
-abbrev pub walks_of : Setting → Programs
-walks_of setting = record {
-  program = λ n name. option_map (walk_of n) (setting.templates name);
+-- the tree that a key runs: there are no blocks, macros and loops to be called again yet
+abbrev pub tree_in : Setting → Option Standing → Stream → Part → Option Statements
+tree_in setting root (own home) whole = option_map (λ t. t.tree) (template_at setting root home)
+tree_in setting root _ _ = None
+
+abbrev pub tree_at : Setting → Option Standing → Key → Option Statements
+tree_at setting root key = tree_in setting root key.stream key.part
+
+-- what is around every run: the same for trees and codes
+abbrev pub head_of : Standing → Head
+head_of t = record { escape = t.escape }
+
+abbrev pub around_of : Setting → Option Standing → Around
+around_of setting root = record {
+  head = λ home. option_map head_of (template_at setting root home);
   limit = setting.limit;
   undefined = setting.undefined;
 }
 
--- a tree from a world on, under a bound on its rounds and on the runs within it
-abbrev pub meaning : Setting → ℕ → Statements → World → Run World
-meaning setting n tree w = run (answer (walks_of setting) n) (template_walk n tree) w
+-- the walk of each key, where a template is rendered or none is
+abbrev pub walks_of : Setting → Option Standing → Programs
+walks_of setting root = record {
+  process = λ n key. option_map (template_walk n) (tree_at setting root key);
+  around = around_of setting root;
+}
+
+-- the key of the template that is rendered
+abbrev pub top : Key
+top = whole_of (own keys.rendered)
+
+-- a template from a world on, under a bound on its rounds and on the runs within it
+abbrev pub meaning : Setting → Standing → ℕ → World → Run World
+meaning setting root n w = ran (runners (walks_of setting (Some root)) (suc n) top) w
 
 -- a template that stands, over a context
 abbrev pub rendered : Setting → ℕ → Standing → Val → Run World
-rendered setting n t context = meaning setting n t.tree (first_world t.escape context)
+rendered setting n t context = meaning setting t n (first_world t.escape context)
 
 -- an expression from a world on, to its value; it has no rounds and starts no run within, so the least bound will do
 abbrev pub evaluation : Setting → Expression → World → Run World
-evaluation setting e w = run (answer (walks_of setting) 0) (standalone_walk e) w
+evaluation setting e w = run (answer (walks_of setting None) 0) (standalone_walk e) w
 
 -- an expression over a context, under no escape
 abbrev pub evaluated : Setting → Expression → Val → Run World

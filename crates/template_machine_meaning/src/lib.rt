@@ -2,7 +2,7 @@
 //! means, what every run keeps, and what it takes of its context.
 #![tactic(auto)]
 
-ghost use Rattle.template_machine_meaning.specs.Laws.{BoundsExtend, EveryRunEnds, MeaningsExtend, OneMeaning};
+ghost use Rattle.template_machine_meaning.specs.Laws.{BoundsExtend, EveryKeyEnds, EveryRunEnds, KeysExtend, MeaningsExtend, OneMeaning};
 ghost use Rattle.template_machine_meaning.specs.Laws.{EvaluationsNeedNoBound, EveryEvaluationGives};
 
 mod contexts;
@@ -22,9 +22,19 @@ pub fn meanings_extend()
     ensures { MeaningsExtend }
 {}
 
+/// What each key comes to under a bound extends likewise.
+pub fn keys_extend()
+    ensures { KeysExtend }
+{}
+
 /// Every run of templates whose constructs have a walk ends: under some bound it is finished.
 pub fn every_run_ends()
     ensures { EveryRunEnds }
+{}
+
+/// What each key comes to that finds something ends, in the render of a template.
+pub fn every_key_ends()
+    ensures { EveryKeyEnds }
 {}
 
 /// A run that is finished under two bounds is the same under both.
