@@ -3,5 +3,6 @@ pub mod Coming
 pub mod Laws
 pub mod Unpacking
 pub mod Framing
+pub mod Nesting
 pub mod Including
 pub mod Refusing

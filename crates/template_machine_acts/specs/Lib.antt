@@ -4,5 +4,6 @@ pub mod Answers
 pub mod Values
 pub mod Scopes
 pub mod Writings
+pub mod Nested
 pub mod Includes
 pub mod Refusals

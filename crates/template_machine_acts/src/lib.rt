@@ -4,6 +4,7 @@
 ghost use Rattle.template_machine_acts.specs.Answers.{AddCountedActs, ConstantActs, DiscardActs, DoubleActs, JumpActs, LookupActs, SwapActs, SwapCountedActs, UndefinedActs};
 ghost use Rattle.template_machine_acts.specs.Events.{BreaksAstray, EventsAct, EventsFault, PassesActs, StuckAstray};
 ghost use Rattle.template_machine_acts.specs.Includes.{IncludeActs, IncludeFaults, IncludeRunsOut, IncludeStrays, IncludeWants};
+ghost use Rattle.template_machine_acts.specs.Nested.{NestedActs, NestedFaults, NestedRunsOut, NestedStrays, NestedWants};
 ghost use Rattle.template_machine_acts.specs.Refusals.{ChoiceRefused, IncludeRefused, MissingActs, RoomRefused};
 ghost use Rattle.template_machine_acts.specs.Scopes.{CloseEscapeActs, CloseFrameActs, CloseLoopActs, DidNotIterateActs, NextItemActs, NoItemActs, OpenEscapeActs, OpenFrameActs, OpenLoopActs, StoreActs};
 ghost use Rattle.template_machine_acts.specs.Values.{BuildListActs, BuildMapActs, BuildTupleActs, CompareActs, GetAttributeActs, GetItemActs, InvertActs, JumpIfFalseActs, JumpIfFalseOrPopActs, JumpIfTrueOrPopActs, NegateActs, OperateActs, SliceActs, UnpackActs};
@@ -89,6 +90,16 @@ pub fn writings_act()
     ensures write { WriteActs }
     ensures print { PrintActs }
     ensures refuse { PrintFaults }
+{}
+
+/// An instruction whose event enters a run within comes to what that run comes to: it goes on where that ends, and
+/// faults, runs out of fuel, stops or is lost where that does.
+pub fn nested_act()
+    ensures acts { NestedActs }
+    ensures faults { NestedFaults }
+    ensures runs_out { NestedRunsOut }
+    ensures wants { NestedWants }
+    ensures strays { NestedStrays }
 {}
 
 /// An include comes to what the first template that stands among its choices comes to: it goes on where that
