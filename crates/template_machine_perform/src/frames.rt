@@ -2,7 +2,7 @@
 ghost use Rattle.std.specs.Prelude.{ℕ, List, Option};
 ghost use Rattle.template_code.specs.Code.{Operand, push_with, pop_frame};
 ghost use Rattle.template_values_errors.specs.declared.modes.UndefinedBehavior.{UndefinedBehavior};
-ghost use Rattle.template_machine_meaning.specs.Surroundings.{Program, Programs};
+ghost use Rattle.template_machine_meaning.specs.Surroundings.{Programs};
 ghost use Rattle.template_machine_steps.specs.Performs.{Performs, ruled};
 
 use std::alloc::Global;
@@ -15,7 +15,7 @@ use template_values_errors::{Error, ErrorKind};
 ///
 /// [`ErrorKind::InvalidOperation`] where the limit leaves no room for it, and [`ErrorKind::OutOfMemory`].
 pub fn push_with(alloc: Global, limit: usize, state: &mut State<'_>) -> Result<(), Error>
-    ensures { (program : ℕ → List ℕ → Option Program) (mode : UndefinedBehavior) (operands : List Operand) →
+    ensures { (program : Programs) (mode : UndefinedBehavior) (operands : List Operand) →
         Performs (ruled program limit mode) push_with operands state.old result operands state.new }
 {
     state.open_frame(alloc, limit)

@@ -4,7 +4,7 @@ ghost use Rattle.template_values_errors.specs.declared.modes.UndefinedBehavior.{
 ghost use Rattle.template_code.specs.Code.{build_list, build_tuple};
 ghost use Rattle.template_code.specs.View.{code_of, comparison_of};
 ghost use Rattle.template_machine_meaning.specs.World.{World};
-ghost use Rattle.template_machine_meaning.specs.Surroundings.{Program};
+ghost use Rattle.template_machine_meaning.specs.Surroundings.{Programs};
 ghost use Rattle.template_machine_operands.specs.Operands.{operands_in};
 ghost use Rattle.template_machine_steps.specs.Performs.{Leads, Performs, ruled};
 ghost use Rattle.template_machine_perform.specs.Performs.{straight, operator_in, IsOfOperands};
@@ -72,7 +72,7 @@ fn operator_of(instruction: &Instruction<'_>) -> Option<BinOpKind>
 
 // Builds a list; a counted run of values is among no operands.
 fn build_list_of(alloc: Global, count: Option<usize>, operands: &mut Operands) -> Result<(), Error>
-    ensures { (program : ℕ → List ℕ → Option Program) (limit : ℕ) (mode : UndefinedBehavior) (w : World) →
+    ensures { (program : Programs) (limit : ℕ) (mode : UndefinedBehavior) (w : World) →
         Performs (ruled program limit mode) (build_list count) (operands_in operands.old) w result
         (operands_in operands.new) w }
 {
@@ -84,7 +84,7 @@ fn build_list_of(alloc: Global, count: Option<usize>, operands: &mut Operands) -
 
 // Builds a tuple; a counted run of values is among no operands.
 fn build_tuple_of(alloc: Global, count: Option<usize>, operands: &mut Operands) -> Result<(), Error>
-    ensures { (program : ℕ → List ℕ → Option Program) (limit : ℕ) (mode : UndefinedBehavior) (w : World) →
+    ensures { (program : Programs) (limit : ℕ) (mode : UndefinedBehavior) (w : World) →
         Performs (ruled program limit mode) (build_tuple count) (operands_in operands.old) w result
         (operands_in operands.new) w }
 {
@@ -103,7 +103,7 @@ pub(crate) fn perform_on_operands(
     operands: &mut Operands,
 ) -> Result<Way, Error>
     requires { IsOfOperands (code_of instruction.now) }
-    ensures { (program : ℕ → List ℕ → Option Program) (limit : ℕ) (w : World) →
+    ensures { (program : Programs) (limit : ℕ) (w : World) →
         Leads (ruled program limit mode) (code_of instruction.now) (operands_in operands.old) w
         result (operands_in operands.new) w }
 {
@@ -122,7 +122,7 @@ fn perform_without_operator(
 ) -> Result<Way, Error>
     requires operands { IsOfOperands (code_of instruction.now) }
     requires no_operator { None ≡ operator_in (code_of instruction.now) }
-    ensures { (program : ℕ → List ℕ → Option Program) (limit : ℕ) (w : World) →
+    ensures { (program : Programs) (limit : ℕ) (w : World) →
         Leads (ruled program limit mode) (code_of instruction.now) (operands_in operands.old) w
         result (operands_in operands.new) w }
 {

@@ -1,7 +1,7 @@
 //! Instructions that write nothing.
 ghost use Rattle.std.specs.Prelude.{ℕ, List, Option};
 ghost use Rattle.template_code.specs.View.{code_of};
-ghost use Rattle.template_machine_meaning.specs.Surroundings.{Program};
+ghost use Rattle.template_machine_meaning.specs.Surroundings.{Programs};
 ghost use Rattle.template_machine_operands.specs.Operands.{operands_in};
 ghost use Rattle.template_machine_steps.specs.Performs.{Leads, ruled};
 ghost use Rattle.template_machine_perform.specs.Performs.{IsQuiet};
@@ -29,7 +29,7 @@ pub(crate) fn perform_quietly<'env>(
     state: &mut State<'env>,
 ) -> Result<Way, Error>
     requires { IsQuiet (code_of instruction.now) }
-    ensures { (program : ℕ → List ℕ → Option Program) →
+    ensures { (program : Programs) →
         Leads (ruled program rules.limit rules.undefined) (code_of instruction.now) (operands_in operands.old) state.old
         result (operands_in operands.new) state.new }
 {

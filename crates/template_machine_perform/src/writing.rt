@@ -1,7 +1,7 @@
 //! Instructions that write.
 ghost use Rattle.std.specs.Prelude.{◌∷◌, ℕ, suc, List, Option};
 ghost use Rattle.template_code.specs.Code.{Operand, single, emit_raw, emit};
-ghost use Rattle.template_machine_meaning.specs.Surroundings.{Program, Programs};
+ghost use Rattle.template_machine_meaning.specs.Surroundings.{Programs};
 ghost use Rattle.template_machine_meaning.specs.World.{World};
 ghost use Rattle.template_machine_operands.specs.Operands.{operands_in};
 ghost use Rattle.template_machine_operations.specs.Outcomes.{TellsFailures};
@@ -49,7 +49,7 @@ pub fn emit<S: Sink>(
     scratch: &mut String,
     sink: &mut S,
 ) -> Result<(), Error>
-    ensures steps { (program : ℕ → List ℕ → Option Program) (limit : ℕ) →
+    ensures steps { (program : Programs) (limit : ℕ) →
         StepsWriting (ruled program limit mode) emit (operands_in operands.old) state.now (S.taken sink.old)
         result suc (operands_in operands.new) state.now (S.taken sink.new) }
     ensures failures { TellsFailures result (S.failures sink.old) (S.failures sink.new) }
@@ -71,7 +71,7 @@ pub fn emit_value<S: Sink>(
     scratch: &mut String,
     sink: &mut S,
 ) -> Result<(), Error>
-    ensures steps { (program : ℕ → List ℕ → Option Program) (limit : ℕ) (below : List Operand) →
+    ensures steps { (program : Programs) (limit : ℕ) (below : List Operand) →
         StepsWriting (ruled program limit mode) emit (single value.now ∷ below) state.now (S.taken sink.old)
         result suc below state.now (S.taken sink.new) }
     ensures failures { TellsFailures result (S.failures sink.old) (S.failures sink.new) }

@@ -1,5 +1,5 @@
 -- From a run of a template's code to its render, and from one of an expression's code to its value.
-use Rattle.std.proofs.Common.{◌≡◌, ℕ, List, [], ◌∷◌, ◌++◌, Option, Ok, Err, inl, inr, append-nil, refl, sym, ap, subst, ◌∙◌}
+use Rattle.std.proofs.Common.{◌≡◌, ℕ, List, [], ◌∷◌, ◌++◌, Option, None, Some, Ok, Err, inl, inr, append-nil, refl, sym, ap, subst, ◌∙◌}
 use Rattle.std.specs.Io.KnownBytes.{Appends}
 use Rattle.template_values_errors.specs.declared.ErrorKind.{ErrorKind}
 use Rattle.template_values_errors.specs.declared.ErrorKind.TheVariants.{OutOfFuel}
@@ -20,7 +20,7 @@ use Rattle.template_machine_output.specs.Writes.{AppendsBeginning}
 use Rattle.template_machine_output.proofs.Beginnings.{beginning_longer}
 use Rattle.template_machine_meaning.specs.World.{World}
 use Rattle.template_machine_meaning.specs.Surroundings.{answer}
-use Rattle.template_machine_meaning.specs.Meaning.{Setting, evaluation, meaning, walks_of}
+use Rattle.template_machine_meaning.specs.Meaning.{Standing, Setting, evaluation, meaning, walks_of}
 use Rattle.template_machine_meaning.specs.Laws.{GivesOne}
 use Rattle.template_machine_meaning.specs.Keeps.{IsFault, IsMeantEnd}
 use Rattle.template_machine_meaning.proofs.RunsKept.{faults_are_meant}
@@ -54,10 +54,10 @@ done fuel left r before taken over pays text =
     }
 
 pub ends_render : EndsRender
-ends_render setting tree w after fuel left before taken e n finished =
+ends_render setting root w after fuel left before taken e n finished =
     let r : Run World = record { items = e.items; end = ends e.operands; after = after } in
-    let means = ended_means setting (template_code tree) (meaning setting n tree w) (at_start w fuel before) e.least e.bound r refl refl
-    (code_means_tree setting tree w n finished) tt (λ m le. e.is m le ∙ ended_there e.items (ends e.operands) after) in
+    let means = ended_means setting (Some root) (template_code root.tree) (meaning setting root n w) (at_start w fuel before) e.least e.bound r refl refl
+    (code_means_tree setting root w n finished) tt (λ m le. e.is m le ∙ ended_there e.items (ends e.operands) after) in
     subst (λ (q : Run World). IsDone fuel q after left before taken) (sym means) (done fuel left r before taken tt e.pays e.text)
 
 -- what is lost has no end, though no bound ran out
@@ -85,19 +85,19 @@ text_behind items q before taken begun =
     subst (AppendsBeginning before taken) (sym (text-append items q.items)) (beginning_longer before taken (text_of items) (text_of q.items) begun)
 
 -- a run of code that stopped is what the code means, up to there
-stops_there : (X : Type 0) (setting : Setting) (code : List Code) (meant : Run World) (w : World) (fuel : Option ℕ) (before : Option (List ℕ)) (y : Spot World)
-    (kinds : List ErrorKind) → IsMeantEnd (under fuel meant).end → Means setting code w meant → IsFinished meant.end → Stops (answer (codes_of setting)) code (at_start w fuel before) y kinds
+stops_there : (X : Type 0) (setting : Setting) (root : Option Standing) (code : List Code) (meant : Run World) (w : World) (fuel : Option ℕ) (before : Option (List ℕ)) (y : Spot World)
+    (kinds : List ErrorKind) → IsMeantEnd (under fuel meant).end → Means setting root code w meant → IsFinished meant.end → Stops (answer (codes_of setting root)) code (at_start w fuel before) y kinds
     → Renders {X = X} (Err kinds) before y.taken (under fuel meant)
-stops_there X setting code meant w fuel before y kinds fault means finished (faults f) =
+stops_there X setting root code meant w fuel before y kinds fault means finished (faults f) =
     let r : Run World = record { items = f.1.items; end = drives.faults kinds; after = f.1.world } in
-    let is = ended_means setting code meant (at_start w fuel before) f.1.least f.0 r refl refl means tt
+    let is = ended_means setting root code meant (at_start w fuel before) f.1.least f.0 r refl refl means tt
     (λ m le. f.1.is m le ∙ ended_there f.1.items (drives.faults kinds) f.1.world) in
     let same = ap (under fuel) is ∙ lasts fuel y.left r f.1.pays in
     subst (Renders {X = X} (Err kinds) before y.taken) (sym same)
     (whole (refl, subst (λ (q : Run World). IsMeantEnd q.end) same fault) f.1.text)
-stops_there X setting code meant w fuel before y kinds fault means finished (runs_out f) =
+stops_there X setting root code meant w fuel before y kinds fault means finished (runs_out f) =
     let o = f.1 in
-    let is = begun_means setting code meant (at_start w fuel before) o.least f.0 (o.items ++ paid o.wraps ∷ []) o.rest refl refl means
+    let is = begun_means setting root code meant (at_start w fuel before) o.least f.0 (o.items ++ paid o.wraps ∷ []) o.rest refl refl means
     (λ m le. o.is m le ∙ behind-behind o.items (paid o.wraps ∷ []) (o.rest m)) in
     let r : Run World = record { items = o.items; end = drives.faults (o.wraps ++ OutOfFuel ∷ []); after = is.0.after } in
     let same = ap (under fuel) (is.1 ∙ sym (behind-behind o.items (paid o.wraps ∷ []) is.0)) ∙ ends_spent fuel y.left o.items o.wraps is.0 o.pays o.spent
@@ -106,23 +106,23 @@ stops_there X setting code meant w fuel before y kinds fault means finished (run
       ap (λ ks. drives.faults ks) (sym o.kinds_are),
       subst IsFault (sym o.kinds_are) (subst (λ (q : Run World). IsMeantEnd q.end) same fault),
     ) o.text)
-stops_there X setting code meant w fuel before y kinds fault means finished (wants why f) =
+stops_there X setting root code meant w fuel before y kinds fault means finished (wants why f) =
     let o = f.1 in
-    let is = begun_means setting code meant (at_start w fuel before) o.least f.0 o.items o.rest refl refl means o.is in
+    let is = begun_means setting root code meant (at_start w fuel before) o.least f.0 o.items o.rest refl refl means o.is in
     let cut = begins fuel y.left o.items is.0 o.pays in
     let same = ap (under fuel) is.1 ∙ cut.1 in
     subst (Renders {X = X} (Err kinds) before y.taken) (sym same) (broken why (text_behind o.items cut.0 before y.taken o.text))
-stops_there X setting code meant w fuel before y kinds fault means finished (strays is f) =
+stops_there X setting root code meant w fuel before y kinds fault means finished (strays is f) =
     let o = f.1 in
     let r : Run World = record { items = o.items; end = o.end; after = o.world } in
-    let same = ended_means setting code meant (at_start w fuel before) o.least f.0 r refl refl means (lost_uncut o.end o.lost)
+    let same = ended_means setting root code meant (at_start w fuel before) o.least f.0 r refl refl means (lost_uncut o.end o.lost)
     (λ m le. o.is m le ∙ ended_there o.items o.end o.world) in
     absurd (lost_unfinished o.end o.lost (subst (λ (q : Run World). IsFinished q.end) same finished))
 
 pub stops_render : (X : Type 0) → StopsRender X
-stops_render X setting tree w fuel before y kinds stops n finished =
-    stops_there X setting (template_code tree) (meaning setting n tree w) w fuel before y kinds
-    (faults_are_meant (walks_of setting) n (template_walk n tree) w fuel) (code_means_tree setting tree w n finished) finished stops
+stops_render X setting root w fuel before y kinds stops n finished =
+    stops_there X setting (Some root) (template_code root.tree) (meaning setting root n w) w fuel before y kinds
+    (faults_are_meant (walks_of setting (Some root)) n (template_walk n root.tree) w fuel) (code_means_tree setting root w n finished) finished stops
 
 -- an expression's run leaves one value, or ends with a fault
 one_finished : (e : End) → GivesOne e → IsFinished e
@@ -134,17 +134,17 @@ only_one : (v : Val) (vs : List Val) → GivesOne (ends (v ∷ vs)) → ends (v 
 only_one v [] gives = refl
 only_one v (w ∷ vs) gives = absurd gives
 
-expression_means : (setting : Setting) (e : Expression) → IsRunnable e → (w : World) → Means setting (standalone_code e) w (evaluation setting e w)
+expression_means : (setting : Setting) (e : Expression) → IsRunnable e → (w : World) → Means setting None (standalone_code e) w (evaluation setting e w)
 expression_means setting e runs w =
     code_means_expression setting e w (one_finished (evaluation setting e w).end (every_evaluation_gives setting e runs w))
 
 -- where its code is at its end
 evaluation_over : (setting : Setting) (e : Expression) → IsRunnable e → (w after : World) (fuel left : Option ℕ) (before taken : Option (List ℕ))
-    (operands : List Operand) → EndsOver (answer (codes_of setting)) (standalone_code e) (at_start w fuel before) operands after left taken
+    (operands : List Operand) → EndsOver (answer (codes_of setting None)) (standalone_code e) (at_start w fuel before) operands after left taken
     → ((under fuel (evaluation setting e w)).end ≡ ends (values_in operands)) × GivesOne (ends (values_in operands))
 evaluation_over setting e runs w after fuel left before taken operands h =
     let r : Run World = record { items = h.items; end = ends (values_in operands); after = after } in
-    let is = ended_means setting (standalone_code e) (evaluation setting e w) (at_start w fuel before) h.least h.bound r refl refl (expression_means setting e runs w) tt
+    let is = ended_means setting None (standalone_code e) (evaluation setting e w) (at_start w fuel before) h.least h.bound r refl refl (expression_means setting e runs w) tt
     (λ m le. h.is m le ∙ ended_there h.items (ends (values_in operands)) after) in (
       ap (λ (q : Run World). q.end) (ap (under fuel) is ∙ lasts fuel left r h.pays),
       subst (λ (q : Run World). GivesOne q.end) is (every_evaluation_gives setting e runs w),
@@ -160,8 +160,8 @@ expressions_evaluate setting e runs w after fuel left before taken (Ok v) (below
     over.0 ∙ only_one v (values_in below) over.1
 expressions_evaluate setting e runs w after fuel left before taken (Err kinds) (inl stops) =
     gives_fault kinds before taken (under fuel (evaluation setting e w))
-    (stops_there Val setting (standalone_code e) (evaluation setting e w) w fuel before (at_start after left taken) kinds
-    (faults_are_meant (walks_of setting) 0 (standalone_walk e) w fuel) (expression_means setting e runs w)
+    (stops_there Val setting None (standalone_code e) (evaluation setting e w) w fuel before (at_start after left taken) kinds
+    (faults_are_meant (walks_of setting None) 0 (standalone_walk e) w fuel) (expression_means setting e runs w)
     (one_finished (evaluation setting e w).end (every_evaluation_gives setting e runs w)) stops)
 expressions_evaluate setting e runs w after fuel left before taken (Err kinds) (inr (bad, h)) =
     absurd (evaluation_over setting e runs w after fuel left before taken [] h).1

@@ -1,15 +1,15 @@
 -- The laws from runs of code to renders and to values.
-use Rattle.std.specs.Prelude.{ℕ, List, Option, Result, Err}
+use Rattle.std.specs.Prelude.{ℕ, List, Option, None, Some, Result, Err}
 use Rattle.template_values_errors.specs.declared.ErrorKind.{ErrorKind}
 use Rattle.template_values_model.specs.Val.{Val}
-use Rattle.template_tree.specs.Tree.{Expression, Statements}
+use Rattle.template_tree.specs.Tree.{Expression}
 use Rattle.template_process.specs.Approximants.{IsFinished}
 use Rattle.template_process.specs.Fuel.{under}
 use Rattle.template_walk.specs.Runnable.{IsRunnable}
 use Rattle.template_compiler_codegen.specs.Statements.{standalone_code, template_code}
 use Rattle.template_machine_meaning.specs.World.{World}
 use Rattle.template_machine_meaning.specs.Surroundings.{answer}
-use Rattle.template_machine_meaning.specs.Meaning.{Setting, evaluation, meaning}
+use Rattle.template_machine_meaning.specs.Meaning.{Standing, Setting, evaluation, meaning}
 use Rattle.template_machine_codes.specs.Codes.{codes_of}
 use Rattle.template_machine_going.specs.Spots.{Spot}
 use Rattle.template_machine_going.specs.Outcomes.{Stops}
@@ -18,20 +18,20 @@ use Rattle.template_machine_renders.specs.Renders.{at_start, GivesValue, IsDone,
 
 -- A run of a template's code that came to its end is what its tree means.
 abbrev pub EndsRender : Type 0
-EndsRender = (setting : Setting) (tree : Statements) (w after : World) (fuel left : Option ℕ) (before taken : Option (List ℕ))
-    → EndsWith (answer (codes_of setting)) (template_code tree) (at_start w fuel before) after left taken
-    → (n : ℕ) → IsFinished (meaning setting n tree w).end → IsDone fuel (meaning setting n tree w) after left before taken
+EndsRender = (setting : Setting) (root : Standing) (w after : World) (fuel left : Option ℕ) (before taken : Option (List ℕ))
+    → EndsWith (answer (codes_of setting (Some root))) (template_code root.tree) (at_start w fuel before) after left taken
+    → (n : ℕ) → IsFinished (meaning setting root n w).end → IsDone fuel (meaning setting root n w) after left before taken
 
 -- A run that stopped is it up to there.
 abbrev pub StopsRender : Type 0 → Type 0
-StopsRender X = (setting : Setting) (tree : Statements) (w : World) (fuel : Option ℕ) (before : Option (List ℕ)) (y : Spot World)
-    (kinds : List ErrorKind) → Stops (answer (codes_of setting)) (template_code tree) (at_start w fuel before) y kinds
-    → (n : ℕ) → IsFinished (meaning setting n tree w).end
-    → Renders {X = X} (Err kinds) before y.taken (under fuel (meaning setting n tree w))
+StopsRender X = (setting : Setting) (root : Standing) (w : World) (fuel : Option ℕ) (before : Option (List ℕ)) (y : Spot World)
+    (kinds : List ErrorKind) → Stops (answer (codes_of setting (Some root))) (template_code root.tree) (at_start w fuel before) y kinds
+    → (n : ℕ) → IsFinished (meaning setting root n w).end
+    → Renders {X = X} (Err kinds) before y.taken (under fuel (meaning setting root n w))
 
 -- What a run of an expression's code tells is what its tree means, cut by the fuel.
 abbrev pub ExpressionsEvaluate : Type 0
 ExpressionsEvaluate = (setting : Setting) (e : Expression) → IsRunnable e → (w after : World) (fuel left : Option ℕ)
     (before taken : Option (List ℕ)) (result : Result Val (List ErrorKind))
-    → Evaluates (codes_of setting) (standalone_code e) w fuel before result after left taken
+    → Evaluates (codes_of setting None) (standalone_code e) w fuel before result after left taken
     → GivesValue result (under fuel (evaluation setting e w))

@@ -1,7 +1,8 @@
 //! The run of a template's code, and of an expression's.
+ghost use Rattle.std.specs.Prelude.{Option};
 ghost use Rattle.template_code.specs.Listing.{code_in};
 ghost use Rattle.template_machine_loop.specs.Outcomes.{TellsFailures};
-ghost use Rattle.template_machine_loop.specs.Programs.{programs_of};
+ghost use Rattle.template_machine_loop.specs.Programs.{programs_of, Standing};
 ghost use Rattle.template_machine_loop.specs.Runs.{Evaluates, Runs};
 
 use std::alloc::Global;
@@ -30,8 +31,8 @@ pub fn run_code<'env, T: Templates, S: Sink>(
     scratch: &mut String,
     sink: &mut S,
 ) -> Result<(), Error>
-    ensures runs { Runs (programs_of (T.standing templates.now) rules.limit rules.undefined) (code_in code.now) state.old left.old
-        (S.taken sink.old)
+    ensures runs { (root : Option Standing) →
+        Runs (programs_of (T.standing templates.now) root rules.limit rules.undefined) (code_in code.now) state.old left.old (S.taken sink.old)
         result state.new left.new (S.taken sink.new) }
     ensures failures { TellsFailures result (S.failures sink.old) (S.failures sink.new) }
 {
@@ -56,8 +57,9 @@ pub fn run_expression<'env, T: Templates, S: Sink>(
     scratch: &mut String,
     sink: &mut S,
 ) -> Result<Value, Error>
-    ensures evaluates { Evaluates (programs_of (T.standing templates.now) rules.limit rules.undefined) (code_in code.now) state.old left.old
-        (S.taken sink.old) result state.new left.new (S.taken sink.new) }
+    ensures evaluates { (root : Option Standing) →
+        Evaluates (programs_of (T.standing templates.now) root rules.limit rules.undefined) (code_in code.now) state.old left.old (S.taken sink.old)
+        result state.new left.new (S.taken sink.new) }
     ensures failures { TellsFailures result (S.failures sink.old) (S.failures sink.new) }
 {
     let mut operands = run_to_end(alloc, rules, templates, code, state, left, scratch, sink)?;

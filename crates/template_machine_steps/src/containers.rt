@@ -3,7 +3,7 @@ ghost use Rattle.std.specs.Prelude.{◌≡◌, ◌++◌, ℕ, List, Option, Some
 ghost use Rattle.template_values_errors.specs.Memory.{NoMemory};
 ghost use Rattle.template_values_errors.specs.declared.modes.UndefinedBehavior.{UndefinedBehavior};
 ghost use Rattle.template_code.specs.Code.{single, build_list, build_tuple, build_map, unpack_list};
-ghost use Rattle.template_machine_meaning.specs.Surroundings.{Program};
+ghost use Rattle.template_machine_meaning.specs.Surroundings.{Programs};
 ghost use Rattle.template_machine_meaning.specs.World.{World};
 ghost use Rattle.template_machine_operands.specs.Operands.{operands_in};
 ghost use Rattle.template_machine_steps.specs.Performs.{Performs, ruled};
@@ -21,7 +21,7 @@ use template_values_errors::{Error, ErrorKind};
 /// Those of [`values::build_list`], and [`ErrorKind::BadStream`] where operands are missing, which no verified
 /// code meets.
 pub fn build_list(alloc: Global, count: usize, operands: &mut Operands) -> Result<(), Error>
-    ensures { (program : ℕ → List ℕ → Option Program) (limit : ℕ) (mode : UndefinedBehavior) (w : World) →
+    ensures { (program : Programs) (limit : ℕ) (mode : UndefinedBehavior) (w : World) →
         Performs (ruled program limit mode) (build_list (Some count)) (operands_in operands.old) w result (operands_in operands.new) w }
 {
     let items = operands.take_many(count)?;
@@ -35,7 +35,7 @@ pub fn build_list(alloc: Global, count: usize, operands: &mut Operands) -> Resul
 ///
 /// Those of [`values::build_tuple`], and as [`build_list`].
 pub fn build_tuple(alloc: Global, count: usize, operands: &mut Operands) -> Result<(), Error>
-    ensures { (program : ℕ → List ℕ → Option Program) (limit : ℕ) (mode : UndefinedBehavior) (w : World) →
+    ensures { (program : Programs) (limit : ℕ) (mode : UndefinedBehavior) (w : World) →
         Performs (ruled program limit mode) (build_tuple (Some count)) (operands_in operands.old) w result (operands_in operands.new) w }
 {
     let items = operands.take_many(count)?;
@@ -49,7 +49,7 @@ pub fn build_tuple(alloc: Global, count: usize, operands: &mut Operands) -> Resu
 ///
 /// Those of [`values::build_map`], and as [`build_list`].
 pub fn build_map(alloc: Global, count: usize, operands: &mut Operands) -> Result<(), Error>
-    ensures { (program : ℕ → List ℕ → Option Program) (limit : ℕ) (mode : UndefinedBehavior) (w : World) →
+    ensures { (program : Programs) (limit : ℕ) (mode : UndefinedBehavior) (w : World) →
         Performs (ruled program limit mode) (build_map count) (operands_in operands.old) w result (operands_in operands.new) w }
 {
     let entries = operands.take_pairs(alloc, count)?;
@@ -63,7 +63,7 @@ pub fn build_map(alloc: Global, count: usize, operands: &mut Operands) -> Result
 ///
 /// Those of [`values::unpack`], [`ErrorKind::OutOfMemory`], and as [`build_list`].
 pub fn unpack_list(count: usize, operands: &mut Operands) -> Result<(), Error>
-    ensures { (program : ℕ → List ℕ → Option Program) (limit : ℕ) (mode : UndefinedBehavior) (w : World) →
+    ensures { (program : Programs) (limit : ℕ) (mode : UndefinedBehavior) (w : World) →
         Performs (ruled program limit mode) (unpack_list count) (operands_in operands.old) w result (operands_in operands.new) w }
 {
     let value = operands.take()?;

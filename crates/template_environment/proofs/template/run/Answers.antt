@@ -1,10 +1,14 @@
-use Rattle.std.proofs.Common.{refl, sym, ap, ◌∙◌}
+use Rattle.std.proofs.Common.{rules, Some, refl, sym, ap, ◌∙◌}
 use Rattle.std.proofs.lemmas.Result.{err_from_is_err_and}
 use Rattle.template_values_errors.specs.declared.modes.AutoEscape.{AutoEscape}
 use Rattle.template_machine_meaning.specs.World.{first_world}
 use Rattle.template_machine_renders.specs.Renders.{whole}
+use Rattle.template_environment.specs.Standing.{unit_of}
 use Rattle.template_environment.proofs.Rendering.{ruled_programs, render_done, render_stopped}
 use Rattle.template_environment.proofs.template.run.Goals as goal
+
+pub levels-requires : goal.levels-requires
+levels-requires g c = let runs = c.in_ok-run_code.ensures.runs (Some (unit_of c.args.compiled.now)) in search rules
 
 pub returns-in_err-run_code-clause-renders : goal.returns-in_err-run_code-clause-renders
 returns-in_err-run_code-clause-renders g c = λ n finished.
@@ -12,37 +16,37 @@ returns-in_err-run_code-clause-renders g c = λ n finished.
     rw (p.1, p.2)
     (render_stopped _ c.args.registry.now c.args.compiled.now c.args.context _ _ _ _ c.args.registry.now.fuel _ _ _ _ _ refl
     (record {
-      programs = ruled_programs c.args.registry.now c.rules.result.limit c.rules.result.undefined c.rules.ensures.limit c.rules.ensures.undefined;
+      programs = ruled_programs c.args.registry.now (Some c.args.compiled.now) c.rules.result.limit c.rules.result.undefined c.rules.ensures.limit c.rules.ensures.undefined;
       is_code = c.instructions.ensures.code;
       start = c.in_ok-state.ensures.made ∙ ap (λ (e : AutoEscape). first_world e c.args.context) c.initial_auto_escape.ensures.escape;
-    }) c.in_err-run_code.ensures.runs n finished)
+    }) (c.in_err-run_code.ensures.runs (Some (unit_of c.args.compiled.now))) n finished)
 
 pub returns-clause-renders : goal.returns-clause-renders
 returns-clause-renders g c = λ n finished.
     let done = render_done (tt {0}) c.args.registry.now c.args.compiled.now c.args.context _ _ _ _ c.args.registry.now.fuel _ _ _ _ refl
     (record {
-      programs = ruled_programs c.args.registry.now c.rules.result.limit c.rules.result.undefined c.rules.ensures.limit c.rules.ensures.undefined;
+      programs = ruled_programs c.args.registry.now (Some c.args.compiled.now) c.rules.result.limit c.rules.result.undefined c.rules.ensures.limit c.rules.ensures.undefined;
       is_code = c.instructions.ensures.code;
       start = c.in_ok-state.ensures.made ∙ ap (λ (e : AutoEscape). first_world e c.args.context) c.initial_auto_escape.ensures.escape;
-    }) c.in_ok-run_code.ensures.runs n finished in
+    }) (c.in_ok-run_code.ensures.runs (Some (unit_of c.args.compiled.now))) n finished in
     whole done.over done.text
 
 pub returns-clause-left : goal.returns-clause-left
 returns-clause-left g c = λ n finished.
     let done = render_done (tt {0}) c.args.registry.now c.args.compiled.now c.args.context _ _ _ _ c.args.registry.now.fuel _ _ _ _ refl
     (record {
-      programs = ruled_programs c.args.registry.now c.rules.result.limit c.rules.result.undefined c.rules.ensures.limit c.rules.ensures.undefined;
+      programs = ruled_programs c.args.registry.now (Some c.args.compiled.now) c.rules.result.limit c.rules.result.undefined c.rules.ensures.limit c.rules.ensures.undefined;
       is_code = c.instructions.ensures.code;
       start = c.in_ok-state.ensures.made ∙ ap (λ (e : AutoEscape). first_world e c.args.context) c.initial_auto_escape.ensures.escape;
-    }) c.in_ok-run_code.ensures.runs n finished in
+    }) (c.in_ok-run_code.ensures.runs (Some (unit_of c.args.compiled.now))) n finished in
     c.levels.ensures.remaining ∙ done.left_is
 
 pub returns-clause-world : goal.returns-clause-world
 returns-clause-world g c = λ n finished.
     let done = render_done (tt {0}) c.args.registry.now c.args.compiled.now c.args.context _ _ _ _ c.args.registry.now.fuel _ _ _ _ refl
     (record {
-      programs = ruled_programs c.args.registry.now c.rules.result.limit c.rules.result.undefined c.rules.ensures.limit c.rules.ensures.undefined;
+      programs = ruled_programs c.args.registry.now (Some c.args.compiled.now) c.rules.result.limit c.rules.result.undefined c.rules.ensures.limit c.rules.ensures.undefined;
       is_code = c.instructions.ensures.code;
       start = c.in_ok-state.ensures.made ∙ ap (λ (e : AutoEscape). first_world e c.args.context) c.initial_auto_escape.ensures.escape;
-    }) c.in_ok-run_code.ensures.runs n finished in
+    }) (c.in_ok-run_code.ensures.runs (Some (unit_of c.args.compiled.now))) n finished in
     sym done.world
