@@ -9,7 +9,7 @@ use Rattle.std.specs.List.Retain.{IsDeduped, DedupsFrom}
 use Rattle.std.specs.List.Sorted.{IsSortedBy, IsSortedByClosure, IsStableBy, IsStableByClosure, ties}
 use Rattle.std.specs.Fn.{Called, ComparesAs}
 use Rattle.std.specs.BTreeMap.{insert_entry}
-use Rattle.std.specs.Cmp.{IsStrictWeakOrder, alike_right}
+use Rattle.std.specs.Cmp.{IsStrictWeakOrder, alike_right, tied_itself}
 use Rattle.std.proofs.lemmas.Fn.{always_returns_same}
 use Rattle.std.proofs.lemmas.List.Sorted.{ranks_by}
 use denote.Param.Members.{Mut}
@@ -21,7 +21,7 @@ use Rattle.template_values_core.specs.Order.{val_cmp, val_total}
 use Rattle.template_values_core.specs.Shape.{pairs_in}
 use Rattle.template_values_core.specs.declared.value.Entry.{Entry}
 use Rattle.template_values_core.proofs.Pairing.{found, found-put_all, gathered, has_key, same_found}
-use Rattle.template_values_core.proofs.Rising.{rises-put_all, sorted_from_rises, turned}
+use Rattle.template_values_core.proofs.Rising.{Above, Rises, rises-put_all, rises_from_sorted, sorted_from_rises, turned}
 
 -- the test that the sort goes by
 abbrev pub goes_before : Entry → Entry → Bool
@@ -107,6 +107,23 @@ put_all-merged_after p (q ∷ ps) up = by (λ r. put_all-merged_after r ps) (val
     by rest Greater is low =
         put_all-behind p q.0 ps (q ∷ []) (turned q.0 p.0 Greater is) up.1
         ∙ ap (λ (rs : List (Val × Val)). p ∷ rs) (rest q up.1)
+
+climbs_above : (k : Val) (ps : List (Val × Val)) → Above k ps → Rises ps → Climbs k ps
+climbs_above k [] above h = tt
+climbs_above k (p ∷ ps) above h = (ap is_lt (turned k p.0 Less above.0), climbs_above p.0 ps h.0 h.1)
+
+-- pairs whose keys rise are put as they stand
+put_all-rising : (ps : List (Val × Val)) → Rises ps → put_all [] ps ≡ ps
+put_all-rising [] h = refl
+put_all-rising (p ∷ []) h = refl
+put_all-rising (p ∷ q ∷ ps) h =
+    put_all-behind p q.0 (q ∷ ps) [] h.0.0 (ap is_lt (tied_itself val_total q.0), climbs_above q.0 ps h.1.0 h.1.1)
+    ∙ ap (λ (rs : List (Val × Val)). p ∷ rs) (put_all-rising (q ∷ ps) h.1)
+
+pub collected-rising : (es : List Entry) → IsRising es → put_all [] (pairs_in es) ≡ pairs_in es
+collected-rising es h = put_all-rising (pairs_in es) (rises_from_sorted (pairs_in es) h)
+
+pub ruleset as_given = (collected-rising)
 
 climbs_sorted : (e : Entry) (es : List Entry) → IsSortedBy goes_before (e ∷ es) → Climbs e.key (pairs_in es)
 climbs_sorted e [] h = tt

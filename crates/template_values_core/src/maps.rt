@@ -47,6 +47,29 @@ impl Value {
         })
     }
 
+    /// A map of the entries, whose keys stand in their order already, each once. Linear in their number: it asks each for
+    /// its depth.
+    ///
+    /// # Errors
+    ///
+    /// - [`ErrorKind::InvalidOperation`], if the map would nest deeper than [`DEPTH_LIMIT`] levels.
+    /// - [`ErrorKind::OutOfMemory`]
+    #[tactic(auto, using(crate::proofs::Sorting::as_given))]
+    pub fn from_rising_entries(alloc: Global, entries: Vec<Entry>) -> Result<Value, Error>
+        requires rising { IsRising entries.items }
+        ensures made { IfOk result (λ v. v ≡ map (pairs_of (pairs_in entries.items))) }
+        ensures collected { IfOk result (λ v. v ≡ map (collected (pairs_in entries.items))) }
+        ensures bound { IfOk result (λ v. depth v ≤ DEPTH_LIMIT) }
+        ensures refused { IfErr result (TooDeep (map (pairs_of (pairs_in entries.items)))) }
+    {
+        let shared = share(alloc, entries)?;
+        let SharedEntries { levels, entries } = shared;
+        Ok(Value {
+            levels,
+            repr: Repr::Map(entries),
+        })
+    }
+
     /// A map from names to values, as a context is; of equal names the last one's value stays.
     /// The names are copied. Takes n log n comparisons for n pairs, and n where they are in order.
     ///
@@ -111,14 +134,22 @@ fn shared_entries(alloc: Global, entries: Vec<Entry>) -> Result<SharedEntries, E
     ensures made { IfOk result (λ s. HoldsPairs s (put_all [] (pairs_in entries.items))) }
     ensures refused { IfErr result (TooDeep (map (collected (pairs_in entries.items)))) }
 {
-    let kept = sorted(entries)?;
-    let levels = deepest_of(kept.as_slice()) + 1;
+    share(alloc, sorted(entries)?)
+}
+
+// Entries whose keys rise, as they stand.
+fn share(alloc: Global, entries: Vec<Entry>) -> Result<SharedEntries, Error>
+    requires rising { IsRising entries.items }
+    ensures made { IfOk result (λ s. HoldsPairs s (pairs_in entries.items)) }
+    ensures refused { IfErr result (TooDeep (map (pairs_of (pairs_in entries.items)))) }
+{
+    let levels = deepest_of(entries.as_slice()) + 1;
     if is_too_deep(levels) {
         return Err(Error::new(ErrorKind::InvalidOperation));
     }
     Ok(SharedEntries {
         levels,
-        entries: Rc::new(alloc, kept)?,
+        entries: Rc::new(alloc, entries)?,
     })
 }
 

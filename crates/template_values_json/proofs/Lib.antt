@@ -4,4 +4,5 @@ pub mod Levels
 pub mod Made
 pub mod Named
 pub mod Plain
+pub mod Rising
 pub mod Steps

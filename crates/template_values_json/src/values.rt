@@ -5,6 +5,7 @@ ghost use Rattle.serde_json.specs.Read.{max_depth};
 ghost use Rattle.serde_json.specs.View.{view, items_view, members_view};
 ghost use Rattle.serde_json.specs.Written.{has_float, items_have_float, members_have_float};
 ghost use Rattle.template_values_model.specs.Val.{vals_of};
+ghost use Rattle.template_values_core.specs.Kept.{IsRising};
 ghost use Rattle.template_values_core.specs.Shape.{pairs_in};
 ghost use Rattle.template_values_json_leaves.specs.Leaves.{IsFloatRefusal};
 ghost use Rattle.template_values_json.specs.Json.{value_of, values_of, named_values};
@@ -29,7 +30,7 @@ pub(crate) fn value_from(alloc: Global, json: Json, like: Option<&Value>) -> Res
 {
     match json {
         Json::Array(items) => Value::from_list(alloc, values_from(alloc, items, first_of(like))?),
-        Json::Object(members) => Value::from_map(
+        Json::Object(members) => Value::from_rising_entries(
             alloc,
             entries_from(alloc, members, entries_of(like))?,
         ),
@@ -54,7 +55,7 @@ fn values_from(alloc: Global, items: Vec<Json>, like: Option<&Value>) -> Result<
     Ok(values)
 }
 
-/// One entry for each member.
+/// One entry for each member, in the order of their names.
 #[cycle(values)]
 #[inline(never)]
 pub(crate) fn entries_from(
@@ -65,6 +66,7 @@ pub(crate) fn entries_from(
     requires shallow { members_depth (members_view members.entries) < max_depth }
     ensures whole { IfOk result (λ _. members_have_float (members_view members.entries) ≡ false) }
     ensures are { IfOk result (λ es. pairs_in es.items ≡ named_values (members_view members.entries)) }
+    ensures rising { IfOk result (λ es. IsRising es.items) }
     ensures says { IfOk result (λ es. SayData (object (members_view members.entries)) es.items) }
     ensures refused { IfErr result (IsFloatRefusal (members_have_float (members_view members.entries))) }
 {

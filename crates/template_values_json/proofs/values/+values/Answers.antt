@@ -5,13 +5,14 @@ use Rattle.serde_json.specs.Data.{items_depth, members_depth}
 use Rattle.serde_json.specs.View.{items_view, members_view}
 use Rattle.serde_json.proofs.Views.{Entry as Member}
 use Rattle.template_values_model.specs.Val.{list, map, vals_of}
-use Rattle.template_values_core.specs.Maps.{collected}
+use Rattle.template_values_core.specs.Maps.{pairs_of}
 use Rattle.template_values_core.specs.Shape.{pairs_in}
 use Rattle.template_values_core.specs.declared.value.Entry.{Entry}
 use Rattle.template_values_json.specs.Json.{values_of, named_values}
-use Rattle.template_values_json.proofs.Levels.{vals_depth-values_of, pairs_depth-named_values, put_within, items_within, members_within}
+use Rattle.template_values_json.proofs.Levels.{vals_depth-values_of, pairs_depth-named_values, items_within, members_within}
 use Rattle.template_values_json.proofs.Made.{never_deeper}
 use Rattle.template_values_json.proofs.Named.{names_say}
+use Rattle.template_values_json.proofs.Rising.{named_rising}
 use Rattle.template_values_json.proofs.Steps.{all_values, entry_more}
 use Rattle.template_values_json.proofs.values.+values.Goals as goal
 
@@ -29,8 +30,8 @@ value_from-returns-in_ok-entries_from-in-Object-clause-refused t c =
     let entries = c.in_ok-entries_from-in-Object.field-0.items in
     let shallow : members_depth (members_view members) < 127 = members_within c.args.json c.in-Object.members 127 c.in-Object.is c.requires.shallow in
     let are : pairs_in entries ≡ named_values (members_view members) = c.in_ok-entries_from-in-Object.ensures.are in
-    never_deeper _ (map (collected (pairs_in entries))) c.from_map.result
-    (rw are (omega (arith, shallow, put_within [] (named_values (members_view members)), pairs_depth-named_values (members_view members)))) c.from_map.ensures.refused
+    never_deeper _ (map (pairs_of (pairs_in entries))) c.from_rising_entries.result
+    (rw are (omega (arith, shallow, pairs_depth-named_values (members_view members)))) c.from_rising_entries.ensures.refused
 
 pub values_from-returns-clause-are : goal.values_from-returns-clause-are
 values_from-returns-clause-are t c =
@@ -54,3 +55,8 @@ pub entries_from-returns-clause-says : goal.entries_from-returns-clause-says
 entries_from-returns-clause-says t c =
     let are : pairs_in c.loop-name.entries.items ≡ named_values (members_view c.args.members.entries) = search rules in
     λ name. rw are (names_say c.args.members.entries c.into_iter-name-iterator.ensures.into_iter_gives.5 name)
+
+pub entries_from-returns-clause-rising : goal.entries_from-returns-clause-rising
+entries_from-returns-clause-rising t c =
+    let are : pairs_in c.loop-name.entries.items ≡ named_values (members_view c.args.members.entries) = search rules in
+    named_rising c.args.members.entries c.loop-name.entries.items c.into_iter-name-iterator.ensures.into_iter_gives.5 are
