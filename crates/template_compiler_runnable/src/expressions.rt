@@ -18,7 +18,7 @@ pub fn is_runnable_expr(expr: &Expr<'_>) -> bool
 fn is_kept_back(name: &str) -> bool
     ensures { result ≡ is_kept_back name.now }
 {
-    name == "loop" || name == "caller" || name == "self" || name == "super"
+    name == "caller" || name == "self" || name == "super"
 }
 
 // Whether an expression runs. Most are names and literals.

@@ -2,7 +2,6 @@
 use Rattle.std.proofs.Common.{◌≡◌, ℕ, inl, inr, Bool, true, false, List, [], ◌∷◌, Option, None, Some, Result, Ok, Err, refl, ap, ◌∙◌}
 use Rattle.template_values_errors.specs.declared.ErrorKind.{ErrorKind}
 use Rattle.template_values_model.specs.Val.{Val, silent_undefined, none}
-use Rattle.template_values_forms.specs.Known.{nothing_known}
 use Rattle.template_values_forms.specs.Truth as truths
 use Rattle.template_values_operators.specs.Kinds.{list_made}
 use Rattle.template_values_operators.specs.Slices.{slice_of}
@@ -19,6 +18,7 @@ use Rattle.template_walk.specs.Expressions.{folded, unary_ask, binary_walk, expr
 use Rattle.template_walk.specs.Operators.{operated, compared, inverted, negated}
 use Rattle.template_walk.specs.Runnable.{IsRunnable, IsRunnableIfGiven, AreRunnable, IsRunnableChain, AreRunnableLinks}
 use Rattle.template_machine_meaning.specs.World.{World, lookup}
+use Rattle.template_machine_meaning.specs.Records.{known_of}
 use Rattle.template_machine_meaning.specs.Undefined.{forbids_truth, forbids_operator, forbids_link, forbids_slicing}
 use Rattle.template_machine_meaning.specs.Replies.{guarded, replied_with, kinded}
 use Rattle.template_machine_meaning.specs.Surroundings.{Programs, attribute_given, item_given, answer}
@@ -54,7 +54,7 @@ module _ (s : Programs) (base : World) where
   decided_by : (w : World) (v : Val) (P Q : Walk Val) → Gives w P → Gives w Q → Gives w (λ m go. step (asks (truth_of v) (on_truth (P m go) (Q m go))))
   decided_by w v P Q p q =
       settles_step s w (Kept base) (λ m go. asks (truth_of v) (on_truth (P m go) (Q m go)))
-      (settles_decided s w (Kept base) (truth_of v) (guarded (forbids_truth s.around.undefined v) (kinded (truths.truth_of nothing_known v))) P Q (λ n. refl) p q)
+      (settles_decided s w (Kept base) (truth_of v) (guarded (forbids_truth s.around.undefined v) (kinded (truths.truth_of (known_of w) v))) P Q (λ n. refl) p q)
 
   -- a value is given at once, behind a step
   given_now : (w : World) → Keeps base w → (v : Val) → Gives w (λ m go. step (go v))
@@ -72,7 +72,7 @@ module _ (s : Programs) (base : World) where
   given_then w P Q p next = settles_then s w (Kept base) (Kept base) P Q p (λ v x kept. next v x kept)
 
   unary_given : (op : UnaryOpKind) (v : Val) → Always (λ m go. step (asks (unary_ask op v) (on_value go)))
-  unary_given Not v w kept = given_by w kept _ (guarded (forbids_truth s.around.undefined v) (kinded (inverted nothing_known v))) (λ n. refl)
+  unary_given Not v w kept = given_by w kept _ (guarded (forbids_truth s.around.undefined v) (kinded (inverted (known_of w) v))) (λ n. refl)
   unary_given Neg v w kept = given_by w kept _ (kinded (negated v)) (λ n. refl)
 
   binary_given : (op : BinOpKind) (left right : (Val → Process) → Process) → Always (λ m go. left go) → Always (λ m go. right go) → Always (λ m go. binary_walk op left right go)
@@ -85,7 +85,7 @@ module _ (s : Programs) (base : World) where
   binary_given op left right f g w kept =
       given_then w (λ m go. left go) (λ v m go. right (λ u. step (asks (operate op v u) (on_value go)))) (f w kept)
       (λ v x k. given_then x (λ m go. right go) (λ u m go. step (asks (operate op v u) (on_value go))) (g x k)
-      (λ u y l. given_by y l (operate op v u) (guarded (forbids_operator s.around.undefined op v u) (kinded (operated nothing_known op v u))) (λ n. refl)))
+      (λ u y l. given_by y l (operate op v u) (guarded (forbids_operator s.around.undefined op v u) (kinded (operated (known_of y) op v u))) (λ n. refl)))
 
   data EachGives : List ((Val → Process) → Process) → Type 0 where
     none_left : EachGives []
@@ -111,11 +111,11 @@ module _ (s : Programs) (base : World) where
         (settles_optional otherwise h.2 silent_undefined x k))
     settles_expression (attribute e name) h w kept =
         given_then w (walk_of e) (λ v m go. step (asks (get_attribute v name) (on_value go))) (settles_expression e h w kept)
-        (λ v x k. given_by x k (get_attribute v name) (attribute_given s.around.undefined nothing_known v name) (λ n. refl))
+        (λ v x k. given_by x k (get_attribute v name) (attribute_given s.around.undefined (known_of x) v name) (λ n. refl))
     settles_expression (item e key) h w kept =
         given_then w (walk_of e) (λ v m go. expression_walk key (λ u. step (asks (get_item v u) (on_value go)))) (settles_expression e h.0 w kept)
         (λ v x k. given_then x (walk_of key) (λ u m go. step (asks (get_item v u) (on_value go))) (settles_expression key h.1 x k)
-        (λ u y l. given_by y l (get_item v u) (item_given s.around.undefined nothing_known v u) (λ n. refl)))
+        (λ u y l. given_by y l (get_item v u) (item_given s.around.undefined (known_of y) v u) (λ n. refl)))
     settles_expression (slice e start stop by) h w kept =
         given_then w (walk_of e) (λ v m go. optional_walk none start (λ a. optional_walk none stop (λ b. optional_walk none by (λ c. step (asks (get_slice v a b c) (on_value go)))))) (settles_expression e h.0 w kept)
         (λ v x k. given_then x (λ m go. optional_walk none start go) (λ a m go. optional_walk none stop (λ b. optional_walk none by (λ c. step (asks (get_slice v a b c) (on_value go))))) (settles_optional start h.1 none x k)
@@ -166,7 +166,7 @@ module _ (s : Programs) (base : World) where
     settles_chain (links_more op e links) h v w kept =
         given_then w (walk_of e) (λ u m go. step (asks (compare op v u) (on_value (λ holds. linked_walk u holds links go)))) (settles_expression e h.0 w kept)
         (λ u x k. given_then x (λ m go. step (asks (compare op v u) (on_value go))) (λ holds m go. linked_walk u holds links go)
-        (given_by x k (compare op v u) (guarded (forbids_link s.around.undefined op v u) (kinded (compared nothing_known op v u))) (λ n. refl))
+        (given_by x k (compare op v u) (guarded (forbids_link s.around.undefined op v u) (kinded (compared (known_of x) op v u))) (λ n. refl))
         (λ holds. settles_linked links h.1 u holds))
 
     settles_linked : (links : Links) → AreRunnableLinks links → (v holds : Val) → Always (λ m go. linked_walk v holds links go)
@@ -175,6 +175,6 @@ module _ (s : Programs) (base : World) where
         decided_by w holds (λ m go. expression_walk e (λ u. step (asks (compare op v u) (on_value (λ later. linked_walk u later links go))))) (λ m go. step (go holds))
         (given_then w (walk_of e) (λ u m go. step (asks (compare op v u) (on_value (λ later. linked_walk u later links go)))) (settles_expression e h.0 w kept)
         (λ u x k. given_then x (λ m go. step (asks (compare op v u) (on_value go))) (λ later m go. linked_walk u later links go)
-        (given_by x k (compare op v u) (guarded (forbids_link s.around.undefined op v u) (kinded (compared nothing_known op v u))) (λ n. refl))
+        (given_by x k (compare op v u) (guarded (forbids_link s.around.undefined op v u) (kinded (compared (known_of x) op v u))) (λ n. refl))
         (λ later. settles_linked links h.1 u later)))
         (given_now w kept holds)

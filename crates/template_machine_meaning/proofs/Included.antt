@@ -5,9 +5,9 @@ use Rattle.std.proofs.lemmas.Bool.Decides.{nat_tests}
 use Rattle.template_values_errors.specs.declared.ErrorKind.{ErrorKind}
 use Rattle.template_values_errors.specs.declared.ErrorKind.TheVariants.{InvalidOperation, TemplateNotFound}
 use Rattle.template_values_model.specs.Val.{Val}
-use Rattle.template_values_forms.specs.Known.{nothing_known}
 use Rattle.template_process.specs.Process.{Ask, include, asks, on_done}
 use Rattle.template_machine_meaning.specs.World.{World, has_room}
+use Rattle.template_machine_meaning.specs.Records.{known_of}
 use Rattle.template_machine_meaning.specs.Replies.{refused}
 use Rattle.template_machine_meaning.specs.Plans.{Plan, replies, enters, settled}
 use Rattle.template_machine_meaning.specs.Includes.{Found, choices_in, first_standing, include_levels, include_within, not_found, included_by, included_from}
@@ -55,9 +55,9 @@ module _ (s : Programs) (w : World) (ignore_missing : Bool) (v : Val) where
     found_settles choices (Ok (Some found)) planned = running_settles found planned (has_room s.around.limit include_levels w) refl
     found_settles choices (Err kind) planned = refused_so kind planned
 
-    chosen_settles : (choices : Result (List Val) ErrorKind) → choices_in nothing_known v ≡ choices → IncludeSettles
+    chosen_settles : (choices : Result (List Val) ErrorKind) → choices_in (known_of w) v ≡ choices → IncludeSettles
     chosen_settles (Ok vs) e = found_settles vs (first_standing s.around vs) (ap (included_from s.around w ignore_missing) e)
     chosen_settles (Err kind) e = refused_so kind (ap (included_from s.around w ignore_missing) e)
 
     pub settles_include : IncludeSettles
-    settles_include = chosen_settles (choices_in nothing_known v) refl
+    settles_include = chosen_settles (choices_in (known_of w) v) refl

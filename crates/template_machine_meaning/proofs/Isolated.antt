@@ -75,14 +75,14 @@ module _ (names : List ℕ → Type 0) (given : (name : List ℕ) → IsTrue (is
         (λ t e k w fits. runs_so names d s.around (runners s n) (runners_so n) k (template_walk n t) k w fits
         (template_within names is_loop n t (used_in t (part_listed key.stream key.part t e)) k))
 
-    same_render : (c : Val) → ((name : List ℕ) → names name → AgreesAt d c name) → (n : ℕ) → IsSameRun (rendered setting n root c) (rendered setting n root d)
-    same_render c agrees n =
-        let at = runs_so names d s.around (runners s n) (runners_so n) (base []) (template_walk n root.tree) (base []) (first_world root.escape c)
+    same_render : (id : ℕ) (c : Val) → ((name : List ℕ) → names name → AgreesAt d c name) → (n : ℕ) → IsSameRun (rendered setting id n root c) (rendered setting id n root d)
+    same_render id c agrees n =
+        let at = runs_so names d s.around (runners s n) (runners_so n) (base []) (template_walk n root.tree) (base []) (first_world id root.escape c)
         (λ name i. absurd i, agrees) (template_within names is_loop n root.tree (used_in root.tree first) (base [])) in
         (sym (ap (λ (r : Run World). r.items) at.same), sym (ap (λ (r : Run World). r.end) at.same))
 
 pub isolates_names : IsolatesNames
-isolates_names setting t c d agrees n fuel =
-    cut_alike World World fuel (rendered setting n t c) (rendered setting n t d)
-    (same_render (IsContextName setting t.tree) (λ name h. inl h) d setting t (λ name h. inr (inl h)) (λ other u e name h. inr (inr (other, u, e, h))) c
+isolates_names setting id t c d agrees n fuel =
+    cut_alike World World fuel (rendered setting id n t c) (rendered setting id n t d)
+    (same_render (IsContextName setting t.tree) (λ name h. inl h) d setting t (λ name h. inr (inl h)) (λ other u e name h. inr (inr (other, u, e, h))) id c
     (λ name h. sym (agrees name h)) n)

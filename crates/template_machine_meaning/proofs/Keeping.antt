@@ -1,13 +1,11 @@
 -- What walks keep of the world: the loops of its frames, what else counts as depth, and how many escapes are put back.
-use Rattle.std.proofs.Common.{◌≡◌, List, [], ◌∷◌, length, map, Option, None, Some, refl, sym, subst, ◌∙◌}
+use Rattle.std.proofs.Common.{◌≡◌, List, [], ◌∷◌, length, Option, None, Some, refl, sym, subst, ◌∙◌}
 use Rattle.template_process.specs.Process.{breaks_off}
 use Rattle.template_process.specs.Trace.{Reply}
 use Rattle.template_machine_meaning.specs.World.{Loop, Frame, World}
 use Rattle.template_machine_meaning.specs.Replies.{told}
 use Rattle.template_machine_meaning.specs.Surroundings.{on_frames, on_loop}
-
-abbrev pub loops_of : List Frame → List (Option Loop)
-loops_of = map (λ (f : Frame). f.loop)
+pub use Rattle.template_machine_meaning.specs.Records.{loops_of}
 
 pub record Keeps (w v : World) : Type 0 where
   pub loops : loops_of v.frames ≡ loops_of w.frames

@@ -24,21 +24,21 @@ pub data Leave : Type 0 where
 abbrev pub exits_of : (Leave → Process) → Exits
 exits_of go = record { on_break = go breaks_out; on_continue = go continues }
 
--- a loop over items, of which so many were asked for
-abbrev pub loop_at : List Val → ℕ → Loop
-loop_at items asked = record { items = items; asked = asked }
+-- a loop of which so many items were asked for
+abbrev pub loop_at : Loop → ℕ → Loop
+loop_at l asked = record l { asked = asked }
 
 -- its frame
-abbrev pub frame_at : List Val → ℕ → Frame
-frame_at items asked = record { locals = []; loop = Some (loop_at items asked); context = values.undefined }
+abbrev pub frame_at : Loop → ℕ → Frame
+frame_at l asked = record { locals = []; loop = Some (loop_at l asked); context = values.undefined }
 
 -- in a round of a loop whose frame stands over a base
-abbrev pub InRound : World → List Val → ℕ → World → Type 0
-InRound base items asked w = Keeps (behind_frame base (frame_at items asked)) w
+abbrev pub InRound : World → Loop → ℕ → World → Type 0
+InRound base l asked w = Keeps (behind_frame base (frame_at l asked)) w
 
 -- behind its last round
-abbrev pub AtEnd : World → List Val → Unit {0} → World → Type 0
-AtEnd base items o w = (asked : ℕ) × InRound base items asked w
+abbrev pub AtEnd : World → Loop → Unit {0} → World → Type 0
+AtEnd base l o w = (asked : ℕ) × InRound base l asked w
 
 -- a round under a bound, over an item
 abbrev pub Round : Type 0
@@ -50,25 +50,25 @@ after_round round j goes m go = step (rounds (m - j) (round m) (go tt))
 after_round round j continues m go = step (rounds (m - j) (round m) (go tt))
 after_round round j breaks_out m go = step (go tt)
 
-module _ (s : Programs) (base : World) (items : List Val) (round : Round) where
+module _ (s : Programs) (base : World) (own : Loop) (round : Round) where
   -- each round settles, in the loop's frame
   abbrev pub Turns : Type 0
-  Turns = (v : Val) (asked : ℕ) (w : World) → InRound base items asked w → Settles {O = Leave} s w (Kept (behind_frame base (frame_at items asked))) (λ m go. round m v (exits_of go) (go goes))
+  Turns = (v : Val) (asked : ℕ) (w : World) → InRound base own asked w → Settles {O = Leave} s w (Kept (behind_frame base (frame_at own asked))) (λ m go. round m v (exits_of go) (go goes))
 
   abbrev Ends : ℕ → World → Type 0
-  Ends j w = Settles {O = Unit {0}} s w (AtEnd base items) (λ m go. rounds (m - j) (round m) (go tt))
+  Ends j w = Settles {O = Unit {0}} s w (AtEnd base own) (λ m go. rounds (m - j) (round m) (go tt))
 
-  next_round : (j asked : ℕ) (w z : World) (v : Val) → InRound base items asked z → Turns → ((u : World) → InRound base items asked u → Ends (suc j) u)
+  next_round : (j asked : ℕ) (w z : World) (v : Val) → InRound base own asked z → Turns → ((u : World) → InRound base own asked u → Ends (suc j) u)
       → ((n : ℕ) → answer s n w next_item ≡ changed z (item v)) → Ends j w
   next_round j asked w z v inside turns later is =
-      let after : (o : Leave) (u : World) → InRound base items asked u → Settles {O = Unit {0}} s u (AtEnd base items) (after_round round (suc j) o) =
-      λ o u kept. elim o as (λ o. Settles {O = Unit {0}} s u (AtEnd base items) (after_round round (suc j) o)) [
-        | goes ↦ settles_step s u (AtEnd base items) (λ m go. rounds (m - suc j) (round m) (go tt)) (later u kept)
-        | breaks_out ↦ settles_step s u (AtEnd base items) (λ m go. go tt) (settles_now s u (AtEnd base items) tt (asked, kept))
-        | continues ↦ settles_step s u (AtEnd base items) (λ m go. rounds (m - suc j) (round m) (go tt)) (later u kept)
+      let after : (o : Leave) (u : World) → InRound base own asked u → Settles {O = Unit {0}} s u (AtEnd base own) (after_round round (suc j) o) =
+      λ o u kept. elim o as (λ o. Settles {O = Unit {0}} s u (AtEnd base own) (after_round round (suc j) o)) [
+        | goes ↦ settles_step s u (AtEnd base own) (λ m go. rounds (m - suc j) (round m) (go tt)) (later u kept)
+        | breaks_out ↦ settles_step s u (AtEnd base own) (λ m go. go tt) (settles_now s u (AtEnd base own) tt (asked, kept))
+        | continues ↦ settles_step s u (AtEnd base own) (λ m go. rounds (m - suc j) (round m) (go tt)) (later u kept)
       ] in
-      let turn = settles_then s z (Kept (behind_frame base (frame_at items asked))) (AtEnd base items) (λ m go. round m v (exits_of go) (go goes)) (after_round round (suc j)) (turns v asked z inside) after in
-      settles_before s w z (AtEnd base items) (paid [] ∷ []) (suc j) (λ m go. rounds (m - j) (round m) (go tt))
+      let turn = settles_then s z (Kept (behind_frame base (frame_at own asked))) (AtEnd base own) (λ m go. round m v (exits_of go) (go goes)) (after_round round (suc j)) (turns v asked z inside) after in
+      settles_before s w z (AtEnd base own) (paid [] ∷ []) (suc j) (λ m go. rounds (m - j) (round m) (go tt))
       (λ m go. round m v (exits_of (λ o. after_round round (suc j) o m go)) (after_round round (suc j) goes m go))
       (λ n m le ge go.
       let more : m - j ≡ suc (m - suc j) = omega arith in
@@ -76,30 +76,30 @@ module _ (s : Programs) (base : World) (items : List Val) (round : Round) where
       ∙ ap (λ r. behind (paid [] ∷ []) (replied (λ a t. run (answer s n) (on_item (λ u. round m u (exits_of (λ o. after_round round (suc j) o m go)) (after_round round (suc j) goes m go)) (go tt) a) t) r)) (is n))
       turn
 
-  last_round : (j asked : ℕ) (w z : World) → InRound base items asked z → ((n : ℕ) → answer s n w next_item ≡ changed z no_item) → Ends j w
+  last_round : (j asked : ℕ) (w z : World) → InRound base own asked z → ((n : ℕ) → answer s n w next_item ≡ changed z no_item) → Ends j w
   last_round j asked w z inside is =
-      settles_before s w z (AtEnd base items) (paid [] ∷ []) (suc j) (λ m go. rounds (m - j) (round m) (go tt)) (λ m go. go tt)
+      settles_before s w z (AtEnd base own) (paid [] ∷ []) (suc j) (λ m go. rounds (m - j) (round m) (go tt)) (λ m go. go tt)
       (λ n m le ge go.
       let more : m - j ≡ suc (m - suc j) = omega arith in
       ap (λ b. run (answer s n) (rounds b (round m) (go tt)) w) more
       ∙ ap (λ r. behind (paid [] ∷ []) (replied (λ a t. run (answer s n) (on_item (λ u. round m u (exits_of (λ o. after_round round (suc j) o m go)) (after_round round (suc j) goes m go)) (go tt) a) t) r)) (is n))
-      (settles_now s z (AtEnd base items) tt (asked, inside))
+      (settles_now s z (AtEnd base own) tt (asked, inside))
 
-  rounds_by : (d j asked : ℕ) → length items ≤ asked + d → Turns → (w : World) → InRound base items asked w → Top w (Some (loop_at items asked)) (loops_of base.frames)
-      → (o : Option Val) → slice_get items asked ≡ o → Ends j w
+  rounds_by : (d j asked : ℕ) → length own.items ≤ asked + d → Turns → (w : World) → InRound base own asked w → Top w (Some (loop_at own asked)) (loops_of base.frames)
+      → (o : Option Val) → slice_get own.items asked ≡ o → Ends j w
   rounds_by d j asked few turns w inside t None none =
-      let z : World = record w { frames = record t.frame { loop = Some (loop_at items (asked + 1)) } ∷ t.rest } in
-      last_round j (asked + 1) w z (record { loops = ap (λ ls. Some (loop_at items (asked + 1)) ∷ ls) t.others; outer = inside.outer; saved = inside.saved })
-      (λ n. on_loop_is w t.frame t.rest (loop_at items asked) t.frames t.own (λ f l fs. next_reply w f l fs (slice_get l.items l.asked))
-      ∙ ap (next_reply w t.frame (loop_at items asked) t.rest) none)
-  rounds_by zero j asked few turns w inside t (Some v) some = absurd (omega (arith, slice_get_within items asked v some))
+      let z : World = record w { frames = record t.frame { loop = Some (loop_at own (asked + 1)) } ∷ t.rest } in
+      last_round j (asked + 1) w z (record { loops = ap (λ ls. Some (loop_at own (asked + 1)) ∷ ls) t.others; outer = inside.outer; saved = inside.saved })
+      (λ n. on_loop_is w t.frame t.rest (loop_at own asked) t.frames t.own (λ f k fs. next_reply w f k fs (slice_get k.items k.asked))
+      ∙ ap (next_reply w t.frame (loop_at own asked) t.rest) none)
+  rounds_by zero j asked few turns w inside t (Some v) some = absurd (omega (arith, slice_get_within own.items asked v some))
   rounds_by (suc d) j asked few turns w inside t (Some v) some =
-      let z : World = record w { frames = record t.frame { locals = []; loop = Some (loop_at items (asked + 1)) } ∷ t.rest } in
-      next_round j (asked + 1) w z v (record { loops = ap (λ ls. Some (loop_at items (asked + 1)) ∷ ls) t.others; outer = inside.outer; saved = inside.saved }) turns
-      (λ u kept. rounds_by d (suc j) (asked + 1) (omega arith) turns u kept (top u (Some (loop_at items (asked + 1))) (loops_of base.frames) kept.loops) (slice_get items (asked + 1)) refl)
-      (λ n. on_loop_is w t.frame t.rest (loop_at items asked) t.frames t.own (λ f l fs. next_reply w f l fs (slice_get l.items l.asked))
-      ∙ ap (next_reply w t.frame (loop_at items asked) t.rest) some)
+      let z : World = record w { frames = record t.frame { locals = []; loop = Some (loop_at own (asked + 1)) } ∷ t.rest } in
+      next_round j (asked + 1) w z v (record { loops = ap (λ ls. Some (loop_at own (asked + 1)) ∷ ls) t.others; outer = inside.outer; saved = inside.saved }) turns
+      (λ u kept. rounds_by d (suc j) (asked + 1) (omega arith) turns u kept (top u (Some (loop_at own (asked + 1))) (loops_of base.frames) kept.loops) (slice_get own.items (asked + 1)) refl)
+      (λ n. on_loop_is w t.frame t.rest (loop_at own asked) t.frames t.own (λ f k fs. next_reply w f k fs (slice_get k.items k.asked))
+      ∙ ap (next_reply w t.frame (loop_at own asked) t.rest) some)
 
-  pub settles_rounds : (d j asked : ℕ) → length items ≤ asked + d → Turns → (w : World) → InRound base items asked w → Ends j w
+  pub settles_rounds : (d j asked : ℕ) → length own.items ≤ asked + d → Turns → (w : World) → InRound base own asked w → Ends j w
   settles_rounds d j asked few turns w inside =
-      rounds_by d j asked few turns w inside (top w (Some (loop_at items asked)) (loops_of base.frames) inside.loops) (slice_get items asked) refl
+      rounds_by d j asked few turns w inside (top w (Some (loop_at own asked)) (loops_of base.frames) inside.loops) (slice_get own.items asked) refl

@@ -1,32 +1,33 @@
 -- The answers over one context are those over the other, where both agree on the names.
 use Rattle.std.proofs.Common.{◌≡◌, ℕ, ◌+◌, Bool, true, false, nat_le, List, [], ◌∷◌, Option, None, Some, Result, Ok, Err, map, refl, sym, ap, subst, ◌∙◌}
-use Rattle.std.specs.Prelude.{if◌then◌else◌, slice_get, unwrap_or}
+use Rattle.std.specs.Prelude.{if◌then◌else◌, is_some, slice_get, unwrap_or}
 use Rattle.template_values_errors.specs.declared.ErrorKind.{ErrorKind}
 use Rattle.template_values_errors.specs.declared.ErrorKind.TheVariants.{InvalidOperation}
 use Rattle.template_values_errors.specs.declared.modes.AutoEscape.{AutoEscape}
 use Rattle.template_values_model.specs.Val.{Val, undefined}
 use Rattle.template_values_core.specs.Answers.{text_in}
 use Rattle.template_values_forms.specs.Escaped.{escaped}
-use Rattle.template_values_forms.specs.Known.{nothing_known}
+use Rattle.template_values_forms.specs.Known as forms
 use Rattle.template_values_forms.specs.Truth as truths
 use Rattle.template_values_operators.specs.Iterated.{iterated}
 use Rattle.template_values_operators.specs.Kinds.{list_made}
 use Rattle.template_values_operators.specs.Slices.{slice_of}
-use Rattle.template_process.specs.Process.{Ask, look_up, store, negate, invert, operate, compare, get_attribute, get_item, get_slice, build_list, build_tuple, build_map, truth_of, unpack, write_raw, write_value, open_frame, close_frame, open_loop, next_item, did_not_iterate, close_loop, open_escape, close_escape, include, Answer, done, value, truth, items, Told, tells, fails, breaks_off, leaves, Process, over, step, asks, amiss, cut_short, stuck}
+use Rattle.template_process.specs.Process.{Looping, Ask, look_up, store, negate, invert, operate, compare, get_attribute, get_item, get_slice, build_list, build_tuple, build_map, truth_of, unpack, write_raw, write_value, open_frame, close_frame, open_loop, next_item, did_not_iterate, close_loop, open_escape, close_escape, include, Answer, done, value, truth, items, Told, tells, fails, breaks_off, leaves, Process, over, step, asks, amiss, cut_short, stuck}
 use Rattle.template_process.specs.Drive.{End, ends, faults}
 use Rattle.template_process.specs.Trace.{paid, Reply, Run, run, behind, go_on, replied}
 use Rattle.template_walk.specs.Containers.{tuple_made, map_made}
 use Rattle.template_walk.specs.Operators.{operated, compared, inverted, negated}
-use Rattle.template_machine_meaning.specs.World.{Loop, Frame, World, lookup, has_room}
+use Rattle.template_machine_meaning.specs.World.{Loop, Frame, World, lookup, has_room, loop_over}
+use Rattle.template_machine_meaning.specs.Records.{known_of}
 use Rattle.template_machine_meaning.specs.Undefined.{forbids_printing, forbids_iterating, forbids_truth, forbids_slicing, forbids_operator, forbids_link}
 use Rattle.template_machine_meaning.specs.Replies.{told, changed, refused, kinded, guarded, replied_with, changed_with}
 use Rattle.template_machine_meaning.specs.Keys.{Key, Around}
 use Rattle.template_machine_meaning.specs.Plans as plans
 use Rattle.template_machine_meaning.specs.Plans.{Purpose, includes, Plan, replies, enters, room_for, caller_of, after_by, given, wrapped_by, told_by, came, Runners, came_from, settled}
 use Rattle.template_machine_meaning.specs.Includes.{Found, choices_in, first_standing, include_levels, include_within, not_found, included_by, included_from}
-use Rattle.template_machine_meaning.specs.Surroundings.{printed_reply, attribute_given, item_given, unpacked, unpacked_into, empty_frame, loop_frame, opened_loop, asked_once, next_reply, escape_named, escape_put_back, plan, respond}
+use Rattle.template_machine_meaning.specs.Surroundings.{printed_reply, attribute_given, item_given, unpacked, unpacked_into, empty_frame, loop_frame, counted_loop, opened_loop, asked_once, next_reply, escape_named, escape_put_back, plan, respond}
 use Rattle.template_machine_meaning.proofs.Known.{Known, inner, stored, closed, cleared, learnt, May, Within}
-use Rattle.template_machine_meaning.proofs.Turned.{context_before, over_frames, over_context, Fits, fits_less, finds, pushes, many, fits_stored, fits_cleared, fits_closed}
+use Rattle.template_machine_meaning.proofs.Turned.{context_before, over_frames, over_context, Fits, fits_less, finds, same_known, same_depth, pushes, many, fits_stored, fits_cleared, fits_closed}
 
 -- the same over the context
 abbrev pub over_reply : Val → Reply World → Reply World
@@ -120,30 +121,37 @@ module _ (names : List ℕ → Type 0) (d : Val) where
     next_so f gs h x (Some v) = record { same = refl; stays = tt; fits = λ t. fits_cleared names d k f gs [] (Some (asked_once x)) h }
     next_so f gs h x None = record { same = refl; stays = tt; fits = λ t. fits_cleared names d k f gs f.locals (Some (asked_once x)) h }
 
-    -- what opens a frame
-    abbrev opens : World → List Frame → Frame → Bool → Reply World
-    opens v fs f room = changed_with v (λ after. done) (λ after. after) (if room then Ok (record v { frames = f ∷ fs }) else Err InvalidOperation)
+    -- what opens a frame, in a state of which so many loops were opened
+    abbrev opens : World → ℕ → Frame → Bool → Reply World
+    opens v opened f room = changed_with v (λ after. done) (λ after. after) (if room then Ok (record v { frames = f ∷ v.frames; opened = opened }) else Err InvalidOperation)
 
     room_so : (limit levels : ℕ) → has_room limit levels other ≡ has_room limit levels w
     room_so limit levels = ap (λ n. nat_le (n + w.outer + levels) limit) (many names d w.frames)
 
-    opened_so : (f : Frame) → f.locals ≡ [] → (room : Bool) → Replies (inner [] k) (opens w w.frames f room) (opens other other.frames f room)
-    opened_so f empty true = record {
-      same = ap (λ fs. changed (record w { frames = fs }) done) (sym (pushes names d k f w.frames fits));
+    opened_so : (opened : ℕ) (f : Frame) (room : Bool) → f.locals ≡ [] → Replies (inner [] k) (opens w opened f room) (opens other opened f room)
+    opened_so opened f true empty = record {
+      same = ap (λ fs. changed (record w { frames = fs; opened = opened }) done) (sym (pushes names d k f w.frames fits));
       stays = tt;
       fits = λ t. (λ name i. absurd i, fits);
     }
-    opened_so f empty false = record { same = refl; stays = tt; fits = λ t. absurd t }
+    opened_so opened f false empty = record { same = refl; stays = tt; fits = λ t. absurd t }
 
-    opens_so : (limit : ℕ) (f : Frame) → f.locals ≡ [] → Replies (inner [] k) (opens w w.frames f (has_room limit 1 w)) (opens other other.frames f (has_room limit 1 other))
-    opens_so limit f empty =
-        let at = opened_so f empty (has_room limit 1 w) in
-        record { same = ap (opens other other.frames f) (room_so limit 1) ∙ at.same; stays = at.stays; fits = at.fits }
+    opens_so : (limit opened : ℕ) (f : Frame) → f.locals ≡ [] → Replies (inner [] k) (opens w opened f (has_room limit 1 w)) (opens other opened f (has_room limit 1 other))
+    opens_so limit opened f empty =
+        let at = opened_so opened f (has_room limit 1 w) empty in
+        record { same = ap (opens other opened f) (room_so limit 1) ∙ at.same; stays = at.stays; fits = at.fits }
 
-    loop_so : (limit : ℕ) (r : Result (List Val) ErrorKind)
-        → Replies (inner [] k) (changed_with w (λ after. done) (λ after. after) (opened_loop limit w r)) (changed_with other (λ after. done) (λ after. after) (opened_loop limit other r))
-    loop_so limit (Ok vs) = opens_so limit (loop_frame vs) refl
-    loop_so limit (Err kind) = record { same = refl; stays = tt; fits = λ t. absurd t }
+    loop_so : (limit : ℕ) (how : Looping) (r : Result (List Val) ErrorKind)
+        → Replies (inner [] k) (changed_with w (λ after. done) (λ after. after) (opened_loop limit w how r)) (changed_with other (λ after. done) (λ after. after) (opened_loop limit other how r))
+    loop_so limit how (Ok vs) =
+        let own : Loop = loop_over w how.variable (is_some how.rounds) vs in
+        subst (λ n. Replies (inner [] k) (opens w (w.opened + 1) (loop_frame own) (has_room limit 1 w)) (opens other (w.opened + 1) (loop_frame (record own { depth = n })) (has_room limit 1 other)))
+        (sym (same_depth names d w.frames)) (opens_so limit (w.opened + 1) (loop_frame own) refl)
+    loop_so limit how (Err kind) = record { same = refl; stays = tt; fits = λ t. absurd t }
+
+    -- what looks into records
+    at_known : (l : Known) (p : Plan) (f : forms.Known → Plan) → Plans l w p (f (known_of w)) → Plans l w p (f (known_of other))
+    at_known l p f h = subst (λ known. Plans l w p (f known)) (sym (same_known names d w)) h
 
     escape_so : (r : Result AutoEscape ErrorKind)
         → Replies k (changed_with w (λ rule. done) (λ rule. record w { escape = rule; saved = w.escape ∷ w.saved }) r) (changed_with other (λ rule. done) (λ rule. record other { escape = rule; saved = w.escape ∷ w.saved }) r)
@@ -233,29 +241,42 @@ module _ (names : List ℕ → Type 0) (d : Val) where
     from_so a ignore_missing (Ok vs) = by_so a.limit ignore_missing vs (first_standing a vs)
     from_so a ignore_missing (Err kind) = nothing_so k kind
 
+    known_so : {X : Type 0} (answer : X → Answer) (r : forms.Known → Result X ErrorKind)
+        → Replies k (replied_with w answer (r (known_of w))) (replied_with other answer (r (known_of other)))
+    known_so answer r =
+        at_known k (replies (replied_with w answer (r (known_of w)))) (λ known. replies (replied_with other answer (r known))) (replied_so answer (r (known_of w)))
+
     -- each event that may be asked
     plans_so : (a : Around) (e : Ask) → May names k e → Plans (learnt k e) w (plan a w e) (plan a other e)
     plans_so a (look_up name) may = looked_up name may
     plans_so a (store name v) may =
         framed_so (stored name k) _ _ w.frames fits (λ f gs h. record { same = refl; stays = tt; fits = λ t. fits_stored names d name v k f gs h })
     plans_so a (negate v) may = replied_so value (kinded (negated v))
-    plans_so a (invert v) may = replied_so value (guarded (forbids_truth a.undefined v) (kinded (inverted nothing_known v)))
-    plans_so a (operate op left right) may = replied_so value (guarded (forbids_operator a.undefined op left right) (kinded (operated nothing_known op left right)))
-    plans_so a (compare op left right) may = replied_so value (guarded (forbids_link a.undefined op left right) (kinded (compared nothing_known op left right)))
-    plans_so a (get_attribute v name) may = replied_so value (attribute_given a.undefined nothing_known v name)
-    plans_so a (get_item v key) may = replied_so value (item_given a.undefined nothing_known v key)
+    plans_so a (invert v) may =
+        known_so value (λ known. guarded (forbids_truth a.undefined v) (kinded (inverted known v)))
+    plans_so a (operate op left right) may =
+        known_so value (λ known. guarded (forbids_operator a.undefined op left right) (kinded (operated known op left right)))
+    plans_so a (compare op left right) may =
+        known_so value (λ known. guarded (forbids_link a.undefined op left right) (kinded (compared known op left right)))
+    plans_so a (get_attribute v name) may = known_so value (λ known. attribute_given a.undefined known v name)
+    plans_so a (get_item v key) may = known_so value (λ known. item_given a.undefined known v key)
     plans_so a (get_slice v start stop by) may = replied_so value (guarded (forbids_slicing a.undefined v) (kinded (slice_of v start stop by)))
     plans_so a (build_list vs) may = replied_so value (kinded (list_made vs))
     plans_so a (build_tuple vs) may = replied_so value (kinded (tuple_made vs))
     plans_so a (build_map entries) may = replied_so value (kinded (map_made entries))
-    plans_so a (truth_of v) may = replied_so truth (guarded (forbids_truth a.undefined v) (kinded (truths.truth_of nothing_known v)))
+    plans_so a (truth_of v) may = known_so truth (λ known. guarded (forbids_truth a.undefined v) (kinded (truths.truth_of known v)))
     plans_so a (unpack n v) may = replied_so items (unpacked_into n (unpacked v))
     plans_so a (write_raw text) may = record { same = refl; stays = tt; fits = λ t. fits }
-    plans_so a (write_value v) may = printed_so (guarded (forbids_printing a.undefined v) (kinded (escaped w.escape nothing_known v)))
-    plans_so a open_frame may = opens_so a.limit empty_frame refl
+    plans_so a (write_value v) may =
+        let r : forms.Known → Result (List ℕ) ErrorKind = λ known. guarded (forbids_printing a.undefined v) (kinded (escaped w.escape known v)) in
+        at_known k (replies (printed_reply w (r (known_of w)))) (λ known. replies (printed_reply other (r known))) (printed_so (r (known_of w)))
+    plans_so a open_frame may = opens_so a.limit w.opened empty_frame refl
     plans_so a close_frame may =
         framed_so (closed k) _ _ w.frames fits (λ f gs h. record { same = refl; stays = tt; fits = λ t. fits_closed names d k f gs may h })
-    plans_so a (open_loop how v) may = loop_so a.limit (guarded (forbids_iterating a.undefined v) (kinded (iterated nothing_known v)))
+    plans_so a (open_loop how v) may =
+        let r : forms.Known → Result (List Val) ErrorKind = λ known. guarded (forbids_iterating a.undefined v) (kinded (iterated known v)) in
+        let opening : World → Result (List Val) ErrorKind → Plan = λ v r. replies (changed_with v (λ after. done) (λ after. after) (opened_loop a.limit v how r)) in
+        at_known (inner [] k) (opening w (r (known_of w))) (λ known. opening other (r known)) (loop_so a.limit how (r (known_of w)))
     plans_so a next_item may =
         framed_so (cleared k) _ _ w.frames fits (λ f gs h. looped_so (cleared k) _ _ f.loop (λ x. next_so f gs h x (slice_get x.items x.asked)))
     plans_so a did_not_iterate may =
@@ -264,7 +285,9 @@ module _ (names : List ℕ → Type 0) (d : Val) where
         framed_so (closed k) _ _ w.frames fits (λ f gs h. looped_so (closed k) _ _ f.loop (λ x. record { same = refl; stays = tt; fits = λ t. fits_closed names d k f gs may h }))
     plans_so a (open_escape v) may = escape_so (escape_named w.first v (text_in v))
     plans_so a close_escape may = put_back_so w.saved
-    plans_so a (include ignore_missing v) may = from_so a ignore_missing (choices_in nothing_known v)
+    plans_so a (include ignore_missing v) may =
+        at_known k (included_from a w ignore_missing (choices_in (known_of w) v)) (λ known. included_from a other ignore_missing (choices_in known v))
+        (from_so a ignore_missing (choices_in (known_of w) v))
     plans_so a _ may = record { same = refl; stays = tt; fits = λ t. absurd t }
 
     pub responds_so : (a : Around) (runners : Runners) → ((key : Key) → RunsSo (runners key)) → (e : Ask) → May names k e

@@ -10,7 +10,7 @@ use Rattle.template_tree.specs.declared.operators.CompareOpKind.TheVariants.{Lt,
 use Rattle.std.specs.Fmt as fmt
 use Rattle.template_values_forms.specs.Printed as printed_forms
 use Rattle.template_tree.specs.Tree as tree
-use Rattle.template_tree.specs.Tree.{Expression, Expressions, Statement, Statements, variable, constant, chain, list_literal, absent, no_expressions, expressions_more, no_links, links_more, raw, print, for_loop, if_condition, set, no_statements, statements_more}
+use Rattle.template_tree.specs.Tree.{Expression, Expressions, Statement, Statements, variable, constant, chain, attribute, list_literal, absent, no_expressions, expressions_more, no_links, links_more, raw, print, for_loop, if_condition, set, no_statements, statements_more}
 use Rattle.template_process.specs.Drive.{faults}
 use Rattle.template_process.specs.Trace.{Run, text_of, price_of}
 use Rattle.template_process.specs.Fuel.{under}
@@ -36,7 +36,7 @@ abbrev setting : UndefinedBehavior → Statements → Setting
 setting mode b = record { templates = λ name. named (codes "b") name b; limit = 500; undefined = mode }
 
 abbrev run_of : UndefinedBehavior → Statements → List Statement → Val → Run World
-run_of mode b ss context = rendered (setting mode b) 5 (record { tree = statements ss; escape = escapes.None }) context
+run_of mode b ss context = rendered (setting mode b) 0 5 (record { tree = statements ss; escape = escapes.None }) context
 
 abbrev only : List ℕ → Val → Val
 only name v = map (pairs_more (text name) v no_pairs)
@@ -52,6 +52,18 @@ loop_text = refl
 loop_price : price_of loop_row.items ≡ 13
 unfolding printed_forms.level_limit fmt.digits
 loop_price = refl
+
+-- `{% for i in [1, 2] %}{{ loop.index }}{{ loop.revindex0 }}{{ loop.last }}{{ loop.previtem }},{% endfor %}`
+abbrev of_loop : List ℕ → Statement
+of_loop name = print (attribute (variable (codes "loop")) name)
+
+abbrev attributes_row : Run World
+attributes_row = run_of Lenient no_statements (for_loop (variable (codes "i")) (list_literal (expressions (number 1 ∷ number 2 ∷ []))) absent false
+    (statements (of_loop (codes "index") ∷ of_loop (codes "revindex0") ∷ of_loop (codes "last") ∷ of_loop (codes "previtem") ∷ raw (codes ",") ∷ [])) no_statements ∷ []) (map no_pairs)
+
+attributes_text : text_of attributes_row.items ≡ codes "11false,20true1,"
+unfolding printed_forms.level_limit fmt.digits
+attributes_text = refl
 
 -- `{{ 1 < x < 3 }}`
 abbrev chain_row : ℕ → Run World

@@ -87,12 +87,12 @@ abbrev pub behind_frame : World → Frame → World
 behind_frame w f = record w { frames = f ∷ w.frames }
 
 -- where a frame is pushed there is room for it, or the event is refused
-pub settles_pushed : {O : Type 0} (s : Programs) (w : World) (shape : O → World → Type 0) (e : Ask) (f : Frame) (Q : Walk O) (room : Bool) → has_room s.around.limit 1 w ≡ room
-    → ((n : ℕ) → answer s n w e ≡ changed_with w (λ after. done) (λ after. after) (pushed s.around.limit w f)) → Settles {O = O} s (behind_frame w f) shape Q → Settles {O = O} s w shape (λ m go. asks e (on_done (Q m go)))
-settles_pushed s w shape e f Q true room is q =
-    settles_to s w (behind_frame w f) shape e Q (λ n. is n ∙ ap (λ b. changed_with w (λ after. done) (λ after. after) (if b then Ok (behind_frame w f) else Err InvalidOperation)) room) q
-settles_pushed s w shape e f Q false room is q =
-    settles_refused s w shape e InvalidOperation (λ m go. on_done (Q m go)) (λ n. is n ∙ ap (λ b. changed_with w (λ after. done) (λ after. after) (if b then Ok (behind_frame w f) else Err InvalidOperation)) room)
+pub settles_pushed : {O : Type 0} (s : Programs) (w u : World) (shape : O → World → Type 0) (e : Ask) (f : Frame) (Q : Walk O) (room : Bool) → has_room s.around.limit 1 u ≡ room
+    → ((n : ℕ) → answer s n w e ≡ changed_with w (λ after. done) (λ after. after) (pushed s.around.limit u f)) → Settles {O = O} s (behind_frame u f) shape Q → Settles {O = O} s w shape (λ m go. asks e (on_done (Q m go)))
+settles_pushed s w u shape e f Q true room is q =
+    settles_to s w (behind_frame u f) shape e Q (λ n. is n ∙ ap (λ b. changed_with w (λ after. done) (λ after. after) (if b then Ok (behind_frame u f) else Err InvalidOperation)) room) q
+settles_pushed s w u shape e f Q false room is q =
+    settles_refused s w shape e InvalidOperation (λ m go. on_done (Q m go)) (λ n. is n ∙ ap (λ b. changed_with w (λ after. done) (λ after. after) (if b then Ok (behind_frame u f) else Err InvalidOperation)) room)
 
 -- a world behind a frame whose loop is this one, or any: what is kept there keeps the base once the frame is closed
 pub closed : (base w : World) (f : Frame) → Keeps (behind_frame base f) w → (t : Top w f.loop (loops_of base.frames)) → Keeps base (record w { frames = t.rest })

@@ -5,7 +5,6 @@ use Rattle.template_values_errors.specs.declared.modes.AutoEscape.{AutoEscape}
 use Rattle.template_values_model.specs.Val as values
 use Rattle.template_values_model.specs.Val.{Val}
 use Rattle.template_values_core.specs.Answers.{text_in}
-use Rattle.template_values_forms.specs.Known.{nothing_known}
 use Rattle.template_values_forms.specs.Truth as truths
 use Rattle.template_values_forms.specs.Escaped.{escaped}
 use Rattle.template_values_operators.specs.Iterated.{iterated}
@@ -16,11 +15,12 @@ use Rattle.template_process.specs.Trace.{Item, written, run, replied}
 use Rattle.template_walk.specs.Expressions.{expression_walk}
 use Rattle.template_walk.specs.Statements.{closing, target_walk, assignments_walk, rounds, loop_end, past, statement_walk, statements_walk}
 use Rattle.template_walk.specs.Runnable.{IsRunnable, IsTarget, IsRunnableStatement, AreRunnableStatements}
-use Rattle.template_machine_meaning.specs.World.{World, has_room}
+use Rattle.template_machine_meaning.specs.World.{Loop, World, has_room, loop_over}
+use Rattle.template_machine_meaning.specs.Records.{known_of}
 use Rattle.template_machine_meaning.specs.Undefined.{forbids_truth, forbids_printing, forbids_iterating}
 use Rattle.template_machine_meaning.specs.Replies.{told, changed, guarded, changed_with, kinded}
 use Rattle.template_machine_meaning.specs.Includes.{include_levels}
-use Rattle.template_machine_meaning.specs.Surroundings.{Programs, printed_reply, empty_frame, loop_frame, opened_loop, gave_none, escape_named, escape_put_back, answer}
+use Rattle.template_machine_meaning.specs.Surroundings.{Programs, printed_reply, empty_frame, counted_loop, opened_loop, gave_none, escape_named, escape_put_back, answer}
 use Rattle.template_machine_meaning.proofs.Settling.{Walk, Settles, settles_then, settles_now, settles_step, settles_value, settles_refused, settles_before, settles_to, settles_weaker}
 use Rattle.template_machine_meaning.proofs.Keeping.{Keeps, keeps_itself, keeps_on, loops_of, top, on_loop_is}
 use Rattle.template_machine_meaning.proofs.Expressions.{Kept, settles_decided, settles_expression}
@@ -60,7 +60,7 @@ module _ (s : Programs) (outer : ℕ) (deeper : (outer + include_levels ≤ s.ar
       (λ n m le ge go. ap (replied (λ a t. run (answer s n) (on_done (go goes) a) t)) (is n))
       (settles_now s w (LeavesTo looping base) goes (kept, tt)))
 
-  printed_out : (looping : Bool) (base w : World) → Keeps base w → (v : Val) (r : Result (List ℕ) ErrorKind) → guarded (forbids_printing s.around.undefined v) (kinded (escaped w.escape nothing_known v)) ≡ r
+  printed_out : (looping : Bool) (base w : World) → Keeps base w → (v : Val) (r : Result (List ℕ) ErrorKind) → guarded (forbids_printing s.around.undefined v) (kinded (escaped w.escape (known_of w) v)) ≡ r
       → Settles {O = Leave} s w (LeavesTo looping base) (λ m go. step (asks (write_value v) (on_done (go goes))))
   printed_out looping base w kept v (Ok text) e = written_out looping base w kept (write_value v) (written text ∷ []) (λ n. ap (printed_reply w) e)
   printed_out looping base w kept v (Err kind) e =
@@ -77,7 +77,7 @@ module _ (s : Programs) (outer : ℕ) (deeper : (outer + include_levels ≤ s.ar
       → Settles {O = Leave} s w (LeavesTo looping base) (λ m go. step (asks (truth_of v) (on_truth (P m go) (Q m go))))
   tested looping base w v P Q p q =
       settles_step s w (LeavesTo looping base) (λ m go. asks (truth_of v) (on_truth (P m go) (Q m go)))
-      (settles_decided s w (LeavesTo looping base) (truth_of v) (guarded (forbids_truth s.around.undefined v) (kinded (truths.truth_of nothing_known v))) P Q (λ n. refl) p q)
+      (settles_decided s w (LeavesTo looping base) (truth_of v) (guarded (forbids_truth s.around.undefined v) (kinded (truths.truth_of (known_of w) v))) P Q (λ n. refl) p q)
 
   -- a target last
   targeted : (looping : Bool) (base w : World) → Keeps base w → IsFramed base → (target : Expression) → IsTarget target → (v : Val) → Settles {O = Leave} s w (LeavesTo looping base) (λ m go. target_walk target v (go goes))
@@ -86,26 +86,26 @@ module _ (s : Programs) (outer : ℕ) (deeper : (outer + include_levels ≤ s.ar
       (λ o x k. settles_now s x (LeavesTo looping base) goes (k, tt))
 
   -- the loop's frame is closed
-  loop_closed : {O : Type 0} (base w : World) (items : List Val) (asked : ℕ) → InRound base items asked w → (shape : O → World → Type 0) (Q : Walk O)
+  loop_closed : {O : Type 0} (base w : World) (own : Loop) (asked : ℕ) → InRound base own asked w → (shape : O → World → Type 0) (Q : Walk O)
       → ((z : World) → Keeps base z → Settles {O = O} s z shape Q) → Settles {O = O} s w shape (λ m go. asks close_loop (on_done (Q m go)))
-  loop_closed base w items asked inside shape Q next =
-      let t = top w (Some (loop_at items asked)) (loops_of base.frames) inside.loops in
+  loop_closed base w own asked inside shape Q next =
+      let t = top w (Some (loop_at own asked)) (loops_of base.frames) inside.loops in
       let z : World = record w { frames = t.rest } in
-      settles_to s w z shape close_loop Q (λ n. on_loop_is w t.frame t.rest (loop_at items asked) t.frames t.own (λ f l fs. changed (record w { frames = fs }) done))
-      (next z (closed base w (frame_at items asked) inside t))
+      settles_to s w z shape close_loop Q (λ n. on_loop_is w t.frame t.rest (loop_at own asked) t.frames t.own (λ f l fs. changed (record w { frames = fs }) done))
+      (next z (closed base w (frame_at own asked) inside t))
 
   -- behind a loop: its else part, if it has one, where no item was given
-  ended_loop : (looping : Bool) (base w : World) (items : List Val) (asked : ℕ) → InRound base items asked w → (otherwise : Statements) (Q : Walk Leave)
+  ended_loop : (looping : Bool) (base w : World) (own : Loop) (asked : ℕ) → InRound base own asked w → (otherwise : Statements) (Q : Walk Leave)
       → ((z : World) → Keeps base z → Settles {O = Leave} s z (LeavesTo looping base) Q) → Settles {O = Leave} s w (LeavesTo looping base) (λ m go. loop_end otherwise (Q m go) (go goes))
-  ended_loop looping base w items asked inside no_statements Q next =
-      loop_closed base w items asked inside (LeavesTo looping base) (λ m go. go goes) (λ z kept. settles_now s z (LeavesTo looping base) goes (kept, tt))
-  ended_loop looping base w items asked inside (statements_more s₀ ss) Q next =
-      let t = top w (Some (loop_at items asked)) (loops_of base.frames) inside.loops in
-      settles_then s w (Kept (behind_frame base (frame_at items asked))) (LeavesTo looping base) (λ m go. asks did_not_iterate (on_value go))
+  ended_loop looping base w own asked inside no_statements Q next =
+      loop_closed base w own asked inside (LeavesTo looping base) (λ m go. go goes) (λ z kept. settles_now s z (LeavesTo looping base) goes (kept, tt))
+  ended_loop looping base w own asked inside (statements_more s₀ ss) Q next =
+      let t = top w (Some (loop_at own asked)) (loops_of base.frames) inside.loops in
+      settles_then s w (Kept (behind_frame base (frame_at own asked))) (LeavesTo looping base) (λ m go. asks did_not_iterate (on_value go))
       (λ flag m go. asks close_loop (on_done (step (asks (truth_of flag) (on_truth (Q m go) (go goes))))))
-      (settles_value s w (Kept (behind_frame base (frame_at items asked))) did_not_iterate (Ok (values.truth (gave_none (loop_at items asked)))) (λ v. inside)
-      (λ n. on_loop_is w t.frame t.rest (loop_at items asked) t.frames t.own (λ f l fs. told w (tells (value (values.truth (gave_none l)))))))
-      (λ flag x here. loop_closed base x items asked here (LeavesTo looping base) (λ m go. step (asks (truth_of flag) (on_truth (Q m go) (go goes))))
+      (settles_value s w (Kept (behind_frame base (frame_at own asked))) did_not_iterate (Ok (values.truth (gave_none (loop_at own asked)))) (λ v. inside)
+      (λ n. on_loop_is w t.frame t.rest (loop_at own asked) t.frames t.own (λ f l fs. told w (tells (value (values.truth (gave_none l)))))))
+      (λ flag x here. loop_closed base x own asked here (LeavesTo looping base) (λ m go. step (asks (truth_of flag) (on_truth (Q m go) (go goes))))
       (λ z kept. tested looping base z flag Q (λ m go. go goes) (next z kept) (settles_now s z (LeavesTo looping base) goes (kept, tt))))
 
   -- behind a branch that an else part follows
@@ -160,35 +160,36 @@ module _ (s : Programs) (outer : ℕ) (deeper : (outer + include_levels ≤ s.ar
 
   -- a loop over items
   rounds_settle : (looping : Bool) (target : Expression) (body otherwise : Statements) → IsTarget target → BodySettles true body → BodySettles looping otherwise
-      → (base : World) → Frames base → (w : World) → Keeps base w → (vs : List Val)
-      → Settles {O = Leave} s (behind_frame w (loop_frame vs)) (LeavesTo looping base) (λ m go. rounds m (round_of target body m) (loop_end otherwise (statements_walk m otherwise (exits_of go) (go goes)) (go goes)))
-  rounds_settle looping target body otherwise h bodies others base framed w kept vs =
-      let inside : World = behind_frame w (loop_frame vs) in
+      → (base : World) → Frames base → (w : World) → Keeps base w → (own : Loop)
+      → Settles {O = Leave} s (behind_frame w (frame_at own 0)) (LeavesTo looping base) (λ m go. rounds m (round_of target body m) (loop_end otherwise (statements_walk m otherwise (exits_of go) (go goes)) (go goes)))
+  rounds_settle looping target body otherwise h bodies others base framed w kept own =
+      let inside : World = behind_frame w (frame_at own 0) in
       whole_rounds inside (LeavesTo looping base) (round_of target body) (λ m go. loop_end otherwise (statements_walk m otherwise (exits_of go) (go goes)) (go goes))
-      (settles_then s inside (AtEnd w vs) (LeavesTo looping base) (λ m go. rounds (m - 0) (round_of target body m) (go tt)) (λ o m go. loop_end otherwise (statements_walk m otherwise (exits_of go) (go goes)) (go goes))
-      (settles_rounds s w vs (round_of target body) (length vs) 0 0 (omega arith)
+      (settles_then s inside (AtEnd w own) (LeavesTo looping base) (λ m go. rounds (m - 0) (round_of target body m) (go tt)) (λ o m go. loop_end otherwise (statements_walk m otherwise (exits_of go) (go goes)) (go goes))
+      (settles_rounds s w own (round_of target body) (length own.items) 0 0 (omega arith)
       (λ v asked y here.
-      let frame : World = behind_frame w (frame_at vs asked) in
-      let framed_there : Frames frame = (record { loop = Some (loop_at vs asked); others = loops_of w.frames; loops = refl }, kept.outer ∙ framed.1) in
+      let frame : World = behind_frame w (frame_at own asked) in
+      let framed_there : Frames frame = (record { loop = Some (loop_at own asked); others = loops_of w.frames; loops = refl }, kept.outer ∙ framed.1) in
       settles_weaker s y (LeavesTo true frame) (Kept frame) (λ m go. round_of target body m v (exits_of go) (go goes)) (λ o z leaves. leaves.0)
       (settles_then s y (Kept frame) (LeavesTo true frame) (λ m go. target_walk target v (go tt)) (λ o m go. statements_walk m body (exits_of go) (go goes)) (settles_target s frame framed_there.0 target h v y here)
       (λ o z k. bodies frame framed_there z k)))
       inside (keeps_itself inside))
       (λ o y at.
       settles_weaker s y (LeavesTo looping w) (LeavesTo looping base) (λ m go. loop_end otherwise (statements_walk m otherwise (exits_of go) (go goes)) (go goes)) (λ o z leaves. (keeps_on base w z kept leaves.0, leaves.1))
-      (ended_loop looping w y vs at.0 at.1 otherwise (body_walk otherwise)
+      (ended_loop looping w y own at.0 at.1 otherwise (body_walk otherwise)
       (λ z k. others w (framed_on base w framed.0 kept, kept.outer ∙ framed.1) z k))))
 
   looped : (looping : Bool) (target : Expression) (body otherwise : Statements) (v : Val) → IsTarget target → BodySettles true body → BodySettles looping otherwise
-      → (base : World) → Frames base → (w : World) → Keeps base w → (r : Result (List Val) ErrorKind) → guarded (forbids_iterating s.around.undefined v) (kinded (iterated nothing_known v)) ≡ r
+      → (base : World) → Frames base → (w : World) → Keeps base w → (r : Result (List Val) ErrorKind) → guarded (forbids_iterating s.around.undefined v) (kinded (iterated (known_of w) v)) ≡ r
       → Settles {O = Leave} s w (LeavesTo looping base) (λ m go. asks (open_loop plain_loop v) (on_done (rounds m (round_of target body m) (loop_end otherwise (statements_walk m otherwise (exits_of go) (go goes)) (go goes)))))
   looped looping target body otherwise v h bodies others base framed w kept (Ok vs) e =
-      settles_pushed s w (LeavesTo looping base) (open_loop plain_loop v) (loop_frame vs) (λ m go. rounds m (round_of target body m) (loop_end otherwise (statements_walk m otherwise (exits_of go) (go goes)) (go goes))) (has_room s.around.limit 1 w) refl
-      (λ n. ap (λ r. changed_with w (λ after. done) (λ after. after) (opened_loop s.around.limit w r)) e)
-      (rounds_settle looping target body otherwise h bodies others base framed w kept vs)
+      let own : Loop = loop_over w true false vs in
+      settles_pushed s w (counted_loop w) (LeavesTo looping base) (open_loop plain_loop v) (frame_at own 0) (λ m go. rounds m (round_of target body m) (loop_end otherwise (statements_walk m otherwise (exits_of go) (go goes)) (go goes))) (has_room s.around.limit 1 w) refl
+      (λ n. ap (λ r. changed_with w (λ after. done) (λ after. after) (opened_loop s.around.limit w plain_loop r)) e)
+      (rounds_settle looping target body otherwise h bodies others base framed (counted_loop w) (record { loops = kept.loops; outer = kept.outer; saved = kept.saved }) own)
   looped looping target body otherwise v h bodies others base framed w kept (Err kind) e =
       settles_refused s w (LeavesTo looping base) (open_loop plain_loop v) kind (λ m go. on_done (rounds m (round_of target body m) (loop_end otherwise (statements_walk m otherwise (exits_of go) (go goes)) (go goes))))
-      (λ n. ap (λ r. changed_with w (λ after. done) (λ after. after) (opened_loop s.around.limit w r)) e)
+      (λ n. ap (λ r. changed_with w (λ after. done) (λ after. after) (opened_loop s.around.limit w plain_loop r)) e)
 
   -- an escape for a body
   escaping : (looping : Bool) (body : Statements) → BodySettles looping body → (base : World) → Frames base → (w : World) → Keeps base w → (v : Val) (r : Result AutoEscape ErrorKind) → escape_named w.first v (text_in v) ≡ r
@@ -209,10 +210,10 @@ module _ (s : Programs) (outer : ℕ) (deeper : (outer + include_levels ≤ s.ar
     settles_statement looping (raw text) h base framed w kept = written_out looping base w kept (write_raw text) (written text ∷ []) (λ n. refl)
     settles_statement looping (print e) h base framed w kept =
         valued looping base w kept e h (λ v m go. step (asks (write_value v) (on_done (go goes))))
-        (λ v x k. printed_out looping base x k v (guarded (forbids_printing s.around.undefined v) (kinded (escaped x.escape nothing_known v))) refl)
+        (λ v x k. printed_out looping base x k v (guarded (forbids_printing s.around.undefined v) (kinded (escaped x.escape (known_of x) v))) refl)
     settles_statement looping (for_loop target e absent false body otherwise) h base framed w kept =
         valued looping base w kept e h.1 (λ v m go. asks (open_loop plain_loop v) (on_done (rounds m (round_of target body m) (loop_end otherwise (statements_walk m otherwise (exits_of go) (go goes)) (go goes)))))
-        (λ v x k. looped looping target body otherwise v h.0 (settles_statements true body h.2) (settles_statements looping otherwise h.3) base framed x k (guarded (forbids_iterating s.around.undefined v) (kinded (iterated nothing_known v))) refl)
+        (λ v x k. looped looping target body otherwise v h.0 (settles_statements true body h.2) (settles_statements looping otherwise h.3) base framed x k (guarded (forbids_iterating s.around.undefined v) (kinded (iterated (known_of x) v))) refl)
     settles_statement looping (if_condition e body otherwise) h base framed w kept =
         valued looping base w kept e h.0 (λ v m go. step (asks (truth_of v) (on_truth (statements_walk m body (exits_of go) (past otherwise (go goes))) (statements_walk m otherwise (exits_of go) (go goes)))))
         (λ v x k. tested looping base x v (λ m go. statements_walk m body (exits_of go) (past otherwise (go goes))) (body_walk otherwise)
@@ -221,7 +222,7 @@ module _ (s : Programs) (outer : ℕ) (deeper : (outer + include_levels ≤ s.ar
     settles_statement looping (with_block assignments body) h base framed w kept =
         let inside : World = behind_frame w empty_frame in
         let framed_inside : Frames inside = (record { loop = None; others = loops_of w.frames; loops = refl }, kept.outer ∙ framed.1) in
-        settles_pushed s w (LeavesTo looping base) open_frame empty_frame (λ m go. assignments_walk assignments (statements_walk m body (closing close_frame (exits_of go)) (asks close_frame (on_done (go goes))))) (has_room s.around.limit 1 w) refl (λ n. refl)
+        settles_pushed s w w (LeavesTo looping base) open_frame empty_frame (λ m go. assignments_walk assignments (statements_walk m body (closing close_frame (exits_of go)) (asks close_frame (on_done (go goes))))) (has_room s.around.limit 1 w) refl (λ n. refl)
         (settles_then s inside (Kept inside) (LeavesTo looping base) (λ m go. assignments_walk assignments (go tt)) (λ o m go. statements_walk m body (closing close_frame (exits_of go)) (asks close_frame (on_done (go goes))))
         (settles_assignments s inside framed_inside.0 assignments h.0 inside (keeps_itself inside))
         (λ o x k. settles_then s x (LeavesTo looping inside) (LeavesTo looping base) (body_walk body) (λ o m go. asks close_frame (on_done (go o))) (settles_statements looping body h.1 inside framed_inside x k)

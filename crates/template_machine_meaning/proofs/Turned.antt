@@ -6,7 +6,8 @@ use Rattle.std.specs.Str.{bytes_eq}
 use Rattle.std.proofs.lemmas.Slice.Eq.{bytes_eq-Decides}
 use Rattle.template_values_model.specs.Val.{Val}
 use Rattle.template_values_model.specs.Lookup.{value_at}
-use Rattle.template_machine_meaning.specs.World.{Loop, Frame, World, local_at, known_in, known_at, put_local}
+use Rattle.template_machine_meaning.specs.World.{Loop, Frame, World, local_at, known_by_loop, known_in, known_at, put_local, depth_behind, depth_within}
+use Rattle.template_machine_meaning.specs.Records.{loops_of, known_by, known_of}
 use Rattle.template_machine_meaning.proofs.Known.{Known, base, inner, IsIn, Grows, stored, closed, cleared, IsInner, IsSafe}
 
 -- the outermost frame has the context, the others stay
@@ -50,14 +51,18 @@ module _ (names : List ℕ → Type 0) (d : Val) where
   held (Some v) h p q later other = refl
   held None h p q later other = absurd (cc)
 
+  -- what a frame's loop has comes before what is behind it
+  abbrev behind_loop : List ℕ → Frame → Option Val → Option Val
+  behind_loop name f o = option_or (known_by_loop name f.loop) o
+
   -- what is safe is found, or not, over both
   pub finds : (name : List ℕ) (k : Known) (fs : List Frame) → Fits k fs → IsSafe names k name → known_at name (over_frames d fs) ≡ known_at name fs
-  finds name (base ids) (f ∷ []) fits (inl n) = ap (λ o. option_or (option_or (local_at name f.locals) o) None) (fits.1 name n)
-  finds name (base ids) (f ∷ []) fits (inr n) = held (local_at name f.locals) (fits.0 name n) (value_at name d) (value_at name f.context) None None
+  finds name (base ids) (f ∷ []) fits (inl n) = ap (λ o. option_or (option_or (local_at name f.locals) (option_or (known_by_loop name f.loop) o)) None) (fits.1 name n)
+  finds name (base ids) (f ∷ []) fits (inr n) = held (local_at name f.locals) (fits.0 name n) (behind_loop name f (value_at name d)) (behind_loop name f (value_at name f.context)) None None
   finds name (inner ids k) (f ∷ g ∷ fs) fits (inl n) = ap (option_or (known_in name f)) (finds name k (g ∷ fs) fits.1 (inl n))
   finds name (inner ids k) (f ∷ g ∷ fs) fits (inr (inr n)) = ap (option_or (known_in name f)) (finds name k (g ∷ fs) fits.1 (inr n))
   finds name (inner ids k) (f ∷ g ∷ fs) fits (inr (inl n)) =
-      held (local_at name f.locals) (fits.0 name n) (value_at name f.context) (value_at name f.context) (known_at name (over_frames d (g ∷ fs))) (known_at name (g ∷ fs))
+      held (local_at name f.locals) (fits.0 name n) (behind_loop name f (value_at name f.context)) (behind_loop name f (value_at name f.context)) (known_at name (over_frames d (g ∷ fs))) (known_at name (g ∷ fs))
   finds name (inner ids k) (f ∷ []) fits safe = absurd (fits_none k fits.1)
   finds name (inner ids k) [] fits safe = absurd fits
   finds name (base ids) [] fits safe = absurd fits
@@ -67,6 +72,18 @@ module _ (names : List ℕ → Type 0) (d : Val) where
   pub pushes : (k : Known) (f : Frame) (fs : List Frame) → Fits k fs → over_frames d (f ∷ fs) ≡ f ∷ over_frames d fs
   pushes k f [] fits = absurd (fits_none k fits)
   pushes k f (g ∷ fs) fits = refl
+
+  -- the loops are the same, and what is known of records
+  same_loops : (fs : List Frame) → loops_of (over_frames d fs) ≡ loops_of fs
+  same_loops [] = refl
+  same_loops (f ∷ fs) = ap (λ (loops : List (Option Loop)). f.loop ∷ loops) (same_loops fs)
+
+  pub same_known : (w : World) → known_of (over_context d w) ≡ known_of w
+  same_known w = ap (known_by w.id) (same_loops w.frames)
+
+  pub same_depth : (fs : List Frame) → depth_within (over_frames d fs) ≡ depth_within fs
+  same_depth [] = refl
+  same_depth (f ∷ fs) = ap (depth_behind f.loop) (same_depth fs)
 
   pub many : (fs : List Frame) → length (over_frames d fs) ≡ length fs
   many [] = refl

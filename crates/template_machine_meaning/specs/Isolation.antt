@@ -27,9 +27,9 @@ AgreesAt c d name = value_at name c ≡ value_at name d
 -- Over contexts that agree at the context names a render leaves the same items and comes to the same end, under every
 -- bound and every fuel.
 abbrev pub IsolatesNames : Type 0
-IsolatesNames = (setting : Setting) (t : Standing) (c d : Val)
+IsolatesNames = (setting : Setting) (id : ℕ) (t : Standing) (c d : Val)
     → ((name : List ℕ) → IsContextName setting t.tree name → AgreesAt c d name)
-    → (n : ℕ) (fuel : Option ℕ) → IsSameRun (under fuel (rendered setting n t c)) (under fuel (rendered setting n t d))
+    → (n : ℕ) (fuel : Option ℕ) → IsSameRun (under fuel (rendered setting id n t c)) (under fuel (rendered setting id n t d))
 
 -- Over contexts that agree at the names that stand in an expression its evaluation leaves the same items and comes to the
 -- same end, under every fuel.

@@ -1,4 +1,5 @@
 pub mod World
+pub mod Records
 pub mod Undefined
 pub mod Replies
 pub mod Keys

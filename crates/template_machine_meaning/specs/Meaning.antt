@@ -1,5 +1,5 @@
 -- What a template means for a context, under a bound; and what an expression does, without one.
-use Rattle.std.specs.Prelude.{ℕ, suc, List, Option, None, Some, option_map}
+use Rattle.std.specs.Prelude.{ℕ, suc, ◌-◌, ◌^◌, List, Option, None, Some, option_map}
 use Rattle.template_values_errors.specs.declared.modes.AutoEscape.{AutoEscape}
 use Rattle.template_values_errors.specs.declared.modes.AutoEscape.TheVariants as escapes
 use Rattle.template_values_errors.specs.declared.modes.UndefinedBehavior.{UndefinedBehavior}
@@ -63,14 +63,18 @@ top = whole_of (own keys.rendered)
 abbrev pub meaning : Setting → Standing → ℕ → World → Run World
 meaning setting root n w = ran (runners (walks_of setting (Some root)) (suc n) top) w
 
--- a template that stands, over a context
-abbrev pub rendered : Setting → ℕ → Standing → Val → Run World
-rendered setting n t context = meaning setting t n (first_world t.escape context)
+-- a template that stands, over a context, in the state of a number
+abbrev pub rendered : Setting → ℕ → ℕ → Standing → Val → Run World
+rendered setting id n t context = meaning setting t n (first_world id t.escape context)
 
 -- an expression from a world on, to its value; it has no rounds and starts no run within, so the least bound will do
 abbrev pub evaluation : Setting → Expression → World → Run World
 evaluation setting e w = run (answer (walks_of setting None) 0) (standalone_walk e) w
 
--- an expression over a context, under no escape
+-- the number that no state is given
+abbrev pub no_state : ℕ
+no_state = 2 ^ 64 - 1
+
+-- an expression over a context, under no escape; it opens no loop, so that no state's number need be known
 abbrev pub evaluated : Setting → Expression → Val → Run World
-evaluated setting e context = evaluation setting e (first_world escapes.None context)
+evaluated setting e context = evaluation setting e (first_world no_state escapes.None context)

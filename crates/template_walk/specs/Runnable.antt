@@ -6,7 +6,7 @@ use Rattle.template_tree.specs.Tree.{Expression, Optional, Expressions, Links, v
 -- the engine gives these names, in places, values that are not there yet
 abbrev pub is_kept_back : List ℕ → Bool
 is_kept_back name =
-    bytes_eq name (codes "loop") || (bytes_eq name (codes "caller") || (bytes_eq name (codes "self") || bytes_eq name (codes "super")))
+    bytes_eq name (codes "caller") || (bytes_eq name (codes "self") || bytes_eq name (codes "super"))
 
 abbrev mutual
   -- names that are not kept back, constants, operators, items, slices and containers; no calls, filters or tests

@@ -1,0 +1,33 @@
+-- What a run knows of records: of its own loops, as long as their frames are open.
+use Rattle.std.specs.Prelude.{ℕ, ◌-◌, ◌==◌, nat_le, List, [], ◌∷◌, length, map, Option, None, Some, option_map, if◌then◌else◌}
+use Rattle.template_values_forms.specs.Known.{LoopSeen, Known}
+use Rattle.template_machine_meaning.specs.World.{Loop, Frame, World}
+
+-- the loop of each frame, if it has one
+abbrev pub loops_of : List Frame → List (Option Loop)
+loops_of = map (λ (f : Frame). f.loop)
+
+abbrev pub loop_numbered : ℕ → List (Option Loop) → Option Loop
+loop_numbered number [] = None
+loop_numbered number (None ∷ loops) = loop_numbered number loops
+loop_numbered number (Some l ∷ loops) = if l.number == number then Some l else loop_numbered number loops
+
+-- the place of the item that a loop is at: none before the first one; behind the last one it is their number
+abbrev pub place_in : Loop → Option ℕ
+place_in l =
+    if l.asked == 0 then None
+    else (if nat_le l.asked (length l.items) then Some (l.asked - 1) else Some (length l.items))
+
+abbrev pub seen_of : Loop → LoopSeen
+seen_of l = record { items = l.items; place = place_in l; depth = l.depth }
+
+-- of another state nothing is known; there are no namespaces and macros yet
+abbrev pub known_by : ℕ → List (Option Loop) → Known
+known_by id loops = record {
+  namespaces = λ other number. None;
+  loops = λ other number. if other == id then option_map seen_of (loop_numbered number loops) else None;
+  macros = λ other number. None;
+}
+
+abbrev pub known_of : World → Known
+known_of w = known_by w.id (loops_of w.frames)
