@@ -2,16 +2,14 @@
 #![tactic(auto)]
 
 ghost use Rattle.std.specs.Prelude.{◌≡◌, ◌==◌, [], ◌∷◌, length, slice_get, option_copied};
-ghost use Rattle.template_values_core.specs.Maps.{pairs_of};
-ghost use Rattle.template_values_core.specs.Shape.{pairs_in};
-ghost use Rattle.template_values_operators.specs.Iterated.{keys_in};
-ghost use Rattle.template_machine_items.specs.Shared.{items_shared, keys_shared};
+ghost use Rattle.template_machine_items.specs.Shared.{items_shared};
 
 use std::marker::Model;
-use template_values_core::{Entry, Value};
+use std::slice;
+use template_values_core::Value;
 
-/// Values in order, as a contract sees them. The items of lists and tuples and the keys of maps are
-/// shared with the value that has them.
+/// Values in order, as a contract sees them, which stand side by side. The items of lists and tuples
+/// are shared with the value that has them.
 #[derive(Drop)]
 pub struct Items {
     held: Held,
@@ -22,7 +20,6 @@ pub struct Items {
 enum Held {
     One(Value),
     Items(Value),
-    Keys(Value),
     Made(Vec<Value>),
 }
 
@@ -42,16 +39,22 @@ impl Model for Items {
 }
 
 impl Items {
+    /// The values side by side.
+    pub fn as_slice(&self) -> &[Value]
+        ensures { result.now ≡ self.now }
+    {
+        match &self.held {
+            Held::One(value) => slice::from_ref(value),
+            Held::Items(value) => items_shared(value),
+            Held::Made(values) => values.as_slice(),
+        }
+    }
+
     /// How many values there are.
     pub fn len(&self) -> usize
         ensures { result ≡ length self.now }
     {
-        match &self.held {
-            Held::One(_value) => 1,
-            Held::Items(value) => items_shared(value).len(),
-            Held::Keys(value) => key_count(value),
-            Held::Made(values) => values.len(),
-        }
+        self.as_slice().len()
     }
 
     /// Whether there are none.
@@ -77,12 +80,7 @@ impl Items {
     fn get_of_any(&self, place: usize) -> Option<&Value>
         ensures { option_copied result ≡ slice_get self.now place }
     {
-        match &self.held {
-            Held::One(value) => only(value, place),
-            Held::Items(value) => items_shared(value).get(place),
-            Held::Keys(value) => key_at(entries_shared(value), place),
-            Held::Made(values) => values.get(place),
-        }
+        self.as_slice().get(place)
     }
 
     /// One value.
@@ -103,15 +101,6 @@ impl Items {
         }
     }
 
-    /// The keys of a map, keyword map or module, which are not copied; none of other values.
-    pub fn keys_of(value: Value) -> Items
-        ensures { result ≡ keys_shared value }
-    {
-        Items {
-            held: Held::Keys(value),
-        }
-    }
-
     /// Values that nothing else holds.
     pub fn made(values: Vec<Value>) -> Items
         ensures { result ≡ values.items }
@@ -122,13 +111,6 @@ impl Items {
     }
 }
 
-/// The value at a place of it alone.
-fn only(value: &Value, place: usize) -> Option<&Value>
-    ensures { option_copied result ≡ slice_get (value.now ∷ []) place }
-{
-    if place == 0 { Some(value) } else { None }
-}
-
 /// The items of a list or tuple; none of other values.
 fn items_shared(value: &Value) -> &[Value]
     ensures { result.now ≡ items_shared value.now }
@@ -136,33 +118,5 @@ fn items_shared(value: &Value) -> &[Value]
     match value.items() {
         Some(items) => items,
         None => &[],
-    }
-}
-
-/// The entries of a map, keyword map or module; none of other values.
-fn entries_shared(value: &Value) -> &[Entry]
-    ensures { keys_in (pairs_of (pairs_in result.now)) ≡ keys_shared value.now }
-{
-    match value.entries() {
-        Some(entries) => entries,
-        None => &[],
-    }
-}
-
-/// How many keys a map, keyword map or module has.
-#[tactic(auto, using(crate::proofs::Keys::key_count))]
-fn key_count(value: &Value) -> usize
-    ensures { result ≡ length (keys_shared value.now) }
-{
-    entries_shared(value).len()
-}
-
-/// The key of the entry at a place.
-fn key_at(entries: &[Entry], place: usize) -> Option<&Value>
-    ensures { option_copied result ≡ slice_get (keys_in (pairs_of (pairs_in entries.now))) place }
-{
-    match entries.get(place) {
-        Some(entry) => Some(&entry.key),
-        None => None,
     }
 }
