@@ -1,5 +1,4 @@
 pub mod Codes
-pub mod Callers
 pub mod Changes
 -- what contracts above cite of a crate below
 pub use Rattle.template_machine_frames.specs.Names

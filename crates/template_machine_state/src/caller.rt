@@ -14,12 +14,12 @@ pub struct Caller {
 
 impl Model for Caller {
     ghost use Rattle.std.specs.Prelude.{reverse};
-    ghost use Rattle.template_machine_state.specs.Callers.{Kept};
-    ghost use Rattle.template_machine_state.specs.Codes.{kept_code};
+    ghost use Rattle.template_machine_meaning.specs.Plans as plans;
+    ghost use Rattle.template_machine_state.specs.Codes.{caller_code};
 
-    ghost Value = { Kept };
+    ghost Value = { plans.Caller };
 
-    ghost coded = { kept_code };
+    ghost coded = { caller_code };
 
     ghost view = { λ c. record { outer = c.outer; escape = c.escape; saved = reverse c.saved.items; first = c.first } };
 }
