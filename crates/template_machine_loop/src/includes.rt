@@ -2,6 +2,7 @@
 ghost use Rattle.std.specs.Prelude.{◌≡◌, ◌∷◌, [], ◌⊎◌, Ok, Err, IfOk, IfErr, option_map};
 ghost use Rattle.template_code.specs.View.{code_of};
 ghost use Rattle.template_values_errors.specs.Memory.{NoMemory};
+ghost use Rattle.template_machine_meaning.specs.Records.{known_of};
 ghost use Rattle.template_machine_operations.specs.Answers.{answered};
 ghost use Rattle.template_machine_loop.specs.Programs.{standing_of, first_of, chosen_by, chosen, include_in};
 
@@ -10,9 +11,9 @@ use std::alloc::Global;
 use template_code::Instruction;
 use template_machine_items::Items;
 use template_machine_operations::choices_in;
+use template_machine_state::State;
 use template_values_core::Value;
 use template_values_errors::{Error, ErrorKind};
-use template_values_forms::NoRecords;
 
 // Whether a missing template is ignored, where the instruction includes one.
 pub(crate) fn include_in(instruction: &Instruction<'_>) -> Option<bool>
@@ -83,11 +84,13 @@ pub(crate) fn chosen<'env, T: Templates>(
     templates: &'env T,
     ignore_missing: bool,
     value: Value,
+    state: &State<'_>,
 ) -> Result<Option<Compiled<'env>>, Error>
-    ensures found { IfOk result (λ found. chosen (T.standing templates.now) ignore_missing value ≡ Ok (option_map standing_of found)) }
-    ensures refused { IfErr result (λ kinds. NoMemory kinds ⊎ (answered (chosen (T.standing templates.now) ignore_missing value) ≡
-        Err kinds)) }
+    ensures found { let choice = chosen (T.standing templates.now) (known_of state.now) ignore_missing value in
+        IfOk result (λ found. choice ≡ Ok (option_map standing_of found)) }
+    ensures refused { let choice = chosen (T.standing templates.now) (known_of state.now) ignore_missing value in
+        IfErr result (λ kinds. NoMemory kinds ⊎ (answered choice ≡ Err kinds)) }
 {
-    let choices = choices_in(alloc, value, &NoRecords)?;
+    let choices = choices_in(alloc, value, state)?;
     chosen_among(templates, ignore_missing, &choices)
 }

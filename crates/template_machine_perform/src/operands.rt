@@ -12,6 +12,7 @@ ghost use Rattle.template_machine_perform.specs.Performs.{straight, operator_in,
 use std::alloc::Global;
 use template_code::{CompareOp, Instruction};
 use template_machine_operands::Operands;
+use template_machine_state::State;
 use template_machine_steps::{
     Way, build_list, build_map, build_tuple, compare_and_preserve, discard_top, dup_top, get_attr,
     get_item, invert, is_undefined, jump, jump_if_false, jump_if_false_or_pop, jump_if_true_or_pop,
@@ -94,22 +95,24 @@ fn build_tuple_of(alloc: Global, count: Option<usize>, operands: &mut Operands) 
     }
 }
 
-// Does what an instruction does that only takes and gives operands. One that asks what nothing answers is refused.
+// Does what an instruction does that only takes and gives operands, and looks into records alone of what surrounds them. One
+// that asks what nothing answers is refused.
 #[inline(never)]
 pub(crate) fn perform_on_operands(
     alloc: Global,
     mode: UndefinedBehavior,
     instruction: &Instruction<'_>,
+    state: &State<'_>,
     operands: &mut Operands,
 ) -> Result<Way, Error>
     requires { IsOfOperands (code_of instruction.now) }
-    ensures { (program : Programs) (limit : ℕ) (w : World) →
-        Leads (ruled program limit mode) (code_of instruction.now) (operands_in operands.old) w
-        result (operands_in operands.new) w }
+    ensures { (program : Programs) (limit : ℕ) →
+        Leads (ruled program limit mode) (code_of instruction.now) (operands_in operands.old) state.now
+        result (operands_in operands.new) state.now }
 {
     match operator_of(instruction) {
-        Some(op) => straight(operate(alloc, mode, op, operands)),
-        None => perform_without_operator(alloc, mode, instruction, operands),
+        Some(op) => straight(operate(alloc, mode, op, operands, state)),
+        None => perform_without_operator(alloc, mode, instruction, state, operands),
     }
 }
 
@@ -118,36 +121,39 @@ fn perform_without_operator(
     alloc: Global,
     mode: UndefinedBehavior,
     instruction: &Instruction<'_>,
+    state: &State<'_>,
     operands: &mut Operands,
 ) -> Result<Way, Error>
     requires operands { IsOfOperands (code_of instruction.now) }
     requires no_operator { None ≡ operator_in (code_of instruction.now) }
-    ensures { (program : Programs) (limit : ℕ) (w : World) →
-        Leads (ruled program limit mode) (code_of instruction.now) (operands_in operands.old) w
-        result (operands_in operands.new) w }
+    ensures { (program : Programs) (limit : ℕ) →
+        Leads (ruled program limit mode) (code_of instruction.now) (operands_in operands.old) state.now
+        result (operands_in operands.new) state.now }
 {
     match instruction {
         Instruction::LoadConst(value) => straight(load_const(operands, value)),
         Instruction::Swap => straight(swap(operands)),
         Instruction::DupTop => straight(dup_top(operands)),
         Instruction::DiscardTop => straight(discard_top(operands)),
-        Instruction::GetAttr(name) => straight(get_attr(alloc, mode, name.as_str(), operands)),
-        Instruction::GetItem => straight(get_item(alloc, mode, operands)),
+        Instruction::GetAttr(name) => {
+            straight(get_attr(alloc, mode, name.as_str(), operands, state))
+        }
+        Instruction::GetItem => straight(get_item(alloc, mode, operands, state)),
         Instruction::Slice => straight(slice(alloc, mode, operands)),
         Instruction::BuildList(count) => straight(build_list_of(alloc, *count, operands)),
         Instruction::BuildTuple(count) => straight(build_tuple_of(alloc, *count, operands)),
         Instruction::BuildMap(count) => straight(build_map(alloc, *count, operands)),
-        Instruction::UnpackList(count) => straight(unpack_list(*count, operands)),
+        Instruction::UnpackList(count) => straight(unpack_list(alloc, *count, operands)),
         Instruction::Neg => straight(negate(operands)),
-        Instruction::Not => straight(invert(mode, operands)),
+        Instruction::Not => straight(invert(mode, operands, state)),
         Instruction::IsUndefined => straight(is_undefined(operands)),
         Instruction::CompareAndPreserve(op) => {
-            straight(compare_and_preserve(mode, comparison_of(*op), operands))
+            straight(compare_and_preserve(mode, comparison_of(*op), operands, state))
         }
         Instruction::Jump(to) => Ok(jump(*to)),
-        Instruction::JumpIfFalse(to) => jump_if_false(mode, *to, operands),
-        Instruction::JumpIfFalseOrPop(to) => jump_if_false_or_pop(mode, *to, operands),
-        Instruction::JumpIfTrueOrPop(to) => jump_if_true_or_pop(mode, *to, operands),
+        Instruction::JumpIfFalse(to) => jump_if_false(mode, *to, operands, state),
+        Instruction::JumpIfFalseOrPop(to) => jump_if_false_or_pop(mode, *to, operands, state),
+        Instruction::JumpIfTrueOrPop(to) => jump_if_true_or_pop(mode, *to, operands, state),
         _ => Err(Error::new(ErrorKind::BadStream)),
     }
 }

@@ -39,14 +39,14 @@ pub(crate) fn perform_quietly<'env>(
         Instruction::StoreLocal(name) => straight(store_local(state, name.as_str(), operands)),
         Instruction::PushWith => straight(push_with(alloc, rules.limit, state)),
         Instruction::PopFrame => straight(pop_frame(state)),
-        Instruction::PushLoop(_flags) => {
-            straight(push_loop(alloc, rules.limit, mode, state, operands))
+        Instruction::PushLoop(flags) => {
+            straight(push_loop(alloc, rules.limit, mode, *flags, state, operands))
         }
         Instruction::Iterate(to) => iterate(state, *to, operands),
         Instruction::PushDidNotIterate => straight(push_did_not_iterate(state, operands)),
         Instruction::PopLoopFrame => straight(pop_loop_frame(state)),
         Instruction::PushAutoEscape => straight(push_auto_escape(state, operands)),
         Instruction::PopAutoEscape => straight(pop_auto_escape(state)),
-        _ => perform_on_operands(alloc, mode, instruction, operands),
+        _ => perform_on_operands(alloc, mode, instruction, state, operands),
     }
 }

@@ -14,7 +14,6 @@ use template_machine_output::Sink;
 use template_machine_state::State;
 use template_values_core::Value;
 use template_values_errors::{Error, UndefinedBehavior};
-use template_values_text::NoRecords;
 
 /// Writes a text of the template.
 ///
@@ -77,5 +76,5 @@ pub fn emit_value<S: Sink>(
     ensures failures { TellsFailures result (S.failures sink.old) (S.failures sink.new) }
 {
     let escape = state.auto_escape();
-    values::print(mode, escape, value, &NoRecords, scratch, sink)
+    values::print(mode, escape, value, state, scratch, sink)
 }

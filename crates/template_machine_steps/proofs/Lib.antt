@@ -3,4 +3,5 @@ pub mod Stepping
 pub mod Gathering
 pub mod Sparing
 pub mod Promptly
+mod Knowing
 mod Testing

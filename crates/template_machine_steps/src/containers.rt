@@ -62,12 +62,12 @@ pub fn build_map(alloc: Global, count: usize, operands: &mut Operands) -> Result
 /// # Errors
 ///
 /// Those of [`values::unpack`], [`ErrorKind::OutOfMemory`], and as [`build_list`].
-pub fn unpack_list(count: usize, operands: &mut Operands) -> Result<(), Error>
+pub fn unpack_list(alloc: Global, count: usize, operands: &mut Operands) -> Result<(), Error>
     ensures { (program : Programs) (limit : ℕ) (mode : UndefinedBehavior) (w : World) →
         Performs (ruled program limit mode) (unpack_list count) (operands_in operands.old) w result (operands_in operands.new) w }
 {
     let value = operands.take()?;
-    let items = values::unpack(count, value)?;
+    let items = values::unpack(alloc, count, value)?;
     push_items(&items, operands)
 }
 

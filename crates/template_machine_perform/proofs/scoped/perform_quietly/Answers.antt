@@ -24,7 +24,7 @@ returns-in-PopFrame c program =
 
 pub returns-in-PushLoop : goal.returns-in-PushLoop
 returns-in-PushLoop c program =
-    straight_leads _ (codes.push_loop _) _ _ _ _ _ _ _ (ap code_of c.in-PushLoop.is) c.straight-in-PushLoop.ensures (c.push_loop.ensures program _)
+    straight_leads _ (codes.push_loop _) _ _ _ _ _ _ _ (ap code_of c.in-PushLoop.is) c.straight-in-PushLoop.ensures (c.push_loop.ensures program)
 
 pub returns-in-Iterate : goal.returns-in-Iterate
 returns-in-Iterate c program =
@@ -52,4 +52,4 @@ perform_on_operands-requires c =
     operands_left c.args.instruction.now c.requires h.not-Lookup h.not-StoreLocal h.not-PushWith h.not-PopFrame h.not-PushLoop h.not-Iterate h.not-PushDidNotIterate h.not-PopLoopFrame h.not-PushAutoEscape h.not-PopAutoEscape
 
 pub returns-in_default : goal.returns-in_default
-returns-in_default c program = c.perform_on_operands.ensures program c.args.rules.limit c.args.state.now
+returns-in_default c program = c.perform_on_operands.ensures program c.args.rules.limit
