@@ -1,4 +1,5 @@
 pub mod Rendering
+pub mod Capturing
 pub mod Naming
 pub mod Plain
 pub mod Sourced

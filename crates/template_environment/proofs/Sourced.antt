@@ -50,5 +50,5 @@ read_so answer callback config c source name text named made texts syntaxes esca
 
 -- isolation of a render, as that of its source
 pub isolates_source : IsolatesNames → (e : Registry) (source : Source) (c d : Val) → AgreeForSource e source c d → IsSameForSource e source c d
-isolates_source isolates e source c d agree = λ escape n fuel.
-    isolates (setting_of e) (record { tree = tree_in source; escape = escape }) c d agree n fuel
+isolates_source isolates e source c d agree = λ id escape n fuel.
+    isolates (setting_of e) id (record { tree = tree_in source; escape = escape }) c d agree n fuel

@@ -31,11 +31,11 @@ module _ {R : Type 0} where
   abbrev pub AgreeFor : Template R → Val → Val → Type 0
   AgreeFor t c d = (name : List ℕ) → IsContextName (setting_of (registry_of (environment_of t))) (tree_of t) name → AgreesAt c d name
 
-  -- renders of the template in an environment over the two contexts write the same, step by step at the same price, and come to the
-  -- same end, under every bound and every fuel
+  -- renders of the template in an environment over the two contexts, in the state of one number, write the same, step by step at
+  -- the same price, and come to the same end, under every bound and every fuel
   abbrev pub IsSameRenderIn : Registry → Template R → Val → Val → Type 0
-  IsSameRenderIn e t c d = (n : ℕ) (fuel : Option ℕ) → IsSameRun (under fuel (rendering e (compiled_in t.compiled) n c))
-      (under fuel (rendering e (compiled_in t.compiled) n d))
+  IsSameRenderIn e t c d = (id n : ℕ) (fuel : Option ℕ) → IsSameRun (under fuel (rendering e id (compiled_in t.compiled) n c))
+      (under fuel (rendering e id (compiled_in t.compiled) n d))
 
   -- the same in the environment that it is a template of
   abbrev pub IsSameRender : Template R → Val → Val → Type 0
@@ -45,9 +45,9 @@ module _ {R : Type 0} where
 abbrev pub AgreeForSource : Registry → Source → Val → Val → Type 0
 AgreeForSource e source c d = (name : List ℕ) → IsContextName (setting_of e) (tree_in source) name → AgreesAt c d name
 
-abbrev pub source_rendering : Registry → Source → AutoEscape → ℕ → Val → Run World
-source_rendering e source escape n c = rendered (setting_of e) n (record { tree = tree_in source; escape = escape }) c
+abbrev pub source_rendering : Registry → ℕ → Source → AutoEscape → ℕ → Val → Run World
+source_rendering e id source escape n c = rendered (setting_of e) id n (record { tree = tree_in source; escape = escape }) c
 
 abbrev pub IsSameForSource : Registry → Source → Val → Val → Type 0
-IsSameForSource e source c d = (escape : AutoEscape) (n : ℕ) (fuel : Option ℕ) →
-    IsSameRun (under fuel (source_rendering e source escape n c)) (under fuel (source_rendering e source escape n d))
+IsSameForSource e source c d = (id : ℕ) (escape : AutoEscape) (n : ℕ) (fuel : Option ℕ) →
+    IsSameRun (under fuel (source_rendering e id source escape n c)) (under fuel (source_rendering e id source escape n d))

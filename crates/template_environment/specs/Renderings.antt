@@ -18,9 +18,9 @@ use Rattle.template_compiled.specs.Sources.{IsAccepted, IsRefusedWith, Source}
 use Rattle.template_environment.specs.Standing.{setting_of}
 use Rattle.template_environment.specs.declared.registry.Registry.{Registry}
 
--- a template of an environment over a context, under a bound
-abbrev pub rendering : Registry → Compiled → ℕ → Val → Run World
-rendering e c n context = rendered (setting_of e) n (standing_of c) context
+-- a template of an environment over a context, in the state of a number, under a bound
+abbrev pub rendering : Registry → ℕ → Compiled → ℕ → Val → Run World
+rendering e id c n context = rendered (setting_of e) id n (standing_of c) context
 
 -- of what was consumed and what remains: the fuel that was set, and what is left of it
 abbrev pub set_of : Option (ℕ × ℕ) → Option ℕ
@@ -39,13 +39,13 @@ GivesText text (Err kinds) r = FaultsAs r kinds ⊎ NoMemory kinds
 abbrev pub last_id : ℕ
 last_id = 2 ^ 64 - 1
 
--- A call that renders a template to a text, and the numbers that come next before it and after it. One is finished: every run
--- ends.
+-- A call that renders a template to a text, and the numbers that come next before it and after it: it renders in the state of
+-- the first. One is finished: every run ends.
 pub record RendersText {X : Type 0} (e : Registry) (c : Compiled) (context : Val) (id next : ℕ) (text : X → List ℕ)
     (result : Result X (List ErrorKind)) : Type 0 where
-  pub finished : (n : ℕ) × IsFinished (rendering e c n context).end
-  pub gives : id ≢ last_id → (n : ℕ) → IsFinished (rendering e c n context).end
-      → GivesText text result (under e.fuel (rendering e c n context))
+  pub finished : (n : ℕ) × IsFinished (rendering e id c n context).end
+  pub gives : id ≢ last_id → (n : ℕ) → IsFinished (rendering e id c n context).end
+      → GivesText text result (under e.fuel (rendering e id c n context))
   pub no_write_failure : IfErr result (λ kinds. kinds ≢ WriteFailure ∷ [])
   pub counted : id ≢ last_id → next ≡ id + 1
   pub exhausted : id ≡ last_id → (result ≡ Err (InvalidOperation ∷ [])) × (next ≡ id)

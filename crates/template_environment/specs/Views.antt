@@ -39,9 +39,9 @@ module _ {R : Type 0} where
   abbrev pub fuel_of : Template R → Option ℕ
   fuel_of t = t.environment.now.registry.fuel
 
-  -- what its render over a context means, under a bound
-  abbrev pub render_of : Template R → ℕ → Val → Run World
-  render_of t n context = rendering t.environment.now.registry (compiled_in t.compiled) n context
+  -- what its render over a context means, in the state of a number, under a bound
+  abbrev pub render_of : Template R → ℕ → ℕ → Val → Run World
+  render_of t id n context = rendering t.environment.now.registry id (compiled_in t.compiled) n context
 
   -- what a render left: its text, and its state with the world, the fuel that was set and what is left of it, and its number
   abbrev pub output_of : Captured R → List ℕ

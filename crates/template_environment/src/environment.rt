@@ -435,7 +435,7 @@ impl<'source, R: AutoEscapeRule> Environment<'source, R> {
     pub fn empty_state(&self, ids: &mut StateIds) -> Result<State<'_, 'source, R>, Error>
         ensures here { IfOk result (λ s. environment_in s ≡ self.now) }
         ensures named { IfOk result (λ s. name_in s ≡ unknown) }
-        ensures world { IfOk result (λ s. world_in s ≡ frameless AutoEscape.None) }
+        ensures world { IfOk result (λ s. world_in s ≡ frameless ids.old AutoEscape.None) }
         ensures given { IfOk result (λ s. fuel_set_in s ≡ (settings_of (registry_of self.now)).fuel) }
         ensures remains { IfOk result (λ s. fuel_left_in s ≡ (settings_of (registry_of self.now)).fuel) }
         ensures id { IfOk result (λ s. id_in s ≡ ids.old) }

@@ -24,6 +24,9 @@ use template_machine_surroundings::{AutoEscapeRule, NoRule, StateIds};
 use template_values_core::Value;
 use template_values_errors::{AutoEscape, Error, ErrorKind};
 
+// The number that no state is given.
+const NO_STATE: u64 = u64::MAX;
+
 /// An expression that an environment compiled.
 pub struct Expression<'env, 'source, R: AutoEscapeRule = NoRule> {
     environment: &'env Environment<'source, R>,
@@ -129,7 +132,8 @@ impl<'env, 'source, R: AutoEscapeRule> Expression<'env, 'source, R> {
     }
 }
 
-// Runs the code of an expression over a context. It writes nothing.
+// Runs the code of an expression over a context. It writes nothing, and opens no loop that could tell the number of its
+// state: it has the one that no state is given.
 fn evaluate<'env, 'source>(
     registry: &'env Registry<'source>,
     compiled: &'env CompiledExpression<'source>,
@@ -139,7 +143,12 @@ fn evaluate<'env, 'source>(
     ensures no_write_failure { IfErr result (λ kinds. kinds ≢ ErrorKind.WriteFailure ∷ []) }
 {
     let alloc = registry.alloc;
-    let mut state: MachineState<'env> = MachineState::new(alloc, AutoEscape::None, context)?;
+    let mut state: MachineState<'env> = MachineState::new(
+        alloc,
+        NO_STATE,
+        AutoEscape::None,
+        context,
+    )?;
     let mut left = registry.fuel;
     let mut scratch = String::new(alloc);
     run_expression(

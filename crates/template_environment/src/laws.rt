@@ -32,9 +32,9 @@ pub fn every_expression_runs<R: AutoEscapeRule>(expression: &Expression<'_, '_, 
     let _code = expression.compiled.instructions();
 }
 
-/// A law: each render of a template ends, as its meaning is finished under some bound.
+/// A law: each render of a template ends, in the state of whatever number, as its meaning is finished under some bound.
 pub fn every_render_ends<R: AutoEscapeRule>(template: &Template<'_, '_, R>)
-    ensures { (context : Val) → (n : ℕ) × IsFinished (render_of template.now n context).end }
+    ensures { (id : ℕ) (context : Val) → (n : ℕ) × IsFinished (render_of template.now id n context).end }
 {
     let _code = template.compiled.get().instructions();
 }
@@ -42,8 +42,8 @@ pub fn every_render_ends<R: AutoEscapeRule>(template: &Template<'_, '_, R>)
 /// A law: a template in whose source no marker starts renders to its text, at the price of one step, and to nothing where
 /// that is empty.
 pub fn plain_renders<R: AutoEscapeRule>(template: &Template<'_, '_, R>)
-    ensures { IsPlain (source_of template.now) → (n : ℕ) (context : Val) →
-        render_of template.now n context ≡ text_run (text_kept (source_of template.now)) (first_world (escape_of template.now) context) }
+    ensures { IsPlain (source_of template.now) → (id n : ℕ) (context : Val) → render_of template.now id n context
+        ≡ text_run (text_kept (source_of template.now)) (first_world id (escape_of template.now) context) }
 {
     plain_text();
     let _code = template.compiled.get().instructions();

@@ -48,7 +48,7 @@ impl<'env, 'source, R: AutoEscapeRule> State<'env, 'source, R> {
     ) -> Result<State<'env, 'source, R>, Error>
         ensures here { IfOk result (λ s. environment_in s ≡ environment.now) }
         ensures named { IfOk result (λ s. name_in s ≡ name.now) }
-        ensures world { IfOk result (λ s. world_in s ≡ frameless escape) }
+        ensures world { IfOk result (λ s. world_in s ≡ frameless ids.old escape) }
         ensures given { IfOk result (λ s. fuel_set_in s ≡ (registry_of environment.now).fuel) }
         ensures remains { IfOk result (λ s. fuel_left_in s ≡ (registry_of environment.now).fuel) }
         ensures id { IfOk result (λ s. id_in s ≡ ids.old) }
@@ -59,6 +59,7 @@ impl<'env, 'source, R: AutoEscapeRule> State<'env, 'source, R> {
         let id = ids.next()?;
         let mut machine: MachineState<'env> = MachineState::new(
             environment.allocator(),
+            id,
             escape,
             Value::undefined(),
         )?;
@@ -107,9 +108,9 @@ impl<'env, 'source, R: AutoEscapeRule> State<'env, 'source, R> {
         self.environment.undefined_behavior()
     }
 
-    /// What the innermost frame that knows the name has under it: a local value first, then what its context has.
-    /// Linear in the number of frames and of their names, and logarithmic in the size of each context. The value
-    /// shares its contents.
+    /// What the innermost frame that knows the name has under it: a local value first, then its loop, which `loop` is
+    /// the name of, then what its context has. Linear in the number of frames and of their names, and logarithmic in
+    /// the size of each context. The value shares its contents.
     ///
     /// # Errors
     ///
@@ -136,8 +137,9 @@ impl<'env, 'source, R: AutoEscapeRule> State<'env, 'source, R> {
         self.machine.exports(self.environment.allocator())
     }
 
-    /// The names that [`State::lookup`] finds: each frame's locals, and the text keys of a context that is a map.
-    /// Takes n log n comparisons for n names in all frames and their contexts.
+    /// The names that [`State::lookup`] finds: each frame's locals, `loop` where a frame's loop has its variable, and
+    /// the text keys of a context that is a map. Takes n log n comparisons for n names in all frames and their
+    /// contexts.
     ///
     /// # Errors
     ///

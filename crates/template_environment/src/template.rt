@@ -110,7 +110,7 @@ impl<'env, 'source, R: AutoEscapeRule> Template<'env, 'source, R> {
     pub fn new_state(&self, ids: &mut StateIds) -> Result<State<'_, 'source, R>, Error>
         ensures here { IfOk result (λ s. environment_in s ≡ environment_of self.now) }
         ensures named { IfOk result (λ s. name_in s ≡ name_of self.now) }
-        ensures world { IfOk result (λ s. world_in s ≡ frameless (escape_of self.now)) }
+        ensures world { IfOk result (λ s. world_in s ≡ frameless ids.old (escape_of self.now)) }
         ensures given { IfOk result (λ s. fuel_set_in s ≡ fuel_of self.now) }
         ensures remains { IfOk result (λ s. fuel_left_in s ≡ fuel_of self.now) }
         ensures id { IfOk result (λ s. id_in s ≡ ids.old) }
@@ -134,8 +134,8 @@ impl<'env, 'source, R: AutoEscapeRule> Template<'env, 'source, R> {
     /// As [`Template::render_captured`].
     pub fn render(&self, ids: &mut StateIds, context: Value) -> Result<String, Error>
         // Under each bound where its meaning is finished, its text is the one that the call gives.
-        ensures text { ids.old ≢ u64.MAX → (n : ℕ) → IsFinished (render_of self.now n context).end →
-            GivesText (λ text. string_bytes text) result (under (fuel_of self.now) (render_of self.now n context)) }
+        ensures text { ids.old ≢ u64.MAX → (n : ℕ) → IsFinished (render_of self.now ids.old n context).end →
+            GivesText (λ text. string_bytes text) result (under (fuel_of self.now) (render_of self.now ids.old n context)) }
 
         // Where no marker starts in its source, that is its text.
         ensures plain { ids.old ≢ u64.MAX → IsPlain (source_of self.now) →
@@ -167,12 +167,12 @@ impl<'env, 'source, R: AutoEscapeRule> Template<'env, 'source, R> {
         context: Value,
     ) -> Result<Captured<'_, 'source, R>, Error>
         // Under each bound where its meaning is finished, its text is the one that the call gives.
-        ensures text { ids.old ≢ u64.MAX → (n : ℕ) → IsFinished (render_of self.now n context).end →
-            GivesText output_of result (under (fuel_of self.now) (render_of self.now n context)) }
-        ensures remains { IfOk result (λ captured. (n : ℕ) → IsFinished (render_of self.now n context).end →
-            fuel_left captured ≡ leaves (fuel_of self.now) (render_of self.now n context)) }
-        ensures world { IfOk result (λ captured. (n : ℕ) → IsFinished (render_of self.now n context).end →
-            world_of captured ≡ (under (fuel_of self.now) (render_of self.now n context)).after) }
+        ensures text { ids.old ≢ u64.MAX → (n : ℕ) → IsFinished (render_of self.now ids.old n context).end →
+            GivesText output_of result (under (fuel_of self.now) (render_of self.now ids.old n context)) }
+        ensures remains { IfOk result (λ captured. (n : ℕ) → IsFinished (render_of self.now ids.old n context).end →
+            fuel_left captured ≡ leaves (fuel_of self.now) (render_of self.now ids.old n context)) }
+        ensures world { IfOk result (λ captured. (n : ℕ) → IsFinished (render_of self.now ids.old n context).end →
+            world_of captured ≡ (under (fuel_of self.now) (render_of self.now ids.old n context)).after) }
 
         // Where no marker starts in its source, that is its text.
         ensures plain { ids.old ≢ u64.MAX → IsPlain (source_of self.now) →
@@ -193,7 +193,7 @@ impl<'env, 'source, R: AutoEscapeRule> Template<'env, 'source, R> {
         let id = ids.next()?;
         let mut output = String::new(self.environment.allocator());
         let registry = &self.environment.registry;
-        let (machine, fuel) = run(registry, self.compiled.get(), context, &mut output)?;
+        let (machine, fuel) = run(registry, id, self.compiled.get(), context, &mut output)?;
         Ok(Captured {
             output,
             state: State {
@@ -223,12 +223,12 @@ impl<'env, 'source, R: AutoEscapeRule> Template<'env, 'source, R> {
         sink: &mut S,
     ) -> Result<Captured<'_, 'source, R>, Error>
         // Under each bound where its meaning is finished, it is what the call does.
-        ensures renders { ids.old ≢ u64.MAX → (n : ℕ) → IsFinished (render_of self.now n context).end →
-            Renders result (S.taken sink.old) (S.taken sink.new) (under (fuel_of self.now) (render_of self.now n context)) }
-        ensures remains { IfOk result (λ captured. (n : ℕ) → IsFinished (render_of self.now n context).end →
-            fuel_left captured ≡ leaves (fuel_of self.now) (render_of self.now n context)) }
-        ensures world { IfOk result (λ captured. (n : ℕ) → IsFinished (render_of self.now n context).end →
-            world_of captured ≡ (under (fuel_of self.now) (render_of self.now n context)).after) }
+        ensures renders { ids.old ≢ u64.MAX → (n : ℕ) → IsFinished (render_of self.now ids.old n context).end →
+            Renders result (S.taken sink.old) (S.taken sink.new) (under (fuel_of self.now) (render_of self.now ids.old n context)) }
+        ensures remains { IfOk result (λ captured. (n : ℕ) → IsFinished (render_of self.now ids.old n context).end →
+            fuel_left captured ≡ leaves (fuel_of self.now) (render_of self.now ids.old n context)) }
+        ensures world { IfOk result (λ captured. (n : ℕ) → IsFinished (render_of self.now ids.old n context).end →
+            world_of captured ≡ (under (fuel_of self.now) (render_of self.now ids.old n context)).after) }
 
         // Where no marker starts in its source, that is its text.
         ensures plain { ids.old ≢ u64.MAX → IsPlain (source_of self.now) →
@@ -250,7 +250,7 @@ impl<'env, 'source, R: AutoEscapeRule> Template<'env, 'source, R> {
         plain_renders(self);
         let id = ids.next()?;
         let registry = &self.environment.registry;
-        let (machine, fuel) = run(registry, self.compiled.get(), context, sink)?;
+        let (machine, fuel) = run(registry, id, self.compiled.get(), context, sink)?;
         Ok(Captured {
             output: String::new(self.environment.allocator()),
             state: State {
@@ -264,25 +264,28 @@ impl<'env, 'source, R: AutoEscapeRule> Template<'env, 'source, R> {
     }
 }
 
-// Runs the code of a template over a context, and tells the state that it left and what it took of its fuel.
+// Runs the code of a template over a context, in the state of a number, and tells the state that it left and what it took
+// of its fuel.
 fn run<'env, 'source, S: Sink>(
     registry: &'env Registry<'source>,
+    id: u64,
     compiled: &'env CompiledTemplate<'source>,
     context: Value,
     sink: &mut S,
 ) -> Result<(MachineState<'env>, Option<(u64, u64)>), Error>
-    ensures renders { (n : ℕ) → IsFinished (rendering registry.now compiled.now n context).end →
-        Renders result (S.taken sink.old) (S.taken sink.new) (under registry.now.fuel (rendering registry.now compiled.now n context)) }
-    ensures left { IfOk result (λ r. (n : ℕ) → IsFinished (rendering registry.now compiled.now n context).end →
-        left_of r.1 ≡ leaves registry.now.fuel (rendering registry.now compiled.now n context)) }
-    ensures world { IfOk result (λ r. (n : ℕ) → IsFinished (rendering registry.now compiled.now n context).end →
-        r.0 ≡ (under registry.now.fuel (rendering registry.now compiled.now n context)).after) }
+    ensures renders { (n : ℕ) → IsFinished (rendering registry.now id compiled.now n context).end →
+        Renders result (S.taken sink.old) (S.taken sink.new) (under registry.now.fuel (rendering registry.now id compiled.now n context)) }
+    ensures left { IfOk result (λ r. (n : ℕ) → IsFinished (rendering registry.now id compiled.now n context).end →
+        left_of r.1 ≡ leaves registry.now.fuel (rendering registry.now id compiled.now n context)) }
+    ensures world { IfOk result (λ r. (n : ℕ) → IsFinished (rendering registry.now id compiled.now n context).end →
+        r.0 ≡ (under registry.now.fuel (rendering registry.now id compiled.now n context)).after) }
     ensures failures { TellsFailures result (S.failures sink.old) (S.failures sink.new) }
     ensures set { IfOk result (λ r. set_of r.1 ≡ registry.now.fuel) }
 {
     let alloc = registry.alloc;
     let mut state: MachineState<'env> = MachineState::new(
         alloc,
+        id,
         compiled.initial_auto_escape(),
         context,
     )?;

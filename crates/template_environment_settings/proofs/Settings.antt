@@ -75,7 +75,7 @@ one_setting e other alike = λ i. record {
 }
 
 pub same_renders : AlikeRenderTheSame
-same_renders e other alike c d one n context =
+same_renders e other alike c d one id n context =
     let setting = one_setting e other alike in
     let standing = same_standing c.name d.name c d one.name one.source ∣ one.escape ∣₁ ∣ one.other_escape ∣₁ in
-    λ i. rendered (setting i) n (standing i) context
+    λ i. rendered (setting i) id n (standing i) context

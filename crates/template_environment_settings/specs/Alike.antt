@@ -20,10 +20,10 @@ pub record AreOneTemplate (c d : Compiled) : Type 0 where
   pub escape : IsEscapeOf c.source.escapes c.name c.escape
   pub other_escape : IsEscapeOf d.source.escapes d.name d.escape
 
--- They render to the same in the two environments, under every bound and over every context.
+-- They render to the same in the two environments, in states of one number, under every bound and over every context.
 abbrev pub RenderTheSame : Registry → Registry → Type 0
 RenderTheSame e other = (c d : Compiled) → AreOneTemplate c d
-    → (n : ℕ) (context : Val) → rendering e c n context ≡ rendering other d n context
+    → (id n : ℕ) (context : Val) → rendering e id c n context ≡ rendering other id d n context
 
 -- Such environments give their renders one setting.
 abbrev pub AlikeHaveOneSetting : Type 0

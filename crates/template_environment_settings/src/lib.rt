@@ -14,8 +14,8 @@ pub use bounds::set_bounds;
 pub use template_environment::{Environment, Template, every_render_ends};
 
 /// Environments where the same sources stand under the names, and that keep to the same limit and let undefined values do
-/// the same, give their renders one setting. So a template of one name and one source renders to the same in both, under
-/// every bound and over every context.
+/// the same, give their renders one setting. So a template of one name and one source renders to the same in both, in
+/// states of one number, under every bound and over every context.
 pub fn one_setting()
     ensures setting { AlikeHaveOneSetting }
     ensures renders { AlikeRenderTheSame }

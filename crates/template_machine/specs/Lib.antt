@@ -19,6 +19,7 @@ pub use Rattle.template_code_shapes.specs.Laws as StreamLaws
 pub use Rattle.template_code_shapes.specs.Passes
 pub use Rattle.template_code_checked.specs.Checked
 pub use Rattle.template_code.specs.Code
+pub use Rattle.template_code.specs.Counting
 pub use Rattle.template_code.specs.Steps
 pub use Rattle.template_code.specs.Prices
 pub use Rattle.template_code.specs.View as InstructionCodes
@@ -27,8 +28,11 @@ pub use Rattle.template_machine_fuel.specs.Paying
 pub use Rattle.template_machine_fuel.specs.Trackers
 pub use Rattle.template_machine_operands.specs.Operands
 pub use Rattle.template_machine_meaning.specs.World
+pub use Rattle.template_machine_meaning.specs.Records
 pub use Rattle.template_machine_meaning.specs.Undefined
 pub use Rattle.template_machine_meaning.specs.Replies
+pub use Rattle.template_machine_meaning.specs.Keys
+pub use Rattle.template_machine_meaning.specs.Plans
 pub use Rattle.template_machine_meaning.specs.Includes
 pub use Rattle.template_machine_meaning.specs.Surroundings
 pub use Rattle.template_machine_meaning.specs.Meaning
@@ -37,7 +41,6 @@ pub use Rattle.template_machine_meaning.specs.Keeps
 pub use Rattle.template_machine_loops.specs.Loops
 pub use Rattle.template_machine_frames.specs.Frames
 pub use Rattle.template_machine_frames.specs.Names as ExportedNames
-pub use Rattle.template_machine_state.specs.Callers
 pub use Rattle.template_machine_state.specs.Changes
 pub use Rattle.template_compiler_syntax.specs.Syntax
 pub use Rattle.template_names.specs.Names as UsedNames

@@ -82,27 +82,29 @@ rendered_alike a b r q same one other quiet too = record {
   );
 }
 
--- two renders of one template over contexts that agree
+-- two renders of one template over contexts that agree, in states of one number
 renders_alike : IsolatesNames → (request : Request) (additions : List (List ℕ × List ℕ)) (a b : Answer) (e f : Registry)
     → IsMade request additions e → IsMade request additions f → (t u : Standing) → t ≡ u → (c d : Val) → ((name : List ℕ) → AgreesAt c d name)
     → Rendered e t c (a.next + 1) a.outcome a.before a.after a.failed a.fails
     → Rendered f u d (b.next + 1) b.outcome b.before b.after b.failed b.fails
-    → IsUnwanting a → IsUnwanting b → AreAlike a b
-renders_alike isolates request additions a b e f made more t u standing c d agree one other ua ub =
+    → a.next ≡ b.next → IsUnwanting a → IsUnwanting b → AreAlike a b
+renders_alike isolates request additions a b e f made more t u standing c d agree one other next ua ub =
     let ra = one.1 ua.second_id in
     let rb = other.1 ub.second_id in
+    let id = a.next + 1 in
     let n = ra.3.finished.0 in
     let setting = one_setting request additions e f made more in
     let fuel = one_fuel request additions e f made more in
-    let isolated = isolates (setting_of e) t c d (λ name can_matter. agree name) n in
-    let there : rendered (setting_of e) n t d ≡ rendered (setting_of f) n u d = λ i. rendered (setting i) n (standing i) d in
-    let finished : IsFinished (rendered (setting_of f) n u d).end =
+    let isolated = isolates (setting_of e) id t c d (λ name can_matter. agree name) n in
+    let there : rendered (setting_of e) id n t d ≡ rendered (setting_of f) (b.next + 1) n u d =
+    λ i. rendered (setting i) (next i + 1) n (standing i) d in
+    let finished : IsFinished (rendered (setting_of f) (b.next + 1) n u d).end =
     subst (λ (r : Run World). IsFinished r.end) there (subst IsFinished (isolated None).1 ra.3.finished.1) in
-    let back : Renders rb.0 b.before b.after (under e.fuel (rendered (setting_of e) n t d)) =
+    let back : Renders rb.0 b.before b.after (under e.fuel (rendered (setting_of e) id n t d)) =
     subst (λ (r : Run World). Renders rb.0 b.before b.after r) (sym (λ i. under (fuel i) (there i))) (rb.3.renders n finished) in
-    rendered_alike a b (under e.fuel (rendered (setting_of e) n t c)) (under e.fuel (rendered (setting_of e) n t d)) (isolated e.fuel)
-    (whole_render a.outcome ra.0 a.before a.after (under e.fuel (rendered (setting_of e) n t c)) ra.1 ua.unwanted (ra.3.renders n ra.3.finished.1))
-    (whole_render b.outcome rb.0 b.before b.after (under e.fuel (rendered (setting_of e) n t d)) rb.1 ub.unwanted back)
+    rendered_alike a b (under e.fuel (rendered (setting_of e) id n t c)) (under e.fuel (rendered (setting_of e) id n t d)) (isolated e.fuel)
+    (whole_render a.outcome ra.0 a.before a.after (under e.fuel (rendered (setting_of e) id n t c)) ra.1 ua.unwanted (ra.3.renders n ra.3.finished.1))
+    (whole_render b.outcome rb.0 b.before b.after (under e.fuel (rendered (setting_of e) id n t d)) rb.1 ub.unwanted back)
     (quiet_render a.outcome ra.0 a.failed a.fails ra.1 ua.unwanted ra.2)
     (quiet_render b.outcome rb.0 b.failed b.fails rb.1 ub.unwanted rb.2)
 
@@ -148,15 +150,15 @@ tells_alike request additions a b e f made more t u standing one other =
 performed_alike : IsolatesNames → (command : Command) (request : Request) (additions : List (List ℕ × List ℕ)) (json : Option (List ℕ)) (a b : Answer)
     → Performed command request additions json a.next a.outcome a.before a.after a.failed a.fails
     → Performed command request additions json b.next b.outcome b.before b.after b.failed b.fails
-    → IsUnwanting a → IsUnwanting b → AreAlike a b
-performed_alike isolates asked.Render request additions json a b p q ua ub =
+    → a.next ≡ b.next → IsUnwanting a → IsUnwanting b → AreAlike a b
+performed_alike isolates asked.Render request additions json a b p q next ua ub =
     let main = string_bytes request.main in
     let template = one_template main p.2.0 q.2.0 p.2.2.0 q.2.2.0 (same_Some _ _ (sym p.2.1 ∙ q.2.1)) p.2.2.1 q.2.2.1 in
     let one = p.2.2.2 in
     let other = q.2.2.2 in
     renders_alike isolates request additions a b p.0 q.0 p.1 q.1 p.2.2.0 q.2.2.0 template one.0 other.0
-    (agree_everywhere json (definitions_of request) one.0 other.0 one.1 other.1) one.2 other.2 ua ub
-performed_alike isolates asked.Names request additions json a b p q ua ub =
+    (agree_everywhere json (definitions_of request) one.0 other.0 one.1 other.1) one.2 other.2 next ua ub
+performed_alike isolates asked.Names request additions json a b p q next ua ub =
     let main = string_bytes request.main in
     let template = one_template main p.2.0 q.2.0 p.2.2.0 q.2.2.0 (same_Some _ _ (sym p.2.1 ∙ q.2.1)) p.2.2.1 q.2.2.1 in
     tells_alike request additions a b p.0 q.0 p.1 q.1 p.2.2.0 q.2.2.0 template
@@ -164,26 +166,26 @@ performed_alike isolates asked.Names request additions json a b p q ua ub =
     (told q.0 q.2.2.0 b.outcome b.before b.after b.failed b.fails q.2.2.2 ub.unwanted)
 
 pub one_answer : IsolatesNames → OneAnswer
-one_answer isolates request additions json a b (inl p) (inl q) ua ub =
+one_answer isolates request additions json a b (inl p) (inl q) same_id ua ub =
     let same = one_refusal request.command json p.0 q.0 p.2 q.2 (unwanted a ua (Context p.0) p.1) (unwanted b ub (Context q.0) q.1) in
     nothing_written a b (p.1 ∙ ap (λ (ks : List ErrorKind). Context ks) same ∙ sym q.1) p.3 q.3
-one_answer isolates request additions json a b (inl p) (inr (had, q)) ua ub =
+one_answer isolates request additions json a b (inl p) (inr (had, q)) same_id ua ub =
     absurd (refused_or_had request.command json (definitions_of request) p.0 had.0 p.2 (unwanted a ua (Context p.0) p.1) had.1)
-one_answer isolates request additions json a b (inr (had, p)) (inl q) ua ub =
+one_answer isolates request additions json a b (inr (had, p)) (inl q) same_id ua ub =
     absurd (refused_or_had request.command json (definitions_of request) q.0 had.0 q.2 (unwanted b ub (Context q.0) q.1) had.1)
-one_answer isolates request additions json a b (inr (had, inl p)) (inr (has, inl q)) ua ub =
+one_answer isolates request additions json a b (inr (had, inl p)) (inr (has, inl q)) same_id ua ub =
     let same = same_refused additions p.0 q.0 (refuses additions a.next p.0 p.2 ua.first_id) (refuses additions b.next q.0 q.2 ub.first_id)
     (unwanted a ua (Template p.0) p.1) (unwanted b ub (Template q.0) q.1) in
     nothing_written a b (p.1 ∙ ap (λ (ks : List ErrorKind). Template ks) same ∙ sym q.1) p.3 q.3
-one_answer isolates request additions json a b (inr (had, inl p)) (inr (has, inr q)) ua ub =
+one_answer isolates request additions json a b (inr (had, inl p)) (inr (has, inr q)) same_id ua ub =
     absurd (all_or_refused additions p.0 (refuses additions a.next p.0 p.2 ua.first_id) (unwanted a ua (Template p.0) p.1) q.1)
-one_answer isolates request additions json a b (inr (had, inr p)) (inr (has, inl q)) ua ub =
+one_answer isolates request additions json a b (inr (had, inr p)) (inr (has, inl q)) same_id ua ub =
     absurd (all_or_refused additions q.0 (refuses additions b.next q.0 q.2 ub.first_id) (unwanted b ub (Template q.0) q.1) p.1)
-one_answer isolates request additions json a b (inr (had, inr (first, all, inl p))) (inr (has, inr (next, each, inl q))) ua ub =
+one_answer isolates request additions json a b (inr (had, inr (first, all, inl p))) (inr (has, inr (next, each, inl q))) same_id ua ub =
     nothing_written a b (p.0 ∙ sym q.0) p.2 q.2
-one_answer isolates request additions json a b (inr (had, inr (first, all, inl p))) (inr (has, inr (next, each, inr q))) ua ub =
+one_answer isolates request additions json a b (inr (had, inr (first, all, inl p))) (inr (has, inr (next, each, inr q))) same_id ua ub =
     absurd (none-some _ (sym p.1 ∙ q.2.1))
-one_answer isolates request additions json a b (inr (had, inr (first, all, inr p))) (inr (has, inr (next, each, inl q))) ua ub =
+one_answer isolates request additions json a b (inr (had, inr (first, all, inr p))) (inr (has, inr (next, each, inl q))) same_id ua ub =
     absurd (none-some _ (sym q.1 ∙ p.2.1))
-one_answer isolates request additions json a b (inr (had, inr (first, all, inr p))) (inr (has, inr (next, each, inr q))) ua ub =
-    performed_alike isolates request.command request additions json a b p q ua ub
+one_answer isolates request additions json a b (inr (had, inr (first, all, inr p))) (inr (has, inr (next, each, inr q))) same_id ua ub =
+    performed_alike isolates request.command request additions json a b p q same_id ua ub

@@ -51,11 +51,12 @@ pub record AreAlike (a b : Answer) : Type 0 where
   pub end : a.outcome ≡ b.outcome
   pub write : (text : List ℕ) × WriteBoth a b text
 
--- Two answers to one request, with the same templates and context, are alike, where nothing is wanted.
+-- Two answers to one request, with the same templates and context, and given while the same state id was next, are alike,
+-- where nothing is wanted.
 abbrev pub OneAnswer : Type 0
 OneAnswer = (request : Request) (additions : List (List ℕ × List ℕ)) (json : Option (List ℕ)) (a b : Answer)
-    → IsAnswerTo request additions json a → IsAnswerTo request additions json b → IsUnwanting a → IsUnwanting b
-    → AreAlike a b
+    → IsAnswerTo request additions json a → IsAnswerTo request additions json b → a.next ≡ b.next
+    → IsUnwanting a → IsUnwanting b → AreAlike a b
 
 -- Where a render's outcome has status 6, a growth was refused in it: no fault of a template is told so, at any depth.
 abbrev pub SixIsWant : Type 0

@@ -52,28 +52,29 @@ pub record IsTemplateOf (name text : List ℕ) (t : Standing) : Type 0 where
   pub tree : t.tree ≡ tree_in (source_for text)
   pub rule : IsRuleOf name t.escape
 
--- Its render ends: it is finished under some bound. Under each bound where it is, it decides, with the fuel, the text
--- and the end.
-pub record IsRendered (e : Registry) (t : Standing) (context : Val) (result : Result (Unit {0}) (List ErrorKind))
+-- Its render, in the state of a number, ends: it is finished under some bound. Under each bound where it is, it decides,
+-- with the fuel, the text and the end.
+pub record IsRendered (e : Registry) (id : ℕ) (t : Standing) (context : Val) (result : Result (Unit {0}) (List ErrorKind))
     (before after : Option (List ℕ)) : Type 0 where
-  pub finished : (n : ℕ) × IsFinished (rendered (setting_of e) n t context).end
-  pub renders : (n : ℕ) → IsFinished (rendered (setting_of e) n t context).end
-      → Renders result before after (under e.fuel (rendered (setting_of e) n t context))
+  pub finished : (n : ℕ) × IsFinished (rendered (setting_of e) id n t context).end
+  pub renders : (n : ℕ) → IsFinished (rendered (setting_of e) id n t context).end
+      → Renders result before after (under e.fuel (rendered (setting_of e) id n t context))
 
--- A template that stands is rendered over the context. The render is refused where no state id is left.
+-- A template that stands is rendered over the context, in the state of the next id. The render is refused where no state id
+-- is left.
 abbrev pub Rendered : Registry → Standing → Val → ℕ → Outcome → Option (List ℕ) → Option (List ℕ) → ℕ → ℕ → Type 0
 Rendered e t context next outcome before after failed fails =
     (IsLastId next → (outcome ≡ Render (InvalidOperation ∷ [])) × IsUntouched before after failed fails)
     × (¬ IsLastId next → (result : Result (Unit {0}) (List ErrorKind)) × IsOutcomeOf outcome result
-    × TellsFailures result failed fails × IsRendered e t context result before after)
+    × TellsFailures result failed fails × IsRendered e next t context result before after)
 
--- The set has just the names that can matter to a render of the template: contexts that agree at these make no difference, at
--- no bound and under no fuel.
+-- The set has just the names that can matter to a render of the template: contexts that agree at these make no difference, in
+-- no state, at no bound and under no fuel.
 abbrev pub HasNames : Registry → Standing → BTreeSet (String Global) → Type 0
 HasNames e t names = IsOrdered string_cmp names
     × ((name : List ℕ) → IsTrue (contains_text names name) ↔ IsContextName (setting_of e) t.tree name)
-    × ((c d : Val) → AgreeAmong names c d → (n : ℕ) (fuel : Option ℕ)
-    → IsSameRun (under fuel (rendered (setting_of e) n t c)) (under fuel (rendered (setting_of e) n t d)))
+    × ((c d : Val) → AgreeAmong names c d → (id n : ℕ) (fuel : Option ℕ)
+    → IsSameRun (under fuel (rendered (setting_of e) id n t c)) (under fuel (rendered (setting_of e) id n t d)))
 
 -- The names that can matter are written in their order, one a line; or a beginning of that, for want of
 -- memory or of a sink that works. Where they cannot be found for want of memory, nothing is written.

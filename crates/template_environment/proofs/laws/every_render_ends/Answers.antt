@@ -6,7 +6,7 @@ use Rattle.template_environment.proofs.Rendering.{render_ends}
 use Rattle.template_environment.proofs.laws.every_render_ends.Goals as goal
 
 pub returns : goal.returns
-returns g c = λ context.
+returns g c = λ id context.
     let environment = c.args.template.now.environment.now.registry in
-    subst (λ (t : Compiled). (n : ℕ) × IsFinished (rendering environment t n context).end) c.get.ensures
-    (render_ends environment c.get.result.now context environment.templates.running c.instructions-code.ensures.faithful.has_tree.1)
+    subst (λ (t : Compiled). (n : ℕ) × IsFinished (rendering environment id t n context).end) c.get.ensures
+    (render_ends environment id c.get.result.now context environment.templates.running c.instructions-code.ensures.faithful.has_tree.1)

@@ -5,5 +5,5 @@ use Rattle.template_environment.specs.Views.{compiled_in, environment_of}
 use Rattle.template_environment.proofs.laws.isolated_renders.Goals as goal
 
 pub returns : goal.returns
-returns g c = λ x d agree n fuel.
-    c.isolation.ensures (setting_of (registry_of (environment_of c.args.template.now))) (standing_of (compiled_in c.args.template.now.compiled)) x d agree n fuel
+returns g c = λ x d agree id n fuel.
+    c.isolation.ensures (setting_of (registry_of (environment_of c.args.template.now))) id (standing_of (compiled_in c.args.template.now.compiled)) x d agree n fuel

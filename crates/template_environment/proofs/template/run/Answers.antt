@@ -14,39 +14,39 @@ pub returns-in_err-run_code-clause-renders : goal.returns-in_err-run_code-clause
 returns-in_err-run_code-clause-renders g c = λ n finished.
     let p = err_from_is_err_and c.from_residual-in_err-run_code.result c.from_residual-in_err-run_code.ensures.1 in
     rw (p.1, p.2)
-    (render_stopped _ c.args.registry.now c.args.compiled.now c.args.context _ _ _ _ c.args.registry.now.fuel _ _ _ _ _ refl
+    (render_stopped _ c.args.registry.now c.args.id c.args.compiled.now c.args.context _ _ _ _ c.args.registry.now.fuel _ _ _ _ _ refl
     (record {
       programs = ruled_programs c.args.registry.now (Some c.args.compiled.now) c.rules.result.limit c.rules.result.undefined c.rules.ensures.limit c.rules.ensures.undefined;
       is_code = c.instructions.ensures.code;
-      start = c.in_ok-state.ensures.made ∙ ap (λ (e : AutoEscape). first_world e c.args.context) c.initial_auto_escape.ensures.escape;
+      start = c.in_ok-state.ensures.made ∙ ap (λ (e : AutoEscape). first_world c.args.id e c.args.context) c.initial_auto_escape.ensures.escape;
     }) (c.in_err-run_code.ensures.runs (Some (unit_of c.args.compiled.now))) n finished)
 
 pub returns-clause-renders : goal.returns-clause-renders
 returns-clause-renders g c = λ n finished.
-    let done = render_done (tt {0}) c.args.registry.now c.args.compiled.now c.args.context _ _ _ _ c.args.registry.now.fuel _ _ _ _ refl
+    let done = render_done (tt {0}) c.args.registry.now c.args.id c.args.compiled.now c.args.context _ _ _ _ c.args.registry.now.fuel _ _ _ _ refl
     (record {
       programs = ruled_programs c.args.registry.now (Some c.args.compiled.now) c.rules.result.limit c.rules.result.undefined c.rules.ensures.limit c.rules.ensures.undefined;
       is_code = c.instructions.ensures.code;
-      start = c.in_ok-state.ensures.made ∙ ap (λ (e : AutoEscape). first_world e c.args.context) c.initial_auto_escape.ensures.escape;
+      start = c.in_ok-state.ensures.made ∙ ap (λ (e : AutoEscape). first_world c.args.id e c.args.context) c.initial_auto_escape.ensures.escape;
     }) (c.in_ok-run_code.ensures.runs (Some (unit_of c.args.compiled.now))) n finished in
     whole done.over done.text
 
 pub returns-clause-left : goal.returns-clause-left
 returns-clause-left g c = λ n finished.
-    let done = render_done (tt {0}) c.args.registry.now c.args.compiled.now c.args.context _ _ _ _ c.args.registry.now.fuel _ _ _ _ refl
+    let done = render_done (tt {0}) c.args.registry.now c.args.id c.args.compiled.now c.args.context _ _ _ _ c.args.registry.now.fuel _ _ _ _ refl
     (record {
       programs = ruled_programs c.args.registry.now (Some c.args.compiled.now) c.rules.result.limit c.rules.result.undefined c.rules.ensures.limit c.rules.ensures.undefined;
       is_code = c.instructions.ensures.code;
-      start = c.in_ok-state.ensures.made ∙ ap (λ (e : AutoEscape). first_world e c.args.context) c.initial_auto_escape.ensures.escape;
+      start = c.in_ok-state.ensures.made ∙ ap (λ (e : AutoEscape). first_world c.args.id e c.args.context) c.initial_auto_escape.ensures.escape;
     }) (c.in_ok-run_code.ensures.runs (Some (unit_of c.args.compiled.now))) n finished in
     c.levels.ensures.remaining ∙ done.left_is
 
 pub returns-clause-world : goal.returns-clause-world
 returns-clause-world g c = λ n finished.
-    let done = render_done (tt {0}) c.args.registry.now c.args.compiled.now c.args.context _ _ _ _ c.args.registry.now.fuel _ _ _ _ refl
+    let done = render_done (tt {0}) c.args.registry.now c.args.id c.args.compiled.now c.args.context _ _ _ _ c.args.registry.now.fuel _ _ _ _ refl
     (record {
       programs = ruled_programs c.args.registry.now (Some c.args.compiled.now) c.rules.result.limit c.rules.result.undefined c.rules.ensures.limit c.rules.ensures.undefined;
       is_code = c.instructions.ensures.code;
-      start = c.in_ok-state.ensures.made ∙ ap (λ (e : AutoEscape). first_world e c.args.context) c.initial_auto_escape.ensures.escape;
+      start = c.in_ok-state.ensures.made ∙ ap (λ (e : AutoEscape). first_world c.args.id e c.args.context) c.initial_auto_escape.ensures.escape;
     }) (c.in_ok-run_code.ensures.runs (Some (unit_of c.args.compiled.now))) n finished in
     sym done.world

@@ -10,7 +10,7 @@ returns-in-Ok-clause-rendered g c = (
     tt,
     c.in-Ok.ensures.failures more,
     record {
-      finished = c.every_render_ends.ensures c.args.context;
+      finished = c.every_render_ends.ensures c.args.ids.now c.args.context;
       renders = λ n done. renders_done _ _ _ _ (c.in-Ok.ensures.renders more n done);
     },
   ),
@@ -27,7 +27,7 @@ returns-in-Err-clause-rendered g c = (
     refl,
     c.in-Err.ensures.failures more,
     record {
-      finished = c.every_render_ends.ensures c.args.context;
+      finished = c.every_render_ends.ensures c.args.ids.now c.args.context;
       renders = λ n done. renders_failed _ _ _ _ (c.in-Err.ensures.renders more n done);
     },
   ),

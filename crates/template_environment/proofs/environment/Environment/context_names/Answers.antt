@@ -15,6 +15,6 @@ returns-clause-listed g c = λ name.
     (c.in_ok-add_undeclared-2.ensures.added name)
 
 pub returns-clause-isolated : goal.returns-clause-isolated
-returns-clause-isolated g c = λ x d agree n fuel.
-    c.isolation.ensures (setting_of c.args.self.now.registry) (standing_of (compiled_in c.args.template.now.compiled)) x d
+returns-clause-isolated g c = λ x d agree id n fuel.
+    c.isolation.ensures (setting_of c.args.self.now.registry) id (standing_of (compiled_in c.args.template.now.compiled)) x d
     (λ name can_matter. agree name ((returns-clause-listed g c name).1 can_matter)) n fuel

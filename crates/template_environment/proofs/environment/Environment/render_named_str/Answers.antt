@@ -17,7 +17,7 @@ returns-clause-renders g c =
       renders_source template.environment.now.registry c.args.self.now.registry (compiled_in template.compiled) c.args.name.now _
           c.args.context c.args.ids.now c.render.new.ids (λ text. string_bytes text) c.render.result (ap registry_of read.here) read.named read.source rule
           (record {
-            finished = c.every_render_ends.ensures c.args.context;
+            finished = c.every_render_ends.ensures c.args.ids.now c.args.context;
             gives = rendered.text;
             no_write_failure = rendered.no_write_failure;
             counted = rendered.counted;
