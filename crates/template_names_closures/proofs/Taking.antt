@@ -55,13 +55,13 @@ body_stands ps qs read body (Ok value) is tree same parts taken =
 body_stands ps qs read body (Err error) is tree same parts taken = tt
 
 -- one that is a unit too
-pub unit_stands : {unit : Unit} {T E : Type 0} {s x : Stmt} {t : Statement} (us vs : List Unit) (qs : List Part) (read body : List Stmt) (r : Result T E) →
+pub unit_stands : (unit : Unit) {T E : Type 0} {s x : Stmt} {t : Statement} (us vs : List Unit) (qs : List Part) (read body : List Stmt) (r : Result T E) →
     s ≡ x → statement_of x ≡ t → read ≡ body → vs ≡ us ++ unit ∷ [] → units_of t ≡ part_of unit ∷ units_of_body body →
     IfOk r (λ _. qs ≡ parts_in vs ++ units_of_body read) → IfOk r (λ _. qs ≡ parts_in us ++ units_of (statement_of s))
-unit_stands {unit} us vs qs read body (Ok value) is tree same pushed parts taken =
-    taken ∙ behind (parts_in us) (parts_in vs) (part_of unit ∷ []) (units_of_body read) (ap (λ l. parts_in l) pushed ∙ one_pushed us unit) refl ∙
+unit_stands unit us vs qs read body (Ok value) is tree same grown parts taken =
+    taken ∙ behind (parts_in us) (parts_in vs) (part_of unit ∷ []) (units_of_body read) (ap (λ l. parts_in l) grown ∙ one_pushed us unit) refl ∙
     ap (λ (ss : List Stmt). parts_in us ++ part_of unit ∷ units_of_body ss) same ∙ ap (λ l. parts_in us ++ l) (sym parts) ∙ stands (parts_in us) is tree
-unit_stands us vs qs read body (Err error) is tree same pushed parts taken = tt
+unit_stands unit us vs qs read body (Err error) is tree same grown parts taken = tt
 
 -- a loop: its rounds, its body and its other branch
 pub loop_stands : {T E : Type 0} {s x : Stmt} {t : Statement} (ps qs rs zs own : List Part) (read body read' other : List Stmt) (r : Result T E) →

@@ -40,7 +40,7 @@ take_units-returns t c =
 pub take_units_of-returns-in_ok-push-in-Template : goal.take_units_of-returns-in_ok-push-in-Template
 take_units_of-returns-in_ok-push-in-Template t c =
     let n = c.in-Template.n in
-    unit_stands c.args.found.now.items c.push.new.self.items (parts_in c.take_units.new.found.items) c.deref.result.now n.node.children.items
+    unit_stands _ c.args.found.now.items c.push.new.self.items (parts_in c.take_units.new.found.items) c.deref.result.now n.node.children.items
     c.take_units.result c.in-Template.is (whole_tree n) c.deref.ensures.value c.in_ok-push-in-Template.ensures.items refl c.take_units.ensures
 
 pub take_units_of-returns-in_ok-push-in-Block : goal.take_units_of-returns-in_ok-push-in-Block
@@ -48,7 +48,7 @@ take_units_of-returns-in_ok-push-in-Block t c =
     let n = c.in-Block.n in
     let body = n.value.node.body.items in
     let read = c.deref-in-Block-3.ensures.value ∙ ap (λ (x : Spanned BlockNode). x.node.body.items) c.deref-in-Block-2.ensures in
-    unit_stands c.args.found.now.items c.push-in-Block.new.self.items (parts_in c.take_units-in-Block.new.found.items) c.deref-in-Block-3.result.now body
+    unit_stands _ c.args.found.now.items c.push-in-Block.new.self.items (parts_in c.take_units-in-Block.new.found.items) c.deref-in-Block-3.result.now body
     c.take_units-in-Block.result c.in-Block.is (block_tree n) read c.in_ok-push-in-Block.ensures.items
     (ap (λ (x : Spanned BlockNode). block_body (statements_in x.node.body.items) ∷ units_of_body body) (sym c.deref-in-Block.ensures)) c.take_units-in-Block.ensures
 
@@ -205,62 +205,62 @@ take_units_of-take_units-requires-in-CallBlock t c =
 
 pub take_chain-take_units-requires : goal.take_chain-take_units-requires
 take_chain-take_units-requires t c =
-    let n = c.loop-found.at.now in
-    let read = c.deref-in-loop-found.ensures.value ∙ ap (λ (x : Spanned IfCondNode). x.node.true_body.items) c.deref.ensures in (
-      branch_falls _ _ (size-Stmt (IfCond c.args.first.now)) t (choice_deep (IfCond n) n c.deref-in-loop-found.result.now refl read)
-          c.loop-found.invariant.deep c.decreases,
+    let n = c.loop-other.at.now in
+    let read = c.deref-in-loop-other.ensures.value ∙ ap (λ (x : Spanned IfCondNode). x.node.true_body.items) c.deref.ensures in (
+      branch_falls _ _ (size-Stmt (IfCond c.args.first.now)) t (choice_deep (IfCond n) n c.deref-in-loop-other.result.now refl read)
+          c.loop-other.invariant.deep c.decreases,
       tt,
     )
 
 pub take_chain-take_units-requires-then-len-ne1 : goal.take_chain-take_units-requires-then-len-ne1
 take_chain-take_units-requires-then-len-ne1 t c =
-    let n = c.loop-found.at.now in
+    let n = c.loop-other.at.now in
     let read = c.deref-then-len-ne1.ensures.value ∙ ap (λ (x : Spanned IfCondNode). x.node.false_body.items) c.deref.ensures in (
       branch_falls _ _ (size-Stmt (IfCond c.args.first.now)) t (choice_other_deep (IfCond n) n c.deref-then-len-ne1.result.now refl read)
-          c.loop-found.invariant.deep c.decreases,
+          c.loop-other.invariant.deep c.decreases,
       tt,
     )
 
 pub take_chain-take_units-requires-in_default : goal.take_chain-take_units-requires-in_default
 take_chain-take_units-requires-in_default t c =
-    let n = c.loop-found.at.now in
+    let n = c.loop-other.at.now in
     let read = c.deref-in_default.ensures.value ∙ ap (λ (x : Spanned IfCondNode). x.node.false_body.items) c.deref.ensures in (
       branch_falls _ _ (size-Stmt (IfCond c.args.first.now)) t (choice_other_deep (IfCond n) n c.deref-in_default.result.now refl read)
-          c.loop-found.invariant.deep c.decreases,
+          c.loop-other.invariant.deep c.decreases,
       tt,
     )
 
 pub take_chain-returns-then-len-ne1 : goal.take_chain-returns-then-len-ne1
 take_chain-returns-then-len-ne1 t c =
-    let n = c.loop-found.at.now in
-    let body = c.deref-in-loop-found.ensures.value ∙ ap (λ (x : Spanned IfCondNode). x.node.true_body.items) c.deref.ensures in
+    let n = c.loop-other.at.now in
+    let body = c.deref-in-loop-other.ensures.value ∙ ap (λ (x : Spanned IfCondNode). x.node.true_body.items) c.deref.ensures in
     let other = c.deref-then-len-ne1.ensures.value ∙ ap (λ (x : Spanned IfCondNode). x.node.false_body.items) c.deref.ensures in
     chain_end (parts_in c.take_units.new.found.items) (parts_in c.take_units-then-len-ne1.new.found.items) c.deref-then-len-ne1.result.now
     n.value.node.false_body.items c.take_units-then-len-ne1.result other c.take_units-then-len-ne1.ensures
-    (chain_taken (parts_in c.loop-found.found.items) (parts_in c.take_units.new.found.items) n c.deref-in-loop-found.result.now body
-    c.in_ok-take_units.ensures c.loop-found.invariant.taken)
+    (chain_taken (parts_in c.loop-other.found.items) (parts_in c.take_units.new.found.items) n c.deref-in-loop-other.result.now body
+    c.in_ok-take_units.ensures c.loop-other.invariant.taken)
 
 pub take_chain-returns-in_default : goal.take_chain-returns-in_default
 take_chain-returns-in_default t c =
-    let n = c.loop-found.at.now in
-    let body = c.deref-in-loop-found.ensures.value ∙ ap (λ (x : Spanned IfCondNode). x.node.true_body.items) c.deref.ensures in
+    let n = c.loop-other.at.now in
+    let body = c.deref-in-loop-other.ensures.value ∙ ap (λ (x : Spanned IfCondNode). x.node.true_body.items) c.deref.ensures in
     let other = c.deref-in_default.ensures.value ∙ ap (λ (x : Spanned IfCondNode). x.node.false_body.items) c.deref.ensures in
     chain_end (parts_in c.take_units.new.found.items) (parts_in c.take_units-in_default.new.found.items) c.deref-in_default.result.now
     n.value.node.false_body.items c.take_units-in_default.result other c.take_units-in_default.ensures
-    (chain_taken (parts_in c.loop-found.found.items) (parts_in c.take_units.new.found.items) n c.deref-in-loop-found.result.now body
-    c.in_ok-take_units.ensures c.loop-found.invariant.taken)
+    (chain_taken (parts_in c.loop-other.found.items) (parts_in c.take_units.new.found.items) n c.deref-in-loop-other.result.now body
+    c.in_ok-take_units.ensures c.loop-other.invariant.taken)
 
-pub take_chain-loop-found-init : goal.take_chain-loop-found-init
-take_chain-loop-found-init t c = record {
+pub take_chain-loop-other-init : goal.take_chain-loop-other-init
+take_chain-loop-other-init t c = record {
   taken = refl;
   deep = omega arith;
 }
 
-pub take_chain-loop-found-preserved : goal.take_chain-loop-found-preserved
-take_chain-loop-found-preserved t c =
-    let n = c.loop-found.at.now in
+pub take_chain-loop-other-preserved : goal.take_chain-loop-other-preserved
+take_chain-loop-other-preserved t c =
+    let n = c.loop-other.at.now in
     let items = n.value.node.false_body.items in
-    let body = c.deref-in-loop-found.ensures.value ∙ ap (λ (x : Spanned IfCondNode). x.node.true_body.items) c.deref.ensures in
+    let body = c.deref-in-loop-other.ensures.value ∙ ap (λ (x : Spanned IfCondNode). x.node.true_body.items) c.deref.ensures in
     let shared = ap (λ (x : Spanned IfCondNode). vec_len x.node.false_body) c.deref.ensures in
     let counted = c.len.ensures in
     let alone = c.if-len-ne1.false in
@@ -268,18 +268,18 @@ take_chain-loop-found-preserved t c =
     let at : c.index.result.now ≡ get_or items 0 c.index.result.now =
     c.index.ensures ∙ ap (λ (x : Spanned IfCondNode). get_or x.node.false_body.items 0 c.index.result.now) c.deref.ensures in
     let less = else_below n c.in-IfCond.n c.index.result.now one at c.in-IfCond.is in
-    let deep : size-Stmt (IfCond n) ≤ size-Stmt (IfCond c.args.first.now) = c.loop-found.invariant.deep in
+    let deep : size-Stmt (IfCond n) ≤ size-Stmt (IfCond c.args.first.now) = c.loop-other.invariant.deep in
     record {
       taken =
           ap (λ ps. parts_in c.take_units.new.found.items ++ ps) (only_units items c.in-IfCond.n c.index.result.now one at c.in-IfCond.is) ∙
-          chain_taken (parts_in c.loop-found.found.items) (parts_in c.take_units.new.found.items) n c.deref-in-loop-found.result.now body
-          c.in_ok-take_units.ensures c.loop-found.invariant.taken;
+          chain_taken (parts_in c.loop-other.found.items) (parts_in c.take_units.new.found.items) n c.deref-in-loop-other.result.now body
+          c.in_ok-take_units.ensures c.loop-other.invariant.taken;
       deep = omega (arith, less, deep);
     }
 
-pub take_chain-loop-found-smaller : goal.take_chain-loop-found-smaller
-take_chain-loop-found-smaller t c =
-    let n = c.loop-found.at.now in
+pub take_chain-loop-other-smaller : goal.take_chain-loop-other-smaller
+take_chain-loop-other-smaller t c =
+    let n = c.loop-other.at.now in
     let items = n.value.node.false_body.items in
     let shared = ap (λ (x : Spanned IfCondNode). vec_len x.node.false_body) c.deref.ensures in
     let counted = c.len.ensures in

@@ -21,11 +21,11 @@ invariant-take_units-loop-statement l =
     parts_in l.found.items ++ units_among (statements_in (drop l.statement-index l.body)) ≡
     parts_in l.initial.found.items ++ units_among (statements_in l.body)
 
-abbrev pub invariant-take_chain-loop-found : goal.invariant-take_chain-loop-found
-invariant-take_chain-loop-found l = record {
+abbrev pub invariant-take_chain-loop-other : goal.invariant-take_chain-loop-other
+invariant-take_chain-loop-other l = record {
   taken : parts_in l.found.items ++ units_of (choice_of l.at) ≡ parts_in l.initial.found.items ++ units_of (choice_of l.fn.first);
   deep : size-Stmt (IfCond l.at) ≤ size-Stmt (IfCond l.fn.first);
 }
 
-abbrev pub decreases-take_chain-loop-found : goal.decreases-take_chain-loop-found
-decreases-take_chain-loop-found l = size-Stmt (IfCond l.at)
+abbrev pub decreases-take_chain-loop-other : goal.decreases-take_chain-loop-other
+decreases-take_chain-loop-other l = size-Stmt (IfCond l.at)
