@@ -53,7 +53,7 @@ impl<'env> Locals<'env> {
     }
 
     /// The value of a name. Looks through the first sixteen names; where there are more, logarithmic in their number.
-    #[inline]
+    #[inline(always)]
     pub fn get(&self, name: &str) -> Option<&Value>
         ensures { option_copied result ≡ local_at name.now self.now }
     {
