@@ -14,7 +14,7 @@ use Rattle.template_compiler_stream.specs.Left.{ended}
 use Rattle.template_compiler_stream.specs.Spans.{PlacedTokens}
 use Rattle.template_compiler_tokenizer.specs.Held.{spanned_of}
 use Rattle.template_compiler_tokenizer.specs.Spans.{Spanned, words_in}
-use Rattle.template_compiler_tokenizer.proofs.Scanned.{not_bad}
+use Rattle.template_compiler_placed_tokens.proofs.Scanned.{not_bad}
 use Rattle.template_compiler_source_tokens.specs.Spans.{token_spans, HoldsTokens}
 use Rattle.template_compiler_source_tokens.proofs.Faults.{told_fault}
 

@@ -18,7 +18,7 @@ use Rattle.template_compiler_tokens.specs.View.{token_of}
 use Rattle.template_compiler_tokens.specs.declared.token.Token.{Token}
 use Rattle.template_compiler_scanner.specs.Scans.{Scans}
 use Rattle.template_compiler_stream.specs.Spans.{PlacedTokens}
-use Rattle.template_compiler_tokenizer.proofs.Scanned.{not_bad}
+use Rattle.template_compiler_placed_tokens.proofs.Scanned.{not_bad}
 use Rattle.template_compiler_source_tokens.proofs.Faults.{one_fault, wanted}
 use Rattle.template_compiler_source_tokens.specs.Spelled.{IsSpelled, spelled_end, spelled_blank, spelled_token, spelled_bad, spelled_spans, HoldsSpelled}
 

@@ -17,9 +17,9 @@ use Rattle.template_compiler_segments.specs.Flat.{template_text, IsTokens, sourc
 use Rattle.template_compiler_segments.proofs.One.{one_list}
 use Rattle.template_compiler_segments.proofs.Bytes.{takes_bytes}
 use Rattle.template_compiler_segments.proofs.Pieces.{some_inside, some_list}
-use Rattle.template_compiler_tokenizer.specs.Left.{Placed, tokens_in, end_token, placed_in, inside_of, placed_of, pieces_at, data_tokens}
+use Rattle.template_compiler_placed_tokens.specs.Left.{Placed, tokens_in, end_token, placed_in, inside_of, placed_of, pieces_at, data_tokens}
 use Rattle.template_compiler_tokenizer.specs.Spans.{Spanned, spans_in, words_in, HasSpans, source_spans}
-use Rattle.template_compiler_tokenizer.proofs.OnePlaced.{one_placed}
+use Rattle.template_compiler_placed_tokens.proofs.OnePlaced.{one_placed}
 
 with_end : StartMarker → List Token → Ending → List Token
 with_end k tokens None = tokens

@@ -10,8 +10,8 @@ use Rattle.template_compiler_tokens.specs.Left.{IsRefused}
 use Rattle.template_compiler_tokens.specs.View.{token_of}
 use Rattle.template_compiler_tokens.specs.declared.token.Token.{Token}
 use Rattle.template_compiler_tokenizer.specs.Held.{spanned_of, StandsIn, left_of, HoldsRead, IsFurther}
-use Rattle.template_compiler_tokenizer.specs.Left.{Placed, placed, left_at, data_tokens, tokens_in}
-use Rattle.template_compiler_tokenizer.specs.Reads.{IsStage, IsRefusedKind, ReadsPiece}
+use Rattle.template_compiler_placed_tokens.specs.Left.{Placed, placed, left_at, data_tokens, tokens_in}
+use Rattle.template_compiler_placed_tokens.specs.Reads.{IsStage, IsRefusedKind, ReadsPiece}
 use Rattle.template_compiler_tokenizer.specs.Spans.{Spanned, spanned, spans_in, words_in}
 use Rattle.template_compiler_tokenizer.specs.Tokenizer.{TokenizerView, placed_at, view_of, IsStanding}
 use Rattle.template_compiler_places.specs.declared.stretch.Stretch.{Stretch}
@@ -19,10 +19,10 @@ use Rattle.template_compiler_segments.specs.declared.starts.StartFinder.{StartFi
 use Rattle.template_compiler_tokenizer.specs.declared.tokenizer.State.{State}
 use Rattle.template_compiler_tokenizer.specs.declared.tokenizer.State.TheVariants.{Refused}
 use Rattle.template_compiler_tokenizer.specs.declared.all.Standing.{Standing}
-use Rattle.template_compiler_tokenizer.specs.declared.inside.Piece.{Piece}
+use Rattle.template_compiler_placed_tokens.specs.declared.inside.Piece.{Piece}
 use Rattle.template_compiler_segments.specs.declared.edges.Edge.{Edge}
-use Rattle.template_compiler_tokenizer.specs.declared.stage.Stage.{Stage}
-use Rattle.template_compiler_tokenizer.specs.declared.stage.Stage.TheVariants.{Data}
+use Rattle.template_compiler_placed_tokens.specs.declared.stage.Stage.{Stage}
+use Rattle.template_compiler_placed_tokens.specs.declared.stage.Stage.TheVariants.{Data}
 
 pub pushed : (old held : List (Token × Span)) (t : Token × Span) (span : Span) → held ≡ old ++ t ∷ [] → t.1 ≡ span →
     spanned_of held ≡ spanned_of old ++ spanned (token_of t.0) span ∷ []

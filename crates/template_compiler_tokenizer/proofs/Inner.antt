@@ -11,7 +11,7 @@ use Rattle.template_compiler_tokens.specs.declared.token.Token.{Token}
 use Rattle.template_compiler_scanner.specs.Scans.{Scans}
 use Rattle.template_compiler_segments.specs.declared.edges.Sign.{Sign}
 use Rattle.template_compiler_segments.specs.declared.edges.Edge.TheVariants.{Beside}
-use Rattle.template_compiler_tokenizer.specs.Finds.{FindsPlace}
+use Rattle.template_compiler_placed_tokens.specs.Finds.{FindsPlace}
 use Rattle.template_compiler_tokenizer.specs.Held.{StandsIn, left_of, HoldsRead, HoldsRefused, IsFurther}
 use Rattle.template_compiler_tokenizer.specs.Held.{spanned_of}
 use Rattle.template_compiler_tokenizer.specs.Spans.{spanned}
@@ -21,15 +21,15 @@ use Rattle.std.specs.Prelude.{◌≤◌, [], ◌++◌, take}
 use Rattle.template_compiler_tokens.specs.declared.token.Token.TheVariants.{VariableEnd, BlockEnd}
 use Rattle.template_compiler_syntax.specs.declared.StartMarker.TheVariants as marker
 use Rattle.template_compiler_tokenizer.specs.Inner.{standing_in, standing_behind, IsPut, IsRead, Puts, ReadsToken}
-use Rattle.template_compiler_tokenizer.specs.Left.{placed, end_token, data_tokens, inside_tokens}
-use Rattle.template_compiler_tokenizer.specs.Reads.{ReadsPiece}
+use Rattle.template_compiler_placed_tokens.specs.Left.{placed, end_token, data_tokens, inside_tokens}
+use Rattle.template_compiler_placed_tokens.specs.Reads.{ReadsPiece}
 use Rattle.template_compiler_tokenizer.specs.declared.all.Standing.{Standing}
-use Rattle.template_compiler_tokenizer.specs.declared.inside.Found.TheVariants.{End, Token as Other}
-use Rattle.template_compiler_tokenizer.specs.declared.inside.Piece.{Piece}
+use Rattle.template_compiler_placed_tokens.specs.declared.inside.Found.TheVariants.{End, Token as Other}
+use Rattle.template_compiler_placed_tokens.specs.declared.inside.Piece.{Piece}
 use Rattle.template_compiler_tokenizer.specs.declared.segment.Inner.{Inner}
-use Rattle.template_compiler_tokenizer.specs.declared.stage.Stage.TheVariants as stage
+use Rattle.template_compiler_placed_tokens.specs.declared.stage.Stage.TheVariants as stage
 use Rattle.template_compiler_tokenizer.proofs.Held.{fewer_left, stands_next, holds_next, further_next}
-use Rattle.template_compiler_tokenizer.proofs.Scanned.{scanned, not_scanned, open_le}
+use Rattle.template_compiler_placed_tokens.proofs.Scanned.{scanned, not_scanned, open_le}
 
 pub read_from_put : {A : Type 0} (s : List ℕ) (place : ℕ) (t : Token) (width : ℕ) (first at : Inner) (old held : List (Token × Span)) (r : Result A ErrorKind) →
     IsRead s place t width → Puts s place t width first at old held r → ReadsToken s place first at old held r

@@ -9,7 +9,7 @@ use Rattle.template_compiler_places.specs.declared.stretch.Stretch.{Stretch}
 use Rattle.template_compiler_syntax.specs.Syntax.{Syntax}
 use Rattle.template_compiler_tokens.specs.Token as spec
 use Rattle.template_compiler_tokens.specs.declared.token.Token.{Token}
-use Rattle.template_compiler_tokenizer.specs.Left.{Placed, placed}
+use Rattle.template_compiler_placed_tokens.specs.Left.{Placed, placed}
 use Rattle.template_compiler_tokenizer.specs.Held.{spanned_of, HoldsRead, HoldsRefused}
 use Rattle.template_compiler_tokenizer.specs.Reaches.{GoesOn, HoldsNext, HoldsUpTo, Reaches}
 use Rattle.template_compiler_tokenizer.specs.Spans.{Spanned, spanned, spans_in}

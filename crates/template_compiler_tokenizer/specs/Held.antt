@@ -8,12 +8,12 @@ use Rattle.template_compiler_places.specs.Stretches.{BeginsBy}
 use Rattle.template_compiler_tokens.specs.Left.{IsRefused}
 use Rattle.template_compiler_tokens.specs.View.{token_of}
 use Rattle.template_compiler_tokens.specs.declared.token.Token.{Token}
-use Rattle.template_compiler_tokenizer.specs.Left.{Placed, left_at}
-use Rattle.template_compiler_tokenizer.specs.Reads.{IsStage, IsRefusedKind}
+use Rattle.template_compiler_placed_tokens.specs.Left.{Placed, left_at}
+use Rattle.template_compiler_placed_tokens.specs.Reads.{IsStage, IsRefusedKind}
 use Rattle.template_compiler_places.specs.Places.{span_between}
 use Rattle.template_compiler_tokenizer.specs.Spans.{Spanned, spanned, spans_in, words_in}
 use Rattle.template_compiler_tokenizer.specs.declared.all.Standing.{Standing}
-use Rattle.template_compiler_tokenizer.specs.declared.inside.Piece.{Piece}
+use Rattle.template_compiler_placed_tokens.specs.declared.inside.Piece.{Piece}
 
 -- tokens that were read, with their spans
 abbrev pub spanned_of : List (Token × Span) → List Spanned

@@ -15,12 +15,12 @@ use Rattle.template_compiler_segments.specs.declared.edges.Sign.{Sign}
 use Rattle.template_compiler_segments.specs.declared.edges.Edge.TheVariants.{Beside}
 use Rattle.template_compiler_syntax.specs.Syntax.{Syntax}
 use Rattle.template_compiler_tokenizer.specs.Held.{spanned_of, left_of, HoldsRead, HoldsRefused, StandsIn}
-use Rattle.template_compiler_tokenizer.specs.Left.{end_token}
+use Rattle.template_compiler_placed_tokens.specs.Left.{end_token}
 use Rattle.template_compiler_tokenizer.specs.Spans.{spanned}
 use Rattle.template_compiler_tokenizer.specs.declared.all.Standing.{Standing}
 use Rattle.template_compiler_tokenizer.specs.declared.segment.Inner.{Inner}
-use Rattle.template_compiler_tokenizer.specs.declared.stage.Stage.{Stage}
-use Rattle.template_compiler_tokenizer.specs.declared.stage.Stage.TheVariants as stage
+use Rattle.template_compiler_placed_tokens.specs.declared.stage.Stage.{Stage}
+use Rattle.template_compiler_placed_tokens.specs.declared.stage.Stage.TheVariants as stage
 
 -- a reader at a stage, among all readers
 abbrev pub standing : Stage → Inner → Standing

@@ -1,10 +1,4 @@
-pub mod Left
 pub mod Spans
-pub mod Ends
-pub mod Finds
-pub mod Reads
-pub mod Steps
-pub mod Read
 pub mod Held
 pub mod Inner
 pub mod Reaches

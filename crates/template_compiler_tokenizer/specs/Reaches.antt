@@ -14,7 +14,7 @@ use Rattle.template_compiler_tokens.specs.Token as spec
 use Rattle.template_compiler_tokens.specs.declared.token.Token.{Token}
 use Rattle.template_compiler_segments.specs.declared.edges.Edge.TheVariants.{Nothing, Beside}
 use Rattle.template_compiler_segments.specs.Segments.{IsNextStart, Ending, HasInside, HoldsInside, only}
-use Rattle.template_compiler_tokenizer.specs.Left.{Placed, placed, data_tokens, inside_tokens}
+use Rattle.template_compiler_placed_tokens.specs.Left.{Placed, placed, data_tokens, inside_tokens}
 use Rattle.template_compiler_tokenizer.specs.Held.{HoldsRead, HoldsRefused}
 use Rattle.std.specs.Prelude.{Some, codes}
 use Rattle.template_compiler_segments.specs.declared.edges.Sign.{Sign}

@@ -12,7 +12,7 @@ use Rattle.template_compiler_segments.specs.declared.edges.Edge.TheVariants.{Not
 use Rattle.template_compiler_segments.specs.Segments.{HasPieces, Piece}
 use Rattle.template_compiler_segments.specs.Stripping.{stripped}
 use Rattle.template_compiler_segments.specs.Flat.{template_text}
-use Rattle.template_compiler_tokenizer.specs.Left.{Placed, placed_of}
+use Rattle.template_compiler_placed_tokens.specs.Left.{Placed, placed_of}
 
 -- a token and its span
 pub record Spanned : Type 0 where

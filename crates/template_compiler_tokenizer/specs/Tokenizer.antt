@@ -7,9 +7,9 @@ use Rattle.template_compiler_places.specs.Stretches.{BeginsBy}
 use Rattle.template_compiler_places.specs.declared.stretch.Stretch.{Stretch}
 use Rattle.template_compiler_segments.specs.Known.{Knows}
 use Rattle.template_compiler_segments.specs.declared.starts.StartFinder.{StartFinder}
-use Rattle.template_compiler_tokenizer.specs.Left.{Placed, tokens_in, left_at}
+use Rattle.template_compiler_placed_tokens.specs.Left.{Placed, tokens_in, left_at}
 use Rattle.template_compiler_tokenizer.specs.Spans.{Spanned, spans_in}
-use Rattle.template_compiler_tokenizer.specs.Reads.{IsStage, IsRefusedKind}
+use Rattle.template_compiler_placed_tokens.specs.Reads.{IsStage, IsRefusedKind}
 use Rattle.template_compiler_tokenizer.specs.declared.tokenizer.State.{State}
 use Rattle.template_compiler_tokenizer.specs.declared.tokenizer.State.TheVariants.{Reading, Ended, Refused}
 

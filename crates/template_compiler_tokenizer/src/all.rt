@@ -3,15 +3,12 @@ ghost use Rattle.std.specs.Prelude.{◌≡◌, ◌∷◌, [], ◌++◌, IfOk, If
 ghost use Rattle.template_compiler_places.specs.Stretches.{BeginsBy};
 ghost use Rattle.template_compiler_segments.specs.Known.{Knows};
 ghost use Rattle.template_compiler_tokenizer.specs.Held.{Holds, ReadsAll, ReadsNext, StandsIn, left_of};
-ghost use Rattle.template_compiler_tokenizer.specs.Reads.{IsCut};
+ghost use Rattle.template_compiler_placed_tokens.specs.Reads.{IsCut};
 
-use crate::ends::SegmentEnd;
-use crate::inside::Piece;
 use crate::reach::{Reached, read_data};
-use crate::read::next_piece;
 use crate::segment::{Inner, read_inside};
-use crate::stage::Stage;
 use std::alloc::Global;
+use template_compiler_placed_tokens::{Piece, SegmentEnd, Stage, next_piece};
 use template_compiler_places::{Stretch, next_span};
 use template_compiler_segments::{Edge, StartFinder};
 use template_compiler_syntax::SyntaxConfig;

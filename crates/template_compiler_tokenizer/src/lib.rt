@@ -3,19 +3,12 @@
 
 mod ahead;
 mod all;
-mod data;
-mod ends;
-mod inside;
 mod laws;
 mod reach;
-mod read;
 mod segment;
-mod stage;
-mod starts;
 mod stream;
 mod text;
 mod tokenizer;
-mod words;
 
 pub use laws::one_list_of_spans;
 pub use stream::TokenStream;

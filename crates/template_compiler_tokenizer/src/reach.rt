@@ -1,5 +1,5 @@
 // Steps over data, whose tokens are held.
-ghost use Rattle.std.specs.Prelude.{◌≡◌, ◌≤◌, ℕ, length};
+ghost use Rattle.std.specs.Prelude.{◌≡◌, ◌≤◌, ℕ, IsTrue, length};
 ghost use Rattle.std.specs.Str.{IsCharBoundary};
 ghost use Rattle.template_compiler_places.specs.Stretches.{BeginsBy};
 ghost use Rattle.template_compiler_places.specs.declared.stretch.Stretch.{Stretch};
@@ -7,15 +7,14 @@ ghost use Rattle.template_compiler_segments.specs.Known.{Knows};
 ghost use Rattle.template_compiler_segments.specs.Segments.{HasNoStart, IsNextStart, inside_from as the_inside_from, start_sign as sign_of_start};
 ghost use Rattle.template_compiler_segments.specs.declared.edges.Edge.{Edge};
 ghost use Rattle.template_compiler_syntax.specs.Syntax.{Syntax, IsUsable};
+ghost use Rattle.template_compiler_tokens.specs.Lexical.{Begins};
+ghost use Rattle.template_compiler_tokens.specs.Token.{identifier};
 ghost use Rattle.template_compiler_tokens.specs.View.{token_of};
-ghost use Rattle.template_compiler_tokenizer.specs.Left.{data_tokens};
+ghost use Rattle.template_compiler_placed_tokens.specs.Left.{data_tokens};
 ghost use Rattle.template_compiler_tokenizer.specs.Reaches.{FindsBlack, HoldsNext, HoldsUpTo, Reaches, ReadsRaw};
 
 use crate::all::push;
-use crate::data::{is_nothing, raw_data};
-use crate::ends::is_white_at;
-use crate::starts::inside_from;
-use crate::words::{may_begin_with, only_word};
+use template_compiler_placed_tokens::{inside_from, is_nothing, is_white_at, only_word, raw_data};
 use template_compiler_places::{Stretch, next_span};
 use template_compiler_segments::{
     Edge, Sign, Start, StartFinder, comment_sign, data_between, find_text,
@@ -265,6 +264,19 @@ fn read_block<'source>(
     ) {
         Ok(()) => Reached::Inside(StartMarker::Block),
         Err(kind) => Reached::Refused(kind),
+    }
+}
+
+// Whether the text may begin with the word, by its first byte. Most blocks are told so from raw ones.
+fn may_begin_with(text: &[u8], word: &[u8]) -> bool
+    ensures { (n : ℕ) → Begins text.now (identifier word.now) n → IsTrue result }
+{
+    match word.first() {
+        Some(wanted) => match text.first() {
+            Some(first) => *first == *wanted,
+            None => true,
+        },
+        None => true,
     }
 }
 

@@ -4,14 +4,15 @@ ghost use Rattle.std.specs.Str.{IsCharBoundary};
 ghost use Rattle.template_compiler_places.specs.Stretches.{BeginsBy};
 ghost use Rattle.template_compiler_scanner.specs.Scans.{Scans};
 ghost use Rattle.template_compiler_tokens.specs.declared.token.Token.TheVariants.{Ident};
-ghost use Rattle.template_compiler_tokenizer.specs.Ends.{IsSegmentEnd};
+ghost use Rattle.template_compiler_placed_tokens.specs.Ends.{IsSegmentEnd};
 ghost use Rattle.template_compiler_tokenizer.specs.Held.{StandsIn};
 ghost use Rattle.template_compiler_tokenizer.specs.Inner.{Puts, PutsEnd, ReadsSegment, ReadsToken, standing_in};
 
 use crate::all::push;
-use crate::ends::SegmentEnd;
-use crate::inside::{Found, brackets_behind, end_token, next_place_of};
 use std::alloc::Global;
+use template_compiler_placed_tokens::{
+    Found, SegmentEnd, brackets_behind, end_token, next_place_of,
+};
 use template_compiler_places::{Stretch, next_span};
 use template_compiler_scanner::{scan_digit, scan_mark, scan_name, scan_token};
 use template_compiler_segments::Sign;

@@ -1,12 +1,10 @@
 //! The tokenizer.
 
 use crate::all::{Standing, read_all};
-use crate::inside::Piece;
-use crate::read::next_piece;
-use crate::stage::Stage;
 use crate::text::template_text;
 use std::alloc::Global;
 use std::marker::Model;
+use template_compiler_placed_tokens::{Piece, Stage, next_piece};
 use template_compiler_places::{Stretch, span_in};
 use template_compiler_segments::{Edge, StartFinder};
 use template_compiler_syntax::SyntaxConfig;

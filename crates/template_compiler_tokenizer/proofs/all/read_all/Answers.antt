@@ -2,11 +2,11 @@ use Rattle.std.proofs.Common.{◌≤◌, length, ◌∙◌, subst, arith, Ok}
 use Rattle.template_compiler_segments.specs.Known.{Knows}
 use Rattle.template_compiler_tokenizer.specs.Held.{HoldsRead, StandsIn, left_of}
 use Rattle.template_compiler_tokenizer.specs.Inner.{ReadsSegment, standing}
-use Rattle.template_compiler_tokenizer.specs.Left.{left_at}
+use Rattle.template_compiler_placed_tokens.specs.Left.{left_at}
 use Rattle.template_compiler_tokenizer.specs.declared.segment.Inner.{Inner}
-use Rattle.template_compiler_tokenizer.specs.declared.stage.Stage.{Stage}
+use Rattle.template_compiler_placed_tokens.specs.declared.stage.Stage.{Stage}
 use Rattle.template_compiler_tokenizer.proofs.Held.{still_held, still_fewer}
-use Rattle.template_compiler_tokenizer.proofs.Later.{knows_later}
+use Rattle.template_compiler_placed_tokens.proofs.Later.{knows_later}
 use Rattle.template_compiler_tokenizer.proofs.all.read_all.Goals as goal
 use Rattle.template_compiler_tokenizer.proofs.all.read_all.Goals.{in-Data+in-Inside, in-Data+in-Start, in_default}
 

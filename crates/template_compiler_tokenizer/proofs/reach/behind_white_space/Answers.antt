@@ -1,7 +1,7 @@
 use Rattle.std.proofs.Common.{sym, ◌∙◌, arith}
 use Rattle.template_compiler_syntax.specs.declared.StartMarker.TheVariants.{Block}
-use Rattle.template_compiler_tokenizer.proofs.Delimiters.{place_passed, white_cut, white_no_block_end}
-use Rattle.template_compiler_tokenizer.proofs.Steps.{inside_blank}
+use Rattle.template_compiler_placed_tokens.proofs.Delimiters.{place_passed, white_cut, white_no_block_end}
+use Rattle.template_compiler_placed_tokens.proofs.Steps.{inside_blank}
 use Rattle.template_compiler_tokenizer.proofs.reach.behind_white_space.Goals as goal
 
 pub loop-bytes-preserved : goal.loop-bytes-preserved

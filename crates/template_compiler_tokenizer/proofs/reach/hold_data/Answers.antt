@@ -5,9 +5,9 @@ use Rattle.template_compiler_segments.specs.Places.{stretch}
 use Rattle.template_compiler_segments.specs.Segments.{start_sign}
 use Rattle.template_compiler_segments.specs.Stripping.{stripped_from, stripped_to}
 use Rattle.template_compiler_tokens.specs.Token.{template_data}
-use Rattle.template_compiler_tokenizer.specs.Left.{placed, data_tokens}
-use Rattle.template_compiler_tokenizer.proofs.Steps.{data_next, no_data}
-use Rattle.template_compiler_tokenizer.proofs.Parts.{start_here}
+use Rattle.template_compiler_placed_tokens.specs.Left.{placed, data_tokens}
+use Rattle.template_compiler_placed_tokens.proofs.Steps.{data_next, no_data}
+use Rattle.template_compiler_placed_tokens.proofs.Parts.{start_here}
 use Rattle.template_compiler_tokenizer.proofs.Reading.{goes_on_at_once, holds_up_to}
 use Rattle.template_compiler_tokenizer.proofs.reach.hold_data.Goals as goal
 

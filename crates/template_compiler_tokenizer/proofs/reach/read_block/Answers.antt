@@ -5,12 +5,12 @@ use Rattle.template_compiler_segments.specs.declared.edges.Edge.TheVariants.{Not
 use Rattle.template_compiler_segments.specs.Segments.{HasInside, only}
 use Rattle.template_compiler_segments.proofs.Some.{set_long}
 use Rattle.template_compiler_tokens.specs.Token.{block_start}
-use Rattle.template_compiler_tokenizer.specs.Finds.{FindsWord}
-use Rattle.template_compiler_tokenizer.specs.Left.{placed, data_tokens, inside_tokens}
+use Rattle.template_compiler_placed_tokens.specs.Finds.{FindsWord}
+use Rattle.template_compiler_placed_tokens.specs.Left.{placed, data_tokens, inside_tokens}
 use Rattle.template_compiler_tokenizer.specs.Reaches.{GoesOn}
-use Rattle.template_compiler_tokenizer.proofs.OneWord.{no_only_word}
+use Rattle.template_compiler_placed_tokens.proofs.OneWord.{no_only_word}
 use Rattle.template_compiler_tokenizer.proofs.Reading.{goes_on_behind, none_held}
-use Rattle.template_compiler_tokenizer.proofs.Steps.{at_block}
+use Rattle.template_compiler_placed_tokens.proofs.Steps.{at_block}
 use Rattle.template_compiler_tokenizer.proofs.reach.read_block.Goals as goal
 use Rattle.template_compiler_tokenizer.proofs.reach.read_block.Goals.{then-may_begin_with+in-Other, else-may_begin_with}
 

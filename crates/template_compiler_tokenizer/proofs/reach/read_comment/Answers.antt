@@ -5,10 +5,10 @@ use Rattle.template_compiler_tokens.specs.Token.{bad_syntax}
 use Rattle.template_compiler_segments.specs.declared.edges.Edge.TheVariants.{Nothing, Beside}
 use Rattle.template_compiler_segments.specs.Segments.{comment_sign}
 use Rattle.template_compiler_segments.proofs.Some.{set_long}
-use Rattle.template_compiler_tokenizer.specs.Left.{data_tokens}
-use Rattle.template_compiler_tokenizer.proofs.Cuts.{stands_cut}
-use Rattle.template_compiler_tokenizer.proofs.Steps.{at_comment, at_endless_comment}
-use Rattle.template_compiler_tokenizer.proofs.Parts.{comment_first, comment_nowhere}
+use Rattle.template_compiler_placed_tokens.specs.Left.{data_tokens}
+use Rattle.template_compiler_placed_tokens.proofs.Cuts.{stands_cut}
+use Rattle.template_compiler_placed_tokens.proofs.Steps.{at_comment, at_endless_comment}
+use Rattle.template_compiler_placed_tokens.proofs.Parts.{comment_first, comment_nowhere}
 use Rattle.template_compiler_tokenizer.proofs.Reading.{goes_on_at_once}
 use Rattle.template_compiler_tokenizer.proofs.reach.read_comment.Goals as goal
 

@@ -1,10 +1,10 @@
 use Rattle.std.proofs.Common.{◌+◌, [], ◌∷◌, ◌++◌, inl, inr, sym, ◌∙◌, ap, arith, length}
 use Rattle.std.proofs.lemmas.Bool.{false≢true}
 use Rattle.template_compiler_tokens.specs.Token.{template_data}
-use Rattle.template_compiler_tokenizer.specs.Left.{placed, data_tokens}
+use Rattle.template_compiler_placed_tokens.specs.Left.{placed, data_tokens}
 use Rattle.template_compiler_tokenizer.specs.Held.{spanned_of}
 use Rattle.template_compiler_tokenizer.specs.Spans.{spans_in}
-use Rattle.template_compiler_tokenizer.proofs.Steps.{data_last}
+use Rattle.template_compiler_placed_tokens.proofs.Steps.{data_last}
 use Rattle.template_compiler_tokenizer.proofs.Reading.{none_held}
 use Rattle.template_compiler_tokenizer.proofs.reach.read_last.Goals as goal
 

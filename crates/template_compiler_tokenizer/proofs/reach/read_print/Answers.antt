@@ -4,9 +4,9 @@ use Rattle.template_compiler_syntax.specs.declared.StartMarker.TheVariants.{Vari
 use Rattle.template_compiler_segments.specs.declared.edges.Edge.TheVariants.{Nothing}
 use Rattle.template_compiler_segments.proofs.Some.{set_long}
 use Rattle.template_compiler_tokens.specs.Token.{variable_start}
-use Rattle.template_compiler_tokenizer.specs.Left.{placed, data_tokens, inside_tokens}
+use Rattle.template_compiler_placed_tokens.specs.Left.{placed, data_tokens, inside_tokens}
 use Rattle.template_compiler_tokenizer.proofs.Reading.{goes_on_behind, none_held}
-use Rattle.template_compiler_tokenizer.proofs.Steps.{at_print}
+use Rattle.template_compiler_placed_tokens.proofs.Steps.{at_print}
 use Rattle.template_compiler_tokenizer.proofs.reach.read_print.Goals as goal
 
 pub returns-in-Ok : goal.returns-in-Ok

@@ -5,8 +5,8 @@ use Rattle.template_compiler_syntax.specs.declared.StartMarker.TheVariants.{Bloc
 use Rattle.template_compiler_segments.specs.declared.edges.Edge.TheVariants.{Nothing, Beside}
 use Rattle.template_compiler_segments.specs.Segments.{HasInside, only}
 use Rattle.template_compiler_tokens.specs.Token.{bad_syntax, template_data}
-use Rattle.template_compiler_tokenizer.specs.Left.{data_tokens}
-use Rattle.template_compiler_tokenizer.proofs.OneWord.{raw_is_name}
+use Rattle.template_compiler_placed_tokens.specs.Left.{data_tokens}
+use Rattle.template_compiler_placed_tokens.proofs.OneWord.{raw_is_name}
 use Rattle.template_compiler_tokenizer.proofs.Reading.{goes_on_at_once, goes_on_behind, none_held}
 use Rattle.template_compiler_tokenizer.proofs.reach.read_raw.Goals as goal
 

@@ -1,0 +1,9 @@
+pub mod OnePlaced
+pub mod Steps
+pub mod Delimiters
+pub mod Cuts
+pub mod EndBytes
+pub mod Scanned
+pub mod OneWord
+pub mod Parts
+pub mod Later
