@@ -1,23 +1,24 @@
 -- The code of each statement performs its walk: from any place, over any operands, with any ways out.
-use Rattle.std.proofs.Common.{◌≡◌, ℕ, ◌+◌, ◌≤◌, ◌==◌, zero, suc, true, false, List, [], ◌∷◌, ◌++◌, length, map, Some, refl, sym, ap, subst, ◌∙◌, length-append, arith}
-use Rattle.std.proofs.lemmas.Bool.Decides.{nat_tests}
+use Rattle.std.proofs.Common.{◌≡◌, ℕ, ◌+◌, ◌≤◌, zero, suc, true, false, List, [], ◌∷◌, ◌++◌, length, Some, refl, sym, ap, subst, ◌∙◌, length-append, arith}
 use Rattle.template_values_model.specs.Val.{Val}
-use Rattle.template_tree.specs.Tree.{Expression, Expressions, Statement, Statements, Assignments, variable, list_literal, absent, no_expressions, expressions_more, raw, print, for_loop, if_condition, with_block, set, auto_escape, continue_loop, break_loop, no_statements, statements_more, no_assignments, assignments_more}
+use Rattle.template_tree.specs.Tree.{Expression, Expressions, Statement, Statements, Assignments, absent, raw, print, for_loop, if_condition, with_block, set, set_block, auto_escape, continue_loop, break_loop, no_statements, statements_more, no_assignments, assignments_more}
 use Rattle.template_tree.specs.Tree as tree
 use Rattle.template_process.specs.Process as events
-use Rattle.template_process.specs.Process.{Counts, Ask, store, truth_of, unpack, write_raw, write_value, open_frame, close_frame, plain_loop, open_loop, next_item, did_not_iterate, close_loop, open_escape, close_escape, Process, over, step, asks, cut_short, on_done, on_value, on_truth, on_item, on_items, Below}
-use Rattle.template_process.proofs.Below.{below-cut_short, below-step, below-asks_done, below-asks_value, below-asks_item, below-asks_items_of}
+use Rattle.template_process.specs.Process.{Counts, Ask, truth_of, write_raw, write_value, open_frame, close_frame, plain_loop, open_loop, next_item, did_not_iterate, close_loop, open_escape, close_escape, Process, over, step, asks, cut_short, on_done, on_value, on_truth, on_item, value_asked, Below}
+use Rattle.template_process.proofs.Below.{below-cut_short, below-step, below-asks_value, below-asks_item}
 use Rattle.template_walk.specs.Expressions.{expression_walk}
-use Rattle.template_walk.specs.Statements.{Exits, closing, number_of, target_walk, targets_walk, assignments_walk, rounds, loop_end, past, statement_walk, statements_walk}
-use Rattle.template_code.specs.Code.{Operand, single, Code, emit_raw, emit, store_local, unpack_list, jump, jump_if_false, push_with, pop_frame, push_loop, iterate, push_did_not_iterate, pop_loop_frame, push_auto_escape, pop_auto_escape, include}
+use Rattle.template_walk.specs.Statements.{Exits, closing, capture_left, capturing, target_walk, assignments_walk, rounds, iterable_walk, loop_end, past, statement_walk, statements_walk}
+use Rattle.template_code.specs.Code.{Operand, single, Code, emit_raw, emit, discard_top, jump, jump_if_false, push_with, pop_frame, push_loop, iterate, push_did_not_iterate, pop_loop_frame, push_auto_escape, pop_auto_escape, begin_capture, end_capture, include}
 use Rattle.template_code.specs.Counting.{counts_before}
 use Rattle.template_code.specs.Steps.{act, exec}
 use Rattle.template_compiler_codegen.specs.Expressions.{Coded, then_code, one, nothing, skipped, either_code, expression_code}
-use Rattle.template_compiler_codegen.specs.Statements.{Ways, closing_with, target_code, targets_code, assignments_code, loop_flags, rounds_code, loop_end_code, branches_code, left_by, statement_code, statements_code}
+use Rattle.template_compiler_codegen.specs.Statements.{Ways, closing_with, target_code, assignments_code, loop_flags, iterable_code, rounds_code, loop_end_code, branches_code, left_by, statement_code, statements_code}
 use Rattle.template_compiler_codegen.proofs.Standing.{StandsAt, behind_one, instruction_at, below_at, behind_then, stands_first, stands_second, first_part, last_part, stands_either, behind_either}
-use Rattle.template_compiler_codegen.proofs.Expressions.{behind_single, moved, longer, tests_at, jumps_at, behind_skipped}
+use Rattle.template_compiler_codegen.proofs.Expressions.{Performs, behind_single, asks_at, moved, longer, tests_at, jumps_at, behind_skipped}
 use Rattle.template_compiler_codegen.proofs.Performing.{performs}
 use Rattle.template_compiler_codegen.proofs.Lengths.{long_statements}
+use Rattle.template_compiler_codegen.proofs.Storing.{done_at, done_free, Stores, stores}
+use Rattle.template_compiler_codegen.proofs.Gathering.{performs_iterable}
 
 -- what leaves a loop goes as far as the closings and the jump do, wherever they stand
 abbrev pub WayOut : List Code → List Code → ℕ → ℕ → Process → List Operand → Type 0
@@ -69,18 +70,22 @@ done_then ways first second walk more f g code place h k =
           (outs_longer code ways k m x operands (omega arith) outs),
     )
 
--- an expression, and then what takes its value
-done_with : (ways : Ways) (e : Expression) (second : Coded) (more : Val → Walk) → TakesAs ways second more → PerformsAs ways (then_code (expression_code e) second) (λ x go. expression_walk e (λ v. more v x go))
-done_with ways e second more g code place h k =
-    let first = expression_code e in
+-- what gives a value, and then what takes it
+done_over : (ways : Ways) (first : Coded) (gives : (Val → Process) → Process) → Performs first gives → (second : Coded) (more : Val → Walk) → TakesAs ways second more
+    → PerformsAs ways (then_code first second) (λ x go. gives (λ v. more v x go))
+done_over ways first gives f second more g code place h k =
     let mid = place + length (first place) in
     let later = g code mid (stands_second code place first second h) k in
-    let earlier = performs e code place (stands_first code place first second h) later.0 in (
+    let earlier = f code place (stands_first code place first second h) later.0 in (
       earlier.0,
       λ operands x go below outs.
           earlier.1 operands (λ v. more v x go)
           (λ v. later.1 v operands x go (moved code k (place + length (then_code first second place)) (mid + length (second mid)) operands go (behind_then first second place) below) outs),
     )
+
+-- an expression, and then what takes its value
+done_with : (ways : Ways) (e : Expression) (second : Coded) (more : Val → Walk) → TakesAs ways second more → PerformsAs ways (then_code (expression_code e) second) (λ x go. expression_walk e (λ v. more v x go))
+done_with ways e second more g = done_over ways (expression_code e) (expression_walk e) (performs e) second more g
 
 -- what takes a value, and then a piece
 taken_then : (ways : Ways) (first second : Coded) (walk : Val → Walk) (more : Walk) → TakesAs ways first walk → PerformsAs ways second more → TakesAs ways (then_code first second) (λ v x go. walk v x (more x go))
@@ -95,20 +100,6 @@ taken_then ways first second walk more f g code place h k =
           (longer code later.0 m mid operands (more x go) (omega arith) (later.1 operands x go (moved code k (place + length (then_code first second place)) (mid + length (second mid)) operands go (behind_then first second place) below) outs))
           (outs_longer code ways k m x operands (omega arith) outs),
     )
-
--- one instruction that asks for something to be done
-done_at : (code : List Code) (place : ℕ) (c : Code) (piece : List Code) → StandsAt code place (c ∷ piece) → (k : ℕ) (operands rest : List Operand) (e : Ask) (p : Process)
-    → act (exec code k) (counts_before code place) (Some c) place operands ≡ step (asks e (on_done (exec code k (suc place) rest))) → Below p (exec code k (suc place) rest) → Below (step (asks e (on_done p))) (exec code (suc k) place operands)
-done_at code place c piece h k operands rest e p is below =
-    let P : Process → Type 0 = λ q. Below (step (asks e (on_done p))) q in
-    below_at code place c (instruction_at code place c piece h) k operands (step (asks e (on_done p))) (subst P (sym is) (below-step _ _ (below-asks_done e p (exec code k (suc place) rest) below)))
-
--- the same for nothing
-done_free : (code : List Code) (place : ℕ) (c : Code) (piece : List Code) → StandsAt code place (c ∷ piece) → (k : ℕ) (operands rest : List Operand) (e : Ask) (p : Process)
-    → act (exec code k) (counts_before code place) (Some c) place operands ≡ asks e (on_done (exec code k (suc place) rest)) → Below p (exec code k (suc place) rest) → Below (asks e (on_done p)) (exec code (suc k) place operands)
-done_free code place c piece h k operands rest e p is below =
-    let P : Process → Type 0 = λ q. Below (asks e (on_done p)) q in
-    below_at code place c (instruction_at code place c piece h) k operands (asks e (on_done p)) (subst P (sym is) (below-asks_done e p (exec code k (suc place) rest) below))
 
 takes_one : (ways : Ways) (c : Code) (e : Val → Ask) → ((next : ℕ → List Operand → Process) (before : Counts) (place : ℕ) (v : Val) (operands : List Operand) → act next before (Some c) place (single v ∷ operands) ≡ step (asks (e v) (on_done (next (suc place) operands))))
     → TakesAs ways (one c) (λ v x go. step (asks (e v) (on_done go)))
@@ -134,85 +125,8 @@ does_free ways c e is code place h k = (
       (moved code k (place + length (one c place)) (suc place) operands go (sym (behind_single place c)) below),
 )
 
--- code that takes a value and does not look at the ways out
-abbrev Stores : Coded → (Val → Process → Process) → Type 0
-Stores piece walk = (code : List Code) (place : ℕ) → StandsAt code place (piece place) → (k : ℕ) → (j : ℕ) × ((v : Val) (operands : List Operand) (go : Process)
-    → Below go (exec code k (place + length (piece place)) operands) → Below (walk v go) (exec code j place (single v ∷ operands)))
-
--- values in turn on the operands, the first one on top, which code takes
-abbrev StoresAll : Coded → (List Val → Process → Process) → ℕ → Type 0
-StoresAll piece walk count = (code : List Code) (place : ℕ) → StandsAt code place (piece place) → (k : ℕ) → (j : ℕ) × ((vs : List Val) → length vs ≡ count → (operands : List Operand) (go : Process)
-    → Below go (exec code k (place + length (piece place)) operands) → Below (walk vs go) (exec code j place (map single vs ++ operands)))
-
 takes_stored : (ways : Ways) (piece : Coded) (walk : Val → Process → Process) → Stores piece walk → TakesAs ways piece (λ v x go. walk v go)
 takes_stored ways piece walk f code place h k = let b = f code place h k in (b.0, λ v operands x go below outs. b.1 v operands go below)
-
-stores_name : (name : List ℕ) → Stores (one (store_local name)) (λ v go. step (asks (store name v) (on_done go)))
-stores_name name code place h k = (
-  suc k,
-  λ v operands go below. done_at code place (store_local name) [] h k (single v ∷ operands) operands (store name v) go refl
-      (moved code k (place + length (one (store_local name) place)) (suc place) operands go (sym (behind_single place (store_local name))) below),
-)
-
-over_none : (code : List Code) (k place : ℕ) (vs : List Val) → length vs ≡ 0 → (operands : List Operand) (go : Process) → Below go (exec code k place operands) → Below go (exec code k place (map single vs ++ operands))
-over_none code k place [] none operands go below = below
-over_none code k place (v ∷ vs) none operands go below = absurd (omega (arith, none))
-
-no_targets : StoresAll nothing (λ vs go. go) 0
-no_targets code place h k =
-    let same : place + length (nothing place) ≡ place = omega arith in
-    (k, λ vs none operands go below. over_none code k place vs none operands go (moved code k (place + length (nothing place)) place operands go same below))
-
-over_more : (code : List Code) (j place : ℕ) (all : List Val → Process → Process) (count : ℕ) (operands : List Operand) (go : Process)
-    → ((v : Val) (vs : List Val) → length vs ≡ count → Below (all (v ∷ vs) go) (exec code j place (single v ∷ (map single vs ++ operands))))
-    → (vs : List Val) → length vs ≡ suc count → Below (all vs go) (exec code j place (map single vs ++ operands))
-over_more code j place all count operands go h [] many = absurd (omega (arith, many))
-over_more code j place all count operands go h (v ∷ vs) many = h v vs (omega arith)
-
-more_targets : (target : Expression) (targets : Expressions) → Stores (target_code target) (target_walk target) → StoresAll (targets_code targets) (targets_walk targets) (number_of targets)
-    → StoresAll (then_code (target_code target) (targets_code targets)) (targets_walk (expressions_more target targets)) (suc (number_of targets))
-more_targets target targets f g code place h k =
-    let first = target_code target in
-    let more = targets_code targets in
-    let mid = place + length (first place) in
-    let b = g code mid (stands_second code place first more h) k in
-    let a = f code place (stands_first code place first more h) b.0 in (
-      a.0,
-      λ vs many operands go below.
-          over_more code a.0 place (targets_walk (expressions_more target targets)) (number_of targets) operands go
-          (λ v us few. a.1 v (map single us ++ operands) (targets_walk targets us go)
-          (b.1 us few operands go (moved code k (place + length (then_code first more place)) (mid + length (more mid)) operands go (behind_then first more place) below)))
-          vs many,
-    )
-
-count_of : (n m : ℕ) → (n == m) ≡ true → n ≡ m
-count_of n m e = grind (arith, nat_tests)
-
-unpacks : (targets : Expressions) → StoresAll (targets_code targets) (targets_walk targets) (number_of targets)
-    → Stores (then_code (one (unpack_list (number_of targets))) (targets_code targets)) (λ v go. step (asks (unpack (number_of targets) v) (on_items (number_of targets) (λ vs. targets_walk targets vs go))))
-unpacks targets g code place h k =
-    let n = number_of targets in
-    let first = one (unpack_list n) in
-    let more = targets_code targets in
-    let mid = place + length (first place) in
-    let b = g code mid (stands_second code place first more h) k in (
-      suc b.0,
-      λ v operands go below.
-          below_at code place (unpack_list n) (instruction_at code place (unpack_list n) [] (stands_first code place first more h)) b.0 (single v ∷ operands) (step (asks (unpack n v) (on_items n (λ vs. targets_walk targets vs go))))
-          (below-step _ _ (below-asks_items_of (unpack n v) n (λ vs. targets_walk targets vs go) (λ vs. exec code b.0 (suc place) (map single vs ++ operands))
-          (λ vs many. moved code b.0 mid (suc place) (map single vs ++ operands) (targets_walk targets vs go) (sym (behind_single place (unpack_list n)))
-          (b.1 vs (count_of (length vs) n many) operands go (moved code k (place + length (then_code first more place)) (mid + length (more mid)) operands go (behind_then first more place) below))))),
-    )
-
-mutual
-  stores : (target : Expression) → Stores (target_code target) (target_walk target)
-  stores (variable name) = stores_name name
-  stores (list_literal targets) = unpacks targets (stores_all targets)
-  stores _ = λ code place h k. (0, λ v operands go below. below-cut_short _)
-
-  stores_all : (targets : Expressions) → StoresAll (targets_code targets) (targets_walk targets) (number_of targets)
-  stores_all no_expressions = no_targets
-  stores_all (expressions_more target targets) = more_targets target targets (stores target) (stores_all targets)
 
 assigns : (ways : Ways) (assignments : Assignments) → PerformsAs ways (assignments_code assignments) (λ x go. assignments_walk assignments go)
 assigns ways no_assignments = nothing_done ways
@@ -280,6 +194,36 @@ closed_body ways c e body walk is f code place h k =
           b.1 operands (closing e x) (asks e (on_done go))
           (done_free code mid c [] (stands_second code place body (one c) h) k operands operands e go (is (exec code k) (counts_before code mid) mid operands)
           (moved code k (place + length (then_code body (one c) place)) (suc mid) operands go (behind_then body (one c) place ∙ sym (behind_single mid c)) below))
+          (record { on_break = way_out ways.break_to x.on_break operands outs.on_break; on_continue = way_out ways.continue_to x.on_continue operands outs.on_continue }),
+    )
+
+-- a body that is captured, and the target of its text
+captured_body : (ways : Ways) (body : Coded) (walk : Walk) (target : Expression) → PerformsAs (closing_with end_capture (closing_with discard_top ways)) body walk
+    → PerformsAs ways (then_code body (then_code (one end_capture) (target_code target))) (λ x go. walk (capturing x) (value_asked events.end_capture (λ text. target_walk target text go)))
+captured_body ways body walk target f code place h k =
+    let tail = then_code (one end_capture) (target_code target) in
+    let mid = place + length (body place) in
+    let store_at = mid + length (one end_capture mid) in
+    let behind_body = stands_second code place body tail h in
+    let stored = stores target code store_at (stands_second code mid (one end_capture) (target_code target) behind_body) k in
+    let m = suc (suc (stored.0 + k)) in
+    let b = f code place (stands_first code place body tail h) m in
+    let way_out : (to : ℕ) (p : Process) (operands : List Operand) → WayOut code ways.closings to k p operands → WayOut code (end_capture ∷ discard_top ∷ ways.closings) to m (capture_left p) operands =
+    λ to p operands out at stands.
+    let rest = left_by ways.closings to at in
+    let second = behind_one code at end_capture (discard_top ∷ rest) stands in
+    longer code (suc (suc k)) m at operands (capture_left p) (omega arith)
+    (asks_at code at end_capture (discard_top ∷ rest) stands (suc k) operands operands events.end_capture (λ text. p) refl
+    (λ text. below_at code (suc at) discard_top (instruction_at code (suc at) discard_top rest second) k (single text ∷ operands) p
+    (out (suc (suc at)) (behind_one code (suc at) discard_top rest second)))) in (
+      b.0,
+      λ operands x go below outs.
+          let ended : Process = value_asked events.end_capture (λ text. target_walk target text go) in
+          b.1 operands (capturing x) ended
+          (longer code (suc stored.0) m mid operands ended (omega arith)
+          (asks_at code mid end_capture [] (stands_first code mid (one end_capture) (target_code target) behind_body) stored.0 operands operands events.end_capture (λ text. target_walk target text go) refl
+          (λ text. moved code stored.0 store_at (suc mid) (single text ∷ operands) (target_walk target text go) (sym (behind_single mid end_capture))
+          (stored.1 text operands go (moved code k (place + length (then_code body tail place)) (store_at + length (target_code target store_at)) operands go (behind_then body tail place ∙ behind_then (one end_capture) (target_code target) mid) below)))))
           (record { on_break = way_out ways.break_to x.on_break operands outs.on_break; on_continue = way_out ways.continue_to x.on_continue operands outs.on_continue }),
     )
 
@@ -389,11 +333,12 @@ mutual
   performs_statement : (n : ℕ) (s : Statement) (ways : Ways) → PerformsAs ways (statement_code ways s) (statement_walk n s)
   performs_statement n (raw text) ways = writes ways text
   performs_statement n (print e) ways = done_with ways e (one emit) (λ v x go. step (asks (write_value v) (on_done go))) (takes_one ways emit write_value (λ next before place v operands. refl))
-  performs_statement n (for_loop target e absent false body otherwise) ways =
+  performs_statement n (for_loop target e condition false body otherwise) ways =
       let looped = rounds_code (target_code target) (λ a b. statements_code (loop_ways a b) body) in
       let last = loop_end_code otherwise (statements_code ways otherwise) in
       let round : Round = λ v inner again. target_walk target v (statements_walk n body inner again) in
-      done_with ways e (then_code (one (push_loop loop_flags)) (then_code looped last)) (λ v x go. asks (open_loop plain_loop v) (on_done (rounds n round (loop_end otherwise (statements_walk n otherwise x go) go))))
+      done_over ways (iterable_code target e condition) (iterable_walk n target e condition) (performs_iterable n target e condition)
+      (then_code (one (push_loop loop_flags)) (then_code looped last)) (λ v x go. asks (open_loop plain_loop v) (on_done (rounds n round (loop_end otherwise (statements_walk n otherwise x go) go))))
       (taken_then ways (one (push_loop loop_flags)) (then_code looped last) (λ v x go. asks (open_loop plain_loop v) (on_done go)) (λ x go. rounds n round (loop_end otherwise (statements_walk n otherwise x go) go))
       (takes_free ways (push_loop loop_flags) (open_loop plain_loop) (λ next before place v operands. refl))
       (done_then ways looped last (λ x finished. rounds n round finished) (λ x go. loop_end otherwise (statements_walk n otherwise x go) go)
@@ -412,6 +357,12 @@ mutual
       (closed_body ways pop_frame close_frame (statements_code (closing_with pop_frame ways) body) (statements_walk n body) (λ next before place operands. refl) (performs_statements n body (closing_with pop_frame ways))))
   performs_statement n (set target e) ways =
       done_with ways e (target_code target) (λ v x go. target_walk target v go) (takes_stored ways (target_code target) (target_walk target) (stores target))
+  performs_statement n (set_block target absent body) ways =
+      let inner = statements_code (closing_with end_capture (closing_with discard_top ways)) body in
+      done_then ways (one (begin_capture true)) (then_code inner (then_code (one end_capture) (target_code target))) (λ x go. asks (events.begin_capture true) (on_done go))
+      (λ x go. statements_walk n body (capturing x) (value_asked events.end_capture (λ text. target_walk target text go)))
+      (does_free ways (begin_capture true) (events.begin_capture true) (λ next before place operands. refl))
+      (captured_body ways inner (statements_walk n body) target (performs_statements n body (closing_with end_capture (closing_with discard_top ways))))
   performs_statement n (auto_escape e body) ways =
       let bodied = then_code (statements_code (closing_with pop_auto_escape ways) body) (one pop_auto_escape) in
       done_with ways e (then_code (one push_auto_escape) bodied) (λ v x go. asks (open_escape v) (on_done (statements_walk n body (closing close_escape x) (asks close_escape (on_done go)))))

@@ -1,9 +1,11 @@
 -- The code of statements, from the place where they begin.
-use Rattle.std.specs.Prelude.{ℕ, Bool, true, false, List}
-use Rattle.template_tree.specs.Tree.{Expression, Expressions, Statement, Statements, Assignments, variable, list_literal, absent, no_expressions, expressions_more, raw, print, for_loop, if_condition, with_block, set, auto_escape, continue_loop, break_loop, no_statements, statements_more, no_assignments, assignments_more}
+use Rattle.std.specs.Prelude.{ℕ, Bool, true, false, List, None, pos}
+use Rattle.template_tree.specs.declared.operators.BinOpKind.TheVariants.{Add}
+use Rattle.template_values_model.specs.Val.{Val, int}
+use Rattle.template_tree.specs.Tree.{Expression, Optional, Expressions, Statement, Statements, Assignments, variable, list_literal, absent, given, no_expressions, expressions_more, raw, print, for_loop, if_condition, with_block, set, set_block, auto_escape, continue_loop, break_loop, no_statements, statements_more, no_assignments, assignments_more}
 use Rattle.template_tree.specs.Tree as tree
 use Rattle.template_walk.specs.Statements.{number_of}
-use Rattle.template_code.specs.Code.{Code, emit_raw, emit, store_local, unpack_list, jump_if_false, push_with, pop_frame, push_loop, push_did_not_iterate, pop_loop_frame, push_auto_escape, pop_auto_escape, include}
+use Rattle.template_code.specs.Code.{Code, emit_raw, emit, store_local, load_const, build_list, unpack_list, unpack_lists, operate, swap, dup_top, discard_top, jump_if_false, push_with, pop_frame, push_loop, push_did_not_iterate, pop_loop_frame, push_auto_escape, pop_auto_escape, begin_capture, end_capture, include}
 use Rattle.template_compiler_codegen.specs.Core.{Core, empty, straight, both, leaping, either, rounds, within, leave, sealed, chosen, choose, flat}
 pub use Rattle.template_compiler_codegen.specs.Core.{Ways, no_ways, own_ways, closing_with, rounds_code, left_by}
 use Rattle.template_compiler_codegen.specs.Expressions.{Coded, then_code, one, skipped, either_code, expression_core, expression_code}
@@ -27,6 +29,27 @@ assignments_core (assignments_more target e more) = both (expression_core e) (bo
 abbrev pub loop_flags : ℕ
 loop_flags = 1
 
+-- a loop that only finds what another goes over has none
+abbrev pub no_flags : ℕ
+no_flags = 0
+
+-- what is added to a counted run, which takes its next value so
+abbrev pub one_item : Val
+one_item = int (pos 1)
+
+-- the value on top goes into the counted run below it
+abbrev pub keep_core : Core
+keep_core = both (straight swap) (both (straight (load_const one_item)) (straight (operate Add)))
+
+-- what a loop goes over: an expression; with a condition, the list of those of its items that the loop keeps, gathered in a
+-- counted run
+abbrev pub iterable_core : Expression → Expression → Optional → Core
+iterable_core target e absent = expression_core e
+iterable_core target e (given condition) =
+    both (straight (unpack_lists 0)) (both (expression_core e) (both (straight (push_loop no_flags))
+    (both (rounds (both (straight dup_top) (target_core target)) (sealed (both (expression_core condition) (either keep_core (straight discard_top)))))
+    (both (straight pop_loop_frame) (straight (build_list None))))))
+
 abbrev pub are_some : Statements → Bool
 are_some no_statements = false
 are_some (statements_more s ss) = true
@@ -45,8 +68,8 @@ abbrev mutual
   pub statement_core : Statement → Core
   statement_core (raw text) = straight (emit_raw text)
   statement_core (print e) = both (sealed (expression_core e)) (straight emit)
-  statement_core (for_loop target e absent false body otherwise) =
-      both (sealed (expression_core e)) (both (straight (push_loop loop_flags))
+  statement_core (for_loop target e condition false body otherwise) =
+      both (sealed (iterable_core target e condition)) (both (straight (push_loop loop_flags))
       (both (rounds (target_core target) (statements_core body))
       (loop_end_core otherwise (statements_core otherwise))))
   statement_core (if_condition e body otherwise) =
@@ -55,6 +78,9 @@ abbrev mutual
       both (straight push_with) (both (sealed (assignments_core assignments))
       (both (within pop_frame (statements_core body)) (straight pop_frame)))
   statement_core (set target e) = both (sealed (expression_core e)) (sealed (target_core target))
+  statement_core (set_block target absent body) =
+      both (straight (begin_capture true)) (both (within discard_top (within end_capture (statements_core body)))
+      (both (straight end_capture) (sealed (target_core target))))
   statement_core (auto_escape e body) =
       both (sealed (expression_core e)) (both (straight push_auto_escape)
       (both (within pop_auto_escape (statements_core body)) (straight pop_auto_escape)))
@@ -75,6 +101,18 @@ targets_code targets = flat no_ways (targets_core targets)
 
 abbrev pub assignments_code : Assignments → Coded
 assignments_code assignments = flat no_ways (assignments_core assignments)
+
+abbrev pub iterable_code : Expression → Expression → Optional → Coded
+iterable_code target e condition = flat no_ways (iterable_core target e condition)
+
+-- the part that keeps the items that a condition holds for, as it is laid out
+abbrev pub keep_code : Coded
+keep_code = flat no_ways keep_core
+
+abbrev pub kept_code : Expression → Expression → Coded
+kept_code target condition =
+    rounds_code (then_code (one dup_top) (target_code target))
+    (λ break_to continue_to. then_code (expression_code condition) (either_code keep_code (one discard_top)))
 
 abbrev pub statement_code : Ways → Statement → Coded
 statement_code ways s = flat ways (statement_core s)

@@ -1,15 +1,15 @@
 -- What follows further takes a walk further, and so does a greater bound on rounds.
-use Rattle.std.proofs.Common.{ℕ, ◌≤◌, zero, suc, false, List, [], ◌∷◌, Option, None, Some, arith}
+use Rattle.std.proofs.Common.{ℕ, ◌≤◌, zero, suc, true, false, List, [], ◌∷◌, ◌++◌, Option, None, Some, arith}
 use Rattle.template_values_model.specs.Val.{Val}
 use Rattle.template_tree.specs.declared.operators.BinOpKind.{BinOpKind}
 use Rattle.template_tree.specs.declared.operators.BinOpKind.TheVariants.{ScAnd, ScOr}
-use Rattle.template_tree.specs.Tree.{Expression, Optional, Expressions, Links, variable, constant, slice, unary, binary, chain, conditional, attribute, item, list_literal, tuple_literal, map_literal, absent, given, no_expressions, expressions_more, no_links, links_more, Statement, Statements, Assignments, raw, print, for_loop, if_condition, with_block, set, auto_escape, include, continue_loop, break_loop, no_statements, statements_more, no_assignments, assignments_more}
+use Rattle.template_tree.specs.Tree.{Expression, Optional, Expressions, Links, variable, constant, slice, unary, binary, chain, conditional, attribute, item, list_literal, tuple_literal, map_literal, absent, given, no_expressions, expressions_more, no_links, links_more, Statement, Statements, Assignments, raw, print, for_loop, if_condition, with_block, set, set_block, auto_escape, include, continue_loop, break_loop, no_statements, statements_more, no_assignments, assignments_more}
 use Rattle.template_process.specs.Process as events
-use Rattle.template_process.specs.Process.{Ask, look_up, operate, compare, get_attribute, get_item, get_slice, build_list, build_tuple, build_map, store, truth_of, unpack, write_raw, write_value, open_frame, close_frame, plain_loop, open_loop, next_item, did_not_iterate, close_loop, open_escape, close_escape, Process, over, step, asks, cut_short, on_done, on_value, on_truth, on_item, Below}
-use Rattle.template_process.proofs.Below.{below-cut_short, below-over, below-step, below-asks_done, below-asks_value, below-asks_truth, below-asks_item, below-asks_items}
+use Rattle.template_process.specs.Process.{Ask, look_up, operate, compare, get_attribute, get_item, get_slice, build_list, build_tuple, build_map, store, truth_of, unpack, spread, write_raw, write_value, open_frame, close_frame, plain_loop, open_loop, next_item, did_not_iterate, close_loop, open_escape, close_escape, begin_capture, end_capture, Process, over, step, asks, cut_short, on_done, on_value, on_truth, on_item, on_all, Below}
+use Rattle.template_process.proofs.Below.{below-cut_short, below-over, below-step, below-asks_done, below-asks_value, below-asks_truth, below-asks_item, below-asks_items, below-asks_all}
 use Rattle.template_walk.specs.Constants.{constant_of}
 use Rattle.template_walk.specs.Expressions.{folded, unary_ask, binary_walk, expression_walk, optional_walk, expressions_walk, walks_of, entries_walk, chain_walk, linked_walk}
-use Rattle.template_walk.specs.Statements.{Exits, outside, closing, number_of, target_walk, targets_walk, assignments_walk, rounds, loop_end, past, statement_walk, statements_walk}
+use Rattle.template_walk.specs.Statements.{Exits, outside, closing, capture_left, capturing, number_of, target_walk, targets_walk, assignments_walk, rounds, nameless_loop, kept_rounds, sifting, iterable_walk, loop_end, past, statement_walk, statements_walk}
 use Rattle.template_walk.specs.Laws.{WalksRise}
 
 -- the second goes further, whatever value it is given
@@ -119,6 +119,12 @@ record Leads (x y : Exits) : Type 0 where
 leads_closing : (close : Ask) (x y : Exits) → Leads x y → Leads (closing close x) (closing close y)
 leads_closing close x y leads = record { on_break = below-asks_done close _ _ leads.on_break; on_continue = below-asks_done close _ _ leads.on_continue }
 
+left_further : (p q : Process) → Below p q → Below (capture_left p) (capture_left q)
+left_further p q h = step_value end_capture (λ text. p) (λ text. q) (λ text. h)
+
+leads_capturing : (x y : Exits) → Leads x y → Leads (capturing x) (capturing y)
+leads_capturing x y leads = record { on_break = left_further _ _ leads.on_break; on_continue = left_further _ _ leads.on_continue }
+
 -- a round that goes further where all that it leads to does
 abbrev Turns : (Val → Exits → Process → Process) → (Val → Exits → Process → Process) → Type 0
 Turns round turn = (v : Val) (x y : Exits) (p q : Process) → Leads x y → Below p q → Below (round v x p) (turn v y q)
@@ -129,6 +135,32 @@ lift_rounds (suc n) zero less round turn turns p q h = absurd (omega arith)
 lift_rounds (suc n) (suc m) less round turn turns p q h =
     let again = below-step _ _ (lift_rounds n m (omega arith) round turn turns p q h) in
     below-step _ _ (below-asks_item next_item _ _ _ _ (λ v. turns v _ _ _ _ (record { on_break = below-step p q h; on_continue = again }) again) h)
+
+lift_sifting : (target condition : Expression) (v : Val) (p q r s : Process) → Below p q → Below r s → Below (sifting target condition v p r) (sifting target condition v q s)
+lift_sifting target condition v p q r s h i = lift_target target v _ _ (lift condition _ _ (λ c. step_truth (truth_of c) p q r s h i))
+
+three_further : (p q : Process) → Below p q → Below (step (step (step p))) (step (step (step q)))
+three_further p q h = below-step _ _ (below-step _ _ (below-step p q h))
+
+lift_kept : (n m : ℕ) → n ≤ m → (target condition : Expression) (kept : List Val) (go on : List Val → Process) → ((vs : List Val) → Below (go vs) (on vs))
+    → Below (kept_rounds n (sifting target condition) kept go) (kept_rounds m (sifting target condition) kept on)
+lift_kept zero m less target condition kept go on h = below-cut_short _
+lift_kept (suc n) zero less target condition kept go on h = absurd (omega arith)
+lift_kept (suc n) (suc m) less target condition kept go on h =
+    below-step _ _ (below-asks_item next_item _ _ _ _
+    (λ v. lift_sifting target condition v _ _ _ _
+    (three_further _ _ (below-step _ _ (lift_kept n m (omega arith) target condition (kept ++ v ∷ []) go on h)))
+    (below-step _ _ (lift_kept n m (omega arith) target condition kept go on h)))
+    (h kept))
+
+lift_iterable : (n m : ℕ) → n ≤ m → (target e : Expression) (condition : Optional) (go on : Val → Process) → Follows go on
+    → Below (iterable_walk n target e condition go) (iterable_walk m target e condition on)
+lift_iterable n m less target e absent go on h = lift e go on h
+lift_iterable n m less target e (given condition) go on h =
+    below-step _ _ (below-asks_all (spread []) _ _ (λ none_yet.
+    lift e _ _ (λ v. below-asks_done (open_loop nameless_loop v) _ _
+    (lift_kept n m less target condition none_yet _ _
+    (λ kept. below-asks_done close_loop _ _ (step_value (build_list kept) go on h))))))
 
 lift_end : (otherwise : Statements) (p q r s : Process) → Below p q → Below r s → Below (loop_end otherwise p r) (loop_end otherwise q s)
 lift_end no_statements p q r s h i = below-asks_done close_loop r s i
@@ -143,8 +175,8 @@ mutual
   lift_statement : (n m : ℕ) → n ≤ m → (s : Statement) (x y : Exits) (p q : Process) → Leads x y → Below p q → Below (statement_walk n s x p) (statement_walk m s y q)
   lift_statement n m less (raw text) x y p q leads h = step_done (write_raw text) p q h
   lift_statement n m less (print e) x y p q leads h = lift e _ _ (λ v. step_done (write_value v) p q h)
-  lift_statement n m less (for_loop target e absent false body otherwise) x y p q leads h =
-      lift e _ _ (λ v. below-asks_done (open_loop plain_loop v) _ _
+  lift_statement n m less (for_loop target e condition false body otherwise) x y p q leads h =
+      lift_iterable n m less target e condition _ _ (λ v. below-asks_done (open_loop plain_loop v) _ _
       (lift_rounds n m less _ _ (λ item k l r s inner i. lift_target target item _ _ (lift_statements n m less body k l r s inner i)) _ _
       (lift_end otherwise _ _ _ _ (lift_statements n m less otherwise x y p q leads h) h)))
   lift_statement n m less (if_condition e body otherwise) x y p q leads h =
@@ -153,6 +185,9 @@ mutual
       below-asks_done open_frame _ _ (lift_assignments assignments _ _
       (lift_statements n m less body _ _ _ _ (leads_closing close_frame x y leads) (below-asks_done close_frame p q h)))
   lift_statement n m less (set target e) x y p q leads h = lift e _ _ (λ v. lift_target target v p q h)
+  lift_statement n m less (set_block target absent body) x y p q leads h =
+      below-asks_done (begin_capture true) _ _
+      (lift_statements n m less body _ _ _ _ (leads_capturing x y leads) (step_value end_capture _ _ (λ text. lift_target target text p q h)))
   lift_statement n m less (auto_escape e body) x y p q leads h =
       lift e _ _ (λ v. below-asks_done (open_escape v) _ _
       (lift_statements n m less body _ _ _ _ (leads_closing close_escape x y leads) (below-asks_done close_escape p q h)))

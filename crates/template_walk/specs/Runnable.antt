@@ -1,7 +1,7 @@
 -- The trees whose constructs have a walk today. What holds another construct is refused where it is added.
 use Rattle.std.specs.Prelude.{◌≡◌, ℕ, Bool, true, false, ◌||◌, List, IsTrue, codes}
 use Rattle.std.specs.Str.{bytes_eq}
-use Rattle.template_tree.specs.Tree.{Expression, Optional, Expressions, Links, variable, constant, slice, unary, binary, chain, conditional, attribute, item, list_literal, tuple_literal, map_literal, absent, given, no_expressions, expressions_more, no_links, links_more, Statement, Statements, Assignments, raw, print, for_loop, if_condition, with_block, set, auto_escape, include, continue_loop, break_loop, no_statements, statements_more, no_assignments, assignments_more}
+use Rattle.template_tree.specs.Tree.{Expression, Optional, Expressions, Links, variable, constant, slice, unary, binary, chain, conditional, attribute, item, list_literal, tuple_literal, map_literal, absent, given, no_expressions, expressions_more, no_links, links_more, Statement, Statements, Assignments, raw, print, for_loop, if_condition, with_block, set, set_block, auto_escape, include, continue_loop, break_loop, no_statements, statements_more, no_assignments, assignments_more}
 
 -- the engine gives these names, in places, values that are not there yet
 abbrev pub is_kept_back : List ℕ → Bool
@@ -62,12 +62,13 @@ abbrev mutual
   pub IsRunnableStatement : Bool → Statement → Type 0
   IsRunnableStatement looping (raw text) = Unit {0}
   IsRunnableStatement looping (print e) = IsRunnable e
-  IsRunnableStatement looping (for_loop target e absent false body otherwise) =
-      IsTarget target × IsRunnable e × AreRunnableStatements true body × AreRunnableStatements looping otherwise
+  IsRunnableStatement looping (for_loop target e condition false body otherwise) =
+      IsTarget target × IsRunnable e × IsRunnableIfGiven condition × AreRunnableStatements true body × AreRunnableStatements looping otherwise
   IsRunnableStatement looping (if_condition e body otherwise) =
       IsRunnable e × AreRunnableStatements looping body × AreRunnableStatements looping otherwise
   IsRunnableStatement looping (with_block assignments body) = AreAssignments assignments × AreRunnableStatements looping body
   IsRunnableStatement looping (set target e) = IsTarget target × IsRunnable e
+  IsRunnableStatement looping (set_block target absent body) = IsTarget target × AreRunnableStatements looping body
   IsRunnableStatement looping (auto_escape e body) = IsRunnable e × AreRunnableStatements looping body
   IsRunnableStatement looping (include e ignore_missing) = IsRunnable e
   IsRunnableStatement looping continue_loop = IsTrue looping

@@ -1,10 +1,10 @@
 -- The walk of statements: their events in the order of execution, and between them the priced steps. A loop does at
 -- most so many rounds as the bound says.
-use Rattle.std.specs.Prelude.{ℕ, zero, suc, false, List, [], ◌∷◌}
+use Rattle.std.specs.Prelude.{ℕ, zero, suc, true, false, List, [], ◌∷◌, ◌++◌, None}
 use Rattle.template_values_model.specs.Val.{Val}
-use Rattle.template_tree.specs.Tree.{Expression, Expressions, Statement, Statements, Assignments, variable, list_literal, absent, no_expressions, expressions_more, raw, print, for_loop, if_condition, with_block, set, auto_escape, include, continue_loop, break_loop, no_statements, statements_more, no_assignments, assignments_more}
+use Rattle.template_tree.specs.Tree.{Expression, Optional, Expressions, Statement, Statements, Assignments, variable, list_literal, absent, given, no_expressions, expressions_more, raw, print, for_loop, if_condition, with_block, set, set_block, auto_escape, include, continue_loop, break_loop, no_statements, statements_more, no_assignments, assignments_more}
 use Rattle.template_process.specs.Process as events
-use Rattle.template_process.specs.Process.{Ask, store, unpack, write_raw, write_value, open_frame, close_frame, plain_loop, open_loop, next_item, did_not_iterate, close_loop, open_escape, close_escape, Process, over, step, asks, cut_short, on_done, on_value, on_item, on_items, done_asked, truth_asked}
+use Rattle.template_process.specs.Process.{Ask, store, unpack, spread, build_list, write_raw, write_value, open_frame, close_frame, Looping, plain_loop, open_loop, next_item, did_not_iterate, close_loop, open_escape, close_escape, begin_capture, end_capture, Process, over, step, asks, cut_short, on_done, on_value, on_item, on_items, on_all, done_asked, value_asked, truth_asked}
 use Rattle.template_walk.specs.Expressions.{expression_walk}
 
 -- where `break` and `continue` lead
@@ -19,6 +19,13 @@ outside = record { on_break = cut_short; on_continue = cut_short }
 -- what is open is closed on the way out
 abbrev pub closing : Ask → Exits → Exits
 closing close exits = record { on_break = asks close (on_done exits.on_break); on_continue = asks close (on_done exits.on_continue) }
+
+-- a capture ends on the way out, for a step, and its text is dropped
+abbrev pub capture_left : Process → Process
+capture_left out = value_asked end_capture (λ text. out)
+
+abbrev pub capturing : Exits → Exits
+capturing exits = record { on_break = capture_left exits.on_break; on_continue = capture_left exits.on_continue }
 
 abbrev pub number_of : Expressions → ℕ
 number_of no_expressions = 0
@@ -49,6 +56,31 @@ rounds (suc n) round finished =
     let again = step (rounds n round finished) in
     step (asks next_item (on_item (λ v. round v (record { on_break = step finished; on_continue = again }) again) finished))
 
+-- a loop without its variable
+abbrev pub nameless_loop : Looping
+nameless_loop = record { variable = false; rounds = None }
+
+-- so many rounds at most, each over an item that goes behind those that were kept, for three steps, or does not
+abbrev pub kept_rounds : ℕ → (Val → Process → Process → Process) → List Val → (List Val → Process) → Process
+kept_rounds zero round kept finished = cut_short
+kept_rounds (suc n) round kept finished =
+    step (asks next_item (on_item
+    (λ v. round v (step (step (step (step (kept_rounds n round (kept ++ v ∷ []) finished))))) (step (kept_rounds n round kept finished)))
+    (finished kept)))
+
+-- whether an item is kept: it is stored in the target, and the condition tells
+abbrev pub sifting : Expression → Expression → Val → Process → Process → Process
+sifting target condition v keeps passes = target_walk target v (expression_walk condition (λ c. truth_asked c keeps passes))
+
+-- what a loop goes over: the value of an expression; with a condition, the list of those of its items that it keeps,
+-- which a loop of its own finds, without its variable
+abbrev pub iterable_walk : ℕ → Expression → Expression → Optional → (Val → Process) → Process
+iterable_walk n target e absent go = expression_walk e go
+iterable_walk n target e (given condition) go =
+    step (asks (spread []) (on_all (λ none_yet.
+    expression_walk e (λ v. asks (open_loop nameless_loop v) (on_done
+    (kept_rounds n (sifting target condition) none_yet (λ kept. asks close_loop (on_done (value_asked (build_list kept) go)))))))))
+
 -- the end of a loop: its frame is closed; an else part runs where no item was given, behind a test
 abbrev pub loop_end : Statements → Process → Process → Process
 loop_end no_statements otherwise go = asks close_loop (on_done go)
@@ -64,8 +96,8 @@ abbrev mutual
   pub statement_walk : ℕ → Statement → Exits → Process → Process
   statement_walk n (raw text) exits go = done_asked (write_raw text) go
   statement_walk n (print e) exits go = expression_walk e (λ v. done_asked (write_value v) go)
-  statement_walk n (for_loop target e absent false body otherwise) exits go =
-      expression_walk e (λ v. asks (open_loop plain_loop v) (on_done
+  statement_walk n (for_loop target e condition false body otherwise) exits go =
+      iterable_walk n target e condition (λ v. asks (open_loop plain_loop v) (on_done
       (rounds n (λ item inner again. target_walk target item (statements_walk n body inner again))
       (loop_end otherwise (statements_walk n otherwise exits go) go))))
   statement_walk n (if_condition e body otherwise) exits go =
@@ -74,6 +106,9 @@ abbrev mutual
       asks open_frame (on_done (assignments_walk assignments
       (statements_walk n body (closing close_frame exits) (asks close_frame (on_done go)))))
   statement_walk n (set target e) exits go = expression_walk e (λ v. target_walk target v go)
+  statement_walk n (set_block target absent body) exits go =
+      asks (begin_capture true) (on_done
+      (statements_walk n body (capturing exits) (value_asked end_capture (λ text. target_walk target text go))))
   statement_walk n (auto_escape e body) exits go =
       expression_walk e (λ v. asks (open_escape v) (on_done
       (statements_walk n body (closing close_escape exits) (asks close_escape (on_done go)))))
