@@ -1,16 +1,16 @@
 -- The code of a tree is no longer than the tree is large, wherever it begins.
-use Rattle.std.proofs.Common.{◌≤◌, ℕ, ◌+◌, suc, false, List, [], ◌∷◌, ◌++◌, length, Option, None, Some, arith, length-append}
+use Rattle.std.proofs.Common.{◌≤◌, ℕ, ◌+◌, suc, true, false, List, [], ◌∷◌, ◌++◌, length, Option, None, Some, arith, length-append}
 use Rattle.template_values_model.specs.Val.{Val, silent_undefined, none}
 use Rattle.template_tree.specs.declared.operators.BinOpKind.{BinOpKind}
-use Rattle.template_tree.specs.declared.operators.BinOpKind.TheVariants.{ScAnd, ScOr}
-use Rattle.template_tree.specs.Tree.{Expression, Optional, Expressions, Links, unary, binary, chain, conditional, attribute, item, list_literal, tuple_literal, map_literal, absent, given, no_expressions, expressions_more, no_links, links_more, Statement, print, for_loop, if_condition, with_block, set, auto_escape, continue_loop, break_loop, Statements, no_statements, statements_more, Assignments, no_assignments, assignments_more}
+use Rattle.template_tree.specs.declared.operators.BinOpKind.TheVariants.{Add, ScAnd, ScOr}
+use Rattle.template_tree.specs.Tree.{Expression, Optional, Expressions, Links, unary, binary, chain, conditional, attribute, item, list_literal, tuple_literal, map_literal, absent, given, no_expressions, expressions_more, no_links, links_more, Statement, print, for_loop, if_condition, with_block, set, set_block, auto_escape, continue_loop, break_loop, Statements, no_statements, statements_more, Assignments, no_assignments, assignments_more}
 use Rattle.template_tree.specs.Tree as tree
 use Rattle.template_walk.specs.Constants.{constant_of}
 use Rattle.template_walk.specs.Statements.{number_of}
-use Rattle.template_code.specs.Code.{Code, get_attr, get_item, slice, build_map, build_list, build_tuple, operate, compare_and_preserve, jump, jump_if_false, jump_if_false_or_pop, jump_if_true_or_pop, emit, unpack_list, push_with, pop_frame, push_loop, push_auto_escape, pop_auto_escape, include}
+use Rattle.template_code.specs.Code.{Code, get_attr, get_item, slice, build_map, build_list, build_tuple, operate, compare_and_preserve, jump, jump_if_false, jump_if_false_or_pop, jump_if_true_or_pop, emit, load_const, unpack_list, unpack_lists, swap, dup_top, discard_top, push_with, pop_frame, push_loop, pop_loop_frame, push_auto_escape, pop_auto_escape, begin_capture, end_capture, include}
 use Rattle.template_compiler_codegen.specs.Expressions.{Coded, unary_code, then_code, one, dropped, loaded, skipped, either_code, binary_code, entry_count, expression_code, optional_code, expressions_code, codes_of, entries_code, chain_code, linked_code}
-use Rattle.template_compiler_codegen.specs.Statements.{Ways, own_ways, closing_with, target_code, targets_code, assignments_code, loop_flags, rounds_code, loop_end_code, branches_code, left_by, statement_code, statements_code}
-use Rattle.template_code_bounds.proofs.Sizes.{expression_size, optional_size, expressions_size, chain_size, links_size, target_size, targets_size, assignments_size, statement_size, statements_size}
+use Rattle.template_compiler_codegen.specs.Statements.{Ways, own_ways, closing_with, target_code, targets_code, assignments_code, loop_flags, no_flags, one_item, rounds_code, iterable_code, keep_code, kept_code, loop_end_code, branches_code, left_by, statement_code, statements_code}
+use Rattle.template_code_bounds.proofs.Sizes.{expression_size, optional_size, expressions_size, chain_size, links_size, target_size, targets_size, iterable_size, assignments_size, statement_size, statements_size}
 
 abbrev AtMost : Coded → ℕ → Type 0
 AtMost f n = (place : ℕ) → length (f place) ≤ n
@@ -157,6 +157,34 @@ rounds_most target body m n first second place =
     let ends_at = suc (begins + length (body 0 0 begins)) in let inner = body ends_at place begins in
     omega (arith, first (suc place), second ends_at place begins, length-append stored (inner ++ (jump place ∷ [])), length-append inner (jump place ∷ []))
 
+-- what a loop goes over
+sifted_most : AtMost (either_code keep_code (one discard_top)) 6
+sifted_most =
+    let add = one (operate Add) in
+    let load = one (load_const one_item) in
+    either_most keep_code (one discard_top) 3 1 6
+    (then_most (one swap) (then_code load add) 1 2 3 (one_most swap) (then_most load add 1 1 2 (one_most (load_const one_item)) (one_most (operate Add)) (omega arith)) (omega arith))
+    (one_most discard_top) (omega arith)
+
+iterable_most : (target e : Expression) (condition : Optional) → AtMost (iterable_code target e condition) (iterable_size target e condition)
+iterable_most target e absent = expression_most e
+iterable_most target e (given condition) =
+    let sift = either_code keep_code (one discard_top) in
+    let ends = then_code (one pop_loop_frame) (one (build_list None)) in
+    let rounds = kept_code target condition in
+    let opens = then_code (one (push_loop no_flags)) (then_code rounds ends) in
+    let stores = suc (target_size target) in
+    let sifts = expression_size condition + 6 in
+    let r = 2 + (stores + sifts) in
+    then_most (one (unpack_lists 0)) (then_code (expression_code e) opens) 1 (expression_size e + (1 + (r + 2))) (iterable_size target e (given condition)) (one_most (unpack_lists 0))
+    (then_most (expression_code e) opens (expression_size e) (1 + (r + 2)) (expression_size e + (1 + (r + 2))) (expression_most e)
+    (then_most (one (push_loop no_flags)) (then_code rounds ends) 1 (r + 2) (1 + (r + 2)) (one_most (push_loop no_flags))
+    (then_most rounds ends r 2 (r + 2)
+    (rounds_most (then_code (one dup_top) (target_code target)) (λ b c. then_code (expression_code condition) sift) stores sifts
+    (then_most (one dup_top) (target_code target) 1 (target_size target) stores (one_most dup_top) (target_most target) (omega arith))
+    (λ b c. then_most (expression_code condition) sift (expression_size condition) 6 sifts (expression_most condition) sifted_most (omega arith)))
+    (then_most (one pop_loop_frame) (one (build_list None)) 1 1 2 (one_most pop_loop_frame) (one_most (build_list None)) (omega arith)) (omega arith)) (omega arith)) (omega arith)) (omega arith)
+
 loop_end_most : (otherwise : Statements) (f : Coded) (n : ℕ) → AtMost f n → AtMost (loop_end_code otherwise f) (3 + n)
 loop_end_most no_statements f n most place = omega arith
 loop_end_most (statements_more s ss) f n most place = omega (arith, most (suc (suc (suc place))), most (place + 1 + 1 + 1), most (suc (place + 1 + 1)))
@@ -171,13 +199,13 @@ left_most closings to place = omega (arith, length-append closings (jump to ∷ 
 mutual
   statement_most : (s : Statement) (ways : Ways) → AtMost (statement_code ways s) (statement_size (length ways.closings) s)
   statement_most (print e) ways = and_one_most emit (expression_code e) (expression_size e) (expression_most e)
-  statement_most (for_loop target e absent false body otherwise) ways =
+  statement_most (for_loop target e condition false body otherwise) ways =
       let n = length ways.closings in
       let inner = λ (b c : ℕ). statements_code (own_ways b c) body in
       let last = loop_end_code otherwise (statements_code ways otherwise) in
       let a = 3 + statements_size n otherwise in let r = 2 + (target_size target + statements_size 0 body) in
-      then_most (expression_code e) (then_code (one (push_loop loop_flags)) (then_code (rounds_code (target_code target) inner) last)) (expression_size e) (1 + (r + a))
-      (statement_size n (for_loop target e absent false body otherwise)) (expression_most e)
+      then_most (iterable_code target e condition) (then_code (one (push_loop loop_flags)) (then_code (rounds_code (target_code target) inner) last)) (iterable_size target e condition) (1 + (r + a))
+      (statement_size n (for_loop target e condition false body otherwise)) (iterable_most target e condition)
       (then_most (one (push_loop loop_flags)) (then_code (rounds_code (target_code target) inner) last) 1 (r + a) (1 + (r + a)) (one_most (push_loop loop_flags))
       (then_most (rounds_code (target_code target) inner) last r a (r + a)
       (rounds_most (target_code target) inner (target_size target) (statements_size 0 body) (target_most target) (λ b c. statements_most body (own_ways b c)))
@@ -196,6 +224,13 @@ mutual
       (and_one_most pop_frame inner (statements_size (suc n) body) (statements_most body (closing_with pop_frame ways))) (omega arith)) (omega arith)
   statement_most (set target e) ways =
       then_most (expression_code e) (target_code target) (expression_size e) (target_size target) (expression_size e + target_size target) (expression_most e) (target_most target) (omega arith)
+  statement_most (set_block target absent body) ways =
+      let n = length ways.closings in let inner = closing_with end_capture (closing_with discard_top ways) in
+      let bodied = statements_code inner body in let tail = then_code (one end_capture) (target_code target) in
+      let b = statements_size (suc (suc n)) body in let t = suc (target_size target) in
+      then_most (one (begin_capture true)) (then_code bodied tail) 1 (b + t) (statement_size n (set_block target absent body)) (one_most (begin_capture true))
+      (then_most bodied tail b t (b + t) (statements_most body inner)
+      (then_most (one end_capture) (target_code target) 1 (target_size target) t (one_most end_capture) (target_most target) (omega arith)) (omega arith)) (omega arith)
   statement_most (auto_escape e body) ways =
       let n = length ways.closings in let inner = statements_code (closing_with pop_auto_escape ways) body in
       let b = suc (statements_size (suc n) body) in

@@ -1,4 +1,5 @@
 mod Sizes
+mod Weights
 mod Expressions
 mod Statements
 mod Tokens

@@ -3,7 +3,7 @@
 use Rattle.std.proofs.Common.{◌≡◌, ◌≤◌, ℕ, ◌+◌, suc, Bool, true, false, List, arith}
 use Rattle.template_tree.specs.declared.operators.CompareOpKind.{CompareOpKind}
 use Rattle.template_tree.specs.declared.operators.CompareOpKind.TheVariants as comparisons
-use Rattle.template_tree.specs.Tree.{Expression, unary, binary, chain, conditional, attribute, item, slice, list_literal, tuple_literal, map_literal, Optional, absent, given, Expressions, no_expressions, expressions_more, Links, no_links, links_more, Arguments, Statement, print, for_loop, if_condition, with_block, set, auto_escape, include, continue_loop, break_loop, Statements, no_statements, statements_more, Assignments, no_assignments, assignments_more}
+use Rattle.template_tree.specs.Tree.{Expression, unary, binary, chain, conditional, attribute, item, slice, list_literal, tuple_literal, map_literal, Optional, absent, given, Expressions, no_expressions, expressions_more, Links, no_links, links_more, Arguments, Statement, print, for_loop, if_condition, with_block, set, set_block, auto_escape, include, continue_loop, break_loop, Statements, no_statements, statements_more, Assignments, no_assignments, assignments_more}
 use Rattle.template_compiler_grammar.specs.Trees.{and_expression, and_link, compared_once, compared, tested_as}
 use Rattle.template_compiler_grammar.specs.TemplateTrees.{and_statement, and_assignment, unpacked, together, Branches, no_branches, branches_more, and_branch, branched}
 
@@ -50,15 +50,21 @@ abbrev pub assignments_size : Assignments → ℕ
 assignments_size no_assignments = 0
 assignments_size (assignments_more target e more) = expression_size e + target_size target + assignments_size more
 
+-- what a loop goes over; with a condition, the rounds that find it
+abbrev pub iterable_size : Expression → Expression → Optional → ℕ
+iterable_size target e absent = expression_size e
+iterable_size target e (given condition) = 13 + (expression_size e + target_size target + expression_size condition)
+
 abbrev mutual
   -- where `break` and `continue` close so many things on their way
   pub statement_size : ℕ → Statement → ℕ
   statement_size n (print e) = suc (expression_size e)
   statement_size n (for_loop target e filter recursive body otherwise) =
-      6 + (expression_size e + target_size target + statements_size 0 body + statements_size n otherwise)
+      6 + (iterable_size target e filter + target_size target + statements_size 0 body + statements_size n otherwise)
   statement_size n (if_condition e body otherwise) = 2 + (expression_size e + statements_size n body + statements_size n otherwise)
   statement_size n (with_block assignments body) = 2 + (assignments_size assignments + statements_size (suc n) body)
   statement_size n (set target e) = expression_size e + target_size target
+  statement_size n (set_block target filters body) = 2 + (target_size target + statements_size (suc (suc n)) body)
   statement_size n (auto_escape e body) = 2 + (expression_size e + statements_size (suc n) body)
   statement_size n (include e ignore_missing) = suc (expression_size e)
   statement_size n continue_loop = suc n

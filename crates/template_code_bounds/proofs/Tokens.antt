@@ -1,6 +1,6 @@
--- A source has one token more than bytes at most: a start marker and an end take a byte each, only a line statement ends
+-- The tokens of a source weigh one more than its bytes at most: a start marker and an end take a byte each, only a line statement ends
 -- without one, at the end of the source, and so does what never ends.
-use Rattle.std.proofs.Common.{◌≡◌, ◌<◌, ◌≤◌, ℕ, zero, suc, ◌+◌, ◌-◌, Bool, true, false, List, [], ◌∷◌, length, take, drop, slice_index, None, Some, inl, inr, refl, ap, arith, length-append, length-take, length-drop}
+use Rattle.std.proofs.Common.{◌≡◌, ◌<◌, ◌≤◌, ℕ, zero, suc, ◌+◌, ◌-◌, Bool, true, false, List, [], ◌∷◌, length, take, drop, slice_index, None, Some, inl, inr, refl, ap, arith, length-take, length-drop}
 use Rattle.std.specs.Prelude.{nat_lt, if◌then◌else◌, ◌==◌}
 use Rattle.std.specs.Str.{chars, trim_start, trim_end}
 use Rattle.std.proofs.lemmas.Bool.{cases_lt, cases_Bool, ltb-true}
@@ -17,8 +17,8 @@ use Rattle.template_compiler_segments.specs.declared.edges.Sign.TheVariants.{Pla
 use Rattle.template_compiler_segments.specs.Segments.{IsNextStart, inside_from, start_sign, IsEnd, bare_end, signed_end, EndsAt, print_end, block_end, line_end, HasInside, ended, blank, token as a_token, no_token, Piece, data_piece, endless_piece, IsSegment, print_segment, block_segment, raw_segment, comment_segment, line_statement_segment, line_comment_segment, IsEndless, endless_print, endless_block, endless_line_statement, endless_raw, endless_comment, HasPieces, no_start, next_start, endless_start}
 use Rattle.template_compiler_segments.specs.Stripping.{stripped_from, stripped_to, with_data, with_stripped, next_edge, stripped}
 use Rattle.template_compiler_segments.specs.Flat.{tokens_of, template_text, IsTokens, source_tokens}
-use Rattle.template_compiler_segments.proofs.Bytes.{takes_bytes}
 use Rattle.template_compiler_segments.proofs.Data.{less_blanks_le}
+use Rattle.template_code_bounds.proofs.Weights.{weight, weight-append, takes_weight}
 
 -- one more than what is left, where something is left
 abbrev room : ℕ → ℕ
@@ -81,17 +81,17 @@ over_room x s {i = i} {next = next} filled (line_end over e) = line_room s i nex
 
 -- the tokens of a segment
 inside_room : (x : Syntax) (s : List ℕ) {k : StartMarker} {d i next : ℕ} {last : Sign} {tokens : List Token} → IsFilled x →
-    HasInside x s k d i tokens (Some (last, next)) → suc (length tokens + room (length s - next)) ≤ suc (length s - i)
+    HasInside x s k d i tokens (Some (last, next)) → suc (weight tokens + room (length s - next)) ≤ suc (length s - i)
 inside_room x s filled (ended over) = omega (arith, over_room x s filled over)
 inside_room x s {i = i} filled (blank none white inside) = let rest = inside_room x s filled inside in omega arith
 inside_room x s {i = i} filled (a_token {n = n} {t = t} none black is good inside) =
-    let rest = inside_room x s filled inside in let takes = takes_bytes s i n t is good in omega (arith, takes.0, takes.1)
+    let rest = inside_room x s filled inside in let takes = takes_weight s i n t is good in omega (arith, takes.0, takes.1)
 
 endless_room : (x : Syntax) (s : List ℕ) {k : StartMarker} {d i : ℕ} {tokens : List Token} →
-    HasInside x s k d i tokens None → length tokens ≤ suc (length s - i)
+    HasInside x s k d i tokens None → weight tokens ≤ suc (length s - i)
 endless_room x s (blank none white inside) = let rest = endless_room x s inside in omega arith
 endless_room x s {i = i} (a_token {n = n} {t = t} none black is good inside) =
-    let rest = endless_room x s inside in let takes = takes_bytes s i n t is good in omega (arith, takes.0, takes.1)
+    let rest = endless_room x s inside in let takes = takes_weight s i n t is good in omega (arith, takes.0, takes.1)
 endless_room x s (no_token none black is) = omega arith
 
 -- data takes a byte for its token
@@ -131,7 +131,7 @@ to_before x s (Beside LineStatement Plain) from to none = omega (arith, less_bla
 to_before x s (Beside LineComment Plain) from to none = omega (arith, less_blanks_le s to)
 
 data_room : (s : List ℕ) (from to : ℕ) (pieces : List Piece) →
-    length (tokens_of s (with_data from to pieces)) ≤ suc (length (tokens_of s pieces))
+    weight (tokens_of s (with_data from to pieces)) ≤ suc (weight (tokens_of s pieces))
 data_room s from to pieces = elim (cases_Bool (nat_lt from to)) [ inl some ↦ rw some (omega arith) | inr none ↦ rw none (omega arith) ]
 
 no_data : (s : List ℕ) (from to : ℕ) (pieces : List Piece) → to ≤ from → tokens_of s (with_data from to pieces) ≡ tokens_of s pieces
@@ -139,12 +139,12 @@ no_data s from to pieces none =
     elim (cases_Bool (nat_lt from to)) [ inl some ↦ absurd (omega (arith, ltb-true from to some)) | inr other ↦ rw other refl ]
 
 stripped_room : (x : Syntax) (s : List ℕ) (left right : Edge) (from to : ℕ) (pieces : List Piece) →
-    length (tokens_of s (with_stripped x s left right from to pieces)) ≤ (to - from) + length (tokens_of s pieces)
+    weight (tokens_of s (with_stripped x s left right from to pieces)) ≤ (to - from) + weight (tokens_of s pieces)
 stripped_room x s left right from to pieces =
     let begin = stripped_from x s left from to in
     elim (cases_lt from to) [
       | inl some ↦ omega (arith, data_room s begin (stripped_to x s right begin to) pieces)
-      | inr none ↦ omega (arith, ap length (no_data s begin (stripped_to x s right begin to) pieces (to_before x s right begin to (from_behind x s left from to none))))
+      | inr none ↦ omega (arith, ap weight (no_data s begin (stripped_to x s right begin to) pieces (to_before x s right begin to (from_behind x s left from to none))))
     ]
 
 -- a start marker takes a byte
@@ -165,14 +165,14 @@ comment_next false end n next e = omega arith
 -- the tokens of what begins with a start marker, and of all behind it
 segment_room : (x : Syntax) (s : List ℕ) {i next : ℕ} {k : StartMarker} {piece : Piece} (pieces : List Piece) → IsFilled x →
     suc i ≤ inside_from x s k i → i < length s → IsSegment x s i k piece next →
-    ((left : Edge) → length (tokens_of s (stripped x s left pieces)) ≤ room (length s - next)) →
-    length (tokens_of s (stripped x s Nothing (piece ∷ pieces))) ≤ suc (length s - i)
+    ((left : Edge) → weight (tokens_of s (stripped x s left pieces)) ≤ room (length s - next)) →
+    weight (tokens_of s (stripped x s Nothing (piece ∷ pieces))) ≤ suc (length s - i)
 segment_room x s pieces filled some low (print_segment {tokens = tokens} {last = last} inside) rest =
     let behind = rest (Beside Variable last) in let room = inside_room x s filled inside in
-    omega (arith, length-append tokens (variable_end ∷ tokens_of s (stripped x s (Beside Variable last) pieces)))
+    omega (arith, weight-append tokens (variable_end ∷ tokens_of s (stripped x s (Beside Variable last) pieces)))
 segment_room x s pieces filled some low (block_segment {tokens = tokens} {last = last} inside other) rest =
     let behind = rest (Beside Block last) in let room = inside_room x s filled inside in
-    omega (arith, length-append tokens (token.block_end ∷ tokens_of s (stripped x s (Beside Block last) pieces)))
+    omega (arith, weight-append tokens (token.block_end ∷ tokens_of s (stripped x s (Beside Block last) pieces)))
 segment_room x s pieces filled some low (raw_segment {inner = inner} {last = last} {from = from} {to = to} inside first outside) rest =
     let behind = rest (Beside Block last) in let room = inside_room x s filled inside in let room' = inside_room x s filled outside in
     let begin = stripped_from x s (Beside Block inner) from to in
@@ -181,13 +181,13 @@ segment_room x s pieces filled some low (comment_segment {next = next} {last = l
     let behind = rest (Beside Comment last) in omega (arith, first.ahead, room_most (length s - next))
 segment_room x s pieces filled some low (line_statement_segment {tokens = tokens} {last = last} inside) rest =
     let behind = rest (Beside LineStatement last) in let room = inside_room x s filled inside in
-    omega (arith, length-append tokens (token.block_end ∷ tokens_of s (stripped x s (Beside LineStatement last) pieces)))
+    omega (arith, weight-append tokens (token.block_end ∷ tokens_of s (stripped x s (Beside LineStatement last) pieces)))
 segment_room x s {i = i} pieces filled some low (line_comment_segment {end = end} {next = next} first e) rest =
     let behind = rest (Beside LineComment Plain) in
     omega (arith, first.ahead, room_most (length s - next), comment_next (is_first_on_line s i) end (newline_len s end) next e)
 
 never_room : (x : Syntax) (s : List ℕ) {i : ℕ} {k : StartMarker} {tokens : List Token} → suc i ≤ inside_from x s k i → i < length s →
-    IsEndless x s i k tokens → length tokens ≤ suc (length s - i)
+    IsEndless x s i k tokens → weight tokens ≤ suc (length s - i)
 never_room x s some low (endless_print inside) = omega (arith, endless_room x s inside)
 never_room x s some low (endless_block inside) = omega (arith, endless_room x s inside)
 never_room x s some low (endless_line_statement inside) = omega (arith, endless_room x s inside)
@@ -195,20 +195,20 @@ never_room x s some low (endless_raw inside none) = omega arith
 never_room x s some low (endless_comment none) = omega arith
 
 pieces_room : (x : Syntax) (s : List ℕ) {from : ℕ} {pieces : List Piece} → IsFilled x → HasPieces x s from pieces → (left : Edge) →
-    length (tokens_of s (stripped x s left pieces)) ≤ room (length s - from)
+    weight (tokens_of s (stripped x s left pieces)) ≤ room (length s - from)
 pieces_room x s {from = from} filled (no_start none) left =
     omega (arith, stripped_room x s left Nothing from (length s) [], room_least (length s - from))
 pieces_room x s {from = from} filled (next_start {i = i} {piece = piece} {pieces = pieces} start begun more) left =
     let at = start_room x s start in
     let behind = segment_room x s pieces filled (at.0) (at.1) begun (pieces_room x s filled more) in
-    let all : length (tokens_of s (stripped x s left (data_piece from i ∷ piece ∷ pieces)))
-    ≤ (i - from) + length (tokens_of s (stripped x s Nothing (piece ∷ pieces))) =
+    let all : weight (tokens_of s (stripped x s left (data_piece from i ∷ piece ∷ pieces)))
+    ≤ (i - from) + weight (tokens_of s (stripped x s Nothing (piece ∷ pieces))) =
     stripped_room x s left (next_edge x s (piece ∷ pieces)) from i (stripped x s Nothing (piece ∷ pieces)) in
     omega (arith, all, behind, some_room (length s) from i (at.2) (at.1))
 pieces_room x s {from = from} filled (endless_start {i = i} {k = k} {tokens = tokens} start never) left =
     let at = start_room x s start in
     let behind = never_room x s (at.0) (at.1) never in
-    let all : length (tokens_of s (stripped x s left (data_piece from i ∷ endless_piece k i tokens ∷ []))) ≤ (i - from) + length tokens =
+    let all : weight (tokens_of s (stripped x s left (data_piece from i ∷ endless_piece k i tokens ∷ []))) ≤ (i - from) + weight tokens =
     stripped_room x s left (Beside k (start_sign x s k i)) from i (endless_piece k i tokens ∷ []) in
     omega (arith, all, behind, some_room (length s) from i (at.2) (at.1))
 
@@ -227,7 +227,7 @@ text_within x source =
       | inr other ↦ rw other (omega (arith, final_within 10 source, final_within 13 (less_final 10 source)))
     ]
 
-pub tokens_bound : (x : Syntax) (source : List ℕ) (tokens : List Token) → IsUsable x → IsTokens x source tokens → length tokens ≤ suc (length source)
+pub tokens_bound : (x : Syntax) (source : List ℕ) (tokens : List Token) → IsUsable x → IsTokens x source tokens → weight tokens ≤ suc (length source)
 tokens_bound x source tokens usable (source_tokens pieces e) =
     let s = template_text x source in
-    omega (arith, ap length e, pieces_room x s (usable.filled) pieces Nothing, room_most (length s - 0), text_within x source)
+    omega (arith, ap weight e, pieces_room x s (usable.filled) pieces Nothing, room_most (length s - 0), text_within x source)

@@ -3,13 +3,13 @@ use Rattle.std.proofs.Common.{◌≡◌, ℕ, zero, suc, ◌+◌, Bool, true, fa
 use Rattle.template_values_model.specs.Val.{Val, silent_undefined, none}
 use Rattle.template_tree.specs.declared.operators.UnaryOpKind.{UnaryOpKind}
 use Rattle.template_tree.specs.declared.operators.UnaryOpKind.TheVariants.{Not, Neg}
-use Rattle.template_tree.specs.Tree.{Expression, Optional, Expressions, Links, Assignments, Statement, Statements, variable, constant, unary, binary, chain, conditional, attribute, item, list_literal, tuple_literal, map_literal, absent, given, no_expressions, expressions_more, no_links, links_more, no_assignments, assignments_more, raw, print, for_loop, if_condition, with_block, set, auto_escape, continue_loop, break_loop, no_statements, statements_more}
+use Rattle.template_tree.specs.Tree.{Expression, Optional, Expressions, Links, Assignments, Statement, Statements, variable, constant, unary, binary, chain, conditional, attribute, item, list_literal, tuple_literal, map_literal, absent, given, no_expressions, expressions_more, no_links, links_more, no_assignments, assignments_more, raw, print, for_loop, if_condition, with_block, set, set_block, auto_escape, continue_loop, break_loop, no_statements, statements_more}
 use Rattle.template_tree.specs.Tree as tree
 use Rattle.template_code.specs.Code.{Code}
 use Rattle.template_code_shapes.specs.Effects.{leans}
 use Rattle.template_compiler_codegen.specs.Core.{Core, empty, straight, both, leaping, either, rounds, within, leave, sealed, loading, chosen, Ways, no_ways, own_ways, closing_with, flat}
 use Rattle.template_compiler_codegen.specs.Expressions.{unary_code, expression_core, optional_core, expressions_core, codes_of, entries_core, chain_core, linked_core}
-use Rattle.template_compiler_codegen.specs.Statements.{target_core, targets_core, assignments_core, statement_core, statements_core}
+use Rattle.template_compiler_codegen.specs.Statements.{target_core, targets_core, assignments_core, iterable_core, statement_core, statements_core}
 
 abbrev pub AreCalm : List Code → Type 0
 AreCalm [] = Unit {0}
@@ -128,16 +128,22 @@ assignments_calm : (a : Assignments) → IsCalmCore (assignments_core a)
 assignments_calm no_assignments = tt
 assignments_calm (assignments_more target e more) = (expression_calm e, (target_calm target, assignments_calm more))
 
+iterable_calm : (target e : Expression) (condition : Optional) → IsCalmCore (iterable_core target e condition)
+iterable_calm target e absent = expression_calm e
+iterable_calm target e (given condition) =
+    (refl, (expression_calm e, (refl, (((refl, target_calm target), (expression_calm condition, ((refl, (refl, refl)), refl))), (refl, refl)))))
+
 mutual
   statement_calm : (st : Statement) → IsCalmCore (statement_core st)
   statement_calm (raw text) = refl
   statement_calm (print e) = (expression_calm e, refl)
-  statement_calm (for_loop target e absent false body otherwise) =
-      (expression_calm e, (refl, ((target_calm target, statements_calm body), ((refl, (refl, ((λ to. refl), statements_calm otherwise))), refl))))
+  statement_calm (for_loop target e condition false body otherwise) =
+      (iterable_calm target e condition, (refl, ((target_calm target, statements_calm body), ((refl, (refl, ((λ to. refl), statements_calm otherwise))), refl))))
   statement_calm (if_condition e body otherwise) =
       (expression_calm e, ((statements_calm body, statements_calm otherwise), ((λ to. refl), statements_calm body)))
   statement_calm (with_block assignments body) = (refl, (assignments_calm assignments, ((refl, statements_calm body), refl)))
   statement_calm (set target e) = (expression_calm e, target_calm target)
+  statement_calm (set_block target absent body) = (refl, ((refl, (refl, statements_calm body)), (refl, target_calm target)))
   statement_calm (auto_escape e body) = (expression_calm e, (refl, ((refl, statements_calm body), refl)))
   statement_calm (tree.include e ignore_missing) = (expression_calm e, refl)
   statement_calm continue_loop = tt

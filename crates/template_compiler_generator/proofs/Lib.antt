@@ -4,6 +4,8 @@ pub mod Segments
 pub mod Calm
 pub mod Plain
 pub mod Moving
+pub mod Rounds
+pub mod Keeping
 pub mod Running
 pub mod Whole
 pub mod Pieces

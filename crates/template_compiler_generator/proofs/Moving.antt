@@ -38,11 +38,15 @@ stands_within code place piece h =
     omega (arith, length-append h.front (piece ++ h.back), length-append piece h.back)
 
 -- one instruction, over a shape
+pub goes_past : (code : List Code) (place : ℕ) (c : Code) (s t : Shape) (N : (ℕ → Option Shape) → Type 0) → slice_get code place ≡ Some c → effect_of code place c s ≡ Some (falling t)
+    → Goes code place (suc place) s (Some t) N
+goes_past code place c s t N at is =
+    goes_with code place (suc place) s (Some t) (Some t) (Lands (falling t)) N (goes_on code place c s (falling t) at is refl) (λ table flows. flows) (λ table stands flows needs to u e. absurd cc)
+
 pub goes_single : (code : List Code) (place : ℕ) (c : Code) (s t : Shape) (N : (ℕ → Option Shape) → Type 0) → StandsAt code place (one c place) → effect_of code place c s ≡ Some (falling t)
     → Goes code place (place + length (one c place)) s (Some t) N
 goes_single code place c s t N h is =
-    goes_to code place (suc place) (place + length (one c place)) s (Some t) N (behind_single place c)
-    (goes_with code place (suc place) s (Some t) (Some t) (Lands (falling t)) N (goes_on code place c s (falling t) (instruction_at code place c [] h) is refl) (λ table flows. flows) (λ table stands flows needs to u e. absurd cc))
+    goes_to code place (suc place) (place + length (one c place)) s (Some t) N (behind_single place c) (goes_past code place c s t N (instruction_at code place c [] h) is)
 
 pub moves_one : (c : Code) (m k : ℕ) → ((code : List Code) (place : ℕ) (s : Shape) → IsPlain code s → effect_of code place c (given m s) ≡ Some (falling (given k s))) → Moves (one c) m k
 moves_one c m k is code place s plain h = goes_single code place c (given m s) (given k s) Free h (is code place s plain)
@@ -52,12 +56,19 @@ moves_nothing m code place s plain h =
     let same : place ≡ place + length (nothing place) = omega arith in
     goes_to code place place (place + length (nothing place)) (given m s) (Some (given m s)) Free same (goes_nowhere code place (given m s) Free)
 
+-- two pieces, one behind the other
+pub goes_both : (code : List Code) (place : ℕ) (f g : Coded) (s t u : Shape) → Goes code place (place + length (f place)) s (Some t) Free
+    → Goes code (place + length (f place)) (place + length (f place) + length (g (place + length (f place)))) t (Some u) Free
+    → Goes code place (place + length (then_code f g place)) s (Some u) Free
+goes_both code place f g s t u x y =
+    let mid = place + length (f place) in
+    goes_to code place (mid + length (g mid)) (place + length (then_code f g place)) s (Some u) Free (sym (behind_then f g place))
+    (goes_then code place mid (mid + length (g mid)) s t (Some t) (Some u) Free Free Free x y (λ v e. some_is t v e) (λ table stands flows needs. (tt, tt)))
+
 pub moves_then : (f g : Coded) (m k l : ℕ) → Moves f m k → Moves g k l → Moves (then_code f g) m l
 moves_then f g m k l x y code place s plain h =
-    let mid = place + length (f place) in
-    goes_to code place (mid + length (g mid)) (place + length (then_code f g place)) (given m s) (Some (given l s)) Free (sym (behind_then f g place))
-    (goes_then code place mid (mid + length (g mid)) (given m s) (given k s) (Some (given k s)) (Some (given l s)) Free Free Free
-    (x code place s plain (stands_first code place f g h)) (y code mid s plain (stands_second code place f g h)) (λ u e. some_is (given k s) u e) (λ table stands flows needs. (tt, tt)))
+    goes_both code place f g (given m s) (given k s) (given l s) (x code place s plain (stands_first code place f g h))
+    (y code (place + length (f place)) s plain (stands_second code place f g h))
 
 -- over more values
 pub over_more : (f : Coded) (n : ℕ) → Moves f 0 1 → Moves f n (suc n)
@@ -67,7 +78,7 @@ pub over_many : (f : Coded) (n k : ℕ) → Moves f 0 n → Moves f k (n + k)
 over_many f n k x code place s plain h =
     goes_out_as code place (place + length (f place)) (given k s) (given n (given k s)) (given (n + k) s) Free (given_more n k s) (x code place (given k s) plain h)
 
-under_more : (f : Coded) (n : ℕ) → Moves f 1 0 → Moves f (suc n) n
+pub under_more : (f : Coded) (n : ℕ) → Moves f 1 0 → Moves f (suc n) n
 under_more f n x code place s plain h = x code place (given n s) plain h
 
 pub moves_loaded : (o : Option Val) (f : Coded) → Moves f 0 1 → Moves (loaded o f) 0 1

@@ -6,7 +6,7 @@ use Rattle.std.proofs.lemmas.Bool.{lt-ltb, le-ltb, le-leb, eq-eqb, and_from}
 use Rattle.std.proofs.lemmas.List.{replicate-append-replicate}
 use Rattle.template_code.specs.Code.{Code, iterate}
 use Rattle.template_code_shapes.specs.declared.outline.Floor.{Floor}
-use Rattle.template_code_shapes.specs.Shapes.{Form, single_form, Shape, floor_of, below_values, lowered, taken, given, with_escape, escape_closed, innermost_loop}
+use Rattle.template_code_shapes.specs.Shapes.{Form, single_form, Shape, floor_of, below_values, lowered, taken, given, with_escape, escape_closed, with_capture, capture_closed, innermost_loop}
 use Rattle.template_code_references.specs.Loops.{is_iterate_past}
 use Rattle.template_code_shapes.specs.Effects.{Effect, falling, traded, is_behind, may_lead, may_jump, jumping, may_iterate}
 use Rattle.template_compiler_generator.proofs.Calm.{IsCalm}
@@ -31,6 +31,12 @@ taken_plain n s plain =
 pub traded_plain : (m k : ℕ) (s : Shape) → floor_of s.frames ≡ ground → traded m k (given m s) ≡ Some (falling (given k s))
 traded_plain m k s plain = ap (option_map (λ below. falling (given k below))) (taken_plain m s plain)
 
+-- what lies below operands is left where they are taken
+pub lowered_plain : (s : Shape) (forms : List Form) → floor_of s.frames ≡ ground → lowered (record s { operands = forms }) s.operands ≡ Some s
+lowered_plain s forms plain =
+    let low : nat_le (floor_of s.frames).operands (length s.operands) ≡ true = ap (λ (f : Floor). nat_le f.operands (length s.operands)) plain ∙ le-leb 0 (length s.operands) (omega arith) in
+    ap (λ b. cond b (Some s) None) low
+
 -- so many values, and so many more
 pub given_more : (n m : ℕ) (s : Shape) → given n (given m s) ≡ given (n + m) s
 given_more n m s =
@@ -40,6 +46,11 @@ given_more n m s =
 pub escape_plain : (s : Shape) → floor_of s.frames ≡ ground → escape_closed (with_escape s) ≡ Some s
 escape_plain s plain =
     let is_open : nat_lt (floor_of s.frames).escapes (suc s.escapes) ≡ true = ap (λ (f : Floor). nat_lt f.escapes (suc s.escapes)) plain ∙ lt-ltb 0 (suc s.escapes) (omega arith) in
+    ap (λ b. cond b (Some s) None) is_open
+
+pub capture_plain : (s : Shape) → floor_of s.frames ≡ ground → capture_closed (with_capture s) ≡ Some s
+capture_plain s plain =
+    let is_open : nat_lt (floor_of s.frames).captures (suc s.captures) ≡ true = ap (λ (f : Floor). nat_lt f.captures (suc s.captures)) plain ∙ lt-ltb 0 (suc s.captures) (omega arith) in
     ap (λ b. cond b (Some s) None) is_open
 
 -- within the code each place may be led to

@@ -1,21 +1,23 @@
 -- The code of statements: it keeps the shape, or leaves a loop with what the loop began with.
-use Rattle.std.proofs.Common.{◌≡◌, ℕ, zero, suc, ◌+◌, ◌<◌, ◌≤◌, Bool, true, false, ◌||◌, cond, List, [], ◌∷◌, ◌++◌, length, Option, None, Some, slice_get, refl, sym, ap, subst, ◌∙◌, length-append, arith}
+use Rattle.std.proofs.Common.{◌≡◌, ℕ, zero, suc, ◌+◌, ◌<◌, ◌≤◌, Bool, true, false, ◌||◌, List, [], ◌∷◌, ◌++◌, length, Option, None, Some, slice_get, refl, sym, ap, ◌∙◌, length-append, arith}
 use Rattle.std.specs.Prelude.{IsTrue, option_map, option_and_then, is_some}
-use Rattle.template_tree.specs.Tree.{Expression, Statement, Statements, Assignments, absent, raw, print, for_loop, if_condition, with_block, set, auto_escape, continue_loop, break_loop, no_statements, statements_more}
+use Rattle.template_tree.specs.Tree.{Expression, Statement, Statements, Assignments, absent, raw, print, for_loop, if_condition, with_block, set, set_block, auto_escape, continue_loop, break_loop, no_statements, statements_more}
 use Rattle.template_tree.specs.Tree as tree
 use Rattle.template_walk.specs.Runnable.{IsRunnable, IsTarget, AreAssignments, IsRunnableStatement, AreRunnableStatements}
-use Rattle.template_code.specs.Code.{Code, emit_raw, emit, jump, jump_if_false, push_with, pop_frame, push_loop, iterate, push_did_not_iterate, pop_loop_frame, push_auto_escape, pop_auto_escape, include}
+use Rattle.template_code.specs.Code.{Code, emit_raw, emit, jump, jump_if_false, push_with, pop_frame, push_loop, iterate, push_did_not_iterate, pop_loop_frame, push_auto_escape, pop_auto_escape, begin_capture, end_capture, discard_top, include}
 use Rattle.template_code_shapes.specs.declared.outline.Opened.TheVariants.{With as with_frame, Loop as loop_frame}
-use Rattle.template_code_shapes.specs.Shapes.{Shape, floor_of, taken, given, opened, with_escape, innermost_loop}
-use Rattle.template_code_shapes.specs.Effects.{Effect, falling, jumping, is_iterate, effect_of}
+use Rattle.template_code_shapes.specs.Shapes.{Shape, floor_of, taken, given, opened, with_escape, with_capture, innermost_loop}
+use Rattle.template_code_shapes.specs.Effects.{Effect, falling, jumping, effect_of}
 use Rattle.template_compiler_codegen.specs.Expressions.{Coded, then_code, one, nothing, skipped, either_code, expression_code}
-use Rattle.template_compiler_codegen.specs.Statements.{Ways, own_ways, closing_with, target_code, assignments_code, loop_flags, rounds_code, loop_end_code, branches_code, left_by, statement_code, statements_code}
+use Rattle.template_compiler_codegen.specs.Statements.{Ways, own_ways, closing_with, target_code, assignments_code, loop_flags, rounds_code, iterable_code, loop_end_code, branches_code, left_by, statement_code, statements_code}
 use Rattle.template_compiler_codegen.proofs.Standing.{StandsAt, behind_one, instruction_at, behind_then, stands_first, stands_second, first_part, last_part, stands_either, behind_either}
 use Rattle.template_compiler_codegen.proofs.Expressions.{behind_single, behind_skipped}
 use Rattle.template_compiler_codegen.proofs.Lengths.{long_statements}
 use Rattle.template_compiler_generator.proofs.Segments.{Flows, Free, Lands, Goes, goes_to, goes_out_as, goes_nowhere, goes_on, goes_then, goes_dead, goes_with, gate, gate_is, flows_any, lands_at}
-use Rattle.template_compiler_generator.proofs.Plain.{ground, IsPlain, taken_plain, traded_plain, escape_plain, jumps_forward, jumps_back, iterates}
-use Rattle.template_compiler_generator.proofs.Moving.{Moves, stands_within, goes_single, moves_one, moves_nothing, tests_on, goes_either, expression_moves, target_moves, assignments_move}
+use Rattle.template_compiler_generator.proofs.Plain.{ground, IsPlain, taken_plain, traded_plain, escape_plain, capture_plain, jumps_forward, jumps_back}
+use Rattle.template_compiler_generator.proofs.Moving.{Moves, stands_within, goes_single, goes_both, moves_one, moves_nothing, tests_on, goes_either, expression_moves, target_moves, assignments_move}
+use Rattle.template_compiler_generator.proofs.Rounds.{Returns, goes_asked, pushes}
+use Rattle.template_compiler_generator.proofs.Keeping.{iterable_moves}
 
 some_is : {A : Type 0} (x y : A) → Some x ≡ Some y → x ≡ y
 some_is x y e = cc
@@ -206,43 +208,17 @@ runs_branches looping ways (statements_more st sts) f g x y code place s base pl
 abbrev bodied : Statements → ℕ → ℕ → Coded
 bodied body break_to continue_to = statements_code (own_ways break_to continue_to) body
 
--- the rounds of a loop, from the place behind its `PushLoop`: with the places of their parts as numbers
-module _ (target : Expression) (body : Statements) (code : List Code) (place push begins ends_at jump_at : ℕ) (s : Shape) where
-  abbrev asking : Effect
-  asking = record { falls = Some (given 1 s); jumps = Some (ends_at, s); enters = None }
-
-  abbrev Asked : (ℕ → Option Shape) → Type 0
-  Asked table = table ends_at ≡ Some s
-
-  abbrev Both : (ℕ → Option Shape) → Type 0
-  Both table = (table ends_at ≡ Some s) × (table place ≡ Some s)
-
-  led_back : (falls : Bool) → place ≤ jump_at → jump_at < ends_at → innermost_loop s.frames ≡ Some push → place ≡ suc push → slice_get code place ≡ Some (iterate ends_at) → StandsAt code jump_at (jump place ∷ [])
-      → Goes code place jump_at s (gate falls s) Both → Goes code place (suc jump_at) s None Both
-  led_back false low high loop home asks h p = goes_dead code place jump_at (suc jump_at) s Both (omega arith) p
-  led_back true low high loop home asks h p =
-      let e : Effect = record { falls = None; jumps = Some (place, s); enters = None } in
-      goes_then code place jump_at (suc jump_at) s s (Some s) None Both (Lands e) Both p
-      (goes_on code jump_at (jump place) s e (instruction_at code jump_at (jump place) [] h) (jumps_back code jump_at place push ends_at s low loop home asks high) refl)
-      (λ u g. some_is s u g) (λ table stands flows needs. (needs, lands_at None place s table needs.1))
-
-  -- the asking, the target, the body and the way back
-  goes_rounds : IsPlain code s → innermost_loop s.frames ≡ Some push → place ≡ suc push → slice_get code place ≡ Some (iterate ends_at) → ends_at ≤ length code → suc jump_at ≡ ends_at → StandsAt code jump_at (jump place ∷ [])
-      → Goes code (suc place) begins (given 1 s) (Some s) Free → ((IsTrue true → IsInside code (own_ways ends_at place) s s begins jump_at) → (falls : Bool) × Goes code begins jump_at s (gate falls s) (Outs true (own_ways ends_at place) s))
-      → Goes code place ends_at s (Some s) Free
-  goes_rounds plain loop home asks within last h stored ran =
-      let low = stored.ordered in
-      let inner = ran (λ t. record { closes = refl; push = push; loop = loop; home = home; asks = asks; before = omega arith; past = omega arith; within = within }) in
-      let more = inner.1.ordered in
-      let is : effect_of code place (iterate ends_at) s ≡ Some asking = ap (λ b. cond b (Some asking) None) (iterates code place ends_at push s plain.1 loop home (omega arith) within) in
-      let opening : Goes code place begins s (Some s) Asked =
-      goes_then code place (suc place) begins s (given 1 s) (Some (given 1 s)) (Some s) (Lands asking) Free Asked (goes_on code place (iterate ends_at) s asking asks is refl) stored
-      (λ u e. some_is (given 1 s) u e) (λ table stands flows needs. (lands_at (Some (given 1 s)) ends_at s table needs, tt)) in
-      let opened_body : Goes code place jump_at s (gate inner.0 s) Both =
-      goes_then code place begins jump_at s s (Some s) (gate inner.0 s) Asked (Outs true (own_ways ends_at place) s) Both opening inner.1 (λ u e. some_is s u e) (λ table stands flows needs. (needs.0, (λ t. needs))) in
-      goes_to code place (suc jump_at) ends_at s (Some s) Free last
-      (goes_with code place (suc jump_at) s None (Some s) Both Free (led_back inner.0 (omega arith) (omega arith) loop home asks h opened_body) (λ table flows u e. absurd cc)
-      (λ table stands flows needs. (let P : ℕ → Type 0 = λ n. table n ≡ Some s in subst P last (flows s refl), stands)))
+-- the asking, the target, the body and the way back: with the places of their parts as numbers
+goes_rounds : (code : List Code) (place push begins ends_at jump_at : ℕ) (s : Shape) → IsPlain code s → innermost_loop s.frames ≡ Some push → place ≡ suc push → slice_get code place ≡ Some (iterate ends_at) → ends_at ≤ length code
+    → suc jump_at ≡ ends_at → StandsAt code jump_at (jump place ∷ []) → Goes code (suc place) begins (given 1 s) (Some s) Free
+    → ((IsTrue true → IsInside code (own_ways ends_at place) s s begins jump_at) → (falls : Bool) × Goes code begins jump_at s (gate falls s) (Outs true (own_ways ends_at place) s))
+    → Goes code place ends_at s (Some s) Free
+goes_rounds code place push begins ends_at jump_at s plain loop home asks within last h stored ran =
+    let low = stored.ordered in
+    let inner = ran (λ t. record { closes = refl; push = push; loop = loop; home = home; asks = asks; before = omega arith; past = omega arith; within = within }) in
+    goes_asked code place push ends_at jump_at s plain loop home asks within last h inner.0
+    (goes_then code (suc place) begins jump_at (given 1 s) s (Some s) (gate inner.0 s) Free (Outs true (own_ways ends_at place) s) (Returns ends_at place s) stored inner.1
+    (λ u e. some_is s u e) (λ table stands flows needs. (tt, (λ t. needs))))
 
 goes_round : (target : Expression) (body : Statements) → IsTarget target → ((ways : Ways) → Runs true ways 0 (statements_code ways body))
     → (code : List Code) (place push : ℕ) (s : Shape) → IsPlain code s → innermost_loop s.frames ≡ Some push → place ≡ suc push → StandsAt code place (rounds_code (target_code target) (bodied body) place)
@@ -260,7 +236,7 @@ goes_round target body targeted x code place push s plain loop home h =
     let inner = behind_one code place (iterate ends_at) (stored ++ (piece ++ (jump place ∷ []))) h in
     let behind_stored = last_part code (suc place) stored (piece ++ (jump place ∷ [])) inner in
     goes_to code place ends_at (place + length (rounds_code (target_code target) (bodied body) place)) s (Some s) Free (sym whole)
-    (goes_rounds target body code place push begins ends_at jump_at s plain loop home (instruction_at code place (iterate ends_at) (stored ++ (piece ++ (jump place ∷ []))) h) (omega arith) last
+    (goes_rounds code place push begins ends_at jump_at s plain loop home (instruction_at code place (iterate ends_at) (stored ++ (piece ++ (jump place ∷ []))) h) (omega arith) last
     (last_part code begins piece (jump place ∷ []) behind_stored)
     (target_moves target targeted code (suc place) s plain (first_part code (suc place) stored (piece ++ (jump place ∷ [])) inner))
     (λ inside. x (own_ways ends_at place) code begins s s plain (first_part code begins piece (jump place ∷ []) behind_stored) inside))
@@ -293,13 +269,6 @@ goes_ended looping ways (statements_more st sts) f x code place push s base plai
     (λ u e. some_is (given 1 s) u e) (λ table stands flows needs. (needs, needs)))
     (λ u e. some_is (given 1 s1) u e) (λ table stands flows needs. (needs, needs)))
 
--- a loop's frame is opened
-pushes : (code : List Code) (place mid ends : ℕ) (s : Shape) → IsPlain code s → mid ≡ suc place → slice_get code mid ≡ Some (iterate ends) → effect_of code place (push_loop loop_flags) (given 1 s) ≡ Some (falling (opened (loop_frame place) s))
-pushes code place mid ends s plain next at =
-    let there : slice_get code (suc place) ≡ Some (iterate ends) = ap (slice_get code) (sym next) ∙ at in
-    ap (λ o. cond (is_iterate o) (option_map (λ below. falling (opened (loop_frame place) below)) (taken 1 (given 1 s))) None) there
-    ∙ ap (option_map (λ below. falling (opened (loop_frame place) below))) (taken_plain 1 s plain.0)
-
 -- a loop over the value on top
 runs_loop : (looping : Bool) (ways : Ways) (target : Expression) (body otherwise : Statements) → IsTarget target → ((w : Ways) → Runs true w 0 (statements_code w body)) → Runs looping ways 0 (statements_code ways otherwise)
     → Runs looping ways 1 (then_code (one (push_loop loop_flags)) (then_code (rounds_code (target_code target) (bodied body)) (loop_end_code otherwise (statements_code ways otherwise))))
@@ -326,7 +295,7 @@ runs_loop looping ways target body otherwise targeted x y code place s base plai
       true,
       goes_to code place behind whole (given 1 s) (Some s) N (sym (same ∙ same_later))
           (goes_then code place mid behind (given 1 s) s1 (Some s1) (Some s) N N N
-          (goes_single code place (push_loop loop_flags) (given 1 s) s1 N (stands_first code place (one (push_loop loop_flags)) later h) (pushes code place mid ends s plain next (instruction_at code mid (iterate ends) (stored ++ (bodied body ends mid begins ++ (jump mid ∷ []))) stands_rounds)))
+          (goes_single code place (push_loop loop_flags) (given 1 s) s1 N (stands_first code place (one (push_loop loop_flags)) later h) (pushes code loop_flags place mid ends s (λ below. refl) plain next (instruction_at code mid (iterate ends) (stored ++ (bodied body ends mid begins ++ (jump mid ∷ []))) stands_rounds)))
           (goes_then code mid end_at behind s1 s1 (Some s1) (Some s) Free N N
           (goes_round target body targeted x code mid place s1 plain refl next stands_rounds)
           (goes_ended looping ways otherwise f y code end_at place s base plain (stands_second code mid rounds end stands_later)
@@ -387,20 +356,72 @@ runs_escaped looping ways body x code place s base plain h inside =
           closed.1 (λ u e. some_is s1 u e) (λ table stands flows needs. (needs, needs))),
     )
 
+-- a body whose text is captured, and stored in a target
+runs_captured : (looping : Bool) (ways : Ways) (target : Expression) (body : Coded) → IsTarget target → Runs looping (closing_with end_capture (closing_with discard_top ways)) 0 body
+    → Runs looping ways 0 (then_code (one (begin_capture true)) (then_code body (then_code (one end_capture) (target_code target))))
+runs_captured looping ways target body r x code place s base plain h inside =
+    let N = Outs looping ways base in
+    let s1 = with_capture s in
+    let tail = then_code (one end_capture) (target_code target) in
+    let later = then_code body tail in
+    let mid = place + length (one (begin_capture true) place) in
+    let tail_at = mid + length (body mid) in
+    let store_at = tail_at + length (one end_capture tail_at) in
+    let behind = tail_at + length (tail tail_at) in
+    let later_at = mid + length (later mid) in
+    let whole = place + length (then_code (one (begin_capture true)) later place) in
+    let same : whole ≡ later_at = behind_then (one (begin_capture true)) later place in
+    let same_later : later_at ≡ behind = behind_then body tail mid in
+    let stands_later = stands_second code place (one (begin_capture true)) later h in
+    let stands_tail = stands_second code mid body tail stands_later in
+    let inner = x code mid s1 base plain (stands_first code mid body tail stands_later) (λ t. inside_more whole mid tail_at (omega arith) (omega arith) (inside t)) in
+    let stored : Goes code tail_at behind s1 (Some s) Free =
+    goes_both code tail_at (one end_capture) (target_code target) s1 (given 1 s) s
+    (goes_single code tail_at end_capture s1 (given 1 s) Free (stands_first code tail_at (one end_capture) (target_code target) stands_tail) (ended code tail_at))
+    (target_moves target r code store_at s plain (stands_second code tail_at (one end_capture) (target_code target) stands_tail)) in
+    let closed = closes_then code mid tail_at behind behind s1 s N inner.0 refl (omega arith) inner.1
+    (goes_with code tail_at behind s1 (Some s) (Some s) Free N stored (λ table flows. flows) (λ table stands flows needs. tt)) in (
+      closed.0,
+      goes_to code place behind whole s (gate closed.0 s) N (sym (same ∙ same_later))
+          (goes_then code place mid behind s s1 (Some s1) (gate closed.0 s) N N N
+          (goes_single code place (begin_capture true) s s1 N (stands_first code place (one (begin_capture true)) later h) refl)
+          closed.1 (λ u e. some_is s1 u e) (λ table stands flows needs. (needs, needs))),
+    )
+  where
+    ended : (all : List Code) (at : ℕ) → effect_of all at end_capture (with_capture s) ≡ Some (falling (given 1 s))
+    ended all at = ap (option_map (λ below. falling (given 1 below))) (capture_plain s plain.0)
+
+    inside_more : (whole from to : ℕ) → place ≤ from → to ≤ whole → IsInside code ways s base place whole
+        → IsInside code (closing_with end_capture (closing_with discard_top ways)) (with_capture s) base from to
+    inside_more whole from to low high i = record {
+      closes = (given 1 s, (λ code place. ended code place), (s, (λ code place. traded_plain 1 0 s plain.0), i.closes));
+      push = i.push;
+      loop = i.loop;
+      home = i.home;
+      asks = i.asks;
+      before = (let a = i.before in omega arith);
+      past = (let a = i.past in omega arith);
+      within = i.within;
+    }
+
 mutual
   pub statement_runs : (looping : Bool) (st : Statement) → IsRunnableStatement looping st → (ways : Ways) → Runs looping ways 0 (statement_code ways st)
   statement_runs looping (raw text) r ways = runs_moves looping ways 0 (one (emit_raw text)) (moves_one (emit_raw text) 0 0 (λ code place s plain. refl))
   statement_runs looping (print e) r ways =
       runs_with looping ways 0 1 (expression_code e) (one emit) (expression_moves e r) (runs_moves looping ways 1 (one emit) (moves_one emit 1 0 (λ code place s plain. traded_plain 1 0 s plain.0)))
-  statement_runs looping (for_loop target e absent false body otherwise) r ways =
-      runs_with looping ways 0 1 (expression_code e) (then_code (one (push_loop loop_flags)) (then_code (rounds_code (target_code target) (bodied body)) (loop_end_code otherwise (statements_code ways otherwise)))) (expression_moves e r.1)
-      (runs_loop looping ways target body otherwise r.0 (λ w. statements_run true body r.2 w) (statements_run looping otherwise r.3 ways))
+  statement_runs looping (for_loop target e condition false body otherwise) r ways =
+      runs_with looping ways 0 1 (iterable_code target e condition) (then_code (one (push_loop loop_flags)) (then_code (rounds_code (target_code target) (bodied body)) (loop_end_code otherwise (statements_code ways otherwise))))
+      (iterable_moves target e condition r.0 r.1 r.2)
+      (runs_loop looping ways target body otherwise r.0 (λ w. statements_run true body r.3 w) (statements_run looping otherwise r.4 ways))
   statement_runs looping (if_condition e body otherwise) r ways =
       runs_with looping ways 0 1 (expression_code e) (branches_code otherwise (statements_code ways body) (statements_code ways otherwise)) (expression_moves e r.0)
       (runs_branches looping ways otherwise (statements_code ways body) (statements_code ways otherwise) (statements_run looping body r.1 ways) (statements_run looping otherwise r.2 ways))
   statement_runs looping (with_block assignments body) r ways = runs_within looping ways assignments (statements_code (closing_with pop_frame ways) body) r.0 (statements_run looping body r.1 (closing_with pop_frame ways))
   statement_runs looping (set target e) r ways =
       runs_with looping ways 0 1 (expression_code e) (target_code target) (expression_moves e r.1) (runs_moves looping ways 1 (target_code target) (target_moves target r.0))
+  statement_runs looping (set_block target absent body) r ways =
+      let inner = closing_with end_capture (closing_with discard_top ways) in
+      runs_captured looping ways target (statements_code inner body) r.0 (statements_run looping body r.1 inner)
   statement_runs looping (auto_escape e body) r ways =
       runs_with looping ways 0 1 (expression_code e) (then_code (one push_auto_escape) (then_code (statements_code (closing_with pop_auto_escape ways) body) (one pop_auto_escape))) (expression_moves e r.0)
       (runs_escaped looping ways (statements_code (closing_with pop_auto_escape ways) body) (statements_run looping body r.1 (closing_with pop_auto_escape ways)))

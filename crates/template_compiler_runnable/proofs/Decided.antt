@@ -34,6 +34,12 @@ four x y z w p q r s =
     let nested = both x (y && (z && w)) p (both y (z && w) q (both z w r s)) in
     (λ h. let all = nested.0 h in (all.0, all.1.0, all.1.1.0, all.1.1.1), λ all. nested.1 (all.0, (all.1, (all.2, all.3))))
 
+five : {P Q R S T : Type 0} (x y z w v : Bool) → Decides x P → Decides y Q → Decides z R → Decides w S → Decides v T →
+    Decides (x && (y && (z && (w && v)))) (P × Q × R × S × T)
+five x y z w v p q r s t =
+    let nested = both x (y && (z && (w && v))) p (four y z w v q r s t) in
+    (λ h. let all = nested.0 h in (all.0, all.1.0, all.1.1, all.1.2, all.1.3), λ all. nested.1 (all.0, (all.1, all.2, all.3, all.4)))
+
 mutual
   pub Decides-runs : (e : Expression) → Decides (runs e) (IsRunnable e)
   Decides-runs (variable name) = other (is_kept_back name)
@@ -102,24 +108,26 @@ mutual
   Decides-statement_runs : (looping : Bool) (s : Statement) → Decides (statement_runs looping s) (IsRunnableStatement looping s)
   Decides-statement_runs looping (raw text) = yes
   Decides-statement_runs looping (print e) = Decides-runs e
-  Decides-statement_runs looping (for_loop target e absent false body otherwise) =
-      four (is_target target) (runs e) (statements_run true body) (statements_run looping otherwise)
-      (Decides-is_target target) (Decides-runs e) (Decides-statements_run true body) (Decides-statements_run looping otherwise)
-  Decides-statement_runs looping (for_loop target e absent true body otherwise) = no
-  Decides-statement_runs looping (for_loop target e (given filter) recursive body otherwise) = no
+  Decides-statement_runs looping (for_loop target e condition false body otherwise) =
+      five (is_target target) (runs e) (runs_if_given condition) (statements_run true body) (statements_run looping otherwise)
+      (Decides-is_target target) (Decides-runs e) (Decides-runs_if_given condition)
+      (Decides-statements_run true body) (Decides-statements_run looping otherwise)
+  Decides-statement_runs looping (for_loop target e condition true body otherwise) = no
   Decides-statement_runs looping (if_condition e body otherwise) =
       three (runs e) (statements_run looping body) (statements_run looping otherwise)
       (Decides-runs e) (Decides-statements_run looping body) (Decides-statements_run looping otherwise)
   Decides-statement_runs looping (with_block assignments body) =
       both (assignments_run assignments) (statements_run looping body) (Decides-assignments_run assignments) (Decides-statements_run looping body)
   Decides-statement_runs looping (set target e) = both (is_target target) (runs e) (Decides-is_target target) (Decides-runs e)
+  Decides-statement_runs looping (set_block target absent body) =
+      both (is_target target) (statements_run looping body) (Decides-is_target target) (Decides-statements_run looping body)
   Decides-statement_runs looping (auto_escape e body) =
       both (runs e) (statements_run looping body) (Decides-runs e) (Decides-statements_run looping body)
   Decides-statement_runs looping (include e ignore_missing) = Decides-runs e
   Decides-statement_runs looping continue_loop = same looping
   Decides-statement_runs looping break_loop = same looping
   Decides-statement_runs looping (template body) = no
-  Decides-statement_runs looping (set_block target filters body) = no
+  Decides-statement_runs looping (set_block target (given filters) body) = no
   Decides-statement_runs looping (filter_block e body) = no
   Decides-statement_runs looping (block id required body) = no
   Decides-statement_runs looping (import e target) = no

@@ -1,6 +1,6 @@
 -- Whether a tree is runnable, as tests.
 use Rattle.std.specs.Prelude.{Bool, true, false, not, ◌&&◌}
-use Rattle.template_tree.specs.Tree.{Expression, Optional, Expressions, Links, variable, constant, slice, unary, binary, chain, conditional, attribute, item, list_literal, tuple_literal, map_literal, absent, given, no_expressions, expressions_more, no_links, links_more, Statement, Statements, Assignments, raw, print, for_loop, if_condition, with_block, set, auto_escape, include, continue_loop, break_loop, no_statements, statements_more, no_assignments, assignments_more}
+use Rattle.template_tree.specs.Tree.{Expression, Optional, Expressions, Links, variable, constant, slice, unary, binary, chain, conditional, attribute, item, list_literal, tuple_literal, map_literal, absent, given, no_expressions, expressions_more, no_links, links_more, Statement, Statements, Assignments, raw, print, for_loop, if_condition, with_block, set, set_block, auto_escape, include, continue_loop, break_loop, no_statements, statements_more, no_assignments, assignments_more}
 use Rattle.template_walk.specs.Runnable.{is_kept_back}
 
 abbrev mutual
@@ -55,12 +55,13 @@ abbrev mutual
   pub statement_runs : Bool → Statement → Bool
   statement_runs looping (raw text) = true
   statement_runs looping (print e) = runs e
-  statement_runs looping (for_loop target e absent false body otherwise) =
-      is_target target && (runs e && (statements_run true body && statements_run looping otherwise))
+  statement_runs looping (for_loop target e condition false body otherwise) =
+      is_target target && (runs e && (runs_if_given condition && (statements_run true body && statements_run looping otherwise)))
   statement_runs looping (if_condition e body otherwise) =
       runs e && (statements_run looping body && statements_run looping otherwise)
   statement_runs looping (with_block assignments body) = assignments_run assignments && statements_run looping body
   statement_runs looping (set target e) = is_target target && runs e
+  statement_runs looping (set_block target absent body) = is_target target && statements_run looping body
   statement_runs looping (auto_escape e body) = runs e && statements_run looping body
   statement_runs looping (include e ignore_missing) = runs e
   statement_runs looping continue_loop = looping

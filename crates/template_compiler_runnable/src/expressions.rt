@@ -104,7 +104,7 @@ pub(crate) fn expression_runs(expr: &Expr<'_>) -> bool
 
 // Whether an expression runs, where it is given.
 #[cycle(expression)]
-fn optional_runs(expr: &Option<Expr<'_>>) -> bool
+pub(crate) fn optional_runs(expr: &Option<Expr<'_>>) -> bool
     ensures { result ≡ runs_if_given (optional_in expr.now) }
 {
     match expr {

@@ -5,7 +5,7 @@ ghost use Rattle.template_tree_parts.specs.Listed.{statements_in};
 ghost use Rattle.template_compiler_runnable.specs.Running.{statement_runs, statements_run};
 ghost use Rattle.template_compiler_runnable.specs.Runs.{RunsWhole};
 
-use crate::expressions::operand_runs;
+use crate::expressions::{operand_runs, optional_runs};
 use crate::targets::{assignments_run, is_target};
 use template_tree_statements::Stmt;
 
@@ -97,9 +97,6 @@ fn parts_run(looping: bool, statement: &Stmt<'_>) -> bool
         Stmt::EmitExpr(n) => operand_runs(&n.node.expr),
         Stmt::ForLoop(n) => {
             let node = &n.node;
-            if node.filter_expr.is_some() {
-                return false;
-            }
             if node.recursive {
                 return false;
             }
@@ -107,6 +104,9 @@ fn parts_run(looping: bool, statement: &Stmt<'_>) -> bool
                 return false;
             }
             if !operand_runs(&node.iter) {
+                return false;
+            }
+            if !optional_runs(&node.filter_expr) {
                 return false;
             }
             if !statements_run(true, &node.body) {
@@ -131,6 +131,16 @@ fn parts_run(looping: bool, statement: &Stmt<'_>) -> bool
             statements_run(looping, &n.node.body)
         }
         Stmt::Set(n) => is_target(&n.node.target) && operand_runs(&n.node.expr),
+        Stmt::SetBlock(n) => {
+            let node = &n.node;
+            if node.filter.is_some() {
+                return false;
+            }
+            if !is_target(&node.target) {
+                return false;
+            }
+            statements_run(looping, &node.body)
+        }
         Stmt::AutoEscape(n) => {
             if !operand_runs(&n.node.enabled) {
                 return false;
@@ -141,7 +151,6 @@ fn parts_run(looping: bool, statement: &Stmt<'_>) -> bool
         Stmt::Continue(_) => looping,
         Stmt::Break(_) => looping,
         Stmt::Template(_) => false,
-        Stmt::SetBlock(_) => false,
         Stmt::FilterBlock(_) => false,
         Stmt::Block(_) => false,
         Stmt::Import(_) => false,

@@ -1,6 +1,6 @@
 -- The trees of nodes, from the parts that a node holds, and how deep those are.
 use Rattle.std.proofs.Common.{◌≡◌, ℕ, ◌<◌, Bool, true, false, List, length, get_or, Box, Global, rules, refl, sym, ap, subst, ◌∙◌, arith, [], ◌∷◌}
-use Rattle.template_tree.specs.Tree.{Expression, Optional, Statement, Statements, absent, given, for_loop, with_block, auto_escape, no_statements, statements_more}
+use Rattle.template_tree.specs.Tree.{Expression, Optional, Statement, Statements, absent, given, for_loop, with_block, set_block, auto_escape, no_statements, statements_more}
 use Rattle.template_tree_statements.specs.View.{assignments_in, statement_of}
 use Rattle.template_tree.specs.View.{expression_of, optional_in}
 use Rattle.template_tree.specs.declared.expressions.Expr.{Expr}
@@ -9,8 +9,10 @@ use Rattle.template_tree_statements.specs.declared.statements.AutoEscape.{AutoEs
 use Rattle.template_tree_statements.specs.declared.statements.CallBlock.{CallBlock as CallBlockNode, CallBlock' as called}
 use Rattle.template_tree_statements.specs.declared.statements.ForLoop.{ForLoop as ForLoopNode}
 use Rattle.template_tree_statements.specs.declared.statements.IfCond.{IfCond as IfCondNode}
+use Rattle.template_tree_statements.specs.declared.statements.SetBlock.{SetBlock as SetBlockNode}
 use Rattle.template_tree_statements.specs.declared.statements.WithBlock.{WithBlock as WithBlockNode}
-use Rattle.template_tree_statements.specs.declared.statements.Stmt.{Stmt, AutoEscape, CallBlock, ForLoop, IfCond, WithBlock, size-Stmt, the_lemmas}
+use Rattle.template_tree_statements.specs.declared.statements.Stmt.{Stmt, AutoEscape, CallBlock, ForLoop, IfCond, SetBlock, WithBlock, size-Stmt, the_lemmas}
+use Rattle.template_tree_parts.proofs.Rows.{statements_row}
 use Rattle.template_tree_parts.proofs.Trees.{escape_tree, for_tree, if_tree, with_tree}
 use Rattle.template_walk.specs.Runnable.{IsRunnableStatement}
 use Rattle.template_tree_parts.specs.Listed.{statements_in}
@@ -88,6 +90,18 @@ pub with_deep : (s : Stmt) (n : Box (Spanned WithBlockNode) Global) (body : List
     → body_deep body < size-Stmt s
 with_deep s n body node read = rw (node, read) (body_below n.value.node.body.items (size-Stmt (WithBlock n)) (with_positive n) (with_body_smaller n))
 
+set_block_smaller : (n : Box (Spanned SetBlockNode) Global) (i : ℕ) (d : Stmt) → i < length n.value.node.body.items
+    → size-Stmt (get_or n.value.node.body.items i d) < size-Stmt (SetBlock n)
+set_block_smaller n i d h = search (rules, the_lemmas)
+
+set_block_positive : (n : Box (Spanned SetBlockNode) Global) → 0 < size-Stmt (SetBlock n)
+set_block_positive n = search (rules, the_lemmas)
+
+pub set_block_deep : (s : Stmt) (n : Box (Spanned SetBlockNode) Global) (body : List Stmt) → s ≡ SetBlock n → body ≡ n.value.node.body.items
+    → body_deep body < size-Stmt s
+set_block_deep s n body node read =
+    rw (node, read) (body_below n.value.node.body.items (size-Stmt (SetBlock n)) (set_block_positive n) (set_block_smaller n))
+
 escape_body_smaller : (n : Box (Spanned AutoEscapeNode) Global) (i : ℕ) (d : Stmt) → i < length n.value.node.body.items
     → size-Stmt (get_or n.value.node.body.items i d) < size-Stmt (AutoEscape n)
 escape_body_smaller n i d h = search (rules, the_lemmas)
@@ -130,25 +144,49 @@ condition_is s n c node read =
 pub condition_within : (s : Stmt) (n : Box (Spanned IfCondNode) Global) (c : IfCondNode) → s ≡ IfCond n → c ≡ n.value.node → condition_deep c < size-Stmt s
 condition_within s n c node read = rw (node, read) (condition_smaller n)
 
--- a loop that runs has neither a filter nor a call of itself
-loop_plain : (target e : Expression) (filter : Optional) (recursive : Bool) (body otherwise : Statements)
-    → IsRunnableStatement true (for_loop target e filter recursive body otherwise)
-    → for_loop target e filter recursive body otherwise ≡ for_loop target e absent false body otherwise
-loop_plain target e absent false body otherwise h = refl
-loop_plain target e absent true body otherwise h = absurd h
-loop_plain target e (given f) recursive body otherwise h = absurd h
+-- a loop that runs has no call of itself
+loop_plain : (target e : Expression) (condition : Optional) (recursive : Bool) (body otherwise : Statements)
+    → IsRunnableStatement true (for_loop target e condition recursive body otherwise)
+    → for_loop target e condition recursive body otherwise ≡ for_loop target e condition false body otherwise
+loop_plain target e condition false body otherwise h = refl
+loop_plain target e condition true body otherwise h = absurd h
 
-pub loop_is : (s : Stmt) (n : Box (Spanned ForLoopNode) Global) (target e : Expr) (body otherwise : List Stmt) → IsRunnableStatement true (statement_of s)
-    → s ≡ ForLoop n → target ≡ n.value.node.target → e ≡ n.value.node.iter → body ≡ n.value.node.body.items → otherwise ≡ n.value.node.else_body.items
-    → statement_of s ≡ for_loop (expression_of target) (expression_of e) absent false (statements_in body) (statements_in otherwise)
-loop_is s n target e body otherwise h node t i b o =
-    let l = n.value.node in
-    let tree : statement_of s ≡ for_loop (expression_of l.target) (expression_of l.iter) (optional_in l.filter_expr) l.recursive (statements_in l.body.items)
-    (statements_in l.else_body.items) = ap (λ (x : Stmt). statement_of x) node ∙ for_tree n in
+abbrev pub loop_of : ForLoopNode → Statement
+loop_of l =
+    for_loop (expression_of l.target) (expression_of l.iter) (optional_in l.filter_expr) false (statements_in l.body.items)
+    (statements_in l.else_body.items)
+
+pub loop_is : (s : Stmt) (n : Box (Spanned ForLoopNode) Global) (l : ForLoopNode) → IsRunnableStatement true (statement_of s)
+    → s ≡ ForLoop n → l ≡ n.value.node → statement_of s ≡ loop_of l
+loop_is s n l h node read =
+    let v = n.value.node in
+    let tree : statement_of s ≡ for_loop (expression_of v.target) (expression_of v.iter) (optional_in v.filter_expr) v.recursive (statements_in v.body.items)
+    (statements_in v.else_body.items) = ap (λ (x : Stmt). statement_of x) node ∙ for_tree n in
     tree ∙
-    loop_plain (expression_of l.target) (expression_of l.iter) (optional_in l.filter_expr) l.recursive (statements_in l.body.items)
-    (statements_in l.else_body.items) (subst (λ (x : Statement). IsRunnableStatement true x) tree h) ∙
-    rw (t, i, b, o) refl
+    loop_plain (expression_of v.target) (expression_of v.iter) (optional_in v.filter_expr) v.recursive (statements_in v.body.items)
+    (statements_in v.else_body.items) (subst (λ (x : Statement). IsRunnableStatement true x) tree h) ∙
+    ap (λ (x : ForLoopNode). loop_of x) (sym read)
+
+-- a block that runs has no filters
+block_plain : (target : Expression) (filters : Optional) (body : Statements) → IsRunnableStatement true (set_block target filters body)
+    → set_block target filters body ≡ set_block target absent body
+block_plain target absent body h = refl
+block_plain target (given f) body h = absurd h
+
+set_block_tree : (n : Box (Spanned SetBlockNode) Global) → statement_of (SetBlock n)
+    ≡ set_block (expression_of n.value.node.target) (optional_in n.value.node.filter) (statements_in n.value.node.body.items)
+set_block_tree n = search (rules, the_lemmas, statements_row)
+
+pub set_block_is : (s : Stmt) (n : Box (Spanned SetBlockNode) Global) (target : Expr) (body : List Stmt) → IsRunnableStatement true (statement_of s)
+    → s ≡ SetBlock n → target ≡ n.value.node.target → body ≡ n.value.node.body.items
+    → statement_of s ≡ set_block (expression_of target) absent (statements_in body)
+set_block_is s n target body h node t b =
+    let v = n.value.node in
+    let tree : statement_of s ≡ set_block (expression_of v.target) (optional_in v.filter) (statements_in v.body.items) =
+    ap (λ (x : Stmt). statement_of x) node ∙ set_block_tree n in
+    tree ∙
+    block_plain (expression_of v.target) (optional_in v.filter) (statements_in v.body.items)
+    (subst (λ (x : Statement). IsRunnableStatement true x) tree h) ∙ rw (t, b) refl
 
 pub with_is : (s : Stmt) (n : Box (Spanned WithBlockNode) Global) (pairs : List (Expr × Expr)) (body : List Stmt) → s ≡ WithBlock n
     → pairs ≡ n.value.node.assignments.items → body ≡ n.value.node.body.items

@@ -2,7 +2,7 @@
 use Rattle.std.specs.Prelude.{◌≡◌, ℕ, List, [], ◌∷◌, ◌++◌, length, Option, Some, None}
 use Rattle.template_tree.specs.Tree.{Statement, Statements}
 use Rattle.template_tree_statements.specs.declared.statements.IfCond.{IfCond}
-use Rattle.template_code.specs.Code.{Code, pop_frame, pop_auto_escape}
+use Rattle.template_code.specs.Code.{Code, pop_frame, pop_auto_escape, end_capture, discard_top}
 use Rattle.template_code.specs.Listing.{code_in}
 use Rattle.template_code.specs.declared.listing.Instructions.{Instructions}
 use Rattle.template_compiler_codegen.specs.Expressions.{Coded, one, nothing, then_code}
@@ -12,12 +12,14 @@ use Rattle.template_compiler_statement_codegen.specs.Breaks.{Places, no_places, 
 use Rattle.template_tree_parts.specs.Listed.{statements_in}
 use Rattle.template_compiler_statement_codegen.specs.Listed.{condition_of}
 use Rattle.template_compiler_statement_codegen.specs.declared.rounds.Closing.{Closing}
-use Rattle.template_compiler_statement_codegen.specs.declared.rounds.Closing.TheVariants.{Frame, AutoEscape}
+use Rattle.template_compiler_statement_codegen.specs.declared.rounds.Closing.TheVariants.{Frame, AutoEscape, Capture, Text}
 use Rattle.template_compiler_statement_codegen.specs.declared.rounds.Round.{Round}
 
 abbrev pub closing_code : Closing → Code
 closing_code Frame = pop_frame
 closing_code AutoEscape = pop_auto_escape
+closing_code Capture = end_capture
+closing_code Text = discard_top
 
 -- what closes all that is open, the innermost first
 abbrev pub closed_by : List Closing → List Code
@@ -55,6 +57,10 @@ closed_code close ways ss = then_code (statements_code (closing_with close ways)
 
 abbrev pub closed_places : Code → Ways → Statements → Places
 closed_places close ways ss = then_places (statements_code (closing_with close ways) ss) (breaks_in (closing_with close ways) ss) no_places
+
+-- what leaves a capture ends it, and drops its text
+abbrev pub capturing : Ways → Ways
+capturing ways = closing_with end_capture (closing_with discard_top ways)
 
 -- a condition up to its else part, and the place of the jump past that, where it is not told yet
 abbrev pub LowersBranch : IfCond → List ℕ → Instructions → Instructions → Round → Round → Type 0

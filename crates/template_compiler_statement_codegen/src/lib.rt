@@ -2,6 +2,7 @@
 #![tactic(auto)]
 
 mod breaks;
+mod iterables;
 mod puts;
 mod rounds;
 mod statements;

@@ -16,11 +16,13 @@ use template_compiler_emission::Leap;
 use template_tree::Span;
 use template_values_errors::ErrorKind;
 
-// What stands open around statements inside a loop.
+// What stands open around statements inside a loop; or the text that a capture ends with.
 #[derive(Clone, Copy)]
 pub(crate) enum Closing {
     Frame,
     AutoEscape,
+    Capture,
+    Text,
 }
 
 impl Closing {
@@ -31,6 +33,8 @@ impl Closing {
         match self {
             Closing::Frame => Instruction::PopFrame,
             Closing::AutoEscape => Instruction::PopAutoEscape,
+            Closing::Capture => Instruction::EndCapture,
+            Closing::Text => Instruction::DiscardTop,
         }
     }
 }

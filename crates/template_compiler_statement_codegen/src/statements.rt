@@ -1,10 +1,10 @@
 //! Statements. Bodies nest at most 150 deep; a chain of `elif`, which may be as long as the source, is gone
 //! along in a loop.
 ghost use Rattle.std.specs.Prelude.{◌≡◌, ◌++◌, [], true, false, length, OnOk, IfOk, IfErr};
-ghost use Rattle.template_tree.specs.Tree.{absent, auto_escape, for_loop, with_block};
+ghost use Rattle.template_tree.specs.Tree.{absent, auto_escape, for_loop, set_block, with_block};
 ghost use Rattle.template_tree_statements.specs.View.{statement_of, assignments_in};
-ghost use Rattle.template_tree.specs.View.{expression_of};
-ghost use Rattle.template_walk.specs.Runnable.{IsRunnable, IsTarget, AreAssignments, IsRunnableStatement, AreRunnableStatements};
+ghost use Rattle.template_tree.specs.View.{expression_of, optional_in};
+ghost use Rattle.template_walk.specs.Runnable.{IsRunnable, IsRunnableIfGiven, IsTarget, AreAssignments, IsRunnableStatement, AreRunnableStatements};
 ghost use Rattle.template_code.specs.Code.{emit, emit_raw, include};
 ghost use Rattle.template_code.specs.Listing.{code_in, TakesNoMore};
 ghost use Rattle.template_compiler_codegen.specs.Expressions.{then_code, one, expression_code};
@@ -14,15 +14,16 @@ ghost use Rattle.template_compiler_statement_codegen.specs.Breaks.{breaks_in, le
 ghost use Rattle.template_tree_parts.specs.Listed.{statements_in};
 ghost use Rattle.template_compiler_statement_codegen.specs.Listed.{IsRunnableTree, body_in, condition_of};
 ghost use Rattle.template_compiler_statement_codegen.specs.Refusals.{Refuses};
-ghost use Rattle.template_compiler_statement_codegen.specs.Rounds.{Lowers, LowersBody, LowersStatement, LowersBranch, LowersChain, closed_code, closed_places, closing_code, places_in, ways_of};
+ghost use Rattle.template_compiler_statement_codegen.specs.Rounds.{Lowers, LowersBody, LowersStatement, LowersBranch, LowersChain, capturing, closed_code, closed_places, closing_code, places_in, ways_of};
 
+use crate::iterables::compile_iterable;
 use crate::puts::{append, compile_expr, put, reserve};
 use crate::rounds::{Closing, Round, put_break, put_continue};
 use crate::targets::{store, store_all};
 use crate::tell_breaks;
 use std::alloc::Global;
 use std::borrow::CowStr;
-use template_code::{Instruction, Instructions, LOOP_FLAG_WITH_LOOP_VAR};
+use template_code::{CaptureMode, Instruction, Instructions, LOOP_FLAG_WITH_LOOP_VAR};
 use template_compiler_emission::{Leap, land};
 use template_tree::{Expr, Span, Spanned};
 use template_tree_statements::{ForLoop, IfCond, Stmt};
@@ -146,13 +147,15 @@ fn compile_any<'source>(
                 &n.span,
             )
         }
+        Stmt::SetBlock(n) => {
+            compile_set_block(alloc, code, round, &n.node.target, &n.node.body, &n.span)
+        }
         Stmt::AutoEscape(n) => {
             compile_auto_escape(alloc, code, round, &n.node.enabled, &n.node.body, &n.span)
         }
         Stmt::Continue(n) => put_continue(code, &*round, &n.span),
         Stmt::Break(n) => put_break(code, round, &n.span),
         Stmt::Template(_) => unreachable!(),
-        Stmt::SetBlock(_) => unreachable!(),
         Stmt::FilterBlock(_) => unreachable!(),
         Stmt::Block(_) => unreachable!(),
         Stmt::Import(_) => unreachable!(),
@@ -289,6 +292,55 @@ fn compile_with<'source>(
     compile_closed(alloc, code, round, Closing::Frame, body, span)
 }
 
+// The text of a body, which is stored in a target.
+#[cycle(statement)]
+#[inline(never)]
+fn compile_set_block<'source>(
+    alloc: Global,
+    code: &mut Instructions<'source>,
+    round: &mut Round,
+    target: &Expr<'source>,
+    body: &[Stmt<'source>],
+    span: &Span,
+) -> Result<(), ErrorKind>
+    requires target { IsTarget (expression_of target.now) }
+    requires body { AreRunnableStatements true (statements_in body.now) }
+    ensures lowered { OnOk result
+        (LowersStatement (set_block (expression_of target.now) absent (statements_in body.now)) code.old code.new round.old round.new) }
+    ensures refused { IfErr result (Refuses (code_in code.new)) }
+{
+    put(
+        code,
+        Instruction::BeginCapture(CaptureMode::Capture),
+        Some(*span),
+    )?;
+    compile_captured(alloc, code, round, body)?;
+    put(code, Instruction::EndCapture, Some(*span))?;
+    store(code, target)
+}
+
+// A body whose text is captured: what leaves it ends the capture, and drops the text.
+#[cycle(statement)]
+fn compile_captured<'source>(
+    alloc: Global,
+    code: &mut Instructions<'source>,
+    round: &mut Round,
+    body: &[Stmt<'source>],
+) -> Result<(), ErrorKind>
+    requires { AreRunnableStatements true (statements_in body.now) }
+    ensures lowered { OnOk result
+        (Lowers (statements_code (capturing (ways_of round.old)) (statements_in body.now))
+        (breaks_in (capturing (ways_of round.old)) (statements_in body.now)) code.old code.new round.old round.new) }
+    ensures refused { IfErr result (Refuses (code_in code.new)) }
+{
+    let open = round.closings.len();
+    append(&mut round.closings, Closing::Text)?;
+    append(&mut round.closings, Closing::Capture)?;
+    compile_body(alloc, code, round, body)?;
+    round.closings.truncate(open);
+    Ok(())
+}
+
 // Another escape, around a body.
 #[cycle(statement)]
 #[inline(never)]
@@ -311,7 +363,7 @@ fn compile_auto_escape<'source>(
     compile_closed(alloc, code, round, Closing::AutoEscape, body, span)
 }
 
-// A loop: its items, its rounds, and what runs where no item was given.
+// A loop: what it goes over, its rounds, and what runs where no item was given.
 #[cycle(statement)]
 #[inline(never)]
 fn compile_loop<'source>(
@@ -323,15 +375,23 @@ fn compile_loop<'source>(
 ) -> Result<(), ErrorKind>
     requires target { IsTarget (expression_of node.now.target) }
     requires items { IsRunnable (expression_of node.now.iter) }
+    requires condition { IsRunnableIfGiven (optional_in node.now.filter_expr) }
     requires body { AreRunnableStatements true (statements_in node.now.body.items) }
     requires otherwise { AreRunnableStatements true (statements_in node.now.else_body.items) }
     ensures lowered { OnOk result
-        (LowersStatement (for_loop (expression_of node.now.target) (expression_of node.now.iter) absent false
+        (LowersStatement (for_loop (expression_of node.now.target) (expression_of node.now.iter) (optional_in node.now.filter_expr) false
         (statements_in node.now.body.items) (statements_in node.now.else_body.items))
         code.old code.new round.old round.new) }
     ensures refused { IfErr result (Refuses (code_in code.new)) }
 {
-    compile_expr(alloc, code, &node.iter)?;
+    compile_iterable(
+        alloc,
+        code,
+        &node.target,
+        &node.iter,
+        &node.filter_expr,
+        span,
+    )?;
     put(code, Instruction::PushLoop(LOOP_FLAG_WITH_LOOP_VAR), None)?;
     compile_rounds(alloc, code, &node.target, &node.body, *span)?;
     compile_loop_end(alloc, code, round, &node.else_body)

@@ -1,53 +1,63 @@
 use Rattle.std.proofs.Common.{◌≡◌, ◌≤◌, length, get_or, vec_len, true, List, sym, ap, ◌∙◌, arith}
-use Rattle.template_tree.specs.View.{expression_of}
+use Rattle.template_tree.specs.View.{expression_of, optional_in}
 use Rattle.template_tree_statements.specs.View.{assignments_in, statement_of}
 use Rattle.template_tree_statements.specs.declared.statements.AutoEscape.{AutoEscape as AutoEscapeNode}
 use Rattle.template_tree_statements.specs.declared.statements.ForLoop.{ForLoop as ForLoopNode}
 use Rattle.template_tree_statements.specs.declared.statements.IfCond.{IfCond as IfCondNode}
 use Rattle.template_tree_statements.specs.declared.statements.WithBlock.{WithBlock as WithBlockNode}
+use Rattle.template_tree_statements.specs.declared.statements.SetBlock.{SetBlock as SetBlockNode}
 use Rattle.template_tree_statements.specs.declared.statements.Stmt.{Stmt, size-Stmt}
 use Rattle.template_tree.specs.declared.span.Spanned.{Spanned}
 use Rattle.template_tree_parts.specs.Listed.{statements_in}
 use Rattle.std.specs.Prelude.{is_some}
-use Rattle.template_compiler_runnable.specs.Running.{runs, is_target, assignments_run, statement_runs, statements_run}
+use Rattle.template_compiler_runnable.specs.Running.{runs, runs_if_given, is_target, assignments_run, statement_runs, statements_run}
 use Rattle.template_compiler_runnable.proofs.Parts.{first_fails, then}
-use Rattle.template_compiler_runnable.proofs.Bodies.{for_runs, if_runs, with_runs, escape_runs, no_call, only_runs, else_smaller}
+use Rattle.template_compiler_runnable.proofs.Bodies.{for_runs, if_runs, with_runs, set_block_runs, escape_runs, no_call, only_runs, else_smaller}
 use Rattle.template_compiler_runnable.proofs.statements.+statement.Goals as goal
 
 pub parts_run-returns-then-not-operand_runs : goal.parts_run-returns-then-not-operand_runs
 parts_run-returns-then-not-operand_runs t c =
-    let filter = ap (λ (f : Spanned ForLoopNode). is_some f.node.filter_expr) (sym c.deref.ensures) ∙ sym c.is_some.ensures ∙ c.if-is_some.false in
     let recursive = ap (λ (f : Spanned ForLoopNode). f.node.recursive) (sym c.deref.ensures) ∙ c.if-node.false in
     let target = c.is_target.ensures ∙ ap (λ (f : Spanned ForLoopNode). is_target (expression_of f.node.target)) c.deref.ensures in
     let iter = c.operand_runs-in-ForLoop.ensures ∙ ap (λ (f : Spanned ForLoopNode). runs (expression_of f.node.iter)) c.deref.ensures in
-    let whole = for_runs c.args.looping c.args.statement.now c.in-ForLoop.n c.in-ForLoop.is filter recursive in
+    let whole = for_runs c.args.looping c.args.statement.now c.in-ForLoop.n c.in-ForLoop.is recursive in
     first_fails _ (then _ whole (sym target ∙ c.if-not-is_target.false)) (sym iter ∙ c.if-not-operand_runs.true)
+
+pub parts_run-returns-then-not-optional_runs : goal.parts_run-returns-then-not-optional_runs
+parts_run-returns-then-not-optional_runs t c =
+    let recursive = ap (λ (f : Spanned ForLoopNode). f.node.recursive) (sym c.deref.ensures) ∙ c.if-node.false in
+    let target = c.is_target.ensures ∙ ap (λ (f : Spanned ForLoopNode). is_target (expression_of f.node.target)) c.deref.ensures in
+    let iter = c.operand_runs-in-ForLoop.ensures ∙ ap (λ (f : Spanned ForLoopNode). runs (expression_of f.node.iter)) c.deref.ensures in
+    let condition = c.optional_runs.ensures ∙ ap (λ (f : Spanned ForLoopNode). runs_if_given (optional_in f.node.filter_expr)) c.deref.ensures in
+    let whole = for_runs c.args.looping c.args.statement.now c.in-ForLoop.n c.in-ForLoop.is recursive in
+    first_fails _ (then _ (then _ whole (sym target ∙ c.if-not-is_target.false)) (sym iter ∙ c.if-not-operand_runs.false))
+    (sym condition ∙ c.if-not-optional_runs.true)
 
 pub parts_run-returns-then-not-statements_run : goal.parts_run-returns-then-not-statements_run
 parts_run-returns-then-not-statements_run t c =
-    let filter = ap (λ (f : Spanned ForLoopNode). is_some f.node.filter_expr) (sym c.deref.ensures) ∙ sym c.is_some.ensures ∙ c.if-is_some.false in
     let recursive = ap (λ (f : Spanned ForLoopNode). f.node.recursive) (sym c.deref.ensures) ∙ c.if-node.false in
     let target = c.is_target.ensures ∙ ap (λ (f : Spanned ForLoopNode). is_target (expression_of f.node.target)) c.deref.ensures in
     let iter = c.operand_runs-in-ForLoop.ensures ∙ ap (λ (f : Spanned ForLoopNode). runs (expression_of f.node.iter)) c.deref.ensures in
+    let condition = c.optional_runs.ensures ∙ ap (λ (f : Spanned ForLoopNode). runs_if_given (optional_in f.node.filter_expr)) c.deref.ensures in
     let body = c.statements_run.ensures ∙ ap (λ (ss : List Stmt). statements_run true (statements_in ss))
     (c.deref-in-ForLoop.ensures.value ∙ ap (λ (f : Spanned ForLoopNode). f.node.body.items) c.deref.ensures) in
-    let whole = for_runs c.args.looping c.args.statement.now c.in-ForLoop.n c.in-ForLoop.is filter recursive in
-    first_fails _ (then _ (then _ whole (sym target ∙ c.if-not-is_target.false)) (sym iter ∙ c.if-not-operand_runs.false))
-    (sym body ∙ c.if-not-statements_run.true)
+    let whole = for_runs c.args.looping c.args.statement.now c.in-ForLoop.n c.in-ForLoop.is recursive in
+    first_fails _ (then _ (then _ (then _ whole (sym target ∙ c.if-not-is_target.false)) (sym iter ∙ c.if-not-operand_runs.false))
+    (sym condition ∙ c.if-not-optional_runs.false)) (sym body ∙ c.if-not-statements_run.true)
 
 pub parts_run-returns-else-not-statements_run : goal.parts_run-returns-else-not-statements_run
 parts_run-returns-else-not-statements_run t c =
-    let filter = ap (λ (f : Spanned ForLoopNode). is_some f.node.filter_expr) (sym c.deref.ensures) ∙ sym c.is_some.ensures ∙ c.if-is_some.false in
     let recursive = ap (λ (f : Spanned ForLoopNode). f.node.recursive) (sym c.deref.ensures) ∙ c.if-node.false in
     let target = c.is_target.ensures ∙ ap (λ (f : Spanned ForLoopNode). is_target (expression_of f.node.target)) c.deref.ensures in
     let iter = c.operand_runs-in-ForLoop.ensures ∙ ap (λ (f : Spanned ForLoopNode). runs (expression_of f.node.iter)) c.deref.ensures in
+    let condition = c.optional_runs.ensures ∙ ap (λ (f : Spanned ForLoopNode). runs_if_given (optional_in f.node.filter_expr)) c.deref.ensures in
     let body = c.statements_run.ensures ∙ ap (λ (ss : List Stmt). statements_run true (statements_in ss))
     (c.deref-in-ForLoop.ensures.value ∙ ap (λ (f : Spanned ForLoopNode). f.node.body.items) c.deref.ensures) in
     let other = c.statements_run-in-ForLoop.ensures ∙ ap (λ (ss : List Stmt). statements_run c.args.looping (statements_in ss))
     (c.deref-in-ForLoop-2.ensures.value ∙ ap (λ (f : Spanned ForLoopNode). f.node.else_body.items) c.deref.ensures) in
-    let whole = for_runs c.args.looping c.args.statement.now c.in-ForLoop.n c.in-ForLoop.is filter recursive in
-    other ∙ sym (then _ (then _ (then _ whole (sym target ∙ c.if-not-is_target.false)) (sym iter ∙ c.if-not-operand_runs.false))
-    (sym body ∙ c.if-not-statements_run.false))
+    let whole = for_runs c.args.looping c.args.statement.now c.in-ForLoop.n c.in-ForLoop.is recursive in
+    other ∙ sym (then _ (then _ (then _ (then _ whole (sym target ∙ c.if-not-is_target.false)) (sym iter ∙ c.if-not-operand_runs.false))
+    (sym condition ∙ c.if-not-optional_runs.false)) (sym body ∙ c.if-not-statements_run.false))
 
 pub parts_run-returns-then-not-statements_run-2 : goal.parts_run-returns-then-not-statements_run-2
 parts_run-returns-then-not-statements_run-2 t c =
@@ -75,6 +85,16 @@ parts_run-returns-else-not-assignments_run t c =
     (c.deref-in-WithBlock-4.ensures.value ∙ ap (λ (w : Spanned WithBlockNode). w.node.body.items) c.deref-in-WithBlock-3.ensures) in
     let whole = with_runs c.args.looping c.args.statement.now c.in-WithBlock.n c.in-WithBlock.is in
     body ∙ sym (then _ whole (sym pairs ∙ c.if-not-assignments_run.false))
+
+pub parts_run-returns-else-not-is_target-2 : goal.parts_run-returns-else-not-is_target-2
+parts_run-returns-else-not-is_target-2 t c =
+    let filter = ap (λ (b : Spanned SetBlockNode). is_some b.node.filter) (sym c.deref-in-SetBlock.ensures) ∙ sym c.is_some.ensures ∙ c.if-is_some.false in
+    let target = c.is_target-in-SetBlock.ensures ∙
+    ap (λ (b : Spanned SetBlockNode). is_target (expression_of b.node.target)) c.deref-in-SetBlock.ensures in
+    let body = c.statements_run-in-SetBlock.ensures ∙ ap (λ (ss : List Stmt). statements_run c.args.looping (statements_in ss))
+    (c.deref-in-SetBlock-2.ensures.value ∙ ap (λ (b : Spanned SetBlockNode). b.node.body.items) c.deref-in-SetBlock.ensures) in
+    let whole = set_block_runs c.args.looping c.args.statement.now c.in-SetBlock.n c.in-SetBlock.is filter in
+    body ∙ sym (then _ whole (sym target ∙ c.if-not-is_target-2.false))
 
 pub parts_run-returns-else-not-operand_runs-3 : goal.parts_run-returns-else-not-operand_runs-3
 parts_run-returns-else-not-operand_runs-3 t c =
@@ -120,9 +140,6 @@ bodies_run-loop-at-preserved t c =
 
 pub parts_run-returns-in-Template : goal.parts_run-returns-in-Template
 parts_run-returns-in-Template t c = ap (λ (x : Stmt). statement_runs c.args.looping (statement_of x)) (sym c.in-Template.is)
-
-pub parts_run-returns-in-SetBlock : goal.parts_run-returns-in-SetBlock
-parts_run-returns-in-SetBlock t c = ap (λ (x : Stmt). statement_runs c.args.looping (statement_of x)) (sym c.in-SetBlock.is)
 
 pub parts_run-returns-in-FilterBlock : goal.parts_run-returns-in-FilterBlock
 parts_run-returns-in-FilterBlock t c = ap (λ (x : Stmt). statement_runs c.args.looping (statement_of x)) (sym c.in-FilterBlock.is)

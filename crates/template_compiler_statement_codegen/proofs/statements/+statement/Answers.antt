@@ -1,10 +1,11 @@
-use Rattle.std.proofs.Common.{◌≡◌, ℕ, ◌<◌, List, [], length, get_or, vec_len, true, false, ap, sym, subst, ◌∙◌, arith, refl}
+use Rattle.std.proofs.Common.{◌≡◌, ℕ, ◌<◌, List, [], ◌∷◌, ◌++◌, length, get_or, vec_len, true, false, ap, sym, subst, ◌∙◌, arith, refl}
 use Rattle.std.proofs.lemmas.Result.{on_ok_weaker}
 use Rattle.template_tree_statements.specs.View.{assignments_in, statement_of}
-use Rattle.template_tree.specs.Tree.{Statement, absent, auto_escape, for_loop, with_block}
+use Rattle.template_tree.specs.Tree.{Statement, absent, auto_escape, set_block, with_block}
 use Rattle.template_tree_statements.specs.declared.statements.AutoEscape.{AutoEscape as AutoEscapeNode}
 use Rattle.template_tree_statements.specs.declared.statements.ForLoop.{ForLoop as ForLoopNode}
 use Rattle.template_tree_statements.specs.declared.statements.IfCond.{IfCond as IfCondNode}
+use Rattle.template_tree_statements.specs.declared.statements.SetBlock.{SetBlock as SetBlockNode}
 use Rattle.template_tree_statements.specs.declared.statements.Stmt.{Stmt}
 use Rattle.template_tree_statements.specs.declared.statements.WithBlock.{WithBlock as WithBlockNode}
 use Rattle.template_tree.specs.View.{expression_of}
@@ -18,13 +19,15 @@ use Rattle.template_tree_parts.specs.Listed.{statements_in}
 use Rattle.template_compiler_statement_codegen.specs.Breaks.{breaks_in}
 use Rattle.template_compiler_statement_codegen.specs.Listed.{body_deep, condition_deep, condition_of}
 use Rattle.template_compiler_statement_codegen.specs.Rounds.{LowersBody, places_in, ways_of}
+use Rattle.template_compiler_statement_codegen.specs.declared.rounds.Closing.{Closing}
+use Rattle.template_compiler_statement_codegen.specs.declared.rounds.Closing.TheVariants.{Capture}
 use Rattle.template_compiler_statement_codegen.specs.declared.rounds.Round.{Round}
 use Rattle.template_compiler_statement_codegen.proofs.Bodies.{no_items, some_items, statement_deep, statement_runnable}
-use Rattle.template_compiler_statement_codegen.proofs.Closings.{lowers_closed}
+use Rattle.template_compiler_statement_codegen.proofs.Closings.{lowers_captured, lowers_closed}
 use Rattle.template_compiler_statement_codegen.proofs.Elifs.{RemainsAt, alone, before_other, chain_begins, chain_ends, chain_next, later_runs}
 use Rattle.template_compiler_statement_codegen.proofs.Looping.{ends_alone, ends_otherwise, puts_rounds}
-use Rattle.template_compiler_statement_codegen.proofs.Lowering.{lowers_behind, remains_told}
-use Rattle.template_compiler_statement_codegen.proofs.Nodes.{call_no_statement, condition_is, condition_within, elif_smaller, elif_tree, escape_deep, escape_is, loop_deep, loop_is, loop_other_deep, with_deep, with_is}
+use Rattle.template_compiler_statement_codegen.proofs.Lowering.{lowers_behind, lowers_put, lowers_then, remains_told}
+use Rattle.template_compiler_statement_codegen.proofs.Nodes.{call_no_statement, condition_is, condition_within, elif_smaller, elif_tree, escape_deep, escape_is, loop_deep, loop_is, loop_of, loop_other_deep, set_block_deep, set_block_is, with_deep, with_is}
 use Rattle.template_compiler_statement_codegen.proofs.statements.+statement.Goals as goal
 
 pub compile_body-compile_statement-requires : goal.compile_body-compile_statement-requires
@@ -66,6 +69,23 @@ compile_closed-returns-clause-lowered t c =
     on_ok_weaker c.put.result (λ closed.
     lowers_closed c.args.closing (statements_in c.args.body.now) r inside behind last c.len-open.result c.in_ok-append.ensures.pushed refl refl
     c.in_ok-compile_body.ensures.lowered long c.truncate.ensures.items refl refl (puts_as c.instruction.ensures closed)) c.put.ensures.put
+
+pub compile_captured-returns-clause-lowered : goal.compile_captured-returns-clause-lowered
+compile_captured-returns-clause-lowered t c =
+    let r = c.args.round.now in
+    let inside : Round = record { asks = r.asks; closings = c.append-2.new.items; breaks = r.breaks } in
+    let behind = c.compile_body.new.round in
+    let last : Round = record { asks = behind.asks; closings = c.truncate.new.self; breaks = behind.breaks } in
+    let long : c.len-open.result ≡ length r.closings.items = omega (arith, c.len-open.ensures, r.closings.ok.0) in
+    let opened = c.in_ok-append-2.ensures.pushed ∙ ap (λ (cs : List Closing). cs ++ Capture ∷ []) c.in_ok-append.ensures.pushed in
+    lowers_captured (statements_in c.args.body.now) r inside behind last c.len-open.result opened refl refl c.in_ok-compile_body.ensures.lowered long
+    c.truncate.ensures.items refl refl
+
+pub compile_set_block-returns-clause-lowered : goal.compile_set_block-returns-clause-lowered
+compile_set_block-returns-clause-lowered t c = on_ok_weaker c.store.result (λ stored.
+    lowers_behind c.in_ok-put.ensures.put
+    (lowers_then c.in_ok-compile_captured.ensures.lowered
+    (lowers_behind c.in_ok-put-2.ensures.put (lowers_put c.compile_captured.new.round stored)))) c.store.ensures.put
 
 pub compile_elifs-returns-clause-lowered : goal.compile_elifs-returns-clause-lowered
 compile_elifs-returns-clause-lowered t c = remains_told c.in_ok-compile_chain.ensures.lowered c.tell_breaks.ensures.told c.tell_breaks.ensures.same
@@ -203,23 +223,39 @@ compile_any-compile_loop-requires t c =
     let is = ap (λ (l : Spanned ForLoopNode). l.node) c.deref-in-ForLoop.ensures in
     let body_is = ap (λ (l : ForLoopNode). l.body.items) is in
     let other_is = ap (λ (l : ForLoopNode). l.else_body.items) is in
-    let tree = loop_is s n v.target v.iter v.body.items v.else_body.items c.requires c.in-ForLoop.is (ap (λ (l : ForLoopNode). l.target) is)
-    (ap (λ (l : ForLoopNode). l.iter) is) body_is other_is in
-    let runs : IsRunnableStatement true
-    (for_loop (expression_of v.target) (expression_of v.iter) absent false (statements_in v.body.items) (statements_in v.else_body.items)) =
-    subst (λ (x : Statement). IsRunnableStatement true x) tree c.requires in (
+    let runs : IsRunnableStatement true (loop_of v) =
+    subst (λ (x : Statement). IsRunnableStatement true x) (loop_is s n v c.requires c.in-ForLoop.is is) c.requires in (
       omega (arith, loop_deep s n v.body.items c.in-ForLoop.is body_is, loop_other_deep s n v.else_body.items c.in-ForLoop.is other_is, c.decreases),
-      (runs.0, (runs.1, (runs.2, runs.3))),
+      (runs.0, (runs.1, (runs.2, (runs.3, runs.4)))),
     )
 
 pub compile_any-returns-in-ForLoop-clause-lowered : goal.compile_any-returns-in-ForLoop-clause-lowered
 compile_any-returns-in-ForLoop-clause-lowered t c =
     let v = c.deref-in-ForLoop.result.now.node in
     let is = ap (λ (l : Spanned ForLoopNode). l.node) c.deref-in-ForLoop.ensures in
-    let tree = loop_is c.args.statement.now c.in-ForLoop.n v.target v.iter v.body.items v.else_body.items c.requires c.in-ForLoop.is
-    (ap (λ (l : ForLoopNode). l.target) is) (ap (λ (l : ForLoopNode). l.iter) is) (ap (λ (l : ForLoopNode). l.body.items) is)
-    (ap (λ (l : ForLoopNode). l.else_body.items) is) in
+    let tree = loop_is c.args.statement.now c.in-ForLoop.n v c.requires c.in-ForLoop.is is in
     rw tree c.compile_loop.ensures.lowered
+
+pub compile_any-compile_set_block-requires : goal.compile_any-compile_set_block-requires
+compile_any-compile_set_block-requires t c =
+    let s = c.args.statement.now in
+    let n = c.in-SetBlock.n in
+    let target = c.deref-in-SetBlock.result.now.node.target in
+    let body = c.deref-in-SetBlock-3.result.now in
+    let body_is = c.deref-in-SetBlock-3.ensures.value ∙ ap (λ (b : Spanned SetBlockNode). b.node.body.items) c.deref-in-SetBlock-2.ensures in
+    let runs : IsRunnableStatement true (set_block (expression_of target) absent (statements_in body)) =
+    subst (λ (x : Statement). IsRunnableStatement true x)
+    (set_block_is s n target body c.requires c.in-SetBlock.is (ap (λ (b : Spanned SetBlockNode). b.node.target) c.deref-in-SetBlock.ensures) body_is) c.requires in (
+      omega (arith, set_block_deep s n body c.in-SetBlock.is body_is, c.decreases),
+      (runs.0, runs.1),
+    )
+
+pub compile_any-returns-in-SetBlock-clause-lowered : goal.compile_any-returns-in-SetBlock-clause-lowered
+compile_any-returns-in-SetBlock-clause-lowered t c =
+    let tree = set_block_is c.args.statement.now c.in-SetBlock.n c.deref-in-SetBlock.result.now.node.target c.deref-in-SetBlock-3.result.now c.requires
+    c.in-SetBlock.is (ap (λ (b : Spanned SetBlockNode). b.node.target) c.deref-in-SetBlock.ensures)
+    (c.deref-in-SetBlock-3.ensures.value ∙ ap (λ (b : Spanned SetBlockNode). b.node.body.items) c.deref-in-SetBlock-2.ensures) in
+    rw tree c.compile_set_block.ensures.lowered
 
 pub compile_any-compile_with-requires : goal.compile_any-compile_with-requires
 compile_any-compile_with-requires t c =
@@ -265,14 +301,11 @@ compile_any-returns-in-AutoEscape-clause-lowered t c =
 
 pub compile_loop-returns-clause-lowered : goal.compile_loop-returns-clause-lowered
 compile_loop-returns-clause-lowered t c = rw (sym c.deref.ensures.value, sym c.deref-2.ensures.value) (on_ok_weaker c.compile_loop_end.result (λ last.
-    lowers_behind c.in_ok-compile_expr.ensures.put
+    lowers_behind c.in_ok-compile_iterable.ensures.put
     (lowers_behind c.in_ok-put.ensures.put (lowers_behind c.in_ok-compile_rounds.ensures.put last))) c.compile_loop_end.ensures.lowered)
 
 pub compile_any-unreachable-requires : goal.compile_any-unreachable-requires
 compile_any-unreachable-requires t c = subst (λ (s : Stmt). IsRunnableStatement true (statement_of s)) c.in-Template.is c.requires
-
-pub compile_any-unreachable-requires-in-SetBlock : goal.compile_any-unreachable-requires-in-SetBlock
-compile_any-unreachable-requires-in-SetBlock t c = subst (λ (s : Stmt). IsRunnableStatement true (statement_of s)) c.in-SetBlock.is c.requires
 
 pub compile_any-unreachable-requires-in-FilterBlock : goal.compile_any-unreachable-requires-in-FilterBlock
 compile_any-unreachable-requires-in-FilterBlock t c = subst (λ (s : Stmt). IsRunnableStatement true (statement_of s)) c.in-FilterBlock.is c.requires

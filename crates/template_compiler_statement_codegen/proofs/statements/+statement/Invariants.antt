@@ -19,6 +19,12 @@ decreases-compile_closed l = 8 * body_deep l.body.now + 3
 abbrev pub decreases-compile_with : goal.decreases-compile_with
 decreases-compile_with l = 8 * body_deep l.body.now + 4
 
+abbrev pub decreases-compile_set_block : goal.decreases-compile_set_block
+decreases-compile_set_block l = 8 * body_deep l.body.now + 4
+
+abbrev pub decreases-compile_captured : goal.decreases-compile_captured
+decreases-compile_captured l = 8 * body_deep l.body.now + 3
+
 abbrev pub decreases-compile_auto_escape : goal.decreases-compile_auto_escape
 decreases-compile_auto_escape l = 8 * body_deep l.body.now + 4
 
