@@ -38,6 +38,13 @@ settles_decided s w shape e (Ok false) P Q is p (inl q) = inl (record { items = 
 settles_decided s w shape e (Ok false) P Q is p (inr q) = inr (record { items = q.items; least = q.least; kinds = q.kinds; after = q.after; is = λ n m le ge go. ap (replied (λ a t. run (answer s n) (on_truth (P m go) (Q m go) a) t)) (is n) ∙ q.is n m le ge go })
 settles_decided s w shape e (Err kind) P Q is p q = inr (record { items = []; least = 0; kinds = kind ∷ []; after = w; is = λ n m le ge go. ap (replied (λ a t. run (answer s n) (on_truth (P m go) (Q m go) a) t)) (is n) })
 
+-- a step, and a test of a value that decides between two walks
+pub settles_tested : {O : Type 0} (s : Programs) (w : World) (shape : O → World → Type 0) (v : Val) (P Q : Walk O) → Settles {O = O} s w shape P → Settles {O = O} s w shape Q
+    → Settles {O = O} s w shape (λ m go. step (asks (truth_of v) (on_truth (P m go) (Q m go))))
+settles_tested s w shape v P Q p q =
+    settles_step s w shape (λ m go. asks (truth_of v) (on_truth (P m go) (Q m go)))
+    (settles_decided s w shape (truth_of v) (guarded (forbids_truth s.around.undefined v) (kinded (truths.truth_of (known_of w) v))) P Q (λ n. refl) p q)
+
 -- a walk of an expression
 abbrev walk_of : Expression → Walk Val
 walk_of e m go = expression_walk e go
@@ -47,14 +54,12 @@ module _ (s : Programs) (base : World) where
   Gives w P = Settles {O = Val} s w (Kept base) P
 
   -- a step, and an event that gives a value
-  given_by : (w : World) → Keeps base w → (e : Ask) (r : Result Val ErrorKind) → ((n : ℕ) → answer s n w e ≡ replied_with w value r) → Gives w (λ m go. step (asks e (on_value go)))
+  pub given_by : (w : World) → Keeps base w → (e : Ask) (r : Result Val ErrorKind) → ((n : ℕ) → answer s n w e ≡ replied_with w value r) → Gives w (λ m go. step (asks e (on_value go)))
   given_by w kept e r is = settles_step s w (Kept base) (λ m go. asks e (on_value go)) (settles_value s w (Kept base) e r (λ v. kept) is)
 
   -- a step, and a test of a value
   decided_by : (w : World) (v : Val) (P Q : Walk Val) → Gives w P → Gives w Q → Gives w (λ m go. step (asks (truth_of v) (on_truth (P m go) (Q m go))))
-  decided_by w v P Q p q =
-      settles_step s w (Kept base) (λ m go. asks (truth_of v) (on_truth (P m go) (Q m go)))
-      (settles_decided s w (Kept base) (truth_of v) (guarded (forbids_truth s.around.undefined v) (kinded (truths.truth_of (known_of w) v))) P Q (λ n. refl) p q)
+  decided_by w v P Q p q = settles_tested s w (Kept base) v P Q p q
 
   -- a value is given at once, behind a step
   given_now : (w : World) → Keeps base w → (v : Val) → Gives w (λ m go. step (go v))

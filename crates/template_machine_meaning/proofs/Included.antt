@@ -11,7 +11,7 @@ use Rattle.template_machine_meaning.specs.Records.{known_of}
 use Rattle.template_machine_meaning.specs.Replies.{refused}
 use Rattle.template_machine_meaning.specs.Plans.{Plan, replies, enters, settled}
 use Rattle.template_machine_meaning.specs.Includes.{Found, choices_in, first_standing, include_levels, include_within, not_found, included_by, included_from}
-use Rattle.template_machine_meaning.specs.Surroundings.{plan, Programs, runners, answer}
+use Rattle.template_machine_meaning.specs.Surroundings.{plan, Programs, runners}
 use Rattle.template_machine_meaning.proofs.Settling.{Settles, settles_done, settles_refused}
 use Rattle.template_machine_meaning.proofs.Keeping.{Keeps, keeps_itself}
 use Rattle.template_machine_meaning.proofs.Expressions.{Kept}
@@ -47,7 +47,7 @@ module _ (s : Programs) (w : World) (ignore_missing : Bool) (v : Val) where
         let x = include_within w found in
         settles_entered s w asked_for x (planned ∙ ap (roomy_plan found) room) (Kept w) (Keeps x.begins)
         (deeper (roomy s.around.limit w room) x.key x.begins refl (record { loop = framed.loop; others = framed.others; loops = framed.loops }))
-        (λ u kept. record { loops = kept.loops; outer = refl; saved = refl }) (λ u. refl)
+        (λ u kept. record { loops = kept.loops; outer = refl; saved = refl; captures = kept.captures }) (λ u. refl)
     running_settles found planned false room = refused_so InvalidOperation (planned ∙ ap (roomy_plan found) room)
 
     found_settles : (choices : List Val) (r : Result (Option Found) ErrorKind) → plan s.around w asked_for ≡ included_by s.around.limit w ignore_missing choices r → IncludeSettles

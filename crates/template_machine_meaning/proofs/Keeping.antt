@@ -1,4 +1,5 @@
--- What walks keep of the world: the loops of its frames, what else counts as depth, and how many escapes are put back.
+-- What walks keep of the world: the loops of its frames, what else counts as depth, how many escapes are put back, and how
+-- many captures are open.
 use Rattle.std.proofs.Common.{◌≡◌, List, [], ◌∷◌, length, Option, None, Some, refl, sym, subst, ◌∙◌}
 use Rattle.template_process.specs.Process.{breaks_off}
 use Rattle.template_process.specs.Trace.{Reply}
@@ -11,12 +12,13 @@ pub record Keeps (w v : World) : Type 0 where
   pub loops : loops_of v.frames ≡ loops_of w.frames
   pub outer : v.outer ≡ w.outer
   pub saved : length v.saved ≡ length w.saved
+  pub captures : length v.captures ≡ length w.captures
 
 pub keeps_itself : (w : World) → Keeps w w
-keeps_itself w = record { loops = refl; outer = refl; saved = refl }
+keeps_itself w = record { loops = refl; outer = refl; saved = refl; captures = refl }
 
 pub keeps_on : (w v u : World) → Keeps w v → Keeps v u → Keeps w u
-keeps_on w v u h k = record { loops = k.loops ∙ h.loops; outer = k.outer ∙ h.outer; saved = k.saved ∙ h.saved }
+keeps_on w v u h k = record { loops = k.loops ∙ h.loops; outer = k.outer ∙ h.outer; saved = k.saved ∙ h.saved; captures = k.captures ∙ h.captures }
 
 -- the innermost frame, with its loop
 pub record Top (w : World) (loop : Option Loop) (loops : List (Option Loop)) : Type 0 where

@@ -5,6 +5,7 @@ pub mod Keeping
 pub mod Expressions
 pub mod Scopes
 pub mod Loops
+pub mod Sifting
 pub mod Entering
 pub mod Included
 pub mod Statements

@@ -1,18 +1,18 @@
 -- A loop's rounds settle: there are as many as it has items, at most.
-use Rattle.std.proofs.Common.{◌≡◌, ℕ, ◌+◌, ◌-◌, ◌≤◌, zero, suc, List, [], ◌∷◌, length, slice_get, Option, None, Some, refl, ap, ◌∙◌, arith}
+use Rattle.std.proofs.Common.{◌≡◌, ℕ, ◌+◌, ◌-◌, ◌≤◌, zero, suc, [], ◌∷◌, length, slice_get, Option, None, Some, refl, ap, ◌∙◌, arith}
 use Rattle.std.proofs.lemmas.Option.{slice_get_within}
 use Rattle.template_values_model.specs.Val as values
 use Rattle.template_values_model.specs.Val.{Val}
-use Rattle.template_process.specs.Process.{next_item, item, no_item, Process, step, on_item}
+use Rattle.template_process.specs.Process.{next_item, close_loop, done, item, no_item, Process, step, asks, on_done, on_item}
 use Rattle.template_process.specs.Trace.{paid, run, behind, replied}
 use Rattle.template_walk.specs.Statements.{Exits, rounds}
 use Rattle.template_machine_meaning.specs.World.{Loop, Frame, World}
 use Rattle.template_machine_meaning.specs.Replies.{changed}
 use Rattle.template_machine_meaning.specs.Surroundings.{Programs, next_reply, answer}
-use Rattle.template_machine_meaning.proofs.Settling.{Walk, Settles, settles_then, settles_now, settles_step, settles_before}
+use Rattle.template_machine_meaning.proofs.Settling.{Walk, Settles, settles_then, settles_now, settles_step, settles_before, settles_to}
 use Rattle.template_machine_meaning.proofs.Keeping.{Keeps, loops_of, Top, top, on_loop_is}
 use Rattle.template_machine_meaning.proofs.Expressions.{Kept}
-use Rattle.template_machine_meaning.proofs.Scopes.{behind_frame}
+use Rattle.template_machine_meaning.proofs.Scopes.{behind_frame, closed}
 
 -- how a statement comes to its end
 pub data Leave : Type 0 where
@@ -37,8 +37,17 @@ abbrev pub InRound : World → Loop → ℕ → World → Type 0
 InRound base l asked w = Keeps (behind_frame base (frame_at l asked)) w
 
 -- behind its last round
-abbrev pub AtEnd : World → Loop → Unit {0} → World → Type 0
+abbrev pub AtEnd : {O : Type 0} → World → Loop → O → World → Type 0
 AtEnd base l o w = (asked : ℕ) × InRound base l asked w
+
+-- its frame is closed
+pub loop_closed : {O : Type 0} (s : Programs) (base w : World) (own : Loop) (asked : ℕ) → InRound base own asked w → (shape : O → World → Type 0) (Q : Walk O)
+    → ((z : World) → Keeps base z → Settles {O = O} s z shape Q) → Settles {O = O} s w shape (λ m go. asks close_loop (on_done (Q m go)))
+loop_closed s base w own asked inside shape Q next =
+    let t = top w (Some (loop_at own asked)) (loops_of base.frames) inside.loops in
+    let z : World = record w { frames = t.rest } in
+    settles_to s w z shape close_loop Q (λ n. on_loop_is w t.frame t.rest (loop_at own asked) t.frames t.own (λ f l fs. changed (record w { frames = fs }) done))
+    (next z (closed base w (frame_at own asked) inside t))
 
 -- a round under a bound, over an item
 abbrev pub Round : Type 0
@@ -78,7 +87,7 @@ module _ (s : Programs) (base : World) (own : Loop) (round : Round) where
 
   last_round : (j asked : ℕ) (w z : World) → InRound base own asked z → ((n : ℕ) → answer s n w next_item ≡ changed z no_item) → Ends j w
   last_round j asked w z inside is =
-      settles_before s w z (AtEnd base own) (paid [] ∷ []) (suc j) (λ m go. rounds (m - j) (round m) (go tt)) (λ m go. go tt)
+      settles_before {O = Unit {0}} s w z (AtEnd base own) (paid [] ∷ []) (suc j) (λ m go. rounds (m - j) (round m) (go tt)) (λ m go. go tt)
       (λ n m le ge go.
       let more : m - j ≡ suc (m - suc j) = omega arith in
       ap (λ b. run (answer s n) (rounds b (round m) (go tt)) w) more
@@ -89,13 +98,13 @@ module _ (s : Programs) (base : World) (own : Loop) (round : Round) where
       → (o : Option Val) → slice_get own.items asked ≡ o → Ends j w
   rounds_by d j asked few turns w inside t None none =
       let z : World = record w { frames = record t.frame { loop = Some (loop_at own (asked + 1)) } ∷ t.rest } in
-      last_round j (asked + 1) w z (record { loops = ap (λ ls. Some (loop_at own (asked + 1)) ∷ ls) t.others; outer = inside.outer; saved = inside.saved })
+      last_round j (asked + 1) w z (record { loops = ap (λ ls. Some (loop_at own (asked + 1)) ∷ ls) t.others; outer = inside.outer; saved = inside.saved; captures = inside.captures })
       (λ n. on_loop_is w t.frame t.rest (loop_at own asked) t.frames t.own (λ f k fs. next_reply w f k fs (slice_get k.items k.asked))
       ∙ ap (next_reply w t.frame (loop_at own asked) t.rest) none)
   rounds_by zero j asked few turns w inside t (Some v) some = absurd (omega (arith, slice_get_within own.items asked v some))
   rounds_by (suc d) j asked few turns w inside t (Some v) some =
       let z : World = record w { frames = record t.frame { locals = []; loop = Some (loop_at own (asked + 1)) } ∷ t.rest } in
-      next_round j (asked + 1) w z v (record { loops = ap (λ ls. Some (loop_at own (asked + 1)) ∷ ls) t.others; outer = inside.outer; saved = inside.saved }) turns
+      next_round j (asked + 1) w z v (record { loops = ap (λ ls. Some (loop_at own (asked + 1)) ∷ ls) t.others; outer = inside.outer; saved = inside.saved; captures = inside.captures }) turns
       (λ u kept. rounds_by d (suc j) (asked + 1) (omega arith) turns u kept (top u (Some (loop_at own (asked + 1))) (loops_of base.frames) kept.loops) (slice_get own.items (asked + 1)) refl)
       (λ n. on_loop_is w t.frame t.rest (loop_at own asked) t.frames t.own (λ f k fs. next_reply w f k fs (slice_get k.items k.asked))
       ∙ ap (next_reply w t.frame (loop_at own asked) t.rest) some)

@@ -12,12 +12,12 @@ use Rattle.template_values_forms.specs.Truth as truths
 use Rattle.template_values_operators.specs.Iterated.{iterated}
 use Rattle.template_values_operators.specs.Kinds.{list_made}
 use Rattle.template_values_operators.specs.Slices.{slice_of}
-use Rattle.template_process.specs.Process.{Looping, Ask, look_up, store, negate, invert, operate, compare, get_attribute, get_item, get_slice, build_list, build_tuple, build_map, truth_of, unpack, write_raw, write_value, open_frame, close_frame, open_loop, next_item, did_not_iterate, close_loop, open_escape, close_escape, include, Answer, done, value, truth, items, Told, tells, fails, breaks_off, leaves, Process, over, step, asks, amiss, cut_short, stuck}
+use Rattle.template_process.specs.Process.{Looping, Ask, look_up, store, negate, invert, operate, compare, get_attribute, get_item, get_slice, build_list, build_tuple, build_map, truth_of, unpack, spread, write_raw, write_value, open_frame, close_frame, open_loop, next_item, did_not_iterate, close_loop, open_escape, close_escape, begin_capture, end_capture, include, Answer, done, value, truth, items, Told, tells, fails, breaks_off, leaves, Process, over, step, asks, amiss, cut_short, stuck}
 use Rattle.template_process.specs.Drive.{End, ends, faults}
-use Rattle.template_process.specs.Trace.{paid, Reply, Run, run, behind, go_on, replied}
+use Rattle.template_process.specs.Trace.{paid, written, Reply, Run, run, behind, go_on, replied}
 use Rattle.template_walk.specs.Containers.{tuple_made, map_made}
 use Rattle.template_walk.specs.Operators.{operated, compared, inverted, negated}
-use Rattle.template_machine_meaning.specs.World.{Loop, Frame, World, lookup, has_room, loop_over}
+use Rattle.template_machine_meaning.specs.World.{Loop, Frame, Capture, World, lookup, has_room, loop_over}
 use Rattle.template_machine_meaning.specs.Records.{known_of}
 use Rattle.template_machine_meaning.specs.Undefined.{forbids_printing, forbids_iterating, forbids_truth, forbids_slicing, forbids_operator, forbids_link}
 use Rattle.template_machine_meaning.specs.Replies.{told, changed, refused, kinded, guarded, replied_with, changed_with}
@@ -25,7 +25,7 @@ use Rattle.template_machine_meaning.specs.Keys.{Key, Around}
 use Rattle.template_machine_meaning.specs.Plans as plans
 use Rattle.template_machine_meaning.specs.Plans.{Purpose, includes, Plan, replies, enters, room_for, caller_of, after_by, given, wrapped_by, told_by, came, Runners, came_from, settled}
 use Rattle.template_machine_meaning.specs.Includes.{Found, choices_in, first_standing, include_levels, include_within, not_found, included_by, included_from}
-use Rattle.template_machine_meaning.specs.Surroundings.{printed_reply, attribute_given, item_given, unpacked, unpacked_into, empty_frame, loop_frame, counted_loop, opened_loop, asked_once, next_reply, escape_named, escape_put_back, plan, respond}
+use Rattle.template_machine_meaning.specs.Surroundings.{with_text, printed_reply, attribute_given, item_given, unpacked, unpacked_into, empty_frame, loop_frame, opened_loop, asked_once, next_reply, escape_named, escape_put_back, captured, plan, respond}
 use Rattle.template_machine_meaning.proofs.Known.{Known, inner, stored, closed, cleared, learnt, May, Within}
 use Rattle.template_machine_meaning.proofs.Turned.{context_before, over_frames, over_context, Fits, fits_less, finds, same_known, same_depth, pushes, many, fits_stored, fits_cleared, fits_closed}
 
@@ -97,8 +97,19 @@ module _ (names : List ℕ → Type 0) (d : Val) where
       fits = λ t. fits;
     }
 
+    -- a text is written, where these captures are open
+    abbrev text_into : World → List ℕ → List Capture → Reply World
+    text_into v text captures = elim captures [
+      | [] ↦ record { told = tells done; items = written text ∷ []; after = v }
+      | c ∷ cs ↦ changed (record v { captures = with_text text c ∷ cs }) done
+    ]
+
+    text_so : (text : List ℕ) (captures : List Capture) → Replies k (text_into w text captures) (text_into other text captures)
+    text_so text [] = record { same = refl; stays = tt; fits = λ t. fits }
+    text_so text (c ∷ cs) = record { same = refl; stays = tt; fits = λ t. fits }
+
     printed_so : (r : Result (List ℕ) ErrorKind) → Replies k (printed_reply w r) (printed_reply other r)
-    printed_so (Ok text) = record { same = refl; stays = tt; fits = λ t. fits }
+    printed_so (Ok text) = text_so text w.captures
     printed_so (Err kind) = record { same = refl; stays = tt; fits = λ t. fits }
 
     -- what wants a frame
@@ -161,6 +172,17 @@ module _ (names : List ℕ → Type 0) (d : Val) where
     put_back_so : (rules : List AutoEscape) → Replies k (escape_put_back w rules) (escape_put_back other rules)
     put_back_so [] = record { same = refl; stays = tt; fits = λ t. fits }
     put_back_so (rule ∷ rules) = record { same = refl; stays = tt; fits = λ t. fits }
+
+    -- the innermost of these captures ends
+    abbrev ended_among : World → List Capture → Reply World
+    ended_among v captures = elim captures [
+      | [] ↦ told v breaks_off
+      | c ∷ cs ↦ changed (record v { captures = cs }) (value (captured v.escape c))
+    ]
+
+    capture_so : (captures : List Capture) → Replies k (ended_among w captures) (ended_among other captures)
+    capture_so [] = record { same = refl; stays = tt; fits = λ t. fits }
+    capture_so (c ∷ cs) = record { same = refl; stays = tt; fits = λ t. fits }
 
     -- runs within
     told_over : (wraps : List ErrorKind) (a : Answer) (e : End) → IsTold (told_by wraps a e) → IsOver e
@@ -266,7 +288,8 @@ module _ (names : List ℕ → Type 0) (d : Val) where
     plans_so a (build_map entries) may = replied_so value (kinded (map_made entries))
     plans_so a (truth_of v) may = known_so truth (λ known. guarded (forbids_truth a.undefined v) (kinded (truths.truth_of known v)))
     plans_so a (unpack n v) may = replied_so items (unpacked_into n (unpacked v))
-    plans_so a (write_raw text) may = record { same = refl; stays = tt; fits = λ t. fits }
+    plans_so a (spread []) may = record { same = refl; stays = tt; fits = λ t. fits }
+    plans_so a (write_raw text) may = text_so text w.captures
     plans_so a (write_value v) may =
         let r : forms.Known → Result (List ℕ) ErrorKind = λ known. guarded (forbids_printing a.undefined v) (kinded (escaped w.escape known v)) in
         at_known k (replies (printed_reply w (r (known_of w)))) (λ known. replies (printed_reply other (r known))) (printed_so (r (known_of w)))
@@ -285,6 +308,8 @@ module _ (names : List ℕ → Type 0) (d : Val) where
         framed_so (closed k) _ _ w.frames fits (λ f gs h. looped_so (closed k) _ _ f.loop (λ x. record { same = refl; stays = tt; fits = λ t. fits_closed names d k f gs may h }))
     plans_so a (open_escape v) may = escape_so (escape_named w.first v (text_in v))
     plans_so a close_escape may = put_back_so w.saved
+    plans_so a (begin_capture keep) may = record { same = refl; stays = tt; fits = λ t. fits }
+    plans_so a end_capture may = capture_so w.captures
     plans_so a (include ignore_missing v) may =
         at_known k (included_from a w ignore_missing (choices_in (known_of w) v)) (λ known. included_from a other ignore_missing (choices_in known v))
         (from_so a ignore_missing (choices_in (known_of w) v))

@@ -6,11 +6,12 @@ use Rattle.template_values_errors.specs.declared.modes.AutoEscape.TheVariants as
 use Rattle.template_values_errors.specs.declared.modes.UndefinedBehavior.{UndefinedBehavior}
 use Rattle.template_values_errors.specs.declared.modes.UndefinedBehavior.TheVariants.{Lenient, Strict}
 use Rattle.template_values_model.specs.Val.{Val, int, text, map, no_pairs, pairs_more}
+use Rattle.template_tree.specs.declared.operators.BinOpKind.TheVariants as operators
 use Rattle.template_tree.specs.declared.operators.CompareOpKind.TheVariants.{Lt, Gt}
 use Rattle.std.specs.Fmt as fmt
 use Rattle.template_values_forms.specs.Printed as printed_forms
 use Rattle.template_tree.specs.Tree as tree
-use Rattle.template_tree.specs.Tree.{Expression, Expressions, Statement, Statements, variable, constant, chain, attribute, list_literal, absent, no_expressions, expressions_more, no_links, links_more, raw, print, for_loop, if_condition, set, no_statements, statements_more}
+use Rattle.template_tree.specs.Tree.{Expression, Expressions, Statement, Statements, variable, constant, binary, chain, attribute, list_literal, absent, given, no_expressions, expressions_more, no_links, links_more, raw, print, for_loop, set, set_block, no_statements, statements_more}
 use Rattle.template_process.specs.Drive.{faults}
 use Rattle.template_process.specs.Trace.{Run, text_of, price_of}
 use Rattle.template_process.specs.Fuel.{under}
@@ -52,6 +53,31 @@ loop_text = refl
 loop_price : price_of loop_row.items ≡ 13
 unfolding printed_forms.level_limit fmt.digits
 loop_price = refl
+
+-- `{% for x in [1, 2] if x > 1 %}{{ x }}{% endfor %}`
+abbrev filtered_row : Run World
+filtered_row = run_of Lenient no_statements (for_loop (variable (codes "x")) (list_literal (expressions (number 1 ∷ number 2 ∷ []))) (given (binary operators.Gt (variable (codes "x")) (number 1))) false
+    (statements (print (variable (codes "x")) ∷ [])) no_statements ∷ []) (map no_pairs)
+
+filtered_text : text_of filtered_row.items ≡ codes "2"
+unfolding printed_forms.level_limit fmt.digits
+filtered_text = refl
+
+filtered_price : price_of filtered_row.items ≡ 24
+unfolding printed_forms.level_limit fmt.digits
+filtered_price = refl
+
+-- `{% set x %}a{{ 1 }}{% endset %}{{ x }}{{ x }}`
+abbrev captured_row : Run World
+captured_row = run_of Lenient no_statements (set_block (variable (codes "x")) absent (statements (raw (codes "a") ∷ print (number 1) ∷ [])) ∷ print (variable (codes "x")) ∷ print (variable (codes "x")) ∷ []) (map no_pairs)
+
+captured_text : text_of captured_row.items ≡ codes "a1a1"
+unfolding printed_forms.level_limit fmt.digits
+captured_text = refl
+
+captured_price : price_of captured_row.items ≡ 8
+unfolding printed_forms.level_limit fmt.digits
+captured_price = refl
 
 -- `{% for i in [1, 2] %}{{ loop.index }}{{ loop.revindex0 }}{{ loop.last }}{{ loop.previtem }},{% endfor %}`
 abbrev of_loop : List ℕ → Statement

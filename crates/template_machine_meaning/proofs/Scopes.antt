@@ -34,7 +34,7 @@ module _ (s : Programs) (base : World) (framed : IsFramed base) where
   stored name v w kept =
       let t = top w framed.loop framed.others (kept.loops ∙ framed.loops) in
       let z : World = record w { frames = record t.frame { locals = put_local name v t.frame.locals } ∷ t.rest } in
-      let kept_there : Keeps base z = record { loops = sym (ap loops_of t.frames) ∙ kept.loops; outer = kept.outer; saved = kept.saved } in
+      let kept_there : Keeps base z = record { loops = sym (ap loops_of t.frames) ∙ kept.loops; outer = kept.outer; saved = kept.saved; captures = kept.captures } in
       settles_step s w (Kept base) (λ m go. asks (store name v) (on_done (go tt)))
       (settles_to s w z (Kept base) (store name v) (λ m go. go tt)
       (λ n. on_frames_is w t.frame t.rest t.frames (λ f fs. changed (record w { frames = record f { locals = put_local name v f.locals } ∷ fs }) done))
@@ -96,7 +96,7 @@ settles_pushed s w u shape e f Q false room is q =
 
 -- a world behind a frame whose loop is this one, or any: what is kept there keeps the base once the frame is closed
 pub closed : (base w : World) (f : Frame) → Keeps (behind_frame base f) w → (t : Top w f.loop (loops_of base.frames)) → Keeps base (record w { frames = t.rest })
-closed base w f kept t = record { loops = t.others; outer = kept.outer; saved = kept.saved }
+closed base w f kept t = record { loops = t.others; outer = kept.outer; saved = kept.saved; captures = kept.captures }
 
 -- a frame is closed
 pub settles_closed : {O : Type 0} (s : Programs) (base w : World) (f : Frame) → Keeps (behind_frame base f) w → (shape : O → World → Type 0) (o : O)

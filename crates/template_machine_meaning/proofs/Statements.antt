@@ -5,27 +5,27 @@ use Rattle.template_values_errors.specs.declared.modes.AutoEscape.{AutoEscape}
 use Rattle.template_values_model.specs.Val as values
 use Rattle.template_values_model.specs.Val.{Val}
 use Rattle.template_values_core.specs.Answers.{text_in}
-use Rattle.template_values_forms.specs.Truth as truths
 use Rattle.template_values_forms.specs.Escaped.{escaped}
 use Rattle.template_values_operators.specs.Iterated.{iterated}
-use Rattle.template_tree.specs.Tree.{Expression, Statement, Statements, absent, raw, print, for_loop, if_condition, with_block, set, auto_escape, include, continue_loop, break_loop, no_statements, statements_more}
+use Rattle.template_tree.specs.Tree.{Expression, Statement, Statements, absent, raw, print, for_loop, if_condition, with_block, set, set_block, auto_escape, include, continue_loop, break_loop, no_statements, statements_more}
 use Rattle.template_process.specs.Process as events
-use Rattle.template_process.specs.Process.{Ask, truth_of, write_raw, write_value, open_frame, close_frame, plain_loop, open_loop, did_not_iterate, close_loop, open_escape, close_escape, Answer, done, value, truth, tells, Process, over, step, asks, cut_short, on_done, on_value, on_truth}
-use Rattle.template_process.specs.Trace.{Item, written, run, replied}
+use Rattle.template_process.specs.Process.{Ask, truth_of, write_raw, write_value, open_frame, close_frame, plain_loop, open_loop, did_not_iterate, close_loop, open_escape, close_escape, begin_capture, end_capture, done, value, tells, breaks_off, Process, step, asks, on_done, on_value, on_truth}
+use Rattle.template_process.specs.Trace.{written, Reply, run, replied}
 use Rattle.template_walk.specs.Expressions.{expression_walk}
-use Rattle.template_walk.specs.Statements.{closing, target_walk, assignments_walk, rounds, loop_end, past, statement_walk, statements_walk}
+use Rattle.template_walk.specs.Statements.{closing, capturing, target_walk, assignments_walk, rounds, iterable_walk, loop_end, past, statement_walk, statements_walk}
 use Rattle.template_walk.specs.Runnable.{IsRunnable, IsTarget, IsRunnableStatement, AreRunnableStatements}
-use Rattle.template_machine_meaning.specs.World.{Loop, World, has_room, loop_over}
+use Rattle.template_machine_meaning.specs.World.{Loop, Capture, keeps, World, has_room, loop_over}
 use Rattle.template_machine_meaning.specs.Records.{known_of}
-use Rattle.template_machine_meaning.specs.Undefined.{forbids_truth, forbids_printing, forbids_iterating}
+use Rattle.template_machine_meaning.specs.Undefined.{forbids_printing, forbids_iterating}
 use Rattle.template_machine_meaning.specs.Replies.{told, changed, guarded, changed_with, kinded}
 use Rattle.template_machine_meaning.specs.Includes.{include_levels}
-use Rattle.template_machine_meaning.specs.Surroundings.{Programs, printed_reply, empty_frame, counted_loop, opened_loop, gave_none, escape_named, escape_put_back, answer}
+use Rattle.template_machine_meaning.specs.Surroundings.{Programs, with_text, text_reply, printed_reply, empty_frame, counted_loop, opened_loop, gave_none, escape_named, escape_put_back, captured, answer}
 use Rattle.template_machine_meaning.proofs.Settling.{Walk, Settles, settles_then, settles_now, settles_step, settles_value, settles_refused, settles_before, settles_to, settles_weaker}
 use Rattle.template_machine_meaning.proofs.Keeping.{Keeps, keeps_itself, keeps_on, loops_of, top, on_loop_is}
-use Rattle.template_machine_meaning.proofs.Expressions.{Kept, settles_decided, settles_expression}
-use Rattle.template_machine_meaning.proofs.Scopes.{IsFramed, framed_on, settles_target, settles_assignments, behind_frame, settles_pushed, closed, settles_closed}
-use Rattle.template_machine_meaning.proofs.Loops.{Leave, goes, breaks_out, continues, exits_of, loop_at, frame_at, InRound, AtEnd, Round, settles_rounds}
+use Rattle.template_machine_meaning.proofs.Expressions.{Kept, settles_tested, settles_expression}
+use Rattle.template_machine_meaning.proofs.Scopes.{IsFramed, framed_on, settles_target, settles_assignments, behind_frame, settles_pushed, settles_closed}
+use Rattle.template_machine_meaning.proofs.Loops.{Leave, goes, breaks_out, continues, exits_of, loop_at, frame_at, InRound, AtEnd, loop_closed, Round, settles_rounds}
+use Rattle.template_machine_meaning.proofs.Sifting.{settles_iterable}
 use Rattle.template_machine_meaning.proofs.Entering.{AllCome}
 use Rattle.template_machine_meaning.proofs.Included.{settles_include}
 
@@ -51,18 +51,30 @@ module _ (s : Programs) (outer : ℕ) (deeper : (outer + include_levels ≤ s.ar
   abbrev Frames : World → Type 0
   Frames base = IsFramed base × (base.outer ≡ outer)
 
-  -- a text, or a value, is written
-  written_out : (looping : Bool) (base w : World) → Keeps base w → (e : Ask) (items : List Item) → ((n : ℕ) → answer s n w e ≡ record { told = tells done; items = items; after = w })
-      → Settles {O = Leave} s w (LeavesTo looping base) (λ m go. step (asks e (on_done (go goes))))
-  written_out looping base w kept e items is =
+  -- a text is written, where these captures are open
+  abbrev text_into : World → List ℕ → List Capture → Reply World
+  text_into w text captures = elim captures [
+    | [] ↦ record { told = tells done; items = written text ∷ []; after = w }
+    | c ∷ cs ↦ changed (record w { captures = with_text text c ∷ cs }) done
+  ]
+
+  written_out : (looping : Bool) (base w : World) → Keeps base w → (e : Ask) (text : List ℕ) → ((n : ℕ) → answer s n w e ≡ text_reply w text)
+      → (captures : List Capture) → w.captures ≡ captures → Settles {O = Leave} s w (LeavesTo looping base) (λ m go. step (asks e (on_done (go goes))))
+  written_out looping base w kept e text is [] none =
       settles_step s w (LeavesTo looping base) (λ m go. asks e (on_done (go goes)))
-      (settles_before s w w (LeavesTo looping base) items 0 (λ m go. asks e (on_done (go goes))) (λ m go. go goes)
-      (λ n m le ge go. ap (replied (λ a t. run (answer s n) (on_done (go goes) a) t)) (is n))
+      (settles_before s w w (LeavesTo looping base) (written text ∷ []) 0 (λ m go. asks e (on_done (go goes))) (λ m go. go goes)
+      (λ n m le ge go. ap (replied (λ a t. run (answer s n) (on_done (go goes) a) t)) (is n ∙ ap (text_into w text) none))
       (settles_now s w (LeavesTo looping base) goes (kept, tt)))
+  written_out looping base w kept e text is (c ∷ cs) some =
+      let z : World = record w { captures = with_text text c ∷ cs } in
+      let kept_there : Keeps base z = record { loops = kept.loops; outer = kept.outer; saved = kept.saved; captures = sym (ap (λ (ds : List Capture). length ds) some) ∙ kept.captures } in
+      settles_step s w (LeavesTo looping base) (λ m go. asks e (on_done (go goes)))
+      (settles_to s w z (LeavesTo looping base) e (λ m go. go goes) (λ n. is n ∙ ap (text_into w text) some)
+      (settles_now s z (LeavesTo looping base) goes (kept_there, tt)))
 
   printed_out : (looping : Bool) (base w : World) → Keeps base w → (v : Val) (r : Result (List ℕ) ErrorKind) → guarded (forbids_printing s.around.undefined v) (kinded (escaped w.escape (known_of w) v)) ≡ r
       → Settles {O = Leave} s w (LeavesTo looping base) (λ m go. step (asks (write_value v) (on_done (go goes))))
-  printed_out looping base w kept v (Ok text) e = written_out looping base w kept (write_value v) (written text ∷ []) (λ n. ap (printed_reply w) e)
+  printed_out looping base w kept v (Ok text) e = written_out looping base w kept (write_value v) text (λ n. ap (printed_reply w) e) w.captures refl
   printed_out looping base w kept v (Err kind) e =
       settles_step s w (LeavesTo looping base) (λ m go. asks (write_value v) (on_done (go goes)))
       (settles_refused s w (LeavesTo looping base) (write_value v) kind (λ m go. on_done (go goes)) (λ n. ap (printed_reply w) e))
@@ -75,9 +87,7 @@ module _ (s : Programs) (outer : ℕ) (deeper : (outer + include_levels ≤ s.ar
   -- what is tested leads to one of two
   tested : (looping : Bool) (base w : World) (v : Val) (P Q : Walk Leave) → Settles {O = Leave} s w (LeavesTo looping base) P → Settles {O = Leave} s w (LeavesTo looping base) Q
       → Settles {O = Leave} s w (LeavesTo looping base) (λ m go. step (asks (truth_of v) (on_truth (P m go) (Q m go))))
-  tested looping base w v P Q p q =
-      settles_step s w (LeavesTo looping base) (λ m go. asks (truth_of v) (on_truth (P m go) (Q m go)))
-      (settles_decided s w (LeavesTo looping base) (truth_of v) (guarded (forbids_truth s.around.undefined v) (kinded (truths.truth_of (known_of w) v))) P Q (λ n. refl) p q)
+  tested looping base w v P Q p q = settles_tested s w (LeavesTo looping base) v P Q p q
 
   -- a target last
   targeted : (looping : Bool) (base w : World) → Keeps base w → IsFramed base → (target : Expression) → IsTarget target → (v : Val) → Settles {O = Leave} s w (LeavesTo looping base) (λ m go. target_walk target v (go goes))
@@ -85,27 +95,18 @@ module _ (s : Programs) (outer : ℕ) (deeper : (outer + include_levels ≤ s.ar
       settles_then s w (Kept base) (LeavesTo looping base) (λ m go. target_walk target v (go tt)) (λ o m go. go goes) (settles_target s base framed target h v w kept)
       (λ o x k. settles_now s x (LeavesTo looping base) goes (k, tt))
 
-  -- the loop's frame is closed
-  loop_closed : {O : Type 0} (base w : World) (own : Loop) (asked : ℕ) → InRound base own asked w → (shape : O → World → Type 0) (Q : Walk O)
-      → ((z : World) → Keeps base z → Settles {O = O} s z shape Q) → Settles {O = O} s w shape (λ m go. asks close_loop (on_done (Q m go)))
-  loop_closed base w own asked inside shape Q next =
-      let t = top w (Some (loop_at own asked)) (loops_of base.frames) inside.loops in
-      let z : World = record w { frames = t.rest } in
-      settles_to s w z shape close_loop Q (λ n. on_loop_is w t.frame t.rest (loop_at own asked) t.frames t.own (λ f l fs. changed (record w { frames = fs }) done))
-      (next z (closed base w (frame_at own asked) inside t))
-
   -- behind a loop: its else part, if it has one, where no item was given
   ended_loop : (looping : Bool) (base w : World) (own : Loop) (asked : ℕ) → InRound base own asked w → (otherwise : Statements) (Q : Walk Leave)
       → ((z : World) → Keeps base z → Settles {O = Leave} s z (LeavesTo looping base) Q) → Settles {O = Leave} s w (LeavesTo looping base) (λ m go. loop_end otherwise (Q m go) (go goes))
   ended_loop looping base w own asked inside no_statements Q next =
-      loop_closed base w own asked inside (LeavesTo looping base) (λ m go. go goes) (λ z kept. settles_now s z (LeavesTo looping base) goes (kept, tt))
+      loop_closed s base w own asked inside (LeavesTo looping base) (λ m go. go goes) (λ z kept. settles_now s z (LeavesTo looping base) goes (kept, tt))
   ended_loop looping base w own asked inside (statements_more s₀ ss) Q next =
       let t = top w (Some (loop_at own asked)) (loops_of base.frames) inside.loops in
       settles_then s w (Kept (behind_frame base (frame_at own asked))) (LeavesTo looping base) (λ m go. asks did_not_iterate (on_value go))
       (λ flag m go. asks close_loop (on_done (step (asks (truth_of flag) (on_truth (Q m go) (go goes))))))
       (settles_value s w (Kept (behind_frame base (frame_at own asked))) did_not_iterate (Ok (values.truth (gave_none (loop_at own asked)))) (λ v. inside)
       (λ n. on_loop_is w t.frame t.rest (loop_at own asked) t.frames t.own (λ f l fs. told w (tells (value (values.truth (gave_none l)))))))
-      (λ flag x here. loop_closed base x own asked here (LeavesTo looping base) (λ m go. step (asks (truth_of flag) (on_truth (Q m go) (go goes))))
+      (λ flag x here. loop_closed s base x own asked here (LeavesTo looping base) (λ m go. step (asks (truth_of flag) (on_truth (Q m go) (go goes))))
       (λ z kept. tested looping base z flag Q (λ m go. go goes) (next z kept) (settles_now s z (LeavesTo looping base) goes (kept, tt))))
 
   -- behind a branch that an else part follows
@@ -115,12 +116,47 @@ module _ (s : Programs) (outer : ℕ) (deeper : (outer + include_levels ≤ s.ar
 
   -- an escape is put back
   escape_closed : (base w : World) (fs : List AutoEscape) → w.saved ≡ fs → length fs ≡ suc (length base.saved)
-      → loops_of w.frames ≡ loops_of base.frames → w.outer ≡ base.outer → (looping : Bool) (o : Leave) → MayLeave looping o → Settles {O = Leave} s w (LeavesTo looping base) (λ m go. asks close_escape (on_done (go o)))
-  escape_closed base w [] e many loops same looping o may = absurd (cc)
-  escape_closed base w (f ∷ fs) e many loops same looping o may =
+      → loops_of w.frames ≡ loops_of base.frames → w.outer ≡ base.outer → length w.captures ≡ length base.captures → (looping : Bool) (o : Leave) → MayLeave looping o
+      → Settles {O = Leave} s w (LeavesTo looping base) (λ m go. asks close_escape (on_done (go o)))
+  escape_closed base w [] e many loops same captures looping o may = absurd (cc)
+  escape_closed base w (f ∷ fs) e many loops same captures looping o may =
       let z : World = record w { escape = f; saved = fs } in
       settles_to s w z (LeavesTo looping base) close_escape (λ m go. go o) (λ n. ap (escape_put_back w) e)
-      (settles_now s z (LeavesTo looping base) o (record { loops = loops; outer = same; saved = omega arith }, may))
+      (settles_now s z (LeavesTo looping base) o (record { loops = loops; outer = same; saved = omega arith; captures = captures }, may))
+
+  -- a captured text is stored, or dropped on the way out
+  abbrev stored_out : Expression → Leave → Val → Walk Leave
+  stored_out target goes v m go = target_walk target v (go goes)
+  stored_out target breaks_out v m go = go breaks_out
+  stored_out target continues v m go = go continues
+
+  out_settles : (looping : Bool) (base w : World) → Keeps base w → IsFramed base → (target : Expression) → IsTarget target → (o : Leave) → MayLeave looping o
+      → (v : Val) → Settles {O = Leave} s w (LeavesTo looping base) (stored_out target o v)
+  out_settles looping base w kept framed target h goes may v = targeted looping base w kept framed target h v
+  out_settles looping base w kept framed target h breaks_out may v = settles_now s w (LeavesTo looping base) breaks_out (kept, may)
+  out_settles looping base w kept framed target h continues may v = settles_now s w (LeavesTo looping base) continues (kept, may)
+
+  -- behind a captured body
+  abbrev capture_out : Expression → Leave → Walk Leave
+  capture_out target o m go = step (asks end_capture (on_value (λ text. stored_out target o text m go)))
+
+  -- the innermost of these captures ends
+  abbrev ended_among : World → List Capture → Reply World
+  ended_among w captures = elim captures [
+    | [] ↦ told w breaks_off
+    | c ∷ cs ↦ changed (record w { captures = cs }) (value (captured w.escape c))
+  ]
+
+  capture_closed : (base w : World) (captures : List Capture) → w.captures ≡ captures → length captures ≡ suc (length base.captures)
+      → loops_of w.frames ≡ loops_of base.frames → w.outer ≡ base.outer → length w.saved ≡ length base.saved → IsFramed base → (target : Expression) → IsTarget target
+      → (looping : Bool) (o : Leave) → MayLeave looping o → Settles {O = Leave} s w (LeavesTo looping base) (capture_out target o)
+  capture_closed base w [] e many loops same saved framed target h looping o may = absurd (cc)
+  capture_closed base w (c ∷ cs) e many loops same saved framed target h looping o may =
+      let z : World = record w { captures = cs } in
+      settles_step s w (LeavesTo looping base) (λ m go. asks end_capture (on_value (λ text. stored_out target o text m go)))
+      (settles_before s w z (LeavesTo looping base) [] 0 (λ m go. asks end_capture (on_value (λ text. stored_out target o text m go))) (stored_out target o (captured w.escape c))
+      (λ n m le ge go. ap (λ r. replied (λ a t. run (answer s n) (on_value (λ text. stored_out target o text m go) a) t) r) (ap (ended_among w) e))
+      (out_settles looping base z (record { loops = loops; outer = same; saved = saved; captures = omega arith }) framed target h o may (captured w.escape c)))
 
   -- a round of a loop: the target, then the body
   abbrev round_of : Expression → Statements → Round
@@ -186,7 +222,7 @@ module _ (s : Programs) (outer : ℕ) (deeper : (outer + include_levels ≤ s.ar
       let own : Loop = loop_over w true false vs in
       settles_pushed s w (counted_loop w) (LeavesTo looping base) (open_loop plain_loop v) (frame_at own 0) (λ m go. rounds m (round_of target body m) (loop_end otherwise (statements_walk m otherwise (exits_of go) (go goes)) (go goes))) (has_room s.around.limit 1 w) refl
       (λ n. ap (λ r. changed_with w (λ after. done) (λ after. after) (opened_loop s.around.limit w plain_loop r)) e)
-      (rounds_settle looping target body otherwise h bodies others base framed (counted_loop w) (record { loops = kept.loops; outer = kept.outer; saved = kept.saved }) own)
+      (rounds_settle looping target body otherwise h bodies others base framed (counted_loop w) (record { loops = kept.loops; outer = kept.outer; saved = kept.saved; captures = kept.captures }) own)
   looped looping target body otherwise v h bodies others base framed w kept (Err kind) e =
       settles_refused s w (LeavesTo looping base) (open_loop plain_loop v) kind (λ m go. on_done (rounds m (round_of target body m) (loop_end otherwise (statements_walk m otherwise (exits_of go) (go goes)) (go goes))))
       (λ n. ap (λ r. changed_with w (λ after. done) (λ after. after) (opened_loop s.around.limit w plain_loop r)) e)
@@ -203,17 +239,29 @@ module _ (s : Programs) (outer : ℕ) (deeper : (outer + include_levels ≤ s.ar
       settles_to s w inside (LeavesTo looping base) (open_escape v) (λ m go. statements_walk m body (closing close_escape (exits_of go)) (asks close_escape (on_done (go goes))))
       (λ n. ap (changed_with w (λ rule. done) (λ rule. record w { escape = rule; saved = w.escape ∷ w.saved })) e)
       (settles_then s inside (LeavesTo looping inside) (LeavesTo looping base) (body_walk body) (λ o m go. asks close_escape (on_done (go o))) (bodies inside framed_inside inside (keeps_itself inside))
-      (λ o y l. escape_closed base y y.saved refl (omega (arith, l.0.saved, kept.saved)) (l.0.loops ∙ kept.loops) (l.0.outer ∙ kept.outer) looping o l.1))
+      (λ o y l. escape_closed base y y.saved refl (omega (arith, l.0.saved, kept.saved)) (l.0.loops ∙ kept.loops) (l.0.outer ∙ kept.outer) (l.0.captures ∙ kept.captures) looping o l.1))
+
+  -- a capture for a body, whose text is stored
+  captured_body : (looping : Bool) (target : Expression) (body : Statements) → IsTarget target → BodySettles looping body → (base : World) → Frames base → (w : World) → Keeps base w
+      → Settles {O = Leave} s w (LeavesTo looping base) (λ m go. asks (begin_capture true) (on_done (statements_walk m body (capturing (exits_of go)) (capture_out target goes m go))))
+  captured_body looping target body h bodies base framed w kept =
+      let inside : World = record w { captures = keeps [] ∷ w.captures } in
+      let framed_inside : Frames inside = (record { loop = framed.0.loop; others = framed.0.others; loops = kept.loops ∙ framed.0.loops }, kept.outer ∙ framed.1) in
+      settles_to s w inside (LeavesTo looping base) (begin_capture true) (λ m go. statements_walk m body (capturing (exits_of go)) (capture_out target goes m go)) (λ n. refl)
+      (settles_then s inside (LeavesTo looping inside) (LeavesTo looping base) (body_walk body) (capture_out target) (bodies inside framed_inside inside (keeps_itself inside))
+      (λ o y l. capture_closed base y y.captures refl (omega (arith, l.0.captures, kept.captures)) (l.0.loops ∙ kept.loops) (l.0.outer ∙ kept.outer) (l.0.saved ∙ kept.saved) framed.0 target h looping o l.1))
 
   mutual
     pub settles_statement : (looping : Bool) (st : Statement) → IsRunnableStatement looping st → (base : World) → Frames base → Leads looping base (λ m go. statement_walk m st (exits_of go) (go goes))
-    settles_statement looping (raw text) h base framed w kept = written_out looping base w kept (write_raw text) (written text ∷ []) (λ n. refl)
+    settles_statement looping (raw text) h base framed w kept = written_out looping base w kept (write_raw text) text (λ n. refl) w.captures refl
     settles_statement looping (print e) h base framed w kept =
         valued looping base w kept e h (λ v m go. step (asks (write_value v) (on_done (go goes))))
         (λ v x k. printed_out looping base x k v (guarded (forbids_printing s.around.undefined v) (kinded (escaped x.escape (known_of x) v))) refl)
-    settles_statement looping (for_loop target e absent false body otherwise) h base framed w kept =
-        valued looping base w kept e h.1 (λ v m go. asks (open_loop plain_loop v) (on_done (rounds m (round_of target body m) (loop_end otherwise (statements_walk m otherwise (exits_of go) (go goes)) (go goes)))))
-        (λ v x k. looped looping target body otherwise v h.0 (settles_statements true body h.2) (settles_statements looping otherwise h.3) base framed x k (guarded (forbids_iterating s.around.undefined v) (kinded (iterated (known_of x) v))) refl)
+    settles_statement looping (for_loop target e condition false body otherwise) h base framed w kept =
+        settles_then s w (Kept base) (LeavesTo looping base) (λ m go. iterable_walk m target e condition go)
+        (λ v m go. asks (open_loop plain_loop v) (on_done (rounds m (round_of target body m) (loop_end otherwise (statements_walk m otherwise (exits_of go) (go goes)) (go goes)))))
+        (settles_iterable s base target e condition h.0 h.1 h.2 w kept)
+        (λ v x k. looped looping target body otherwise v h.0 (settles_statements true body h.3) (settles_statements looping otherwise h.4) base framed x k (guarded (forbids_iterating s.around.undefined v) (kinded (iterated (known_of x) v))) refl)
     settles_statement looping (if_condition e body otherwise) h base framed w kept =
         valued looping base w kept e h.0 (λ v m go. step (asks (truth_of v) (on_truth (statements_walk m body (exits_of go) (past otherwise (go goes))) (statements_walk m otherwise (exits_of go) (go goes)))))
         (λ v x k. tested looping base x v (λ m go. statements_walk m body (exits_of go) (past otherwise (go goes))) (body_walk otherwise)
@@ -229,6 +277,7 @@ module _ (s : Programs) (outer : ℕ) (deeper : (outer + include_levels ≤ s.ar
         (λ o y l. settles_closed s w y empty_frame l.0 (LeavesTo looping base) o (λ z i. (keeps_on base w z kept i, l.1)))))
     settles_statement looping (set target e) h base framed w kept =
         valued looping base w kept e h.1 (λ v m go. target_walk target v (go goes)) (λ v x k. targeted looping base x k framed.0 target h.0 v)
+    settles_statement looping (set_block target absent body) h base framed w kept = captured_body looping target body h.0 (settles_statements looping body h.1) base framed w kept
     settles_statement looping (auto_escape e body) h base framed w kept =
         valued looping base w kept e h.0 (λ v m go. asks (open_escape v) (on_done (statements_walk m body (closing close_escape (exits_of go)) (asks close_escape (on_done (go goes))))))
         (λ v x k. escaping looping body (settles_statements looping body h.1) base framed x k v (escape_named x.first v (text_in v)) refl)

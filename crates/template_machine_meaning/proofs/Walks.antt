@@ -1,5 +1,5 @@
 -- A walk looks up used names, and what is known from a store in a frame that is still open.
-use Rattle.std.proofs.Common.{◌≡◌, ℕ, suc, inl, inr, Bool, true, false, List, [], ◌∷◌, ◌==◌, length, Option, None, Some, codes, refl, ◌∙◌, arith}
+use Rattle.std.proofs.Common.{◌≡◌, ℕ, suc, inl, inr, Bool, true, false, List, [], ◌∷◌, ◌++◌, ◌==◌, length, Option, None, Some, codes, refl, ◌∙◌, arith}
 use Rattle.std.specs.Prelude.{IsTrue, not, ◌&&◌, ◌||◌, if◌then◌else◌, zero}
 use Rattle.std.specs.Str.{bytes_eq}
 use Rattle.std.proofs.lemmas.Bool.{or_cases, or_left, or_right}
@@ -10,15 +10,24 @@ use Rattle.template_tree.specs.declared.operators.UnaryOpKind.{UnaryOpKind}
 use Rattle.template_tree.specs.declared.operators.UnaryOpKind.TheVariants.{Not, Neg}
 use Rattle.template_tree.specs.declared.operators.BinOpKind.{BinOpKind}
 use Rattle.template_tree.specs.declared.operators.BinOpKind.TheVariants.{ScAnd, ScOr}
-use Rattle.template_tree.specs.Tree.{Expression, Optional, Expressions, Links, variable, constant, slice, unary, binary, chain, conditional, attribute, item, list_literal, tuple_literal, map_literal, absent, given, no_expressions, expressions_more, no_links, links_more, Statement, Statements, Assignments, raw, print, for_loop, if_condition, with_block, set, auto_escape, include, continue_loop, break_loop, no_statements, statements_more, no_assignments, assignments_more}
+use Rattle.template_tree.specs.Tree.{Expression, Optional, Expressions, Links, variable, constant, slice, unary, binary, chain, conditional, attribute, item, list_literal, tuple_literal, map_literal, absent, given, no_expressions, expressions_more, no_links, links_more, Statement, Statements, Assignments, raw, print, for_loop, if_condition, with_block, set, set_block, auto_escape, include, continue_loop, break_loop, no_statements, statements_more, no_assignments, assignments_more}
 use Rattle.template_names.proofs.Plain.{in_attribute}
 use Rattle.template_names.specs.Names.{stands_in, stands_if_given, stands_in_one, stands_in_links, is_stored_in, is_stored_in_one, is_used_by_target, is_used_from, is_stored_by, is_used_by, is_used_in}
 use Rattle.template_process.specs.Process as events
-use Rattle.template_process.specs.Process.{Ask, look_up, operate, compare, get_attribute, get_item, get_slice, build_list, build_tuple, build_map, store, truth_of, unpack, write_raw, write_value, open_frame, close_frame, open_loop, next_item, did_not_iterate, close_loop, open_escape, close_escape, Answer, done, value, truth, items, no_item, Process, over, step, asks, amiss, on_done, on_value, on_truth, on_item, on_items}
+use Rattle.template_process.specs.Process.{close_frame, Looping, plain_loop, open_loop, close_loop, close_escape, Answer, done, value, truth, items, no_item, Process, over, step, asks, amiss, on_done, on_value, on_truth, on_item, on_items, on_all}
 use Rattle.template_walk.specs.Constants.{constant_of}
 use Rattle.template_walk.specs.Expressions.{folded, unary_ask, binary_walk, expression_walk, optional_walk, expressions_walk, walks_of, entries_walk, chain_walk, linked_walk}
-use Rattle.template_walk.specs.Statements.{Exits, outside, closing, number_of, target_walk, targets_walk, assignments_walk, rounds, loop_end, past, statement_walk, statements_walk, template_walk}
+use Rattle.template_walk.specs.Statements.{Exits, outside, closing, capture_left, capturing, number_of, target_walk, targets_walk, assignments_walk, rounds, kept_rounds, sifting, iterable_walk, loop_end, past, statement_walk, statements_walk, template_walk}
 use Rattle.template_machine_meaning.proofs.Known.{Known, base, inner, IsKnown, Grows, grows_itself, grows_on, known_on, stored, cleared, grows_stored, knows_stored, IsSafe, Within}
+
+-- one of two, behind what holds
+left_of : (a b c : Bool) → IsTrue (a && b) → IsTrue (a && (b || c))
+left_of true b c h = or_left b c h
+left_of false b c h = h
+
+right_of : (a b c : Bool) → IsTrue (a && c) → IsTrue (a && (b || c))
+right_of true b c h = or_right b c h
+right_of false b c h = h
 
 module _ (names : List ℕ → Type 0) (start : Known) where
   abbrev In : Known → Process → Type 0
@@ -62,6 +71,10 @@ module _ (names : List ℕ → Type 0) (start : Known) where
 
   as_many : (n m : ℕ) → (n == m) ≡ true → n ≡ m
   as_many n m h = grind (arith, nat_tests)
+
+  at_all : (k : Known) (go : List Val → Process) → ((vs : List Val) → In k (go vs)) → (a : Answer) → In k (on_all go a)
+  at_all k go h (items vs) = h vs
+  at_all k go h _ = tt
 
   at_items : (k : Known) (n : ℕ) (go : List Val → Process) → ((vs : List Val) → length vs ≡ n → In k (go vs)) → (a : Answer) → In k (on_items n go a)
   at_items k n go h (items vs) = counted k (go vs) (length vs == n) (λ e. h vs (as_many (length vs) n e))
@@ -236,6 +249,9 @@ module _ (names : List ℕ → Type 0) (start : Known) where
   in_close_loop k (base ids) go grows h = absurd grows
   in_close_loop k (inner ids l) go grows h = (tt, at_done l go (h l grows.1))
 
+  in_open_loop : (k : Known) (how : Looping) (v : Val) (go : Process) → Stays (inner [] k) go → Stays k (asks (open_loop how v) (on_done go))
+  in_open_loop k how v go h l grows = (tt, at_done (inner [] l) go (h (inner [] l) (λ name i. i, grows)))
+
   -- the ways out
   abbrev Leads : Known → Exits → Type 0
   Leads k x = Stays k x.on_break × Stays k x.on_continue
@@ -253,6 +269,12 @@ module _ (names : List ℕ → Type 0) (start : Known) where
   closing_escape : (k : Known) (x : Exits) → Leads k x → Leads k (closing close_escape x)
   closing_escape k x h = (in_close_escape k x.on_break h.0, in_close_escape k x.on_continue h.1)
 
+  in_capture_left : (k : Known) (go : Process) → Stays k go → Stays k (capture_left go)
+  in_capture_left k go h l grows = (tt, at_value l _ (λ text. h l grows))
+
+  capturing_body : (k : Known) (x : Exits) → Leads k x → Leads k (capturing x)
+  capturing_body k x h = (in_capture_left k x.on_break h.0, in_capture_left k x.on_continue h.1)
+
   -- a round, where a loop's frame is open around what is known
   abbrev Turns : Known → (Val → Exits → Process → Process) → Type 0
   Turns k round = (l : Known) → Grows (inner [] k) l → (v : Val) (x : Exits) (again : Process) → Leads (inner [] k) x → Stays (inner [] k) again → In l (round v x again)
@@ -266,6 +288,49 @@ module _ (names : List ℕ → Type 0) (start : Known) where
   in_rounds (suc n) k round finished turns h l grows =
       let again : Stays (inner [] k) (step (rounds n round finished)) = λ m more. in_rounds n k round finished turns h m more in
       (tt, at_item (cleared l) _ finished (λ v. turns (cleared l) (grows_cleared k l grows) v _ _ (h, again) again) (h (cleared l) (grows_cleared k l grows)))
+
+  -- the rounds that gather what a condition keeps
+  in_kept : (n : ℕ) (k : Known) (target condition : Expression) (kept : List Val) (finished : List Val → Process)
+      → Sees (inner [] k) (λ name. not (is_stored_in name target) && stands_in name condition) → ((vs : List Val) → Stays (inner [] k) (finished vs))
+      → Stays (inner [] k) (kept_rounds n (sifting target condition) kept finished)
+  in_kept zero k target condition kept finished sees h l grows = tt
+  in_kept (suc n) k target condition kept finished sees h l grows =
+      let begun = grows_cleared k l grows in
+      let item : List ℕ → Bool = λ name. is_stored_in name target in
+      let tests : List ℕ → Bool = λ name. stands_in name condition in (
+        tt,
+        at_item (cleared l) _ (finished kept)
+            (λ v. in_target target v (cleared l) _
+            (λ m more knows.
+            let further = grows_on (inner [] k) (cleared l) m begun more in
+            in_expression m condition (sees_behind (cleared l) m item tests more knows (sees_on (inner [] k) (cleared l) (λ name. not (item name) && tests name) begun sees)) _
+            (λ c. (tt, at_truth m _ _ (in_kept n k target condition (kept ++ v ∷ []) finished sees h m further) (in_kept n k target condition kept finished sees h m further)))))
+            (h kept (cleared l) begun),
+      )
+
+  -- what a loop goes over
+  in_iterable : (n : ℕ) (target e : Expression) (condition : Optional) (k : Known) (go : Val → Process) → Sees k (λ name. stands_in name e)
+      → Sees k (λ name. not (is_stored_in name target) && stands_if_given name condition) → ((v : Val) → Stays k (go v)) → In k (iterable_walk n target e condition go)
+  in_iterable n target e absent k go sees tests h = in_expression k e sees go (λ v. h v k (grows_itself k))
+  in_iterable n target e (given condition) k go sees tests h = (
+    tt,
+    at_all k _
+        (λ none_yet. in_expression k e sees _
+        (λ v. (
+          tt,
+          at_done (inner [] k) _
+              (in_kept n k target condition none_yet _ (sees_inner k (λ name. not (is_stored_in name target) && stands_in name condition) tests)
+              (λ vs l grows. in_close_loop k l _ grows (λ m more. (tt, at_value m _ (λ made. h made m more))))
+              (inner [] k) (grows_itself (inner [] k))),
+        ))),
+  )
+
+  -- one of two parts, behind a store
+  part_left : (k : Known) (f g h : List ℕ → Bool) → Sees k (λ name. not (f name) && (g name || h name)) → Sees k (λ name. not (f name) && g name)
+  part_left k f g h sees name used = sees name (left_of (not (f name)) (g name) (h name) used)
+
+  part_right : (k : Known) (f g h : List ℕ → Bool) → Sees k (λ name. not (f name) && (g name || h name)) → Sees k (λ name. not (f name) && h name)
+  part_right k f g h sees name used = sees name (right_of (not (f name)) (g name) (h name) used)
 
   in_end : (otherwise : Statements) (k : Known) (p go : Process) → Stays k p → Stays k go → Stays (inner [] k) (loop_end otherwise p go)
   in_end no_statements k p go h i l grows = in_close_loop k l go grows i
@@ -285,29 +350,30 @@ module _ (names : List ℕ → Type 0) (start : Known) where
       in_statement : (n : ℕ) (s : Statement) (k : Known) (x : Exits) (go : Process) → Sees k (λ name. is_used_by name s) → Leads k x → Goes k (λ name. is_stored_by name s) go → In k (statement_walk n s x go)
       in_statement n (raw text) k x go sees leads h = (tt, at_done k go (nothing_stored k go h k (grows_itself k)))
       in_statement n (print e) k x go sees leads h = in_expression k e sees _ (λ v. (tt, at_done k go (nothing_stored k go h k (grows_itself k))))
-      in_statement n (for_loop target e absent false body otherwise) k x go sees leads h =
+      in_statement n (for_loop target e condition false body otherwise) k x go sees leads h =
           let after : Stays k go = nothing_stored k go h in
           let item : List ℕ → Bool = λ name. is_stored_in name target in
-          let within : List ℕ → Bool = λ name. not (bytes_eq name (codes "loop")) && is_used_in name body in
+          let tests : List ℕ → Bool = λ name. stands_if_given name condition in
+          let inside : List ℕ → Bool = λ name. not (bytes_eq name (codes "loop")) && is_used_in name body in
+          let within : List ℕ → Bool = λ name. tests name || inside name in
           let head : List ℕ → Bool = λ name. stands_in name e || is_used_by_target name target in
           let most : List ℕ → Bool = λ name. head name || not (item name) && within name in
           let sees_most = sees_left k most (λ name. is_used_in name otherwise) sees in
-          let sees_round = sees_inner k (λ name. not (item name) && within name) (sees_right k head (λ name. not (item name) && within name) sees_most) in
-          in_expression k e (sees_left k (λ name. stands_in name e) (λ name. is_used_by_target name target) (sees_left k head (λ name. not (item name) && within name) sees_most)) _
-          (λ v. (
-            tt,
-            at_done (inner [] k) _
-                (in_rounds n k _ _
-                (λ l grows v y again out back. in_target target v l _ (λ m more knows.
-                in_statements n body m y again
-                (sees_body m (λ name. is_used_in name body) (sees_behind l m item within more knows (sees_on (inner [] k) l (λ name. not (item name) && within name) grows sees_round)))
-                (leads_on (inner [] k) m y (grows_on (inner [] k) l m grows more) out)
-                (stays_on (inner [] k) m again (grows_on (inner [] k) l m grows more) back)))
-                (in_end otherwise k _ go
-                (λ l grows. in_statements n otherwise l x go (sees_on k l (λ name. is_used_in name otherwise) grows (sees_right k most (λ name. is_used_in name otherwise) sees)) (leads_on k l x grows leads) (stays_on k l go grows after))
-                after)
-                (inner [] k) (grows_itself (inner [] k))),
-          ))
+          let sees_within = sees_right k head (λ name. not (item name) && within name) sees_most in
+          let sees_round = sees_inner k (λ name. not (item name) && inside name) (part_right k item tests inside sees_within) in
+          in_iterable n target e condition k _
+          (sees_left k (λ name. stands_in name e) (λ name. is_used_by_target name target) (sees_left k head (λ name. not (item name) && within name) sees_most))
+          (part_left k item tests inside sees_within)
+          (λ v. in_open_loop k plain_loop v _
+          (in_rounds n k _ _
+          (λ l grows v y again out back. in_target target v l _ (λ m more knows.
+          in_statements n body m y again
+          (sees_body m (λ name. is_used_in name body) (sees_behind l m item inside more knows (sees_on (inner [] k) l (λ name. not (item name) && inside name) grows sees_round)))
+          (leads_on (inner [] k) m y (grows_on (inner [] k) l m grows more) out)
+          (stays_on (inner [] k) m again (grows_on (inner [] k) l m grows more) back)))
+          (in_end otherwise k _ go
+          (λ l grows. in_statements n otherwise l x go (sees_on k l (λ name. is_used_in name otherwise) grows (sees_right k most (λ name. is_used_in name otherwise) sees)) (leads_on k l x grows leads) (stays_on k l go grows after))
+          after)))
       in_statement n (if_condition e body otherwise) k x go sees leads h =
           let after : Stays k go = nothing_stored k go h in
           let head : List ℕ → Bool = λ name. stands_in name e || is_used_in name body in
@@ -328,6 +394,14 @@ module _ (names : List ℕ → Type 0) (start : Known) where
       )
       in_statement n (set target e) k x go sees leads h =
           in_expression k e (sees_left k (λ name. stands_in name e) (λ name. is_used_by_target name target) sees) _ (λ v. in_target target v k go h)
+      in_statement n (set_block target absent body) k x go sees leads h =
+          let filters : List ℕ → Bool = λ name. stands_if_given name absent in
+          let sees_body = sees_left k (λ name. is_used_in name body) filters (sees_left k (λ name. is_used_in name body || filters name) (λ name. is_used_by_target name target) sees) in (
+            tt,
+            at_done k _
+                (in_statements n body k (capturing x) _ sees_body (capturing_body k x leads)
+                (λ l grows. (tt, at_value l _ (λ text. in_target target text l go (λ m more knows. h m (grows_on k l m grows more) knows))))),
+          )
       in_statement n (auto_escape e body) k x go sees leads h =
           in_expression k e (sees_left k (λ name. stands_in name e) (λ name. is_used_in name body) sees) _
           (λ v. (
