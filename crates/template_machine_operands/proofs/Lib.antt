@@ -1,2 +1,3 @@
 pub mod Taking
 mod Topping
+mod Counting

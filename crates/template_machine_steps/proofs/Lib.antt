@@ -1,6 +1,8 @@
 pub mod Performing
+pub mod Lacking
 pub mod Stepping
 pub mod Gathering
+mod Counted
 pub mod Sparing
 pub mod Promptly
 mod Knowing

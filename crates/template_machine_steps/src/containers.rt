@@ -1,8 +1,8 @@
 //! Containers that are built of operands, and items that are unpacked.
-ghost use Rattle.std.specs.Prelude.{◌≡◌, ◌++◌, ℕ, List, Option, Some, map, OnOk, IfErr};
+ghost use Rattle.std.specs.Prelude.{◌≡◌, ◌++◌, ℕ, List, Option, map, OnOk, IfErr};
 ghost use Rattle.template_values_errors.specs.Memory.{NoMemory};
 ghost use Rattle.template_values_errors.specs.declared.modes.UndefinedBehavior.{UndefinedBehavior};
-ghost use Rattle.template_code.specs.Code.{single, build_list, build_tuple, build_map, unpack_list};
+ghost use Rattle.template_code.specs.Code.{single, build_list, build_tuple, build_map, unpack_list, unpack_lists};
 ghost use Rattle.template_machine_meaning.specs.Surroundings.{Programs};
 ghost use Rattle.template_machine_meaning.specs.World.{World};
 ghost use Rattle.template_machine_operands.specs.Operands.{operands_in};
@@ -14,31 +14,35 @@ use template_machine_operands::Operands;
 use template_machine_operations as values;
 use template_values_errors::{Error, ErrorKind};
 
-/// Takes so many values, and gives their list. Linear in their number.
+/// Takes so many values, or a counted run where the count is left out, and gives their list. Linear in their number.
 ///
 /// # Errors
 ///
 /// Those of [`values::build_list`], and [`ErrorKind::BadStream`] where operands are missing, which no verified
 /// code meets.
-pub fn build_list(alloc: Global, count: usize, operands: &mut Operands) -> Result<(), Error>
+pub fn build_list(alloc: Global, count: Option<usize>, operands: &mut Operands) -> Result<(), Error>
     ensures { (program : Programs) (limit : ℕ) (mode : UndefinedBehavior) (w : World) →
-        Performs (ruled program limit mode) (build_list (Some count)) (operands_in operands.old) w result (operands_in operands.new) w }
+        Performs (ruled program limit mode) (build_list count) (operands_in operands.old) w result (operands_in operands.new) w }
 {
-    let items = operands.take_many(count)?;
+    let items = operands.take_handed(count)?;
     let list = values::build_list(alloc, items)?;
     operands.push(list)
 }
 
-/// Takes so many values, and gives their tuple. Linear in their number.
+/// Takes so many values, or a counted run where the count is left out, and gives their tuple. Linear in their number.
 ///
 /// # Errors
 ///
 /// Those of [`values::build_tuple`], and as [`build_list`].
-pub fn build_tuple(alloc: Global, count: usize, operands: &mut Operands) -> Result<(), Error>
+pub fn build_tuple(
+    alloc: Global,
+    count: Option<usize>,
+    operands: &mut Operands,
+) -> Result<(), Error>
     ensures { (program : Programs) (limit : ℕ) (mode : UndefinedBehavior) (w : World) →
-        Performs (ruled program limit mode) (build_tuple (Some count)) (operands_in operands.old) w result (operands_in operands.new) w }
+        Performs (ruled program limit mode) (build_tuple count) (operands_in operands.old) w result (operands_in operands.new) w }
 {
-    let items = operands.take_many(count)?;
+    let items = operands.take_handed(count)?;
     let tuple = values::build_tuple(alloc, items)?;
     operands.push(tuple)
 }
@@ -69,6 +73,21 @@ pub fn unpack_list(alloc: Global, count: usize, operands: &mut Operands) -> Resu
     let value = operands.take()?;
     let items = values::unpack(alloc, count, value)?;
     push_items(&items, operands)
+}
+
+/// Takes so many lists, and gives a counted run of their items: an empty one of no list. Of other lists nothing gives the items.
+///
+/// # Errors
+///
+/// [`ErrorKind::OutOfMemory`], and [`ErrorKind::BadStream`] where there is a list.
+pub fn unpack_lists(alloc: Global, count: usize, operands: &mut Operands) -> Result<(), Error>
+    ensures { (program : Programs) (limit : ℕ) (mode : UndefinedBehavior) (w : World) →
+        Performs (ruled program limit mode) (unpack_lists count) (operands_in operands.old) w result (operands_in operands.new) w }
+{
+    if count > 0 {
+        return Err(Error::new(ErrorKind::BadStream));
+    }
+    operands.push_run(alloc)
 }
 
 // Items go on top, the first one uppermost.

@@ -1,4 +1,4 @@
-use Rattle.std.proofs.Common.{map, ◌++◌, refl, ◌∙◌}
+use Rattle.std.proofs.Common.{map, ◌++◌, ◌∙◌}
 use Rattle.template_code.specs.Code as codes
 use Rattle.template_code.specs.Code.{single}
 use Rattle.template_machine_meaning.specs.Surroundings.{unpacked, unpacked_into}
@@ -13,7 +13,7 @@ use Rattle.template_machine_steps.proofs.containers.unpack_list.Goals as goal
 
 pub returns-in_err-value : goal.returns-in_err-value
 returns-in_err-value c program limit mode w =
-    lost_one _ (codes.unpack_list c.args.count) _ w _ _ _ _ _ (λ next before place. refl) c.in_err-value.ensures.none c.in_err-value.ensures.kind c.from_residual.ensures.1
+    lost_one _ (codes.unpack_list c.args.count) _ w _ _ _ _ _ tt c.in_err-value.ensures.none c.in_err-value.ensures.kind c.from_residual.ensures.1
 
 pub returns-in_err-items : goal.returns-in_err-items
 returns-in_err-items c program limit mode w =
