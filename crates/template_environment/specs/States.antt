@@ -14,7 +14,7 @@ module _ {R : Type 0} where
   abbrev pub name_in : State R → List ℕ
   name_in s = s.name.now
 
-  -- its frames, the escape in force, and its number
+  -- its frames, the escape in force, the captures that are open, and its number
   abbrev pub world_in : State R → World
   world_in s = s.machine
 
@@ -29,9 +29,9 @@ module _ {R : Type 0} where
   abbrev pub id_in : State R → ℕ
   id_in s = s.id
 
--- no frame, under an escape, in the state of a number
+-- no frame and no capture, under an escape, in the state of a number
 abbrev pub frameless : ℕ → AutoEscape → World
-frameless id escape = record { frames = []; outer = 0; escape = escape; saved = []; first = escape; id = id; opened = 0 }
+frameless id escape = record { frames = []; outer = 0; escape = escape; saved = []; first = escape; captures = []; id = id; opened = 0 }
 
 -- the name of a state without a template
 abbrev pub unknown : List ℕ

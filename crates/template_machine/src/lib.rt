@@ -34,8 +34,8 @@
 //!   [`Environment::set_syntax`] how templates are written. [`Environment::set_auto_escape_callback`] takes an
 //!   [`AutoEscapeRule`] of the caller's own, which gives the escape of each name from then on.
 //! - [`Environment::context_names`] gives the names of a context that can matter to a render.
-//! - [`verify`] accepts instructions from anywhere that never lack an operand, a frame or a loop. [`FuelTracker`]
-//!   counts a fuel down along instructions.
+//! - [`verify`] accepts instructions from anywhere that never lack an operand, a frame, a loop, an escape or a
+//!   capture. [`FuelTracker`] counts a fuel down along instructions.
 //!
 //! # What is proved
 //!

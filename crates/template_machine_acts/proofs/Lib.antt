@@ -3,6 +3,7 @@ pub mod Coming
 pub mod Laws
 pub mod Unpacking
 pub mod Framing
+pub mod Capturing
 pub mod Nesting
 pub mod Including
 pub mod Refusing

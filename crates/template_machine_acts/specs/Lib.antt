@@ -4,6 +4,7 @@ pub mod Answers
 pub mod Values
 pub mod Scopes
 pub mod Writings
+pub mod Captures
 pub mod Nested
 pub mod Includes
 pub mod Refusals

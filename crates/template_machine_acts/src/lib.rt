@@ -2,12 +2,13 @@
 #![tactic(auto)]
 
 ghost use Rattle.template_machine_acts.specs.Answers.{AddCountedActs, ConstantActs, DiscardActs, DoubleActs, JumpActs, LookupActs, SwapActs, SwapCountedActs, UndefinedActs};
+ghost use Rattle.template_machine_acts.specs.Captures.{BeginCaptureActs, EndCaptureActs, PrintCaptures, WriteCaptures};
 ghost use Rattle.template_machine_acts.specs.Events.{BreaksAstray, EventsAct, EventsFault, PassesActs, StuckAstray};
 ghost use Rattle.template_machine_acts.specs.Includes.{IncludeActs, IncludeFaults, IncludeRunsOut, IncludeStrays, IncludeWants};
 ghost use Rattle.template_machine_acts.specs.Nested.{NestedActs, NestedFaults, NestedRunsOut, NestedStrays, NestedWants};
 ghost use Rattle.template_machine_acts.specs.Refusals.{ChoiceRefused, IncludeRefused, MissingActs, RoomRefused};
 ghost use Rattle.template_machine_acts.specs.Scopes.{CloseEscapeActs, CloseFrameActs, CloseLoopActs, DidNotIterateActs, NextItemActs, NoItemActs, OpenEscapeActs, OpenFrameActs, OpenLoopActs, StoreActs};
-ghost use Rattle.template_machine_acts.specs.Values.{BuildListActs, BuildMapActs, BuildTupleActs, CompareActs, GetAttributeActs, GetItemActs, InvertActs, JumpIfFalseActs, JumpIfFalseOrPopActs, JumpIfTrueOrPopActs, NegateActs, OperateActs, SliceActs, UnpackActs};
+ghost use Rattle.template_machine_acts.specs.Values.{BuildListActs, BuildMapActs, BuildTupleActs, CompareActs, GetAttributeActs, GetItemActs, InvertActs, JumpIfFalseActs, JumpIfFalseOrPopActs, JumpIfTrueOrPopActs, NegateActs, OperateActs, SliceActs, UnpackActs, UnpackListsActs};
 ghost use Rattle.template_machine_acts.specs.Writings.{PrintActs, PrintFaults, WriteActs};
 
 /// An instruction that asks nothing, or whose event is answered, acts; and one whose event fails faults.
@@ -48,12 +49,13 @@ pub fn operators_act()
     ensures slice { SliceActs }
 {}
 
-/// Containers are built and unpacked, or that faults.
+/// Containers are built and unpacked, or that faults; and a counted run begins.
 pub fn containers_act()
     ensures list { BuildListActs }
     ensures tuple { BuildTupleActs }
     ensures map { BuildMapActs }
     ensures unpack { UnpackActs }
+    ensures counted { UnpackListsActs }
 {}
 
 /// Jumps on a value's truth lead on or to their targets, or fault.
@@ -83,6 +85,14 @@ pub fn loops_act()
 pub fn escapes_act()
     ensures opened { OpenEscapeActs }
     ensures closed { CloseEscapeActs }
+{}
+
+/// Captures begin, take what is written while they are the innermost, and end.
+pub fn captures_act()
+    ensures begun { BeginCaptureActs }
+    ensures ended { EndCaptureActs }
+    ensures write { WriteCaptures }
+    ensures print { PrintCaptures }
 {}
 
 /// Texts are written, and values printed or refused.

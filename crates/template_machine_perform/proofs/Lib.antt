@@ -4,4 +4,5 @@ pub mod Left
 mod Holding
 pub mod Scoping
 pub mod Straying
+mod Catching
 mod Unanswered

@@ -3,6 +3,7 @@
 
 mod asides;
 mod at_once;
+mod captures;
 mod escapes;
 mod frames;
 mod loops;
@@ -15,6 +16,7 @@ mod writing;
 
 pub use asides::{made_of, number_given};
 pub use at_once::{begin_at_once, perform_at_once};
+pub use captures::{begin_capture, end_capture};
 pub use escapes::{pop_auto_escape, push_auto_escape};
 pub use frames::{pop_frame, push_with};
 pub use loops::{iterate, iterate_at_once, pop_loop_frame, push_did_not_iterate, push_loop};

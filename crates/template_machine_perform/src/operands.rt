@@ -1,12 +1,9 @@
 //! Instructions that only take and give operands.
-ghost use Rattle.std.specs.Prelude.{◌≡◌, ℕ, List, Option, None};
-ghost use Rattle.template_values_errors.specs.declared.modes.UndefinedBehavior.{UndefinedBehavior};
-ghost use Rattle.template_code.specs.Code.{build_list, build_tuple};
+ghost use Rattle.std.specs.Prelude.{◌≡◌, ℕ, None};
 ghost use Rattle.template_code.specs.View.{code_of, comparison_of};
-ghost use Rattle.template_machine_meaning.specs.World.{World};
 ghost use Rattle.template_machine_meaning.specs.Surroundings.{Programs};
 ghost use Rattle.template_machine_operands.specs.Operands.{operands_in};
-ghost use Rattle.template_machine_steps.specs.Performs.{Leads, Performs, ruled};
+ghost use Rattle.template_machine_steps.specs.Performs.{Leads, ruled};
 ghost use Rattle.template_machine_perform.specs.Performs.{straight, operator_in, IsOfOperands};
 
 use std::alloc::Global;
@@ -16,7 +13,7 @@ use template_machine_state::State;
 use template_machine_steps::{
     Way, build_list, build_map, build_tuple, compare_and_preserve, discard_top, dup_top, get_attr,
     get_item, invert, is_undefined, jump, jump_if_false, jump_if_false_or_pop, jump_if_true_or_pop,
-    load_const, negate, operate, slice, swap, unpack_list,
+    load_const, negate, operate, slice, swap, unpack_list, unpack_lists,
 };
 use template_tree::{BinOpKind, CompareOpKind};
 use template_values_errors::{Error, ErrorKind, UndefinedBehavior};
@@ -71,30 +68,6 @@ fn operator_of(instruction: &Instruction<'_>) -> Option<BinOpKind>
     }
 }
 
-// Builds a list; a counted run of values is among no operands.
-fn build_list_of(alloc: Global, count: Option<usize>, operands: &mut Operands) -> Result<(), Error>
-    ensures { (program : Programs) (limit : ℕ) (mode : UndefinedBehavior) (w : World) →
-        Performs (ruled program limit mode) (build_list count) (operands_in operands.old) w result
-        (operands_in operands.new) w }
-{
-    match count {
-        Some(count) => build_list(alloc, count, operands),
-        None => Err(Error::new(ErrorKind::BadStream)),
-    }
-}
-
-// Builds a tuple; a counted run of values is among no operands.
-fn build_tuple_of(alloc: Global, count: Option<usize>, operands: &mut Operands) -> Result<(), Error>
-    ensures { (program : Programs) (limit : ℕ) (mode : UndefinedBehavior) (w : World) →
-        Performs (ruled program limit mode) (build_tuple count) (operands_in operands.old) w result
-        (operands_in operands.new) w }
-{
-    match count {
-        Some(count) => build_tuple(alloc, count, operands),
-        None => Err(Error::new(ErrorKind::BadStream)),
-    }
-}
-
 // Does what an instruction does that only takes and gives operands, and looks into records alone of what surrounds them. One
 // that asks what nothing answers is refused.
 #[inline(never)]
@@ -140,10 +113,11 @@ fn perform_without_operator(
         }
         Instruction::GetItem => straight(get_item(alloc, mode, operands, state)),
         Instruction::Slice => straight(slice(alloc, mode, operands)),
-        Instruction::BuildList(count) => straight(build_list_of(alloc, *count, operands)),
-        Instruction::BuildTuple(count) => straight(build_tuple_of(alloc, *count, operands)),
+        Instruction::BuildList(count) => straight(build_list(alloc, *count, operands)),
+        Instruction::BuildTuple(count) => straight(build_tuple(alloc, *count, operands)),
         Instruction::BuildMap(count) => straight(build_map(alloc, *count, operands)),
         Instruction::UnpackList(count) => straight(unpack_list(alloc, *count, operands)),
+        Instruction::UnpackLists(count) => straight(unpack_lists(alloc, *count, operands)),
         Instruction::Neg => straight(negate(operands)),
         Instruction::Not => straight(invert(mode, operands, state)),
         Instruction::IsUndefined => straight(is_undefined(operands)),

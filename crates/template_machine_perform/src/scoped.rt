@@ -9,8 +9,8 @@ ghost use Rattle.template_machine_perform.specs.Performs.{IsQuiet};
 use crate::operands::{perform_on_operands, straight};
 use crate::rules::Rules;
 use crate::{
-    iterate, lookup, pop_auto_escape, pop_frame, pop_loop_frame, push_auto_escape,
-    push_did_not_iterate, push_loop, push_with, store_local,
+    begin_capture, end_capture, iterate, lookup, pop_auto_escape, pop_frame, pop_loop_frame,
+    push_auto_escape, push_did_not_iterate, push_loop, push_with, store_local,
 };
 use std::alloc::Global;
 use template_code::Instruction;
@@ -47,6 +47,8 @@ pub(crate) fn perform_quietly<'env>(
         Instruction::PopLoopFrame => straight(pop_loop_frame(state)),
         Instruction::PushAutoEscape => straight(push_auto_escape(state, operands)),
         Instruction::PopAutoEscape => straight(pop_auto_escape(state)),
+        Instruction::BeginCapture(mode) => straight(begin_capture(alloc, *mode, state)),
+        Instruction::EndCapture => straight(end_capture(state, operands)),
         _ => perform_on_operands(alloc, mode, instruction, state, operands),
     }
 }

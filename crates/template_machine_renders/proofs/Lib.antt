@@ -1,3 +1,4 @@
 pub mod Fuels
 pub mod Meanings
 pub mod Coming
+mod Uppermost

@@ -40,7 +40,7 @@ pub fn run_code<'env, T: Templates, S: Sink>(
     Ok(())
 }
 
-/// Runs an expression's code in a state, as [`run_code`] runs a template's, and gives the value that is left on top at
+/// Runs an expression's code in a state, as [`run_code`] runs a template's, and gives the uppermost value that is left at
 /// its end.
 ///
 /// # Errors
@@ -63,5 +63,5 @@ pub fn run_expression<'env, T: Templates, S: Sink>(
     ensures failures { TellsFailures result (S.failures sink.old) (S.failures sink.new) }
 {
     let mut operands = run_to_end(alloc, rules, templates, code, state, left, scratch, sink)?;
-    operands.take()
+    operands.take_uppermost()
 }

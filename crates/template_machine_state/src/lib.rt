@@ -1,7 +1,8 @@
-//! What surrounds a running template: its frames, its depth, and the escape in force.
+//! What surrounds a running template: its frames, its depth, the escape in force, and what of its text is captured.
 #![tactic(auto)]
 
 mod caller;
+mod capture;
 mod state;
 
 pub use caller::Caller;

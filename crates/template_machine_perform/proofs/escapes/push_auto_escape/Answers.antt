@@ -14,7 +14,7 @@ use Rattle.template_machine_perform.proofs.escapes.push_auto_escape.Goals as goa
 
 pub returns-in_err-value : goal.returns-in_err-value
 returns-in_err-value c s =
-    lost_one s codes.push_auto_escape _ c.args.state.now _ _ _ _ _ (λ next before place. refl) c.in_err-value.ensures.none c.in_err-value.ensures.kind c.from_residual.ensures.1
+    lost_one s codes.push_auto_escape _ c.args.state.now _ _ _ _ _ tt c.in_err-value.ensures.none c.in_err-value.ensures.kind c.from_residual.ensures.1
 
 pub returns-in_err-rule : goal.returns-in_err-rule
 returns-in_err-rule c s =

@@ -70,11 +70,11 @@ returns-in-JumpIfTrueOrPop c program limit =
 
 pub returns-in-BuildList : goal.returns-in-BuildList
 returns-in-BuildList c program limit =
-    straight_leads _ (codes.build_list _) _ _ _ _ _ _ _ (ap code_of c.in-BuildList.is) c.straight-in-BuildList.ensures (c.build_list_of.ensures program limit c.args.mode c.args.state.now)
+    straight_leads _ (codes.build_list _) _ _ _ _ _ _ _ (ap code_of c.in-BuildList.is) c.straight-in-BuildList.ensures (c.build_list.ensures program limit c.args.mode c.args.state.now)
 
 pub returns-in-BuildTuple : goal.returns-in-BuildTuple
 returns-in-BuildTuple c program limit =
-    straight_leads _ (codes.build_tuple _) _ _ _ _ _ _ _ (ap code_of c.in-BuildTuple.is) c.straight-in-BuildTuple.ensures (c.build_tuple_of.ensures program limit c.args.mode c.args.state.now)
+    straight_leads _ (codes.build_tuple _) _ _ _ _ _ _ _ (ap code_of c.in-BuildTuple.is) c.straight-in-BuildTuple.ensures (c.build_tuple.ensures program limit c.args.mode c.args.state.now)
 
 pub returns-in-BuildMap : goal.returns-in-BuildMap
 returns-in-BuildMap c program limit =
@@ -84,10 +84,14 @@ pub returns-in-UnpackList : goal.returns-in-UnpackList
 returns-in-UnpackList c program limit =
     straight_leads _ (codes.unpack_list _) _ _ _ _ _ _ _ (ap code_of c.in-UnpackList.is) c.straight-in-UnpackList.ensures (c.unpack_list.ensures program limit c.args.mode c.args.state.now)
 
+pub returns-in-UnpackLists : goal.returns-in-UnpackLists
+returns-in-UnpackLists c program limit =
+    straight_leads _ (codes.unpack_lists _) _ _ _ _ _ _ _ (ap code_of c.in-UnpackLists.is) c.straight-in-UnpackLists.ensures (c.unpack_lists.ensures program limit c.args.mode c.args.state.now)
+
 pub returns-in_default : goal.returns-in_default
 returns-in_default c program limit =
     let h = c.in_default in
     astray_out (ruled program limit c.args.mode) (code_of c.args.instruction.now) _ c.args.state.now _ _ _ _
     (λ before place left taken. unanswered_astray (ruled program limit c.args.mode) before _ (spot place _ c.args.state.now left taken)
-    (none_left c.args.instruction.now c.requires.operands c.requires.no_operator h.not-LoadConst h.not-Swap h.not-DupTop h.not-DiscardTop h.not-GetAttr h.not-GetItem h.not-Slice h.not-BuildList h.not-BuildTuple h.not-BuildMap h.not-UnpackList h.not-Neg h.not-Not h.not-IsUndefined h.not-CompareAndPreserve h.not-Jump h.not-JumpIfFalse h.not-JumpIfFalseOrPop h.not-JumpIfTrueOrPop))
+    (none_left c.args.instruction.now c.requires.operands c.requires.no_operator h.not-LoadConst h.not-Swap h.not-DupTop h.not-DiscardTop h.not-GetAttr h.not-GetItem h.not-Slice h.not-BuildList h.not-BuildTuple h.not-BuildMap h.not-UnpackList h.not-UnpackLists h.not-Neg h.not-Not h.not-IsUndefined h.not-CompareAndPreserve h.not-Jump h.not-JumpIfFalse h.not-JumpIfFalseOrPop h.not-JumpIfTrueOrPop))
     c.new.ensures

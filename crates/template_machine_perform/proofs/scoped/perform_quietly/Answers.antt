@@ -46,10 +46,18 @@ pub returns-in-PopAutoEscape : goal.returns-in-PopAutoEscape
 returns-in-PopAutoEscape c program =
     straight_leads _ codes.pop_auto_escape _ _ _ _ _ _ _ (ap code_of c.in-PopAutoEscape.is) c.straight-in-PopAutoEscape.ensures (c.pop_auto_escape.ensures (ruled program c.args.rules.limit c.args.rules.undefined) _)
 
+pub returns-in-BeginCapture : goal.returns-in-BeginCapture
+returns-in-BeginCapture c program =
+    straight_leads _ (codes.begin_capture _) _ _ _ _ _ _ _ (ap code_of c.in-BeginCapture.is) c.straight-in-BeginCapture.ensures (c.begin_capture.ensures (ruled program c.args.rules.limit c.args.rules.undefined) _)
+
+pub returns-in-EndCapture : goal.returns-in-EndCapture
+returns-in-EndCapture c program =
+    straight_leads _ codes.end_capture _ _ _ _ _ _ _ (ap code_of c.in-EndCapture.is) c.straight-in-EndCapture.ensures (c.end_capture.ensures (ruled program c.args.rules.limit c.args.rules.undefined))
+
 pub perform_on_operands-requires : goal.perform_on_operands-requires
 perform_on_operands-requires c =
     let h = c.in_default in
-    operands_left c.args.instruction.now c.requires h.not-Lookup h.not-StoreLocal h.not-PushWith h.not-PopFrame h.not-PushLoop h.not-Iterate h.not-PushDidNotIterate h.not-PopLoopFrame h.not-PushAutoEscape h.not-PopAutoEscape
+    operands_left c.args.instruction.now c.requires h.not-Lookup h.not-StoreLocal h.not-PushWith h.not-PopFrame h.not-PushLoop h.not-Iterate h.not-PushDidNotIterate h.not-PopLoopFrame h.not-PushAutoEscape h.not-PopAutoEscape h.not-BeginCapture h.not-EndCapture
 
 pub returns-in_default : goal.returns-in_default
 returns-in_default c program = c.perform_on_operands.ensures program c.args.rules.limit
