@@ -4,7 +4,7 @@ use crate::report::Report;
 use crate::runs::write_runs;
 use std::alloc::Global;
 use std::borrow::CowStr;
-use template_code::{Instruction, Instructions, LOOP_FLAG_WITH_LOOP_VAR};
+use template_code::{CaptureMode, Instruction, Instructions, LOOP_FLAG_WITH_LOOP_VAR};
 use template_code_references::get_referenced_names;
 use template_compiled::{CompiledTemplate, CompiledTemplates, TemplateConfig};
 use template_values_core::{Content, Value};
@@ -97,6 +97,23 @@ fn write_control(instruction: &Instruction<'_>, out: &mut Report) {
         Instruction::PushLoop(LOOP_FLAG_WITH_LOOP_VAR) => out.push_str("loop_with_variable"),
         Instruction::PushDidNotIterate => out.push_str("did_not_iterate"),
         Instruction::PopLoopFrame => out.push_str("end_loop"),
+        _ => write_moved(instruction, out),
+    }
+}
+
+// What opens or closes a capture, or moves operands.
+fn write_moved(instruction: &Instruction<'_>, out: &mut Report) {
+    match instruction {
+        Instruction::BeginCapture(CaptureMode::Capture) => out.push_str("capture"),
+        Instruction::EndCapture => out.push_str("end_capture"),
+        Instruction::PushLoop(0) => out.push_str("loop"),
+        Instruction::UnpackList(count) => out.group("unpack", count),
+        Instruction::UnpackLists(count) => out.group("spread", count),
+        Instruction::BuildList(None) => out.push_str("(list counted)"),
+        Instruction::Swap => out.push_str("swap"),
+        Instruction::DupTop => out.push_str("dup"),
+        Instruction::DiscardTop => out.push_str("discard"),
+        Instruction::Add => out.push_str("add"),
         _ => out.push('?'),
     }
 }
