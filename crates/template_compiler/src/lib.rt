@@ -24,8 +24,9 @@
 //!   source, and each knows its [`ast::Span`].
 //!   [`Parser`] does both for one source, and keeps a refusal.
 //! - [`find_undeclared`] gives the names that a tree uses, which a context may be asked for;
-//!   [`add_undeclared`] adds them to a set. [`find_macro_closure`] gives those that a macro encloses,
-//!   [`used_names`] those of a [`Unit`]: a template, a block or a recursive loop.
+//!   [`add_undeclared`] adds them to a set. [`find_macro_closure`] gives those that a macro encloses.
+//!   [`units`] lists what of a template is gone over by itself, the template, each block and each recursive loop, and
+//!   [`used_names`] gives the names that such a [`Unit`] uses.
 //! - [`is_runnable`] tells whether all constructs of a template's tree have a walk yet, [`is_runnable_expr`] of an
 //!   expression's.
 //! - [`compile_template`] puts the code of a tree behind what stands in [`Instructions`], [`compile_expr`]
@@ -64,6 +65,6 @@ pub use template_compiler_statement_codegen::{compile_expr, compile_template};
 pub use template_compiler_syntax::{StartMarker, SyntaxConfig, SyntaxConfigBuilder};
 pub use template_compiler_tokenizer::{TokenStream, Tokenizer};
 pub use template_compiler_tokens::{Token, Tokens, one_token};
-pub use template_names_closures::{Unit, find_macro_closure, used_names};
+pub use template_names_closures::{Unit, find_macro_closure, units, used_names};
 pub use template_names_undeclared::{add_undeclared, find_undeclared, first_segments};
 pub use template_values_errors::{Error, ErrorKind};

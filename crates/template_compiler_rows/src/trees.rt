@@ -2,7 +2,7 @@
 use crate::NAME;
 use crate::generated::generated;
 use crate::report::Report;
-use crate::unit_names::{closures, used};
+use crate::unit_names::{closures, write_units};
 use serde_json::{Map, Value as Json};
 use std::alloc::Global;
 use std::collections::BTreeSet;
@@ -53,7 +53,7 @@ fn about_tree<'line>(
         "names" => names(alloc, tree, false, out),
         "nested" => names(alloc, tree, true, out),
         "closures" => closures(alloc, tree, out),
-        "used" => used(alloc, tree, out),
+        "units" => write_units(alloc, tree, out),
         _ => out.refuse(ErrorKind::SyntaxError),
     }
 }

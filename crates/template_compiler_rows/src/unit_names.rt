@@ -2,7 +2,7 @@
 use crate::report::Report;
 use std::alloc::{AllocError, Global};
 use std::collections::BTreeSet;
-use template_names_closures::{Unit, find_macro_closure, used_names};
+use template_names_closures::{Unit, find_macro_closure, units, used_names};
 use template_tree_statements::{Macro, Stmt};
 use template_values_errors::ErrorKind;
 
@@ -28,30 +28,25 @@ fn closure(alloc: Global, declared: &Macro<'_>, out: &mut Report) {
     write_group(declared.name, &find_macro_closure(alloc, declared), out)
 }
 
-/// The names that the template's body uses, then those of each block and each recursive loop that stands in it, and in no other.
-pub(crate) fn used(alloc: Global, tree: &Stmt<'_>, out: &mut Report) {
-    match tree {
-        Stmt::Template(n) => {
-            write_group(
-                "template",
-                &used_names(alloc, &Unit::Template(&n.node)),
-                out,
-            );
-            used_among(alloc, &n.node.children, out)
-        }
-        _ => out.refuse(ErrorKind::SyntaxError),
+/// The units of the template, each with the names that it uses.
+pub(crate) fn write_units(alloc: Global, tree: &Stmt<'_>, out: &mut Report) {
+    match &units(alloc, tree) {
+        Ok(units) => write_all(alloc, units, out),
+        Err(_refused) => out.refuse(ErrorKind::OutOfMemory),
     }
 }
 
-fn used_among(alloc: Global, body: &[Stmt<'_>], out: &mut Report) {
-    for statement in body {
-        match statement {
-            Stmt::Block(n) => write_group("block", &used_names(alloc, &Unit::Block(&n.node)), out),
-            Stmt::ForLoop(n) if n.node.recursive => {
-                write_group("loop", &used_names(alloc, &Unit::Loop(&n.node)), out)
-            }
-            _ => {}
-        }
+fn write_all(alloc: Global, units: &[Unit<'_, '_>], out: &mut Report) {
+    for unit in units {
+        write_group(head(unit), &used_names(alloc, unit), out)
+    }
+}
+
+fn head(unit: &Unit<'_, '_>) -> &'static str {
+    match unit {
+        Unit::Template(_) => "template",
+        Unit::Block(_) => "block",
+        Unit::Loop(_) => "loop",
     }
 }
 

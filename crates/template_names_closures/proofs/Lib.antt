@@ -1,2 +1,3 @@
 mod Alone
 mod Rounds
+mod Taking

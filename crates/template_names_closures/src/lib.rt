@@ -2,8 +2,11 @@
 #![tactic(auto)]
 
 mod begin;
+mod bodies;
 mod closures;
-mod units;
+mod listing;
+mod parts;
 
 pub use closures::find_macro_closure;
-pub use units::{Unit, used_names};
+pub use listing::units;
+pub use parts::{Unit, used_names};

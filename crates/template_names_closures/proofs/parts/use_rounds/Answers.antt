@@ -6,7 +6,7 @@ use Rattle.template_names.specs.Names.{place_within}
 use Rattle.template_names.proofs.Laws.{goes_inside, goes_then, uses_as}
 use Rattle.template_names_closures.specs.Units.{place_in_part, rounds}
 use Rattle.template_names_closures.proofs.Rounds.{rounds_use}
-use Rattle.template_names_closures.proofs.units.use_rounds.Goals as goal
+use Rattle.template_names_closures.proofs.parts.use_rounds.Goals as goal
 
 pub returns : goal.returns
 returns c =

@@ -1,6 +1,6 @@
 use Rattle.template_names_closures.specs.Units.{is_used_by_part, part_of}
 use Rattle.template_names_closures.proofs.Alone.{in_set, told_alone}
-use Rattle.template_names_closures.proofs.units.used_names.Goals as goal
+use Rattle.template_names_closures.proofs.parts.used_names.Goals as goal
 
 pub returns : goal.returns
 returns c =

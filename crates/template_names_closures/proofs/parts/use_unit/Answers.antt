@@ -4,8 +4,8 @@ use Rattle.template_tree_parts.specs.Listed.{statements_in}
 use Rattle.template_names.specs.Names.{place_within}
 use Rattle.template_names.proofs.Laws.{uses_on}
 use Rattle.template_names_closures.specs.Units.{part_of, place_in_part}
-use Rattle.template_names_closures.specs.declared.units.Unit.{Unit}
-use Rattle.template_names_closures.proofs.units.use_unit.Goals as goal
+use Rattle.template_names_closures.specs.declared.parts.Unit.{Unit}
+use Rattle.template_names_closures.proofs.parts.use_unit.Goals as goal
 
 pub returns-in-Template : goal.returns-in-Template
 returns-in-Template c =
