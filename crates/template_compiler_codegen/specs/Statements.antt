@@ -2,7 +2,7 @@
 use Rattle.std.specs.Prelude.{ℕ, Bool, true, false, List, None, pos}
 use Rattle.template_tree.specs.declared.operators.BinOpKind.TheVariants.{Add}
 use Rattle.template_values_model.specs.Val.{Val, int}
-use Rattle.template_tree.specs.Tree.{Expression, Optional, Expressions, Statement, Statements, Assignments, variable, list_literal, absent, given, no_expressions, expressions_more, raw, print, for_loop, if_condition, with_block, set, set_block, auto_escape, continue_loop, break_loop, no_statements, statements_more, no_assignments, assignments_more}
+use Rattle.template_tree.specs.Tree.{Expression, Optional, Expressions, Statement, Statements, Assignments, variable, list_literal, call, absent, given, no_expressions, expressions_more, raw, print, for_loop, if_condition, with_block, set, set_block, auto_escape, continue_loop, break_loop, do_call, no_statements, statements_more, no_assignments, assignments_more}
 use Rattle.template_tree.specs.Tree as tree
 use Rattle.template_walk.specs.Statements.{number_of}
 use Rattle.template_code.specs.Code.{Code, emit_raw, emit, store_local, load_const, build_list, unpack_list, unpack_lists, operate, swap, dup_top, discard_top, jump_if_false, push_with, pop_frame, push_loop, push_did_not_iterate, pop_loop_frame, push_auto_escape, pop_auto_escape, begin_capture, end_capture, include}
@@ -85,6 +85,7 @@ abbrev mutual
       both (sealed (expression_core e)) (both (straight push_auto_escape)
       (both (within pop_auto_escape (statements_core body)) (straight pop_auto_escape)))
   statement_core (tree.include e ignore_missing) = both (sealed (expression_core e)) (straight (include ignore_missing))
+  statement_core (do_call callee args) = both (sealed (expression_core (call callee args))) (straight discard_top)
   statement_core continue_loop = leave false
   statement_core break_loop = leave true
   statement_core _ = empty  -- what has no walk yet has no code

@@ -29,9 +29,19 @@ module _ {R : Type 0} where
   abbrev pub id_in : State R → ℕ
   id_in s = s.id
 
--- no frame and no capture, under an escape, in the state of a number
-abbrev pub frameless : ℕ → AutoEscape → World
-frameless id escape = record { frames = []; outer = 0; escape = escape; saved = []; first = escape; captures = []; id = id; opened = 0 }
+-- no frame and no capture, under an escape, in the state of a number, with the functions of an environment
+abbrev pub frameless : ℕ → Option ℕ → AutoEscape → World
+frameless id functions escape = record {
+  frames = [];
+  outer = 0;
+  escape = escape;
+  saved = [];
+  first = escape;
+  captures = [];
+  id = id;
+  opened = 0;
+  functions = functions;
+}
 
 -- the name of a state without a template
 abbrev pub unknown : List ℕ

@@ -146,6 +146,7 @@ fn evaluate<'env, 'source>(
     let mut state: MachineState<'env> = MachineState::new(
         alloc,
         NO_STATE,
+        registry.functions,
         AutoEscape::None,
         context,
     )?;

@@ -2,6 +2,7 @@
 #![tactic(auto)]
 
 ghost use Rattle.template_machine_acts.specs.Answers.{AddCountedActs, ConstantActs, DiscardActs, DoubleActs, JumpActs, LookupActs, SwapActs, SwapCountedActs, UndefinedActs};
+ghost use Rattle.template_machine_acts.specs.Calls.{BuildKwargsActs, CallFunctionActs, CallMethodActs, CallObjectActs};
 ghost use Rattle.template_machine_acts.specs.Captures.{BeginCaptureActs, EndCaptureActs, PrintCaptures, WriteCaptures};
 ghost use Rattle.template_machine_acts.specs.Events.{BreaksAstray, EventsAct, EventsFault, PassesActs, StuckAstray};
 ghost use Rattle.template_machine_acts.specs.Includes.{IncludeActs, IncludeFaults, IncludeRunsOut, IncludeStrays, IncludeWants};
@@ -56,6 +57,14 @@ pub fn containers_act()
     ensures map { BuildMapActs }
     ensures unpack { UnpackActs }
     ensures counted { UnpackListsActs }
+{}
+
+/// Keyword arguments are built; and names, methods and values are called, or that faults.
+pub fn calls_act()
+    ensures kwargs { BuildKwargsActs }
+    ensures function { CallFunctionActs }
+    ensures method { CallMethodActs }
+    ensures object { CallObjectActs }
 {}
 
 /// Jumps on a value's truth lead on or to their targets, or fault.

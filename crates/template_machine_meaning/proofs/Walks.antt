@@ -5,18 +5,19 @@ use Rattle.std.specs.Str.{bytes_eq}
 use Rattle.std.proofs.lemmas.Bool.{or_cases, or_left, or_right}
 use Rattle.std.proofs.lemmas.Bool.Decides.{nat_tests}
 use Rattle.std.proofs.lemmas.Slice.Eq.{bytes_eq-Decides}
+use Rattle.template_values_model.specs.Val as values
 use Rattle.template_values_model.specs.Val.{Val}
 use Rattle.template_tree.specs.declared.operators.UnaryOpKind.{UnaryOpKind}
 use Rattle.template_tree.specs.declared.operators.UnaryOpKind.TheVariants.{Not, Neg}
 use Rattle.template_tree.specs.declared.operators.BinOpKind.{BinOpKind}
 use Rattle.template_tree.specs.declared.operators.BinOpKind.TheVariants.{ScAnd, ScOr}
-use Rattle.template_tree.specs.Tree.{Expression, Optional, Expressions, Links, variable, constant, slice, unary, binary, chain, conditional, attribute, item, list_literal, tuple_literal, map_literal, absent, given, no_expressions, expressions_more, no_links, links_more, Statement, Statements, Assignments, raw, print, for_loop, if_condition, with_block, set, set_block, auto_escape, include, continue_loop, break_loop, no_statements, statements_more, no_assignments, assignments_more}
+use Rattle.template_tree.specs.Tree.{Expression, Optional, Expressions, Links, Arguments, variable, constant, slice, unary, binary, chain, conditional, attribute, item, call, list_literal, tuple_literal, map_literal, absent, given, no_expressions, expressions_more, no_links, links_more, no_arguments, arguments_more, positional, keyword, Statement, Statements, Assignments, raw, print, for_loop, if_condition, with_block, set, set_block, auto_escape, include, continue_loop, break_loop, do_call, no_statements, statements_more, no_assignments, assignments_more}
 use Rattle.template_names.proofs.Plain.{in_attribute}
-use Rattle.template_names.specs.Names.{stands_in, stands_if_given, stands_in_one, stands_in_links, is_stored_in, is_stored_in_one, is_used_by_target, is_used_from, is_stored_by, is_used_by, is_used_in}
+use Rattle.template_names.specs.Names.{anywhere, place_in_argument, place_in_arguments, stands_in, stands_if_given, stands_in_one, stands_in_links, is_stored_in, is_stored_in_one, is_used_by_target, is_used_from, is_stored_by, is_used_by, is_used_in}
 use Rattle.template_process.specs.Process as events
-use Rattle.template_process.specs.Process.{close_frame, Looping, plain_loop, open_loop, close_loop, close_escape, Answer, done, value, truth, items, no_item, Process, over, step, asks, amiss, on_done, on_value, on_truth, on_item, on_items, on_all}
+use Rattle.template_process.specs.Process.{build_kwargs, call_function, call_method, call_value, close_frame, Looping, plain_loop, open_loop, close_loop, close_escape, Answer, done, value, truth, items, no_item, Process, over, step, asks, amiss, on_done, on_value, on_truth, on_item, on_items, on_all}
 use Rattle.template_walk.specs.Constants.{constant_of}
-use Rattle.template_walk.specs.Expressions.{folded, unary_ask, binary_walk, expression_walk, optional_walk, expressions_walk, walks_of, entries_walk, chain_walk, linked_walk}
+use Rattle.template_walk.specs.Expressions.{folded, unary_ask, binary_walk, Giving, in_turn, named_in_turn, keywords_walk, passed_walk, Callee, by_name, by_method, by_value, callee_of, called_walk, expression_walk, object_walk, positional_walks, keyword_walks, optional_walk, expressions_walk, walks_of, entries_walk, chain_walk, linked_walk}
 use Rattle.template_walk.specs.Statements.{Exits, outside, closing, capture_left, capturing, number_of, target_walk, targets_walk, assignments_walk, rounds, kept_rounds, sifting, iterable_walk, loop_end, past, statement_walk, statements_walk, template_walk}
 use Rattle.template_machine_meaning.proofs.Known.{Known, base, inner, IsKnown, Grows, grows_itself, grows_on, known_on, stored, cleared, grows_stored, knows_stored, IsSafe, Within}
 
@@ -89,6 +90,10 @@ module _ (names : List ℕ → Type 0) (start : Known) where
       none_left : Each []
       each_more : {walk : (Val → Process) → Process} {walks : List ((Val → Process) → Process)} → Keeps walk → Each walks → Each (walk ∷ walks)
 
+    data EachNamed : List (List ℕ × Giving) → Type 0 where
+      no_names : EachNamed []
+      more_names : {named : List ℕ × Giving} {others : List (List ℕ × Giving)} → Keeps named.1 → EachNamed others → EachNamed (named ∷ others)
+
     in_folded : (o : Option Val) (go : Val → Process) (p : Process) → ((v : Val) → In k (go v)) → In k p → In k (folded o go p)
     in_folded None go p h i = i
     in_folded (Some v) go p h i = h v
@@ -101,6 +106,44 @@ module _ (names : List ℕ → Type 0) (start : Known) where
     in_binary ScAnd left right f g go h = f _ (λ v. (tt, at_truth k (right go) (go v) (g go h) (h v)))
     in_binary ScOr left right f g go h = f _ (λ v. (tt, at_truth k (go v) (right go) (h v) (g go h)))
     in_binary op left right f g go h = f _ (λ v. g _ (λ w. (tt, at_value k go h)))
+
+    -- the same with values in turn
+    abbrev KeepsAll : ((List Val → Process) → Process) → Type 0
+    KeepsAll walk = (go : List Val → Process) → ((vs : List Val) → In k (go vs)) → In k (walk go)
+
+    in_order : (walks : List Giving) → Each walks → KeepsAll (in_turn walks)
+    in_order [] each go h = h []
+    in_order (walk ∷ walks) (each_more f each) go h = f _ (λ v. in_order walks each _ (λ vs. h (v ∷ vs)))
+
+    in_named : (named : List (List ℕ × Giving)) → EachNamed named → (go : List (Val × Val) → Process) → ((entries : List (Val × Val)) → In k (go entries)) → In k (named_in_turn named go)
+    in_named [] each go h = h []
+    in_named (n ∷ ns) (more_names f each) go h = f _ (λ v. in_named ns each _ (λ entries. h ((values.text n.0, v) ∷ entries)))
+
+    in_keywords : (named : List (List ℕ × Giving)) → EachNamed named → KeepsAll (keywords_walk named)
+    in_keywords [] each go h = h []
+    in_keywords (n ∷ ns) each go h =
+        in_named (n ∷ ns) each (λ entries. step (asks (build_kwargs entries) (on_value (λ map. go (map ∷ []))))) (λ entries. (tt, at_value k (λ map. go (map ∷ [])) (λ map. h (map ∷ []))))
+
+    in_passed : (walks : List Giving) → Each walks → (named : List (List ℕ × Giving)) → EachNamed named → KeepsAll (passed_walk walks named)
+    in_passed walks each named others go h = in_order walks each _ (λ vs. in_keywords named others _ (λ last. h (vs ++ last)))
+
+    -- a name that is called is safe
+    abbrev MayCall : Callee → Type 0
+    MayCall (by_name name) = IsSafe names k name
+    MayCall _ = Unit {0}
+
+    in_called : (callee : Callee) → MayCall callee → (whole object : Giving) → Keeps whole → Keeps object → (walks : List Giving) → Each walks → (named : List (List ℕ × Giving)) → EachNamed named
+        → Keeps (called_walk callee whole object (passed_walk walks named))
+    in_called (by_name name) may whole object f g walks each named others go h =
+        in_passed walks each named others (λ vs. step (asks (call_function name vs) (on_value go))) (λ vs. (may, at_value k go h))
+    in_called (by_method name) may whole object f g walks each named others go h =
+        g _ (λ v. in_passed walks each named others (λ vs. step (asks (call_method name (v ∷ vs)) (on_value go))) (λ vs. (tt, at_value k go h)))
+    in_called by_value may whole object f g walks each named others go h =
+        f _ (λ v. in_passed walks each named others (λ vs. step (asks (call_value (v ∷ vs)) (on_value go))) (λ vs. (tt, at_value k go h)))
+
+    may_call : (callee : Expression) → Sees k (λ name. stands_in name callee) → MayCall (callee_of callee)
+    may_call (variable name) sees = sees name ((bytes_eq-Decides name name).1 refl)
+    may_call _ sees = tt
 
     mutual
       pub in_expression : (e : Expression) → Sees k (λ name. stands_in name e) → Keeps (expression_walk e)
@@ -143,7 +186,32 @@ module _ (names : List ℕ → Type 0) (start : Known) where
           in_folded (constant_of (map_literal ks vs)) go _ h
           (in_entries ks (walks_of vs) (sees_left k (λ name. stands_in_one name ks) (λ name. stands_in_one name vs) sees)
           (in_each vs (sees_right k (λ name. stands_in_one name ks) (λ name. stands_in_one name vs) sees)) _ (λ entries. (tt, at_value k go h)))
+      in_expression (call callee args) sees go h =
+          let in_callee = sees_left k (λ name. stands_in name callee) (λ name. place_in_arguments (anywhere name) args) sees in
+          let in_args = sees_right k (λ name. stands_in name callee) (λ name. place_in_arguments (anywhere name) args) sees in
+          in_called (callee_of callee) (may_call callee in_callee) (expression_walk callee) (object_walk callee) (in_expression callee in_callee) (in_object callee in_callee)
+          (positional_walks args) (in_positional args in_args) (keyword_walks args) (in_keyword args in_args) go h
       in_expression _ sees go h = tt
+
+      in_object : (e : Expression) → Sees k (λ name. stands_in name e) → Keeps (object_walk e)
+      in_object (attribute e field) sees go h = in_expression e (λ name used. sees name (in_attribute name e field ∙ used)) go h
+      in_object _ sees go h = tt
+
+      in_positional : (args : Arguments) → Sees k (λ name. place_in_arguments (anywhere name) args) → Each (positional_walks args)
+      in_positional no_arguments sees = none_left
+      in_positional (arguments_more (positional e) args) sees =
+          each_more (in_expression e (sees_left k (λ name. stands_in name e) (λ name. place_in_arguments (anywhere name) args) sees))
+          (in_positional args (sees_right k (λ name. stands_in name e) (λ name. place_in_arguments (anywhere name) args) sees))
+      in_positional (arguments_more argument args) sees =
+          in_positional args (sees_right k (λ name. place_in_argument (anywhere name) argument) (λ name. place_in_arguments (anywhere name) args) sees)
+
+      in_keyword : (args : Arguments) → Sees k (λ name. place_in_arguments (anywhere name) args) → EachNamed (keyword_walks args)
+      in_keyword no_arguments sees = no_names
+      in_keyword (arguments_more (keyword key e) args) sees =
+          more_names (in_expression e (sees_left k (λ name. stands_in name e) (λ name. place_in_arguments (anywhere name) args) sees))
+          (in_keyword args (sees_right k (λ name. stands_in name e) (λ name. place_in_arguments (anywhere name) args) sees))
+      in_keyword (arguments_more argument args) sees =
+          in_keyword args (sees_right k (λ name. place_in_argument (anywhere name) argument) (λ name. place_in_arguments (anywhere name) args) sees)
 
       in_optional : (o : Optional) (missing : Val) → Sees k (λ name. stands_if_given name o) → Keeps (optional_walk missing o)
       in_optional absent missing sees go h = h missing
@@ -411,6 +479,7 @@ module _ (names : List ℕ → Type 0) (start : Known) where
                 (in_close_escape k go (nothing_stored k go h))),
           ))
       in_statement n (include e ignore_missing) k x go sees leads h = in_expression k e sees _ (λ v. (tt, at_done k go (nothing_stored k go h k (grows_itself k))))
+      in_statement n (do_call callee args) k x go sees leads h = in_expression k (call callee args) sees _ (λ v. nothing_stored k go h k (grows_itself k))
       in_statement n continue_loop k x go sees leads h = leads.1 k (grows_itself k)
       in_statement n break_loop k x go sees leads h = leads.0 k (grows_itself k)
       in_statement n _ k x go sees leads h = tt

@@ -1,3 +1,5 @@
 mod Answering
 mod Unprinted
 mod Unpacked
+mod Mapping
+mod Ranging

@@ -1,3 +1,4 @@
 pub mod Answers
+pub mod Entries
 pub mod Outcomes
 pub mod Texts

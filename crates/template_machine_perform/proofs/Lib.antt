@@ -6,3 +6,4 @@ pub mod Scoping
 pub mod Straying
 mod Catching
 mod Unanswered
+mod Naming

@@ -6,14 +6,15 @@ ghost use Rattle.template_machine_operands.specs.Operands.{operands_in};
 ghost use Rattle.template_machine_steps.specs.Performs.{Leads, ruled};
 ghost use Rattle.template_machine_perform.specs.Performs.{straight, operator_in, IsOfOperands};
 
+use crate::calls::{call_function, call_method, call_object};
 use std::alloc::Global;
 use template_code::{CompareOp, Instruction};
 use template_machine_operands::Operands;
 use template_machine_state::State;
 use template_machine_steps::{
-    Way, build_list, build_map, build_tuple, compare_and_preserve, discard_top, dup_top, get_attr,
-    get_item, invert, is_undefined, jump, jump_if_false, jump_if_false_or_pop, jump_if_true_or_pop,
-    load_const, negate, operate, slice, swap, unpack_list, unpack_lists,
+    Way, build_kwargs, build_list, build_map, build_tuple, compare_and_preserve, discard_top,
+    dup_top, get_attr, get_item, invert, is_undefined, jump, jump_if_false, jump_if_false_or_pop,
+    jump_if_true_or_pop, load_const, negate, operate, slice, swap, unpack_list, unpack_lists,
 };
 use template_tree::{BinOpKind, CompareOpKind};
 use template_values_errors::{Error, ErrorKind, UndefinedBehavior};
@@ -68,8 +69,8 @@ fn operator_of(instruction: &Instruction<'_>) -> Option<BinOpKind>
     }
 }
 
-// Does what an instruction does that only takes and gives operands, and looks into records alone of what surrounds them. One
-// that asks what nothing answers is refused.
+// Does what an instruction does that only takes and gives operands, and looks into records and names alone of what surrounds
+// them. One that asks what nothing answers is refused.
 #[inline(never)]
 pub(crate) fn perform_on_operands(
     alloc: Global,
@@ -116,8 +117,16 @@ fn perform_without_operator(
         Instruction::BuildList(count) => straight(build_list(alloc, *count, operands)),
         Instruction::BuildTuple(count) => straight(build_tuple(alloc, *count, operands)),
         Instruction::BuildMap(count) => straight(build_map(alloc, *count, operands)),
+        Instruction::BuildKwargs(count) => straight(build_kwargs(alloc, *count, operands)),
         Instruction::UnpackList(count) => straight(unpack_list(alloc, *count, operands)),
         Instruction::UnpackLists(count) => straight(unpack_lists(alloc, *count, operands)),
+        Instruction::CallFunction(name, count) => {
+            straight(call_function(alloc, name.as_str(), *count, state, operands))
+        }
+        Instruction::CallMethod(name, count) => {
+            straight(call_method(alloc, name.as_str(), *count, state, operands))
+        }
+        Instruction::CallObject(count) => straight(call_object(alloc, *count, state, operands)),
         Instruction::Neg => straight(negate(operands)),
         Instruction::Not => straight(invert(mode, operands, state)),
         Instruction::IsUndefined => straight(is_undefined(operands)),

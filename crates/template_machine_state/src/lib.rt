@@ -3,6 +3,7 @@
 
 mod caller;
 mod capture;
+mod functions;
 mod state;
 
 pub use caller::Caller;

@@ -2,6 +2,7 @@
 #![tactic(auto)]
 
 mod asides;
+mod calls;
 mod containers;
 mod operands;
 mod operators;
@@ -10,6 +11,7 @@ mod truths;
 mod ways;
 
 pub use asides::{Aside, Tested, operate_aside, test_aside};
+pub use calls::{build_kwargs, call_function, call_method, call_object};
 pub use containers::{build_list, build_map, build_tuple, unpack_list, unpack_lists};
 pub use operands::{discard_top, dup_top, load_const, load_const_at_once, swap};
 pub use operators::{compare_and_preserve, invert, is_undefined, negate, operate, operate_at_once};

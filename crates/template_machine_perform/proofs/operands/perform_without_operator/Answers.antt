@@ -80,6 +80,22 @@ pub returns-in-BuildMap : goal.returns-in-BuildMap
 returns-in-BuildMap c program limit =
     straight_leads _ (codes.build_map _) _ _ _ _ _ _ _ (ap code_of c.in-BuildMap.is) c.straight-in-BuildMap.ensures (c.build_map.ensures program limit c.args.mode c.args.state.now)
 
+pub returns-in-BuildKwargs : goal.returns-in-BuildKwargs
+returns-in-BuildKwargs c program limit =
+    straight_leads _ (codes.build_kwargs _) _ _ _ _ _ _ _ (ap code_of c.in-BuildKwargs.is) c.straight-in-BuildKwargs.ensures (c.build_kwargs.ensures program limit c.args.mode c.args.state.now)
+
+pub returns-in-CallFunction : goal.returns-in-CallFunction
+returns-in-CallFunction c program limit =
+    straight_leads _ (codes.call_function _ _) _ _ _ _ _ _ _ (ap code_of c.in-CallFunction.is ∙ ap (λ t. codes.call_function t c.in-CallFunction.count.now) (sym c.as_str-in-CallFunction.ensures.value)) c.straight-in-CallFunction.ensures (c.call_function.ensures program limit c.args.mode)
+
+pub returns-in-CallMethod : goal.returns-in-CallMethod
+returns-in-CallMethod c program limit =
+    straight_leads _ (codes.call_method _ _) _ _ _ _ _ _ _ (ap code_of c.in-CallMethod.is ∙ ap (λ t. codes.call_method t c.in-CallMethod.count.now) (sym c.as_str-in-CallMethod.ensures.value)) c.straight-in-CallMethod.ensures (c.call_method.ensures program limit c.args.mode)
+
+pub returns-in-CallObject : goal.returns-in-CallObject
+returns-in-CallObject c program limit =
+    straight_leads _ (codes.call_object _) _ _ _ _ _ _ _ (ap code_of c.in-CallObject.is) c.straight-in-CallObject.ensures (c.call_object.ensures program limit c.args.mode)
+
 pub returns-in-UnpackList : goal.returns-in-UnpackList
 returns-in-UnpackList c program limit =
     straight_leads _ (codes.unpack_list _) _ _ _ _ _ _ _ (ap code_of c.in-UnpackList.is) c.straight-in-UnpackList.ensures (c.unpack_list.ensures program limit c.args.mode c.args.state.now)
@@ -93,5 +109,5 @@ returns-in_default c program limit =
     let h = c.in_default in
     astray_out (ruled program limit c.args.mode) (code_of c.args.instruction.now) _ c.args.state.now _ _ _ _
     (λ before place left taken. unanswered_astray (ruled program limit c.args.mode) before _ (spot place _ c.args.state.now left taken)
-    (none_left c.args.instruction.now c.requires.operands c.requires.no_operator h.not-LoadConst h.not-Swap h.not-DupTop h.not-DiscardTop h.not-GetAttr h.not-GetItem h.not-Slice h.not-BuildList h.not-BuildTuple h.not-BuildMap h.not-UnpackList h.not-UnpackLists h.not-Neg h.not-Not h.not-IsUndefined h.not-CompareAndPreserve h.not-Jump h.not-JumpIfFalse h.not-JumpIfFalseOrPop h.not-JumpIfTrueOrPop))
+    (none_left c.args.instruction.now c.requires.operands c.requires.no_operator h.not-LoadConst h.not-Swap h.not-DupTop h.not-DiscardTop h.not-GetAttr h.not-GetItem h.not-Slice h.not-BuildList h.not-BuildTuple h.not-BuildMap h.not-BuildKwargs h.not-UnpackList h.not-UnpackLists h.not-CallFunction h.not-CallMethod h.not-CallObject h.not-Neg h.not-Not h.not-IsUndefined h.not-CompareAndPreserve h.not-Jump h.not-JumpIfFalse h.not-JumpIfFalseOrPop h.not-JumpIfTrueOrPop))
     c.new.ensures
