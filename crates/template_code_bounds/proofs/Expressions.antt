@@ -7,7 +7,7 @@ use Rattle.template_compiler_grammar.specs.Words.{Level}
 use Rattle.template_compiler_grammar.specs.Trees.{Paired, Written}
 use Rattle.template_compiler_grammar.specs.Grammar.{IsExpression, unconditional, if_alone, if_else, IsBinary, operands, IsOperands, operands_end, operands_more, IsOperand, factor, text_operand, term, conjunct, disjunct, IsNegation, negation, no_negation, IsComparison, comparison, IsLinks, links_end, links_operator, links_not_in, IsPower, no_power, power, IsFiltered, filtered_value, IsFilters, filters_end, filters_more, IsFilterParts, filter_parts, is_test, is_not_test, IsFilter, filter, IsTest, test, bare_test, IsOptionalArguments, no_list, a_list, IsUnary, minus_sign, primary, IsParts, parts_end, parts_more, IsPart, attribute_part, number_part, subscript_part, call_part, IsSubscript, item_subscript, slice_subscript, IsBound, no_bound, a_bound, IsStep, no_step, a_step, IsPrimary, name_primary, word_primary, number_primary, text_primary, paren_primary, list_primary, map_primary, IsParen, empty_tuple, in_parens, tuple, IsItems, items_end, items_last, items_more, IsPairs, pairs_end, pairs_last, pairs_more, IsArgumentList, argument_list, IsArguments, arguments_end, arguments_last, arguments_next, IsArgument, positional_argument, keyword_argument, spread_argument, keyword_spread_argument}
 use Rattle.template_code_bounds.proofs.Weights.{weight, name_weighs, texts_weigh}
-use Rattle.template_code_bounds.proofs.Sizes.{expression_size, optional_size, expressions_size, links_size, and_expression_size, and_link_size, compared_size, tested_size}
+use Rattle.template_code_bounds.proofs.Sizes.{expression_size, optional_size, expressions_size, argument_size, arguments_size, written_size, links_size, and_expression_size, and_link_size, and_written_size, followed_size, compared_size, tested_size}
 
 mutual
   pub expression_bound : {d : ℕ} {ts us : List Token} {e : Expression} → IsExpression d ts e us →
@@ -99,7 +99,7 @@ mutual
   part_bound attribute_part = omega arith
   part_bound number_part = omega arith
   part_bound (subscript_part s) = let p = subscript_bound s in omega arith
-  part_bound (call_part l) = let p = argument_list_weighs l in omega arith
+  part_bound (call_part l) = let p = argument_list_bound l in omega arith
 
   subscript_bound : {d : ℕ} {a e : Expression} {ts us : List Token} → IsSubscript d a ts e us →
       expression_size e + 51 * weight us ≤ expression_size a + 51 * weight ts
@@ -151,21 +151,27 @@ mutual
       let a = expression_bound g in let b = expression_bound h in let c = pairs_bound i in
       omega (arith, and_expression_size p.0 k, and_expression_size p.1 v)
 
-  -- what has no code
+  -- behind a filter or a test, whose arguments have no code
   optional_arguments_weigh : {d : ℕ} {args : Arguments} {ts us : List Token} → IsOptionalArguments d ts args us → weight us ≤ weight ts
   optional_arguments_weigh (no_list e) = omega arith
-  optional_arguments_weigh (a_list l) = let p = argument_list_weighs l in omega arith
+  optional_arguments_weigh (a_list l) = let p = argument_list_bound l in omega arith
 
-  argument_list_weighs : {d : ℕ} {args : Arguments} {ts us : List Token} → IsArgumentList d ts args us → weight us ≤ weight ts
-  argument_list_weighs (argument_list l e f) = let p = arguments_weigh l in omega arith
+  argument_list_bound : {d : ℕ} {args : Arguments} {ts us : List Token} → IsArgumentList d ts args us →
+      arguments_size args + 51 * weight us ≤ 51 * weight ts
+  argument_list_bound (argument_list {w = w} l e f) =
+      let p = arguments_bound l in omega (arith, followed_size w.0 w.1, ap arguments_size e)
 
-  arguments_weigh : {d : ℕ} {w x : Written} {ts us : List Token} → IsArguments d w ts x us → weight us ≤ weight ts
-  arguments_weigh arguments_end = omega arith
-  arguments_weigh (arguments_last a f) = argument_weighs a
-  arguments_weigh (arguments_next a i) = let p = argument_weighs a in let q = arguments_weigh i in omega arith
+  arguments_bound : {d : ℕ} {w x : Written} {ts us : List Token} → IsArguments d w ts x us →
+      written_size x + 51 * weight us ≤ written_size w + 51 * weight ts
+  arguments_bound arguments_end = omega arith
+  arguments_bound (arguments_last {a = a} {w = w} h f) =
+      let p = argument_bound h in omega (arith, and_written_size w a, ap written_size f)
+  arguments_bound (arguments_next {a = a} {w = w} h i) =
+      let p = argument_bound h in let q = arguments_bound i in omega (arith, and_written_size w a)
 
-  argument_weighs : {d : ℕ} {a : Argument} {ts us : List Token} → IsArgument d ts a us → weight us ≤ weight ts
-  argument_weighs (positional_argument e) = let p = expression_bound e in omega arith
-  argument_weighs (keyword_argument e) = let p = expression_bound e in omega arith
-  argument_weighs (spread_argument e) = let p = expression_bound e in omega arith
-  argument_weighs (keyword_spread_argument e) = let p = expression_bound e in omega arith
+  argument_bound : {d : ℕ} {a : Argument} {ts us : List Token} → IsArgument d ts a us →
+      argument_size a + 51 * weight us ≤ 51 * weight ts
+  argument_bound (positional_argument e) = let p = expression_bound e in omega arith
+  argument_bound (keyword_argument e) = let p = expression_bound e in omega arith
+  argument_bound (spread_argument e) = let p = expression_bound e in omega arith
+  argument_bound (keyword_spread_argument e) = let p = expression_bound e in omega arith

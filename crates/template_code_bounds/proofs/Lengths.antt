@@ -1,16 +1,18 @@
 -- The code of a tree is no longer than the tree is large, wherever it begins.
 use Rattle.std.proofs.Common.{◌≤◌, ℕ, ◌+◌, suc, true, false, List, [], ◌∷◌, ◌++◌, length, Option, None, Some, arith, length-append}
-use Rattle.template_values_model.specs.Val.{Val, silent_undefined, none}
+use Rattle.template_values_model.specs.Val.{Val, silent_undefined, none, text}
 use Rattle.template_tree.specs.declared.operators.BinOpKind.{BinOpKind}
 use Rattle.template_tree.specs.declared.operators.BinOpKind.TheVariants.{Add, ScAnd, ScOr}
-use Rattle.template_tree.specs.Tree.{Expression, Optional, Expressions, Links, unary, binary, chain, conditional, attribute, item, list_literal, tuple_literal, map_literal, absent, given, no_expressions, expressions_more, no_links, links_more, Statement, print, for_loop, if_condition, with_block, set, set_block, auto_escape, continue_loop, break_loop, Statements, no_statements, statements_more, Assignments, no_assignments, assignments_more}
+use Rattle.template_tree.specs.Tree.{Expression, Optional, Expressions, Links, Arguments, unary, binary, chain, conditional, attribute, item, call, list_literal, tuple_literal, map_literal, absent, given, no_expressions, expressions_more, no_links, links_more, no_arguments, arguments_more, positional, keyword, positional_spread, keyword_spread, Statement, print, for_loop, if_condition, with_block, set, set_block, auto_escape, continue_loop, break_loop, do_call, Statements, no_statements, statements_more, Assignments, no_assignments, assignments_more}
 use Rattle.template_tree.specs.Tree as tree
 use Rattle.template_walk.specs.Constants.{constant_of}
+use Rattle.template_walk.specs.Expressions.{Callee, by_name, by_method, by_value, callee_of}
 use Rattle.template_walk.specs.Statements.{number_of}
-use Rattle.template_code.specs.Code.{Code, get_attr, get_item, slice, build_map, build_list, build_tuple, operate, compare_and_preserve, jump, jump_if_false, jump_if_false_or_pop, jump_if_true_or_pop, emit, load_const, unpack_list, unpack_lists, swap, dup_top, discard_top, push_with, pop_frame, push_loop, pop_loop_frame, push_auto_escape, pop_auto_escape, begin_capture, end_capture, include}
-use Rattle.template_compiler_codegen.specs.Expressions.{Coded, unary_code, then_code, one, dropped, loaded, skipped, either_code, binary_code, entry_count, expression_code, optional_code, expressions_code, codes_of, entries_code, chain_code, linked_code}
+use Rattle.template_code.specs.Code.{Code, get_attr, set_attr, get_item, slice, build_map, build_kwargs, build_list, build_tuple, call_function, call_method, call_object, operate, compare_and_preserve, jump, jump_if_false, jump_if_false_or_pop, jump_if_true_or_pop, emit, load_const, unpack_list, unpack_lists, swap, dup_top, discard_top, push_with, pop_frame, push_loop, pop_loop_frame, push_auto_escape, pop_auto_escape, begin_capture, end_capture, include}
+use Rattle.template_compiler_codegen.specs.Core.{Core, no_ways, flat}
+use Rattle.template_compiler_codegen.specs.Expressions.{Coded, unary_code, then_code, one, dropped, loaded, skipped, either_code, binary_code, entry_count, passed_core, passed_count, called_core, expression_core, object_core, positional_cores, keyword_cores, expression_code, optional_code, expressions_code, codes_of, entries_code, chain_code, linked_code, in_turn_code, named_code, keywords_code, passed_code}
 use Rattle.template_compiler_codegen.specs.Statements.{Ways, own_ways, closing_with, target_code, targets_code, assignments_code, loop_flags, no_flags, one_item, rounds_code, iterable_code, keep_code, kept_code, loop_end_code, branches_code, left_by, statement_code, statements_code}
-use Rattle.template_code_bounds.proofs.Sizes.{expression_size, optional_size, expressions_size, chain_size, links_size, target_size, targets_size, iterable_size, assignments_size, statement_size, statements_size}
+use Rattle.template_code_bounds.proofs.Sizes.{expression_size, optional_size, expressions_size, arguments_size, chain_size, links_size, target_size, targets_size, iterable_size, assignments_size, statement_size, statements_size}
 
 abbrev AtMost : Coded → ℕ → Type 0
 AtMost f n = (place : ℕ) → length (f place) ≤ n
@@ -55,6 +57,47 @@ chain_some : (links : Links) → 1 ≤ chain_size links
 chain_some no_links = omega arith
 chain_some (links_more op e links) = omega arith
 
+-- arguments that are passed by their place, and those that are passed by a name
+abbrev positional_size : Arguments → ℕ
+positional_size no_arguments = 0
+positional_size (arguments_more (positional e) args) = expression_size e + positional_size args
+positional_size (arguments_more _ args) = positional_size args
+
+abbrev keyword_size : Arguments → ℕ
+keyword_size no_arguments = 0
+keyword_size (arguments_more (keyword name e) args) = suc (expression_size e + keyword_size args)
+keyword_size (arguments_more _ args) = keyword_size args
+
+parted_size : (args : Arguments) → positional_size args + keyword_size args ≤ arguments_size args
+parted_size no_arguments = omega arith
+parted_size (arguments_more (positional e) args) = omega (arith, parted_size args)
+parted_size (arguments_more (keyword name e) args) = omega (arith, parted_size args)
+parted_size (arguments_more (positional_spread e) args) = omega (arith, parted_size args)
+parted_size (arguments_more (keyword_spread e) args) = omega (arith, parted_size args)
+
+keywords_most : (ns : List (List ℕ × Core)) (k : ℕ) → AtMost (named_code ns) k → AtMost (keywords_code ns) (suc k)
+keywords_most [] k most = λ place. omega arith
+keywords_most (n ∷ ns) k most = and_one_most (build_kwargs (suc (length ns))) (named_code (n ∷ ns)) k most
+
+passed_most : (args : Arguments) → AtMost (in_turn_code (positional_cores args)) (positional_size args) →
+    AtMost (named_code (keyword_cores args)) (keyword_size args) → AtMost (passed_code args) (suc (arguments_size args))
+passed_most args first later =
+    let ns = keyword_cores args in let k = keyword_size args in
+    then_most (in_turn_code (positional_cores args)) (keywords_code ns) (positional_size args) (suc k) (suc (arguments_size args)) first
+    (keywords_most ns k later) (omega (arith, parted_size args))
+
+called_most : (callee : Callee) (whole object : Core) (cs : List Core) (ns : List (List ℕ × Core)) (m n k : ℕ) →
+    AtMost (flat no_ways whole) m → AtMost (flat no_ways object) m → AtMost (flat no_ways (passed_core cs ns)) n → suc (m + n) ≤ k →
+    AtMost (flat no_ways (called_core callee whole object cs ns)) k
+called_most (by_name name) whole object cs ns m n k f g h most =
+    then_most (flat no_ways (passed_core cs ns)) (one (call_function name (Some (passed_count cs ns)))) n 1 k h (one_most (call_function name (Some (passed_count cs ns)))) (omega arith)
+called_most (by_method name) whole object cs ns m n k f g h most =
+    let c = call_method name (Some (suc (passed_count cs ns))) in let passed = flat no_ways (passed_core cs ns) in
+    then_most (flat no_ways object) (then_code passed (one c)) m (suc n) k g (and_one_most c passed n h) (omega arith)
+called_most by_value whole object cs ns m n k f g h most =
+    let c = call_object (Some (suc (passed_count cs ns))) in let passed = flat no_ways (passed_core cs ns) in
+    then_most (flat no_ways whole) (then_code passed (one c)) m (suc n) k f (and_one_most c passed n h) (omega arith)
+
 mutual
   pub expression_most : (e : Expression) → AtMost (expression_code e) (expression_size e)
   expression_most (unary op e) =
@@ -84,6 +127,10 @@ mutual
       (then_most (optional_code none start) later (optional_size start) b a (optional_most none start)
       (then_most (optional_code none stop) last (optional_size stop) c b (optional_most none stop)
       (and_one_most slice (optional_code none by) (optional_size by) (optional_most none by)) (omega arith)) (omega arith)) (omega arith)
+  expression_most (call callee args) =
+      called_most (callee_of callee) (expression_core callee) (object_core callee) (positional_cores args) (keyword_cores args)
+      (expression_size callee) (suc (arguments_size args)) (expression_size (call callee args))
+      (expression_most callee) (object_most callee) (passed_most args (positional_most args) (keyword_most args)) (omega arith)
   expression_most (list_literal es) =
       loaded_most (constant_of (list_literal es)) (then_code (expressions_code es) (one (build_list (Some (number_of es))))) (suc (expressions_size es))
       (and_one_most (build_list (Some (number_of es))) (expressions_code es) (expressions_size es) (expressions_most es)) (omega arith)
@@ -95,6 +142,30 @@ mutual
       loaded_most (constant_of (map_literal ks vs)) (then_code (entries_code ks (codes_of vs)) (one (build_map count))) (suc (expressions_size ks + expressions_size vs))
       (and_one_most (build_map count) (entries_code ks (codes_of vs)) (expressions_size ks + expressions_size vs) (entries_most ks vs (are_most vs))) (omega arith)
   expression_most _ = λ place. omega arith
+
+  object_most : (e : Expression) → AtMost (flat no_ways (object_core e)) (expression_size e)
+  object_most (attribute e name) = λ place. omega (arith, expression_most e place)
+  object_most _ = λ place. omega arith
+
+  positional_most : (args : Arguments) → AtMost (in_turn_code (positional_cores args)) (positional_size args)
+  positional_most no_arguments = λ place. omega arith
+  positional_most (arguments_more (positional e) args) =
+      let more = in_turn_code (positional_cores args) in
+      then_most (expression_code e) more (expression_size e) (positional_size args) (expression_size e + positional_size args)
+      (expression_most e) (positional_most args) (omega arith)
+  positional_most (arguments_more (keyword name e) args) = positional_most args
+  positional_most (arguments_more (positional_spread e) args) = positional_most args
+  positional_most (arguments_more (keyword_spread e) args) = positional_most args
+
+  keyword_most : (args : Arguments) → AtMost (named_code (keyword_cores args)) (keyword_size args)
+  keyword_most no_arguments = λ place. omega arith
+  keyword_most (arguments_more (positional e) args) = keyword_most args
+  keyword_most (arguments_more (keyword name e) args) =
+      let more = named_code (keyword_cores args) in let n = expression_size e + keyword_size args in
+      then_most (one (load_const (text name))) (then_code (expression_code e) more) 1 n (suc n) (one_most (load_const (text name)))
+      (then_most (expression_code e) more (expression_size e) (keyword_size args) n (expression_most e) (keyword_most args) (omega arith)) (omega arith)
+  keyword_most (arguments_more (positional_spread e) args) = keyword_most args
+  keyword_most (arguments_more (keyword_spread e) args) = keyword_most args
 
   optional_most : (missing : Val) (o : Optional) → AtMost (optional_code missing o) (optional_size o)
   optional_most missing absent = λ place. omega arith
@@ -135,6 +206,7 @@ mutual
 
 mutual
   target_most : (target : Expression) → AtMost (target_code target) (target_size target)
+  target_most (attribute e name) = and_one_most (set_attr name) (expression_code e) (expression_size e) (expression_most e)
   target_most (list_literal targets) =
       then_most (one (unpack_list (number_of targets))) (targets_code targets) 1 (targets_size targets) (suc (targets_size targets)) (one_most (unpack_list (number_of targets))) (targets_most targets) (omega arith)
   target_most _ = λ place. omega arith
@@ -231,6 +303,8 @@ mutual
       then_most (one (begin_capture true)) (then_code bodied tail) 1 (b + t) (statement_size n (set_block target absent body)) (one_most (begin_capture true))
       (then_most bodied tail b t (b + t) (statements_most body inner)
       (then_most (one end_capture) (target_code target) 1 (target_size target) t (one_most end_capture) (target_most target) (omega arith)) (omega arith)) (omega arith)
+  statement_most (do_call callee args) ways =
+      and_one_most discard_top (expression_code (call callee args)) (expression_size (call callee args)) (expression_most (call callee args))
   statement_most (auto_escape e body) ways =
       let n = length ways.closings in let inner = statements_code (closing_with pop_auto_escape ways) body in
       let b = suc (statements_size (suc n) body) in

@@ -3,8 +3,8 @@
 use Rattle.std.proofs.Common.{◌≡◌, ◌≤◌, ℕ, ◌+◌, suc, Bool, true, false, List, arith}
 use Rattle.template_tree.specs.declared.operators.CompareOpKind.{CompareOpKind}
 use Rattle.template_tree.specs.declared.operators.CompareOpKind.TheVariants as comparisons
-use Rattle.template_tree.specs.Tree.{Expression, unary, binary, chain, conditional, attribute, item, slice, list_literal, tuple_literal, map_literal, Optional, absent, given, Expressions, no_expressions, expressions_more, Links, no_links, links_more, Arguments, Statement, print, for_loop, if_condition, with_block, set, set_block, auto_escape, include, continue_loop, break_loop, Statements, no_statements, statements_more, Assignments, no_assignments, assignments_more}
-use Rattle.template_compiler_grammar.specs.Trees.{and_expression, and_link, compared_once, compared, tested_as}
+use Rattle.template_tree.specs.Tree.{Expression, unary, binary, chain, conditional, attribute, item, slice, call, list_literal, tuple_literal, map_literal, Optional, absent, given, Expressions, no_expressions, expressions_more, Links, no_links, links_more, Arguments, no_arguments, arguments_more, Argument, positional, keyword, positional_spread, keyword_spread, Statement, print, for_loop, if_condition, with_block, set, set_block, auto_escape, include, continue_loop, break_loop, do_call, Statements, no_statements, statements_more, Assignments, no_assignments, assignments_more}
+use Rattle.template_compiler_grammar.specs.Trees.{and_expression, and_link, and_argument, Written, and_written, followed_by, compared_once, compared, tested_as}
 use Rattle.template_compiler_grammar.specs.TemplateTrees.{and_statement, and_assignment, unpacked, together, Branches, no_branches, branches_more, and_branch, branched}
 
 abbrev mutual
@@ -16,6 +16,7 @@ abbrev mutual
   expression_size (attribute e name) = suc (expression_size e)
   expression_size (item e key) = suc (expression_size e + expression_size key)
   expression_size (slice e start stop by) = suc (expression_size e + optional_size start + optional_size stop + optional_size by)
+  expression_size (call callee args) = 2 + (expression_size callee + arguments_size args)
   expression_size (list_literal es) = suc (expressions_size es)
   expression_size (tuple_literal es) = suc (expressions_size es)
   expression_size (map_literal ks vs) = suc (expressions_size ks + expressions_size vs)
@@ -29,6 +30,17 @@ abbrev mutual
   expressions_size no_expressions = 0
   expressions_size (expressions_more e es) = expression_size e + expressions_size es
 
+  -- a name has one instruction
+  pub argument_size : Argument → ℕ
+  argument_size (positional e) = expression_size e
+  argument_size (keyword name e) = suc (expression_size e)
+  argument_size (positional_spread e) = expression_size e
+  argument_size (keyword_spread e) = expression_size e
+
+  pub arguments_size : Arguments → ℕ
+  arguments_size no_arguments = 0
+  arguments_size (arguments_more a args) = argument_size a + arguments_size args
+
   pub chain_size : Links → ℕ
   chain_size no_links = 1
   chain_size (links_more op e links) = 3 + (expression_size e + links_size links)
@@ -37,8 +49,13 @@ abbrev mutual
   links_size no_links = 0
   links_size (links_more op e links) = 3 + (expression_size e + links_size links)
 
+-- arguments as far as they are read
+abbrev pub written_size : Written → ℕ
+written_size w = arguments_size w.0 + arguments_size w.1
+
 abbrev mutual
   pub target_size : Expression → ℕ
+  target_size (attribute e name) = suc (expression_size e)
   target_size (list_literal targets) = suc (targets_size targets)
   target_size _ = 1
 
@@ -67,6 +84,7 @@ abbrev mutual
   statement_size n (set_block target filters body) = 2 + (target_size target + statements_size (suc (suc n)) body)
   statement_size n (auto_escape e body) = 2 + (expression_size e + statements_size (suc n) body)
   statement_size n (include e ignore_missing) = suc (expression_size e)
+  statement_size n (do_call callee args) = suc (expression_size (call callee args))
   statement_size n continue_loop = suc n
   statement_size n break_loop = suc n
   statement_size n _ = 1
@@ -87,6 +105,20 @@ and_expression_size (expressions_more a rest) e = omega (arith, and_expression_s
 pub and_link_size : (ls : Links) (op : CompareOpKind) (e : Expression) → links_size (and_link ls op e) ≡ links_size ls + (3 + expression_size e)
 and_link_size no_links op e = omega arith
 and_link_size (links_more o a ls) op e = omega (arith, and_link_size ls op e)
+
+and_argument_size : (args : Arguments) (a : Argument) → arguments_size (and_argument args a) ≡ arguments_size args + argument_size a
+and_argument_size no_arguments a = omega arith
+and_argument_size (arguments_more b rest) a = omega (arith, and_argument_size rest a)
+
+pub and_written_size : (w : Written) (a : Argument) → written_size (and_written w a) ≡ written_size w + argument_size a
+and_written_size w (positional e) = omega (arith, and_argument_size w.0 (positional e))
+and_written_size w (positional_spread e) = omega (arith, and_argument_size w.0 (positional_spread e))
+and_written_size w (keyword name e) = omega (arith, and_argument_size w.1 (keyword name e))
+and_written_size w (keyword_spread e) = omega (arith, and_argument_size w.1 (keyword_spread e))
+
+pub followed_size : (args more : Arguments) → arguments_size (followed_by args more) ≡ arguments_size args + arguments_size more
+followed_size no_arguments more = omega arith
+followed_size (arguments_more a rest) more = omega (arith, followed_size rest more)
 
 pub and_target_size : (es : Expressions) (e : Expression) → targets_size (and_expression es e) ≡ targets_size es + target_size e
 and_target_size no_expressions e = omega arith

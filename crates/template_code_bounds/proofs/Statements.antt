@@ -15,16 +15,20 @@ use Rattle.template_code_bounds.proofs.Weights.{letters, weight, stored_weighs, 
 stored_bound : {e : Expression} {ts us : List Token} → IsStored ts e us → 2 * target_size e + 51 * weight us ≤ 51 * weight ts
 stored_bound (stored e) = omega arith
 
--- a target that is no name has one instruction
-path_bound : {e f : Expression} {ts us : List Token} → IsPath e ts f us → 2 * target_size f + 51 * weight us ≤ 2 * target_size e + 51 * weight ts
-path_bound path_end = omega arith
-path_bound (path_more p) = let l = path_bound p in omega arith
+-- a target that is no list is as large as it is as an expression
+stored_same : {e : Expression} {ts us : List Token} → IsStored ts e us → target_size e ≡ expression_size e
+stored_same (stored e) = refl
+
+path_bound : {e f : Expression} {ts us : List Token} → IsPath e ts f us → target_size e ≡ expression_size e →
+    2 * target_size f + 51 * weight us ≤ 2 * target_size e + 51 * weight ts
+path_bound path_end same = omega arith
+path_bound (path_more p) same = let l = path_bound p refl in omega (arith, same)
 
 mutual
   target_bound : {dots : Bool} {d : ℕ} {e : Expression} {ts us : List Token} → IsTarget dots d ts e us →
       2 * target_size e + 51 * weight us ≤ 51 * weight ts
   target_bound (name_target e s) = stored_bound s
-  target_bound (path_target e s p) = let k = stored_bound s in let l = path_bound p in omega arith
+  target_bound (path_target e s p) = let k = stored_bound s in let l = path_bound p (stored_same s) in omega arith
   target_bound (paren_target t) = let l = targets_bound t in omega arith
 
   targets_bound : {dots : Bool} {d : ℕ} {e : Expression} {ts us : List Token} → IsTargets dots d ts e us →

@@ -5,7 +5,7 @@ use Rattle.template_process.specs.Process as events
 use Rattle.template_process.specs.Process.{Counts, Ask, truth_of, Process, step, asks, on_value, on_truth, Below}
 use Rattle.template_process.proofs.Below.{below-step, below-asks_value, below-asks_truth, below-trans}
 use Rattle.template_walk.specs.Expressions.{folded}
-use Rattle.template_code.specs.Code.{Operand, single, Code, load_const, build_map, build_list, build_tuple, jump, jump_if_false, jump_if_false_or_pop, jump_if_true_or_pop}
+use Rattle.template_code.specs.Code.{Operand, single, Code, load_const, build_map, build_kwargs, build_list, build_tuple, call_function, call_method, call_object, jump, jump_if_false, jump_if_false_or_pop, jump_if_true_or_pop}
 use Rattle.template_code.specs.Counting.{counts_before}
 use Rattle.template_code.specs.Steps.{taken, on_taken, paired, act, exec}
 use Rattle.template_code.proofs.Rising.{exec_more}
@@ -216,6 +216,18 @@ pub built_tuple : (n : ℕ) (next : ℕ → List Operand → Process) (before : 
     → act next before (Some (build_tuple (Some n))) place (pushed vs operands) ≡ step (asks (events.build_tuple vs) (on_value (λ w. next (suc place) (single w ∷ operands))))
 built_tuple n next before place vs operands many = ap (λ o. step (on_taken o (λ us rest. asks (events.build_tuple us) (on_value (λ w. next (suc place) (single w ∷ rest)))))) (taken_all vs n operands many)
 
+pub built_function : (name : List ℕ) (n : ℕ) (next : ℕ → List Operand → Process) (before : Counts) (place : ℕ) (vs : List Val) (operands : List Operand) → length vs ≡ n
+    → act next before (Some (call_function name (Some n))) place (pushed vs operands) ≡ step (asks (events.call_function name vs) (on_value (λ w. next (suc place) (single w ∷ operands))))
+built_function name n next before place vs operands many = ap (λ o. step (on_taken o (λ us rest. asks (events.call_function name us) (on_value (λ w. next (suc place) (single w ∷ rest)))))) (taken_all vs n operands many)
+
+pub built_method : (name : List ℕ) (n : ℕ) (next : ℕ → List Operand → Process) (before : Counts) (place : ℕ) (vs : List Val) (operands : List Operand) → length vs ≡ n
+    → act next before (Some (call_method name (Some n))) place (pushed vs operands) ≡ step (asks (events.call_method name vs) (on_value (λ w. next (suc place) (single w ∷ operands))))
+built_method name n next before place vs operands many = ap (λ o. step (on_taken o (λ us rest. asks (events.call_method name us) (on_value (λ w. next (suc place) (single w ∷ rest)))))) (taken_all vs n operands many)
+
+pub built_value : (n : ℕ) (next : ℕ → List Operand → Process) (before : Counts) (place : ℕ) (vs : List Val) (operands : List Operand) → length vs ≡ n
+    → act next before (Some (call_object (Some n))) place (pushed vs operands) ≡ step (asks (events.call_value vs) (on_value (λ w. next (suc place) (single w ∷ operands))))
+built_value n next before place vs operands many = ap (λ o. step (on_taken o (λ us rest. asks (events.call_value us) (on_value (λ w. next (suc place) (single w ∷ rest)))))) (taken_all vs n operands many)
+
 -- keys and values in turn, as they stand on the operands
 abbrev pub laid : List (Val × Val) → List Val
 laid [] = []
@@ -234,3 +246,9 @@ pub built_map : (n : ℕ) (next : ℕ → List Operand → Process) (before : Co
 built_map n next before place entries operands many =
     ap (λ o. step (on_taken o (λ us rest. asks (events.build_map (paired us)) (on_value (λ w. next (suc place) (single w ∷ rest)))))) (taken_all (laid entries) (n * 2) operands (laid_length entries ∙ ap (λ m. m * 2) many))
     ∙ ap (λ es. step (asks (events.build_map es) (on_value (λ w. next (suc place) (single w ∷ operands))))) (paired_laid entries)
+
+pub built_kwargs : (n : ℕ) (next : ℕ → List Operand → Process) (before : Counts) (place : ℕ) (entries : List (Val × Val)) (operands : List Operand) → length entries ≡ n
+    → act next before (Some (build_kwargs n)) place (pushed (laid entries) operands) ≡ step (asks (events.build_kwargs entries) (on_value (λ w. next (suc place) (single w ∷ operands))))
+built_kwargs n next before place entries operands many =
+    ap (λ o. step (on_taken o (λ us rest. asks (events.build_kwargs (paired us)) (on_value (λ w. next (suc place) (single w ∷ rest)))))) (taken_all (laid entries) (n * 2) operands (laid_length entries ∙ ap (λ m. m * 2) many))
+    ∙ ap (λ es. step (asks (events.build_kwargs es) (on_value (λ w. next (suc place) (single w ∷ operands))))) (paired_laid entries)

@@ -1,7 +1,7 @@
 -- The code of each statement performs its walk: from any place, over any operands, with any ways out.
 use Rattle.std.proofs.Common.{◌≡◌, ℕ, ◌+◌, ◌≤◌, zero, suc, true, false, List, [], ◌∷◌, ◌++◌, length, Some, refl, sym, ap, subst, ◌∙◌, length-append, arith}
 use Rattle.template_values_model.specs.Val.{Val}
-use Rattle.template_tree.specs.Tree.{Expression, Expressions, Statement, Statements, Assignments, absent, raw, print, for_loop, if_condition, with_block, set, set_block, auto_escape, continue_loop, break_loop, no_statements, statements_more, no_assignments, assignments_more}
+use Rattle.template_tree.specs.Tree.{Expression, Expressions, Statement, Statements, Assignments, absent, raw, print, for_loop, if_condition, with_block, set, set_block, auto_escape, call, continue_loop, break_loop, do_call, no_statements, statements_more, no_assignments, assignments_more}
 use Rattle.template_tree.specs.Tree as tree
 use Rattle.template_process.specs.Process as events
 use Rattle.template_process.specs.Process.{Counts, Ask, truth_of, write_raw, write_value, open_frame, close_frame, plain_loop, open_loop, next_item, did_not_iterate, close_loop, open_escape, close_escape, Process, over, step, asks, cut_short, on_done, on_value, on_truth, on_item, value_asked, Below}
@@ -227,6 +227,14 @@ captured_body ways body walk target f code place h k =
           (record { on_break = way_out ways.break_to x.on_break operands outs.on_break; on_continue = way_out ways.continue_to x.on_continue operands outs.on_continue }),
     )
 
+-- the value on top is dropped, for nothing
+takes_dropped : (ways : Ways) → TakesAs ways (one discard_top) (λ v x go. go)
+takes_dropped ways code place h k = (
+  suc k,
+  λ v operands x go below outs. below_at code place discard_top (instruction_at code place discard_top [] h) k (single v ∷ operands) go
+      (moved code k (place + length (one discard_top place)) (suc place) operands go (sym (behind_single place discard_top)) below),
+)
+
 -- a way out
 leaves : (ways : Ways) (to : ℕ) (walk : Walk) → ((code : List Code) (k : ℕ) (x : Exits) (go : Process) (operands : List Operand) → Outs code ways k x operands → WayOut code ways.closings to k (walk x go) operands)
     → PerformsAs ways (left_by ways.closings to) walk
@@ -371,6 +379,7 @@ mutual
       (closed_body ways pop_auto_escape close_escape (statements_code (closing_with pop_auto_escape ways) body) (statements_walk n body) (λ next before place operands. refl) (performs_statements n body (closing_with pop_auto_escape ways))))
   performs_statement n (tree.include e ignore_missing) ways =
       done_with ways e (one (include ignore_missing)) (λ v x go. step (asks (events.include ignore_missing v) (on_done go))) (takes_one ways (include ignore_missing) (events.include ignore_missing) (λ next before place v operands. refl))
+  performs_statement n (do_call callee args) ways = done_with ways (call callee args) (one discard_top) (λ v x go. go) (takes_dropped ways)
   performs_statement n continue_loop ways = leaves ways ways.continue_to (λ x go. x.on_continue) (λ code k x go operands outs. outs.on_continue)
   performs_statement n break_loop ways = leaves ways ways.break_to (λ x go. x.on_break) (λ code k x go operands outs. outs.on_break)
   performs_statement n _ ways = λ code place h k. (0, λ operands x go below outs. below-cut_short _)

@@ -2,17 +2,19 @@
 use Rattle.std.proofs.Common.{◌≡◌, ℕ, ◌+◌, ◌==◌, suc, true, List, [], ◌∷◌, ◌++◌, length, map, Some, refl, sym, subst, ◌∙◌, arith}
 use Rattle.std.proofs.lemmas.Bool.Decides.{nat_tests}
 use Rattle.template_values_model.specs.Val.{Val}
-use Rattle.template_tree.specs.Tree.{Expression, Expressions, variable, list_literal, no_expressions, expressions_more}
-use Rattle.template_process.specs.Process.{Ask, store, unpack, Process, step, asks, on_done, on_items, Below}
+use Rattle.template_tree.specs.Tree.{Expression, Expressions, variable, attribute, list_literal, no_expressions, expressions_more}
+use Rattle.template_process.specs.Process.{Ask, store, set_attribute, unpack, Process, step, asks, on_done, on_items, Below}
 use Rattle.template_process.proofs.Below.{below-cut_short, below-step, below-asks_done, below-asks_items_of}
+use Rattle.template_walk.specs.Expressions.{expression_walk}
 use Rattle.template_walk.specs.Statements.{number_of, target_walk, targets_walk}
-use Rattle.template_code.specs.Code.{Operand, single, Code, store_local, unpack_list}
+use Rattle.template_code.specs.Code.{Operand, single, Code, store_local, set_attr, unpack_list}
 use Rattle.template_code.specs.Counting.{counts_before}
 use Rattle.template_code.specs.Steps.{act, exec}
-use Rattle.template_compiler_codegen.specs.Expressions.{Coded, then_code, one, nothing}
+use Rattle.template_compiler_codegen.specs.Expressions.{Coded, then_code, one, nothing, expression_code}
 use Rattle.template_compiler_codegen.specs.Statements.{target_code, targets_code}
 use Rattle.template_compiler_codegen.proofs.Standing.{StandsAt, instruction_at, below_at, behind_then, stands_first, stands_second}
 use Rattle.template_compiler_codegen.proofs.Expressions.{behind_single, moved}
+use Rattle.template_compiler_codegen.proofs.Performing.{performs}
 
 -- one instruction that asks for something to be done
 pub done_at : (code : List Code) (place : ℕ) (c : Code) (piece : List Code) → StandsAt code place (c ∷ piece) → (k : ℕ) (operands rest : List Operand) (e : Ask) (p : Process)
@@ -44,6 +46,20 @@ stores_name name code place h k = (
   λ v operands go below. done_at code place (store_local name) [] h k (single v ∷ operands) operands (store name v) go refl
       (moved code k (place + length (one (store_local name) place)) (suc place) operands go (sym (behind_single place (store_local name))) below),
 )
+
+-- an attribute is set on what an expression gives
+stores_attribute : (e : Expression) (name : List ℕ) → Stores (then_code (expression_code e) (one (set_attr name))) (λ v go. expression_walk e (λ holder. step (asks (set_attribute name v holder) (on_done go))))
+stores_attribute e name code place h k =
+    let first = expression_code e in
+    let last = one (set_attr name) in
+    let mid = place + length (first place) in
+    let a = performs e code place (stands_first code place first last h) (suc k) in (
+      a.0,
+      λ v operands go below.
+          a.1 (single v ∷ operands) (λ holder. step (asks (set_attribute name v holder) (on_done go)))
+          (λ holder. done_at code mid (set_attr name) [] (stands_second code place first last h) k (single holder ∷ single v ∷ operands) operands (set_attribute name v holder) go refl
+          (moved code k (place + length (then_code first last place)) (suc mid) operands go (behind_then first last place ∙ sym (behind_single mid (set_attr name))) below)),
+    )
 
 over_none : (code : List Code) (k place : ℕ) (vs : List Val) → length vs ≡ 0 → (operands : List Operand) (go : Process) → Below go (exec code k place operands) → Below go (exec code k place (map single vs ++ operands))
 over_none code k place [] none operands go below = below
@@ -98,6 +114,7 @@ unpacks targets g code place h k =
 mutual
   pub stores : (target : Expression) → Stores (target_code target) (target_walk target)
   stores (variable name) = stores_name name
+  stores (attribute e name) = stores_attribute e name
   stores (list_literal targets) = unpacks targets (stores_all targets)
   stores _ = λ code place h k. (0, λ v operands go below. below-cut_short _)
 

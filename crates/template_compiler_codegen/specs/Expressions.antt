@@ -1,15 +1,16 @@
 -- The code of an expression, from the place where it begins.
-use Rattle.std.specs.Prelude.{ℕ, suc, Bool, true, false, List, [], ◌∷◌, Some}
-use Rattle.template_values_model.specs.Val.{Val, silent_undefined, none}
+use Rattle.std.specs.Prelude.{ℕ, ◌+◌, suc, Bool, true, false, List, [], ◌∷◌, length, Some}
+use Rattle.template_values_model.specs.Val.{Val, silent_undefined, none, text}
 use Rattle.template_tree.specs.declared.operators.UnaryOpKind.{UnaryOpKind}
 use Rattle.template_tree.specs.declared.operators.UnaryOpKind.TheVariants.{Not, Neg}
 use Rattle.template_tree.specs.declared.operators.BinOpKind.{BinOpKind}
 use Rattle.template_tree.specs.declared.operators.BinOpKind.TheVariants.{ScAnd, ScOr}
-use Rattle.template_tree.specs.Tree.{Expression, Optional, Expressions, Links, variable, constant, unary, binary, chain, conditional, attribute, item, list_literal, tuple_literal, map_literal, absent, given, no_expressions, expressions_more, no_links, links_more}
+use Rattle.template_tree.specs.Tree.{Expression, Optional, Expressions, Links, Arguments, variable, constant, unary, binary, chain, conditional, attribute, item, call, list_literal, tuple_literal, map_literal, absent, given, no_expressions, expressions_more, no_links, links_more, no_arguments, arguments_more, positional, keyword}
 use Rattle.template_tree.specs.Tree as tree
 use Rattle.template_walk.specs.Constants.{constant_of}
+use Rattle.template_walk.specs.Expressions.{Callee, by_name, by_method, by_value, callee_of}
 use Rattle.template_walk.specs.Statements.{number_of}
-use Rattle.template_code.specs.Code.{Code, lookup, load_const, get_attr, get_item, slice, build_map, build_list, build_tuple, operate, negate, invert, compare_and_preserve, swap, discard_top, jump_if_false_or_pop, jump_if_true_or_pop}
+use Rattle.template_code.specs.Code.{Code, lookup, load_const, get_attr, get_item, slice, build_map, build_kwargs, build_list, build_tuple, operate, negate, invert, compare_and_preserve, call_function, call_method, call_object, swap, discard_top, jump_if_false_or_pop, jump_if_true_or_pop}
 use Rattle.template_compiler_codegen.specs.Core.{Core, empty, straight, both, leaping, either, loading, chosen, choose, no_ways, flat}
 pub use Rattle.template_compiler_codegen.specs.Core.{Coded, then_code, one, nothing, loaded, skipped, either_code}
 
@@ -44,6 +45,38 @@ abbrev pub entry_count : Expressions → List Core → ℕ
 entry_count (expressions_more k ks) (piece ∷ later) = suc (entry_count ks later)
 entry_count _ _ = 0
 
+-- pieces one behind the other
+abbrev pub in_turn_core : List Core → Core
+in_turn_core [] = empty
+in_turn_core (c ∷ cs) = both c (in_turn_core cs)
+
+-- names, each before its value
+abbrev pub named_core : List (List ℕ × Core) → Core
+named_core [] = empty
+named_core (n ∷ ns) = both (straight (load_const (text n.0))) (both n.1 (named_core ns))
+
+-- the keyword arguments, if there are any, become one keyword map
+abbrev pub keywords_core : List (List ℕ × Core) → Core
+keywords_core [] = empty
+keywords_core (n ∷ ns) = both (named_core (n ∷ ns)) (straight (build_kwargs (suc (length ns))))
+
+abbrev pub passed_core : List Core → List (List ℕ × Core) → Core
+passed_core cs ns = both (in_turn_core cs) (keywords_core ns)
+
+-- how many values are passed
+abbrev pub keyword_count : {X : Type 0} → List X → ℕ
+keyword_count [] = 0
+keyword_count (n ∷ ns) = 1
+
+abbrev pub passed_count : List Core → List (List ℕ × Core) → ℕ
+passed_count cs ns = length cs + keyword_count ns
+
+-- a call: the object, or what is called where it is no name; then the arguments
+abbrev pub called_core : Callee → Core → Core → List Core → List (List ℕ × Core) → Core
+called_core (by_name name) whole object cs ns = both (passed_core cs ns) (straight (call_function name (Some (passed_count cs ns))))
+called_core (by_method name) whole object cs ns = both object (both (passed_core cs ns) (straight (call_method name (Some (suc (passed_count cs ns))))))
+called_core by_value whole object cs ns = both whole (both (passed_core cs ns) (straight (call_object (Some (suc (passed_count cs ns))))))
+
 abbrev mutual
   pub expression_core : Expression → Core
   expression_core (variable name) = straight (lookup name)
@@ -66,7 +99,25 @@ abbrev mutual
   expression_core (map_literal ks vs) =
       loading (constant_of (map_literal ks vs))
       (both (entries_core ks (codes_of vs)) (straight (build_map (entry_count ks (codes_of vs)))))
+  expression_core (call callee args) =
+      called_core (callee_of callee) (expression_core callee) (object_core callee) (positional_cores args) (keyword_cores args)
   expression_core _ = empty  -- what has no walk yet has no code
+
+  -- the object of a method
+  pub object_core : Expression → Core
+  object_core (attribute e name) = expression_core e
+  object_core _ = empty
+
+  -- each of the positional arguments, and each of the keyword ones with its name
+  pub positional_cores : Arguments → List Core
+  positional_cores no_arguments = []
+  positional_cores (arguments_more (positional e) args) = expression_core e ∷ positional_cores args
+  positional_cores (arguments_more _ args) = positional_cores args
+
+  pub keyword_cores : Arguments → List (List ℕ × Core)
+  keyword_cores no_arguments = []
+  keyword_cores (arguments_more (keyword name e) args) = (name, expression_core e) ∷ keyword_cores args
+  keyword_cores (arguments_more _ args) = keyword_cores args
 
   -- what is left out is a constant
   pub optional_core : Val → Optional → Core
@@ -116,6 +167,22 @@ chain_code links = flat no_ways (chain_core links)
 
 abbrev pub linked_code : Links → Coded
 linked_code links = flat no_ways (linked_core links)
+
+-- arguments, as they are laid out
+abbrev pub in_turn_code : List Core → Coded
+in_turn_code cs = flat no_ways (in_turn_core cs)
+
+abbrev pub named_code : List (List ℕ × Core) → Coded
+named_code ns = flat no_ways (named_core ns)
+
+abbrev pub keywords_code : List (List ℕ × Core) → Coded
+keywords_code ns = flat no_ways (keywords_core ns)
+
+abbrev pub passed_code : Arguments → Coded
+passed_code args = flat no_ways (passed_core (positional_cores args) (keyword_cores args))
+
+abbrev pub argument_count : Arguments → ℕ
+argument_count args = passed_count (positional_cores args) (keyword_cores args)
 
 -- both sides, as they are laid out
 abbrev pub binary_code : BinOpKind → Coded → Coded → Coded

@@ -6,14 +6,13 @@ ghost use Rattle.template_tree.specs.View.{expression_of};
 
 use template_tree::Expr;
 
-/// Whether the construct that an expression is has a walk, whatever it holds: filters, tests and calls have none.
+/// Whether the construct that an expression is has a walk, whatever it holds: filters and tests have none.
 pub fn has_walk(expr: &Expr<'_>) -> bool
     ensures { result ≡ has_walk (expression_of expr.now) }
 {
     match expr {
         Expr::Filter(_) => false,
         Expr::Test(_) => false,
-        Expr::Call(_) => false,
         Expr::Var(_) => true,
         Expr::Const(_) => true,
         Expr::Slice(_) => true,
@@ -23,6 +22,7 @@ pub fn has_walk(expr: &Expr<'_>) -> bool
         Expr::IfExpr(_) => true,
         Expr::GetAttr(_) => true,
         Expr::GetItem(_) => true,
+        Expr::Call(_) => true,
         Expr::List(_) => true,
         Expr::Tuple(_) => true,
         Expr::Map(_) => true,

@@ -1,14 +1,15 @@
 -- What follows further takes a walk further, and so does a greater bound on rounds.
 use Rattle.std.proofs.Common.{ℕ, ◌≤◌, zero, suc, true, false, List, [], ◌∷◌, ◌++◌, Option, None, Some, arith}
+use Rattle.template_values_model.specs.Val as values
 use Rattle.template_values_model.specs.Val.{Val}
 use Rattle.template_tree.specs.declared.operators.BinOpKind.{BinOpKind}
 use Rattle.template_tree.specs.declared.operators.BinOpKind.TheVariants.{ScAnd, ScOr}
-use Rattle.template_tree.specs.Tree.{Expression, Optional, Expressions, Links, variable, constant, slice, unary, binary, chain, conditional, attribute, item, list_literal, tuple_literal, map_literal, absent, given, no_expressions, expressions_more, no_links, links_more, Statement, Statements, Assignments, raw, print, for_loop, if_condition, with_block, set, set_block, auto_escape, include, continue_loop, break_loop, no_statements, statements_more, no_assignments, assignments_more}
+use Rattle.template_tree.specs.Tree.{Expression, Optional, Expressions, Links, Arguments, variable, constant, slice, unary, binary, chain, conditional, attribute, item, call, list_literal, tuple_literal, map_literal, absent, given, no_expressions, expressions_more, no_links, links_more, no_arguments, arguments_more, positional, keyword, Statement, Statements, Assignments, raw, print, for_loop, if_condition, with_block, set, set_block, auto_escape, include, continue_loop, break_loop, do_call, no_statements, statements_more, no_assignments, assignments_more}
 use Rattle.template_process.specs.Process as events
-use Rattle.template_process.specs.Process.{Ask, look_up, operate, compare, get_attribute, get_item, get_slice, build_list, build_tuple, build_map, store, truth_of, unpack, spread, write_raw, write_value, open_frame, close_frame, plain_loop, open_loop, next_item, did_not_iterate, close_loop, open_escape, close_escape, begin_capture, end_capture, Process, over, step, asks, cut_short, on_done, on_value, on_truth, on_item, on_all, Below}
+use Rattle.template_process.specs.Process.{Ask, look_up, operate, compare, get_attribute, get_item, get_slice, build_list, build_tuple, build_map, build_kwargs, call_function, call_method, call_value, store, set_attribute, truth_of, unpack, spread, write_raw, write_value, open_frame, close_frame, plain_loop, open_loop, next_item, did_not_iterate, close_loop, open_escape, close_escape, begin_capture, end_capture, Process, over, step, asks, cut_short, on_done, on_value, on_truth, on_item, on_all, Below}
 use Rattle.template_process.proofs.Below.{below-cut_short, below-over, below-step, below-asks_done, below-asks_value, below-asks_truth, below-asks_item, below-asks_items, below-asks_all}
 use Rattle.template_walk.specs.Constants.{constant_of}
-use Rattle.template_walk.specs.Expressions.{folded, unary_ask, binary_walk, expression_walk, optional_walk, expressions_walk, walks_of, entries_walk, chain_walk, linked_walk}
+use Rattle.template_walk.specs.Expressions.{folded, unary_ask, binary_walk, Giving, in_turn, named_in_turn, keywords_walk, passed_walk, Callee, by_name, by_method, by_value, callee_of, called_walk, expression_walk, object_walk, positional_walks, keyword_walks, optional_walk, expressions_walk, walks_of, entries_walk, chain_walk, linked_walk}
 use Rattle.template_walk.specs.Statements.{Exits, outside, closing, capture_left, capturing, number_of, target_walk, targets_walk, assignments_walk, rounds, nameless_loop, kept_rounds, sifting, iterable_walk, loop_end, past, statement_walk, statements_walk}
 use Rattle.template_walk.specs.Laws.{WalksRise}
 
@@ -23,6 +24,10 @@ Lifts walk = (go on : Val → Process) → Follows go on → Below (walk go) (wa
 data Each : List ((Val → Process) → Process) → Type 0 where
   none_left : Each []
   each_more : {walk : (Val → Process) → Process} {walks : List ((Val → Process) → Process)} → Lifts walk → Each walks → Each (walk ∷ walks)
+
+data EachNamed : List (List ℕ × Giving) → Type 0 where
+  no_names : EachNamed []
+  more_names : {named : List ℕ × Giving} {others : List (List ℕ × Giving)} → Lifts named.1 → EachNamed others → EachNamed (named ∷ others)
 
 step_value : (e : Ask) (go on : Val → Process) → Follows go on → Below (step (asks e (on_value go))) (step (asks e (on_value on)))
 step_value e go on h = below-step (asks e (on_value go)) (asks e (on_value on)) (below-asks_value e go on h)
@@ -45,6 +50,36 @@ lift_binary ScOr left right f g go on h =
 lift_binary op left right f g go on h =
     f _ _ (λ v. g _ _ (λ w. step_value (operate op v w) go on h))
 
+-- what follows goes further, whatever values it is given
+abbrev FollowsAll : (List Val → Process) → (List Val → Process) → Type 0
+FollowsAll go on = (vs : List Val) → Below (go vs) (on vs)
+
+lift_in_turn : (walks : List Giving) → Each walks → (go on : List Val → Process) → FollowsAll go on → Below (in_turn walks go) (in_turn walks on)
+lift_in_turn [] each go on h = h []
+lift_in_turn (walk ∷ walks) (each_more f each) go on h = f _ _ (λ v. lift_in_turn walks each _ _ (λ vs. h (v ∷ vs)))
+
+lift_named : (named : List (List ℕ × Giving)) → EachNamed named → (go on : List (Val × Val) → Process)
+    → ((entries : List (Val × Val)) → Below (go entries) (on entries)) → Below (named_in_turn named go) (named_in_turn named on)
+lift_named [] each go on h = h []
+lift_named (n ∷ ns) (more_names f each) go on h = f _ _ (λ v. lift_named ns each _ _ (λ entries. h ((values.text n.0, v) ∷ entries)))
+
+lift_keywords : (named : List (List ℕ × Giving)) → EachNamed named → (go on : List Val → Process) → FollowsAll go on → Below (keywords_walk named go) (keywords_walk named on)
+lift_keywords [] each go on h = h []
+lift_keywords (n ∷ ns) each go on h = lift_named (n ∷ ns) each _ _ (λ entries. step_value (build_kwargs entries) _ _ (λ map. h (map ∷ [])))
+
+lift_passed : (walks : List Giving) → Each walks → (named : List (List ℕ × Giving)) → EachNamed named → (go on : List Val → Process) → FollowsAll go on
+    → Below (passed_walk walks named go) (passed_walk walks named on)
+lift_passed walks each named others go on h = lift_in_turn walks each _ _ (λ vs. lift_keywords named others _ _ (λ last. h (vs ++ last)))
+
+lift_called : (callee : Callee) (whole object : Giving) → Lifts whole → Lifts object → (walks : List Giving) → Each walks → (named : List (List ℕ × Giving)) → EachNamed named
+    → Lifts (called_walk callee whole object (passed_walk walks named))
+lift_called (by_name name) whole object f g walks each named others go on h =
+    lift_passed walks each named others _ _ (λ vs. step_value (call_function name vs) go on h)
+lift_called (by_method name) whole object f g walks each named others go on h =
+    g _ _ (λ v. lift_passed walks each named others _ _ (λ vs. step_value (call_method name (v ∷ vs)) go on h))
+lift_called by_value whole object f g walks each named others go on h =
+    f _ _ (λ v. lift_passed walks each named others _ _ (λ vs. step_value (call_value (v ∷ vs)) go on h))
+
 mutual
   pub lift : (e : Expression) → Lifts (expression_walk e)
   lift (variable name) go on h = step_value (look_up name) go on h
@@ -65,7 +100,24 @@ mutual
   lift (tuple_literal es) go on h = lift_folded (constant_of (tuple_literal es)) go on _ _ h (lift_all es _ _ (λ vs. step_value (build_tuple vs) go on h))
   lift (map_literal ks vs) go on h =
       lift_folded (constant_of (map_literal ks vs)) go on _ _ h (lift_entries ks (walks_of vs) (lift_each vs) _ _ (λ entries. step_value (build_map entries) go on h))
+  lift (call callee args) go on h =
+      lift_called (callee_of callee) (expression_walk callee) (object_walk callee) (lift callee) (lift_object callee)
+      (positional_walks args) (lift_positional args) (keyword_walks args) (lift_keyword args) go on h
   lift _ go on h = below-cut_short _
+
+  lift_object : (e : Expression) → Lifts (object_walk e)
+  lift_object (attribute e name) go on h = lift e go on h
+  lift_object _ go on h = below-cut_short _
+
+  lift_positional : (args : Arguments) → Each (positional_walks args)
+  lift_positional no_arguments = none_left
+  lift_positional (arguments_more (positional e) args) = each_more (lift e) (lift_positional args)
+  lift_positional (arguments_more _ args) = lift_positional args
+
+  lift_keyword : (args : Arguments) → EachNamed (keyword_walks args)
+  lift_keyword no_arguments = no_names
+  lift_keyword (arguments_more (keyword name e) args) = more_names (lift e) (lift_keyword args)
+  lift_keyword (arguments_more _ args) = lift_keyword args
 
   lift_optional : (o : Optional) (missing : Val) → Lifts (optional_walk missing o)
   lift_optional absent missing go on h = h missing
@@ -98,6 +150,7 @@ mutual
 mutual
   lift_target : (target : Expression) (v : Val) (p q : Process) → Below p q → Below (target_walk target v p) (target_walk target v q)
   lift_target (variable name) v p q h = step_done (store name v) p q h
+  lift_target (attribute e name) v p q h = lift e _ _ (λ holder. step_done (set_attribute name v holder) p q h)
   lift_target (list_literal targets) v p q h =
       below-step _ _ (below-asks_items (unpack (number_of targets) v) (number_of targets) _ _ (λ vs. lift_targets targets vs p q h))
   lift_target _ v p q h = below-cut_short _
@@ -192,6 +245,7 @@ mutual
       lift e _ _ (λ v. below-asks_done (open_escape v) _ _
       (lift_statements n m less body _ _ _ _ (leads_closing close_escape x y leads) (below-asks_done close_escape p q h)))
   lift_statement n m less (include e ignore_missing) x y p q leads h = lift e _ _ (λ v. step_done (events.include ignore_missing v) p q h)
+  lift_statement n m less (do_call callee args) x y p q leads h = lift (call callee args) _ _ (λ v. h)
   lift_statement n m less continue_loop x y p q leads h = leads.on_continue
   lift_statement n m less break_loop x y p q leads h = leads.on_break
   lift_statement n m less _ x y p q leads h = below-cut_short _

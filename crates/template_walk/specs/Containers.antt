@@ -1,7 +1,7 @@
 -- Containers that are built of values. One that would nest more than 500 levels deep is refused.
 use Rattle.std.specs.Prelude.{nat_le, List, [], ◌∷◌, Result, Ok, Err, if◌then◌else◌}
 use Rattle.template_values_model.specs.Fault.{Fault, invalid_operation}
-use Rattle.template_values_model.specs.Val.{Val, vals_of, tuple, map}
+use Rattle.template_values_model.specs.Val.{Val, vals_of, tuple, map, keyword_map}
 use Rattle.template_values_model.specs.declared.TheConstants.{DEPTH_LIMIT}
 use Rattle.template_values_core.specs.Depth.{depth}
 use Rattle.template_values_core.specs.Maps.{collected}
@@ -15,6 +15,10 @@ tuple_made vs = within_depth (tuple (vals_of vs))
 -- of equal keys the first stays, with the last value
 abbrev pub map_made : List (Val × Val) → Result Val Fault
 map_made entries = within_depth (map (collected entries))
+
+-- so it is of keyword arguments, whose keys are their names
+abbrev pub kwargs_made : List (Val × Val) → Result Val Fault
+kwargs_made entries = within_depth (keyword_map (collected entries))
 
 -- keys with the values at their places
 abbrev pub pairs_with : List Val → List Val → List (Val × Val)

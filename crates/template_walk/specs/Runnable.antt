@@ -1,15 +1,20 @@
 -- The trees whose constructs have a walk today. What holds another construct is refused where it is added.
 use Rattle.std.specs.Prelude.{◌≡◌, ℕ, Bool, true, false, ◌||◌, List, IsTrue, codes}
 use Rattle.std.specs.Str.{bytes_eq}
-use Rattle.template_tree.specs.Tree.{Expression, Optional, Expressions, Links, variable, constant, slice, unary, binary, chain, conditional, attribute, item, list_literal, tuple_literal, map_literal, absent, given, no_expressions, expressions_more, no_links, links_more, Statement, Statements, Assignments, raw, print, for_loop, if_condition, with_block, set, set_block, auto_escape, include, continue_loop, break_loop, no_statements, statements_more, no_assignments, assignments_more}
+use Rattle.template_tree.specs.Tree.{Expression, Optional, Expressions, Links, Arguments, Argument, variable, constant, slice, unary, binary, chain, conditional, attribute, item, call, list_literal, tuple_literal, map_literal, absent, given, no_expressions, expressions_more, no_links, links_more, no_arguments, arguments_more, positional, keyword, Statement, Statements, Assignments, raw, print, for_loop, if_condition, with_block, set, set_block, auto_escape, include, continue_loop, break_loop, do_call, no_statements, statements_more, no_assignments, assignments_more}
 
 -- the engine gives these names, in places, values that are not there yet
 abbrev pub is_kept_back : List ℕ → Bool
 is_kept_back name =
     bytes_eq name (codes "caller") || (bytes_eq name (codes "self") || bytes_eq name (codes "super"))
 
+-- the rounds of a loop can't be called again yet
+abbrev pub is_loop_called : Expression → Bool
+is_loop_called (variable name) = bytes_eq name (codes "loop")
+is_loop_called _ = false
+
 abbrev mutual
-  -- names that are not kept back, constants, operators, items, slices and containers; no calls, filters or tests
+  -- names that are not kept back, constants, operators, items, slices, containers and calls; no filters or tests
   pub IsRunnable : Expression → Type 0
   IsRunnable (variable name) = is_kept_back name ≡ false
   IsRunnable (constant v) = Unit {0}
@@ -20,6 +25,7 @@ abbrev mutual
   IsRunnable (conditional test branch otherwise) = IsRunnable test × IsRunnable branch × IsRunnableIfGiven otherwise
   IsRunnable (attribute e name) = IsRunnable e
   IsRunnable (item e key) = IsRunnable e × IsRunnable key
+  IsRunnable (call callee args) = IsRunnable callee × (is_loop_called callee ≡ false) × AreRunnableArguments args
   IsRunnable (list_literal es) = AreRunnable es
   IsRunnable (tuple_literal es) = AreRunnable es
   IsRunnable (map_literal ks vs) = AreRunnable ks × AreRunnable vs
@@ -28,6 +34,13 @@ abbrev mutual
   pub IsRunnableIfGiven : Optional → Type 0
   IsRunnableIfGiven absent = Unit {0}
   IsRunnableIfGiven (given e) = IsRunnable e
+
+  -- positional and keyword ones; no spreads
+  pub AreRunnableArguments : Arguments → Type 0
+  AreRunnableArguments no_arguments = Unit {0}
+  AreRunnableArguments (arguments_more (positional e) args) = IsRunnable e × AreRunnableArguments args
+  AreRunnableArguments (arguments_more (keyword name e) args) = IsRunnable e × AreRunnableArguments args
+  AreRunnableArguments _ = ⊥
 
   pub AreRunnable : Expressions → Type 0
   AreRunnable no_expressions = Unit {0}
@@ -43,9 +56,10 @@ abbrev mutual
   AreRunnableLinks (links_more op e links) = IsRunnable e × AreRunnableLinks links
 
 abbrev mutual
-  -- a name, or targets that a value is unpacked into
+  -- a name, an attribute, or targets that a value is unpacked into
   pub IsTarget : Expression → Type 0
   IsTarget (variable name) = Unit {0}
+  IsTarget (attribute e name) = IsRunnable e
   IsTarget (list_literal targets) = AreTargets targets
   IsTarget _ = ⊥
 
@@ -71,6 +85,7 @@ abbrev mutual
   IsRunnableStatement looping (set_block target absent body) = IsTarget target × AreRunnableStatements looping body
   IsRunnableStatement looping (auto_escape e body) = IsRunnable e × AreRunnableStatements looping body
   IsRunnableStatement looping (include e ignore_missing) = IsRunnable e
+  IsRunnableStatement looping (do_call callee args) = IsRunnable (call callee args)
   IsRunnableStatement looping continue_loop = IsTrue looping
   IsRunnableStatement looping break_loop = IsTrue looping
   IsRunnableStatement looping _ = ⊥

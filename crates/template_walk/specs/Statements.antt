@@ -2,9 +2,9 @@
 -- most so many rounds as the bound says.
 use Rattle.std.specs.Prelude.{ℕ, zero, suc, true, false, List, [], ◌∷◌, ◌++◌, None}
 use Rattle.template_values_model.specs.Val.{Val}
-use Rattle.template_tree.specs.Tree.{Expression, Optional, Expressions, Statement, Statements, Assignments, variable, list_literal, absent, given, no_expressions, expressions_more, raw, print, for_loop, if_condition, with_block, set, set_block, auto_escape, include, continue_loop, break_loop, no_statements, statements_more, no_assignments, assignments_more}
+use Rattle.template_tree.specs.Tree.{Expression, Optional, Expressions, Statement, Statements, Assignments, variable, attribute, list_literal, call, absent, given, no_expressions, expressions_more, raw, print, for_loop, if_condition, with_block, set, set_block, auto_escape, include, continue_loop, break_loop, do_call, no_statements, statements_more, no_assignments, assignments_more}
 use Rattle.template_process.specs.Process as events
-use Rattle.template_process.specs.Process.{Ask, store, unpack, spread, build_list, write_raw, write_value, open_frame, close_frame, Looping, plain_loop, open_loop, next_item, did_not_iterate, close_loop, open_escape, close_escape, begin_capture, end_capture, Process, over, step, asks, cut_short, on_done, on_value, on_item, on_items, on_all, done_asked, value_asked, truth_asked}
+use Rattle.template_process.specs.Process.{Ask, store, set_attribute, unpack, spread, build_list, write_raw, write_value, open_frame, close_frame, Looping, plain_loop, open_loop, next_item, did_not_iterate, close_loop, open_escape, close_escape, begin_capture, end_capture, Process, over, step, asks, cut_short, on_done, on_value, on_item, on_items, on_all, done_asked, value_asked, truth_asked}
 use Rattle.template_walk.specs.Expressions.{expression_walk}
 
 -- where `break` and `continue` lead
@@ -32,9 +32,10 @@ number_of no_expressions = 0
 number_of (expressions_more e es) = suc (number_of es)
 
 abbrev mutual
-  -- a value is stored in a target: a name, or targets that it is unpacked into
+  -- a value is stored in a target: a name, an attribute of a namespace, or targets that it is unpacked into
   pub target_walk : Expression → Val → Process → Process
   target_walk (variable name) v go = done_asked (store name v) go
+  target_walk (attribute e name) v go = expression_walk e (λ holder. done_asked (set_attribute name v holder) go)
   target_walk (list_literal targets) v go =
       let count = number_of targets in step (asks (unpack count v) (on_items count (λ vs. targets_walk targets vs go)))
   target_walk _ v go = cut_short
@@ -113,6 +114,7 @@ abbrev mutual
       expression_walk e (λ v. asks (open_escape v) (on_done
       (statements_walk n body (closing close_escape exits) (asks close_escape (on_done go)))))
   statement_walk n (include e ignore_missing) exits go = expression_walk e (λ v. done_asked (events.include ignore_missing v) go)
+  statement_walk n (do_call callee args) exits go = expression_walk (call callee args) (λ v. go)
   statement_walk n continue_loop exits go = exits.on_continue
   statement_walk n break_loop exits go = exits.on_break
   statement_walk n _ exits go = cut_short
