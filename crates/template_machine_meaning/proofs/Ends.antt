@@ -1,5 +1,5 @@
 -- Every run ends, in one way.
-use Rattle.std.proofs.Common.{◌≡◌, ℕ, ◌+◌, ◌<◌, ◌≤◌, ◌⊎◌, inl, inr, zero, suc, false, IsTrue, [], ◌++◌, Option, None, Some, option_map, refl, sym, ap, subst, arith}
+use Rattle.std.proofs.Common.{◌≡◌, ℕ, ◌+◌, ◌<◌, ◌≤◌, ◌⊎◌, inl, inr, zero, suc, false, IsTrue, [], Option, None, Some, option_map, refl, sym, ap, subst, arith}
 use Rattle.std.specs.Prelude.{List, IsSome}
 use Rattle.template_tree.specs.Tree.{Statements}
 use Rattle.template_process.specs.Process.{Process, over, cut_short}

@@ -32,7 +32,7 @@ module _ (names : List ℕ → Type 0) (d : Val) (setting : Setting) where
   same_evaluation : (e : Expression) → ((name : List ℕ) → IsTrue (stands_in name e) → names name) → (c : Val) → ((name : List ℕ) → names name → AgreesAt d c name)
       → IsSameRun (evaluated setting e c) (evaluated setting e d)
   same_evaluation e listed c agrees =
-      let at = runs_so names d (around_of setting None) (runners (walks_of setting None) 0) runners_so (base []) (standalone_walk e) (base []) (first_world no_state escapes.None c)
+      let at = runs_so names d (around_of setting None) (runners (walks_of setting None) 0) runners_so (base []) (standalone_walk e) (base []) (first_world no_state setting.functions escapes.None c)
       (λ name i. absurd i, agrees) (in_expression names (base []) (base []) e (λ name i. inl (listed name i)) (λ v. over (v ∷ [])) (λ v name i. i)) in
       (sym (ap (λ (r : Run World). r.items) at.same), sym (ap (λ (r : Run World). r.end) at.same))
 

@@ -1,15 +1,15 @@
 -- An expression does the same under every bound, and comes to its value or to a fault.
-use Rattle.std.proofs.Common.{◌≡◌, ℕ, inl, inr, true, false, List, [], ◌∷◌, Option, None, Some, refl, sym, ap, subst, ◌∙◌, arith}
-use Rattle.template_values_model.specs.Val.{Val}
+use Rattle.std.proofs.Common.{◌≡◌, ℕ, inl, inr, true, false, List, [], ◌∷◌, ◌++◌, Option, None, Some, refl, sym, ap, subst, ◌∙◌, arith}
+use Rattle.template_values_model.specs.Val.{Val, text}
 use Rattle.template_tree.specs.declared.operators.UnaryOpKind.{UnaryOpKind}
 use Rattle.template_tree.specs.declared.operators.UnaryOpKind.TheVariants.{Not, Neg}
 use Rattle.template_tree.specs.declared.operators.BinOpKind.{BinOpKind}
 use Rattle.template_tree.specs.declared.operators.BinOpKind.TheVariants.{ScAnd, ScOr}
-use Rattle.template_tree.specs.Tree.{Expression, Optional, Expressions, Links, variable, constant, slice, unary, binary, chain, conditional, attribute, item, list_literal, tuple_literal, map_literal, absent, given, no_expressions, expressions_more, no_links, links_more}
-use Rattle.template_process.specs.Process.{Ask, Answer, value, truth, look_up, operate, compare, get_attribute, get_item, get_slice, build_list, build_tuple, build_map, truth_of, Process, over, step, asks, on_value, on_truth}
+use Rattle.template_tree.specs.Tree.{Expression, Optional, Expressions, Links, Arguments, variable, constant, slice, unary, binary, chain, conditional, attribute, item, call, list_literal, tuple_literal, map_literal, absent, given, no_expressions, expressions_more, no_links, links_more, no_arguments, arguments_more, positional, keyword}
+use Rattle.template_process.specs.Process.{Ask, Answer, value, truth, look_up, operate, compare, get_attribute, get_item, get_slice, build_list, build_tuple, build_map, build_kwargs, call_function, call_method, call_value, truth_of, Process, over, step, asks, on_value, on_truth}
 use Rattle.template_process.specs.Trace.{Run, paid, run, behind, replied}
 use Rattle.template_walk.specs.Constants.{constant_of}
-use Rattle.template_walk.specs.Expressions.{folded, unary_ask, binary_walk, expression_walk, optional_walk, expressions_walk, walks_of, entries_walk, chain_walk, linked_walk}
+use Rattle.template_walk.specs.Expressions.{folded, unary_ask, binary_walk, Giving, in_turn, named_in_turn, keywords_walk, passed_walk, Callee, by_name, by_method, by_value, callee_of, called_walk, expression_walk, object_walk, positional_walks, keyword_walks, optional_walk, expressions_walk, walks_of, entries_walk, chain_walk, linked_walk}
 use Rattle.template_machine_meaning.specs.World.{World}
 use Rattle.template_machine_meaning.specs.Keys.{Around}
 use Rattle.template_machine_meaning.specs.Plans.{Runners}
@@ -33,6 +33,10 @@ module _ (around : Around) (r q : Runners) where
   data Each : List ((Val → Process) → Process) → Type 0 where
     none_left : Each []
     each_more : {walk : (Val → Process) → Process} {walks : List ((Val → Process) → Process)} → Stays walk → Each walks → Each (walk ∷ walks)
+
+  data EachNamed : List (List ℕ × Giving) → Type 0 where
+    no_names : EachNamed []
+    more_names : {named : List ℕ × Giving} {others : List (List ℕ × Giving)} → Stays named.1 → EachNamed others → EachNamed (named ∷ others)
 
   stepped : (p : Process) → Same p → Same (step p)
   stepped p same w = ap (behind (paid [] ∷ [])) (same w)
@@ -71,6 +75,36 @@ module _ (around : Around) (r q : Runners) where
   binary_same ScOr left right f g go same = f _ (λ v. truth_same v (go v) (right go) (same v) (g go same))
   binary_same op left right f g go same = f _ (λ v. g _ (λ w. value_same (operate op v w) (λ x. refl) go same))
 
+  -- the same after values in turn
+  abbrev StaysAll : ((List Val → Process) → Process) → Type 0
+  StaysAll walk = (go : List Val → Process) → ((vs : List Val) → Same (go vs)) → Same (walk go)
+
+  turn_same : (walks : List Giving) → Each walks → StaysAll (in_turn walks)
+  turn_same [] each go same = same []
+  turn_same (walk ∷ walks) (each_more f each) go same = f _ (λ v. turn_same walks each _ (λ vs. same (v ∷ vs)))
+
+  named_same : (named : List (List ℕ × Giving)) → EachNamed named → (go : List (Val × Val) → Process) → ((entries : List (Val × Val)) → Same (go entries)) → Same (named_in_turn named go)
+  named_same [] each go same = same []
+  named_same (n ∷ ns) (more_names f each) go same = f _ (λ v. named_same ns each _ (λ entries. same ((text n.0, v) ∷ entries)))
+
+  keywords_same : (named : List (List ℕ × Giving)) → EachNamed named → StaysAll (keywords_walk named)
+  keywords_same [] each go same = same []
+  keywords_same (n ∷ ns) each go same =
+      named_same (n ∷ ns) each (λ entries. step (asks (build_kwargs entries) (on_value (λ map. go (map ∷ [])))))
+      (λ entries. value_same (build_kwargs entries) (λ w. refl) (λ map. go (map ∷ [])) (λ map. same (map ∷ [])))
+
+  passed_same : (walks : List Giving) → Each walks → (named : List (List ℕ × Giving)) → EachNamed named → StaysAll (passed_walk walks named)
+  passed_same walks each named others go same = turn_same walks each _ (λ vs. keywords_same named others _ (λ last. same (vs ++ last)))
+
+  called_same : (callee : Callee) (whole object : Giving) → Stays whole → Stays object → (walks : List Giving) → Each walks → (named : List (List ℕ × Giving)) → EachNamed named
+      → Stays (called_walk callee whole object (passed_walk walks named))
+  called_same (by_name name) whole object f g walks each named others go same =
+      passed_same walks each named others (λ vs. step (asks (call_function name vs) (on_value go))) (λ vs. value_same (call_function name vs) (λ w. refl) go same)
+  called_same (by_method name) whole object f g walks each named others go same =
+      g _ (λ v. passed_same walks each named others (λ vs. step (asks (call_method name (v ∷ vs)) (on_value go))) (λ vs. value_same (call_method name (v ∷ vs)) (λ w. refl) go same))
+  called_same by_value whole object f g walks each named others go same =
+      f _ (λ v. passed_same walks each named others (λ vs. step (asks (call_value (v ∷ vs)) (on_value go))) (λ vs. value_same (call_value (v ∷ vs)) (λ w. refl) go same))
+
   mutual
     stays : (e : Expression) → Stays (expression_walk e)
     stays (variable name) go same = value_same (look_up name) (λ w. refl) go same
@@ -94,7 +128,24 @@ module _ (around : Around) (r q : Runners) where
     stays (map_literal ks vs) go same =
         folded_same (constant_of (map_literal ks vs)) go _ same
         (stays_entries ks (walks_of vs) (stays_each vs) _ (λ entries. value_same (build_map entries) (λ w. refl) go same))
+    stays (call callee args) go same =
+        called_same (callee_of callee) (expression_walk callee) (object_walk callee) (stays callee) (stays_object callee)
+        (positional_walks args) (stays_positional args) (keyword_walks args) (stays_keyword args) go same
     stays _ go same = λ w. refl
+
+    stays_object : (e : Expression) → Stays (object_walk e)
+    stays_object (attribute e name) go same = stays e go same
+    stays_object _ go same = λ w. refl
+
+    stays_positional : (args : Arguments) → Each (positional_walks args)
+    stays_positional no_arguments = none_left
+    stays_positional (arguments_more (positional e) args) = each_more (stays e) (stays_positional args)
+    stays_positional (arguments_more _ args) = stays_positional args
+
+    stays_keyword : (args : Arguments) → EachNamed (keyword_walks args)
+    stays_keyword no_arguments = no_names
+    stays_keyword (arguments_more (keyword name e) args) = more_names (stays e) (stays_keyword args)
+    stays_keyword (arguments_more _ args) = stays_keyword args
 
     stays_optional : (o : Optional) (missing : Val) → Stays (optional_walk missing o)
     stays_optional absent missing go same = same missing

@@ -1,7 +1,8 @@
 -- Each runnable expression settles.
-use Rattle.std.proofs.Common.{◌≡◌, ℕ, inl, inr, Bool, true, false, List, [], ◌∷◌, Option, None, Some, Result, Ok, Err, refl, ap, ◌∙◌}
+use Rattle.std.proofs.Common.{◌≡◌, ℕ, inl, inr, Bool, true, false, List, [], ◌∷◌, ◌++◌, length, Option, None, Some, Result, Ok, Err, if◌then◌else◌, refl, ap, ◌∙◌}
 use Rattle.template_values_errors.specs.declared.ErrorKind.{ErrorKind}
-use Rattle.template_values_model.specs.Val.{Val, silent_undefined, none}
+use Rattle.template_values_model.specs.Val as values
+use Rattle.template_values_model.specs.Val.{Val, silent_undefined, none, text}
 use Rattle.template_values_forms.specs.Truth as truths
 use Rattle.template_values_operators.specs.Kinds.{list_made}
 use Rattle.template_values_operators.specs.Slices.{slice_of}
@@ -9,20 +10,21 @@ use Rattle.template_tree.specs.declared.operators.UnaryOpKind.{UnaryOpKind}
 use Rattle.template_tree.specs.declared.operators.UnaryOpKind.TheVariants.{Not, Neg}
 use Rattle.template_tree.specs.declared.operators.BinOpKind.{BinOpKind}
 use Rattle.template_tree.specs.declared.operators.BinOpKind.TheVariants.{ScAnd, ScOr}
-use Rattle.template_tree.specs.Tree.{Expression, Optional, Expressions, Links, variable, constant, slice, unary, binary, chain, conditional, attribute, item, list_literal, tuple_literal, map_literal, absent, given, no_expressions, expressions_more, no_links, links_more}
-use Rattle.template_process.specs.Process.{Ask, look_up, operate, compare, get_attribute, get_item, get_slice, build_list, build_tuple, build_map, truth_of, value, truth, Process, step, asks, on_value, on_truth}
-use Rattle.template_process.specs.Trace.{run, replied}
+use Rattle.template_tree.specs.Tree.{Expression, Optional, Expressions, Links, Arguments, variable, constant, slice, unary, binary, chain, conditional, attribute, item, call, list_literal, tuple_literal, map_literal, absent, given, no_expressions, expressions_more, no_links, links_more, no_arguments, arguments_more, positional, keyword}
+use Rattle.template_process.specs.Process.{Ask, look_up, operate, compare, get_attribute, get_item, get_slice, build_list, build_tuple, build_map, build_kwargs, call_function, call_method, call_value, truth_of, value, truth, tells, Process, step, asks, on_value, on_truth}
+use Rattle.template_process.specs.Trace.{Reply, run, replied}
 use Rattle.template_walk.specs.Constants.{constant_of}
-use Rattle.template_walk.specs.Containers.{tuple_made, map_made}
-use Rattle.template_walk.specs.Expressions.{folded, unary_ask, binary_walk, expression_walk, optional_walk, expressions_walk, walks_of, entries_walk, chain_walk, linked_walk}
+use Rattle.template_walk.specs.Containers.{tuple_made, map_made, kwargs_made}
+use Rattle.template_walk.specs.Expressions.{folded, unary_ask, binary_walk, Giving, in_turn, named_in_turn, keywords_walk, passed_walk, Callee, by_name, by_method, by_value, callee_of, called_walk, expression_walk, object_walk, positional_walks, keyword_walks, optional_walk, expressions_walk, walks_of, entries_walk, chain_walk, linked_walk}
 use Rattle.template_walk.specs.Operators.{operated, compared, inverted, negated}
-use Rattle.template_walk.specs.Runnable.{IsRunnable, IsRunnableIfGiven, AreRunnable, IsRunnableChain, AreRunnableLinks}
-use Rattle.template_machine_meaning.specs.World.{World, lookup}
+use Rattle.template_walk.specs.Runnable.{IsRunnable, IsRunnableIfGiven, AreRunnableArguments, AreRunnable, IsRunnableChain, AreRunnableLinks}
+use Rattle.template_machine_meaning.specs.World.{World, looked_up, value_named, given_at, put_given}
 use Rattle.template_machine_meaning.specs.Records.{known_of}
 use Rattle.template_machine_meaning.specs.Undefined.{forbids_truth, forbids_operator, forbids_link, forbids_slicing}
-use Rattle.template_machine_meaning.specs.Replies.{guarded, replied_with, kinded}
-use Rattle.template_machine_meaning.specs.Surroundings.{Programs, attribute_given, item_given, answer}
-use Rattle.template_machine_meaning.proofs.Settling.{Walk, Settles, settles_then, settles_now, settles_step, settles_value}
+use Rattle.template_machine_meaning.specs.Replies.{told, changed, guarded, replied_with, kinded}
+use Rattle.template_machine_meaning.specs.Functions.{Called, gives, makes, compares, name_called, first_method, first_called}
+use Rattle.template_machine_meaning.specs.Surroundings.{Programs, attribute_given, item_given, are_as_before, made_namespace, called_reply, answer}
+use Rattle.template_machine_meaning.proofs.Settling.{Walk, Settles, settles_then, settles_now, settles_step, settles_value, settles_given}
 use Rattle.template_machine_meaning.proofs.Keeping.{Keeps}
 
 -- what is given leaves a world that keeps what the base has
@@ -56,6 +58,28 @@ module _ (s : Programs) (base : World) where
   -- a step, and an event that gives a value
   pub given_by : (w : World) → Keeps base w → (e : Ask) (r : Result Val ErrorKind) → ((n : ℕ) → answer s n w e ≡ replied_with w value r) → Gives w (λ m go. step (asks e (on_value go)))
   given_by w kept e r is = settles_step s w (Kept base) (λ m go. asks e (on_value go)) (settles_value s w (Kept base) e r (λ v. kept) is)
+
+  -- what arguments are answered that are compared with those of the call before
+  abbrev compared_reply : World → ℕ → List Val → Bool → Reply World
+  compared_reply w number vs b =
+      if b then told w (tells (value (values.truth false)))
+      else changed (record w { given = put_given number vs w.given }) (value (values.truth true))
+
+  compared_by : (w : World) → Keeps base w → (e : Ask) (number : ℕ) (vs : List Val) (b : Bool) → ((n : ℕ) → answer s n w e ≡ compared_reply w number vs b) → Gives w (λ m go. step (asks e (on_value go)))
+  compared_by w kept e number vs true is = given_by w kept e (Ok (values.truth false)) is
+  compared_by w kept e number vs false is =
+      settles_step s w (Kept base) (λ m go. asks e (on_value go))
+      (settles_given s w (record w { given = put_given number vs w.given }) (Kept base) e (values.truth true)
+      (record { loops = kept.loops; outer = kept.outer; saved = kept.saved; captures = kept.captures }) is)
+
+  -- a step, and a call
+  called_by : (w : World) → Keeps base w → (e : Ask) (c : Called) → ((n : ℕ) → answer s n w e ≡ called_reply w c) → Gives w (λ m go. step (asks e (on_value go)))
+  called_by w kept e (gives r) is = given_by w kept e r is
+  called_by w kept e (makes entries) is =
+      settles_step s w (Kept base) (λ m go. asks e (on_value go))
+      (settles_given s w (made_namespace w entries) (Kept base) e (values.namespace w.id (length w.namespaces))
+      (record { loops = kept.loops; outer = kept.outer; saved = kept.saved; captures = kept.captures }) is)
+  called_by w kept e (compares number vs) is = compared_by w kept e number vs (are_as_before vs (given_at number w.given)) is
 
   -- a step, and a test of a value
   decided_by : (w : World) (v : Val) (P Q : Walk Val) → Gives w P → Gives w Q → Gives w (λ m go. step (asks (truth_of v) (on_truth (P m go) (Q m go))))
@@ -96,9 +120,64 @@ module _ (s : Programs) (base : World) where
     none_left : EachGives []
     each_more : {walk : (Val → Process) → Process} {walks : List ((Val → Process) → Process)} → Always (λ m go. walk go) → EachGives walks → EachGives (walk ∷ walks)
 
+  data NamedGive : List (List ℕ × Giving) → Type 0 where
+    no_names : NamedGive []
+    more_names : {named : List ℕ × Giving} {others : List (List ℕ × Giving)} → Always (λ m go. named.1 go) → NamedGive others → NamedGive (named ∷ others)
+
+  -- values in turn
+  abbrev GivesAll : World → Walk (List Val) → Type 0
+  GivesAll w P = Settles {O = List Val} s w (Kept base) P
+
+  settles_in_turn : (walks : List Giving) → EachGives walks → (w : World) → Keeps base w → GivesAll w (λ m go. in_turn walks go)
+  settles_in_turn [] each w kept = settles_now s w (Kept base) [] kept
+  settles_in_turn (walk ∷ walks) (each_more f each) w kept =
+      settles_then s w (Kept base) (Kept base) (λ m go. walk go) (λ v m go. in_turn walks (λ vs. go (v ∷ vs))) (f w kept)
+      (λ v x k. settles_then s x (Kept base) (Kept base) (λ m go. in_turn walks go) (λ vs m go. go (v ∷ vs)) (settles_in_turn walks each x k)
+      (λ vs y l. settles_now s y (Kept base) (v ∷ vs) l))
+
+  settles_named : (named : List (List ℕ × Giving)) → NamedGive named → (w : World) → Keeps base w → Settles {O = List (Val × Val)} s w (Kept base) (λ m go. named_in_turn named go)
+  settles_named [] each w kept = settles_now s w (Kept base) [] kept
+  settles_named (n ∷ ns) (more_names f each) w kept =
+      settles_then s w (Kept base) (Kept base) (λ m go. n.1 go) (λ v m go. named_in_turn ns (λ entries. go ((text n.0, v) ∷ entries))) (f w kept)
+      (λ v x k. settles_then s x (Kept base) (Kept base) (λ m go. named_in_turn ns go) (λ entries m go. go ((text n.0, v) ∷ entries)) (settles_named ns each x k)
+      (λ entries y l. settles_now s y (Kept base) ((text n.0, v) ∷ entries) l))
+
+  settles_keywords : (named : List (List ℕ × Giving)) → NamedGive named → (w : World) → Keeps base w → GivesAll w (λ m go. keywords_walk named go)
+  settles_keywords [] each w kept = settles_now s w (Kept base) [] kept
+  settles_keywords (n ∷ ns) each w kept =
+      settles_then s w (Kept base) (Kept base) (λ m go. named_in_turn (n ∷ ns) go) (λ entries m go. step (asks (build_kwargs entries) (on_value (λ map. go (map ∷ []))))) (settles_named (n ∷ ns) each w kept)
+      (λ entries x k. settles_then s x (Kept base) (Kept base) (λ m go. step (asks (build_kwargs entries) (on_value go))) (λ map m go. go (map ∷ []))
+      (given_by x k (build_kwargs entries) (kinded (kwargs_made entries)) (λ n. refl))
+      (λ map y l. settles_now s y (Kept base) (map ∷ []) l))
+
+  settles_passed : (walks : List Giving) → EachGives walks → (named : List (List ℕ × Giving)) → NamedGive named → (w : World) → Keeps base w → GivesAll w (λ m go. passed_walk walks named go)
+  settles_passed walks each named others w kept =
+      settles_then s w (Kept base) (Kept base) (λ m go. in_turn walks go) (λ vs m go. keywords_walk named (λ last. go (vs ++ last))) (settles_in_turn walks each w kept)
+      (λ vs x k. settles_then s x (Kept base) (Kept base) (λ m go. keywords_walk named go) (λ last m go. go (vs ++ last)) (settles_keywords named others x k)
+      (λ last y l. settles_now s y (Kept base) (vs ++ last) l))
+
+  -- a method has an object
+  abbrev ObjectGives : Callee → Giving → Type 0
+  ObjectGives (by_method name) object = Always (λ m go. object go)
+  ObjectGives _ object = Unit {0}
+
+  settles_called : (callee : Callee) (whole object : Giving) → Always (λ m go. whole go) → ObjectGives callee object → (walks : List Giving) → EachGives walks
+      → (named : List (List ℕ × Giving)) → NamedGive named → Always (λ m go. called_walk callee whole object (passed_walk walks named) go)
+  settles_called (by_name name) whole object f g walks each named others w kept =
+      settles_then s w (Kept base) (Kept base) (λ m go. passed_walk walks named go) (λ vs m go. step (asks (call_function name vs) (on_value go))) (settles_passed walks each named others w kept)
+      (λ vs x k. called_by x k (call_function name vs) (name_called x.functions (looked_up name x) vs) (λ n. refl))
+  settles_called (by_method name) whole object f g walks each named others w kept =
+      given_then w (λ m go. object go) (λ v m go. passed_walk walks named (λ vs. step (asks (call_method name (v ∷ vs)) (on_value go)))) (g w kept)
+      (λ v x k. settles_then s x (Kept base) (Kept base) (λ m go. passed_walk walks named go) (λ vs m go. step (asks (call_method name (v ∷ vs)) (on_value go))) (settles_passed walks each named others x k)
+      (λ vs y l. called_by y l (call_method name (v ∷ vs)) (first_method y.functions (known_of y) name (v ∷ vs)) (λ n. refl)))
+  settles_called by_value whole object f g walks each named others w kept =
+      given_then w (λ m go. whole go) (λ v m go. passed_walk walks named (λ vs. step (asks (call_value (v ∷ vs)) (on_value go)))) (f w kept)
+      (λ v x k. settles_then s x (Kept base) (Kept base) (λ m go. passed_walk walks named go) (λ vs m go. step (asks (call_value (v ∷ vs)) (on_value go))) (settles_passed walks each named others x k)
+      (λ vs y l. called_by y l (call_value (v ∷ vs)) (first_called y.functions (v ∷ vs)) (λ n. refl)))
+
   mutual
     pub settles_expression : (e : Expression) → IsRunnable e → Always (walk_of e)
-    settles_expression (variable name) h w kept = given_by w kept (look_up name) (Ok (lookup name w.frames)) (λ n. refl)
+    settles_expression (variable name) h w kept = given_by w kept (look_up name) (Ok (value_named name w)) (λ n. refl)
     settles_expression (constant v) h w kept = settles_now s w (Kept base) v kept
     settles_expression (unary op e) h w kept =
         given_folded (constant_of (unary op e)) w kept (λ m go. expression_walk e (λ v. step (asks (unary_ask op v) (on_value go))))
@@ -139,7 +218,26 @@ module _ (s : Programs) (base : World) where
         given_folded (constant_of (map_literal ks vs)) w kept (λ m go. entries_walk ks (walks_of vs) (λ entries. step (asks (build_map entries) (on_value go))))
         (settles_then s w (Kept base) (Kept base) (λ m go. entries_walk ks (walks_of vs) go) (λ entries m go. step (asks (build_map entries) (on_value go))) (settles_entries ks h.0 (walks_of vs) (settles_each vs h.1) w kept)
         (λ entries x k. given_by x k (build_map entries) (kinded (map_made entries)) (λ n. refl)))
+    settles_expression (call callee args) h w kept =
+        settles_called (callee_of callee) (expression_walk callee) (object_walk callee) (settles_expression callee h.0) (settles_object callee h.0)
+        (positional_walks args) (settles_positional args h.2) (keyword_walks args) (settles_keyword args h.2) w kept
     settles_expression _ h w kept = absurd h
+
+    settles_object : (callee : Expression) → IsRunnable callee → ObjectGives (callee_of callee) (object_walk callee)
+    settles_object (attribute e name) h = settles_expression e h
+    settles_object _ h = tt
+
+    settles_positional : (args : Arguments) → AreRunnableArguments args → EachGives (positional_walks args)
+    settles_positional no_arguments h = none_left
+    settles_positional (arguments_more (positional e) args) h = each_more (settles_expression e h.0) (settles_positional args h.1)
+    settles_positional (arguments_more (keyword name e) args) h = settles_positional args h.1
+    settles_positional (arguments_more _ args) h = absurd h
+
+    settles_keyword : (args : Arguments) → AreRunnableArguments args → NamedGive (keyword_walks args)
+    settles_keyword no_arguments h = no_names
+    settles_keyword (arguments_more (positional e) args) h = settles_keyword args h.1
+    settles_keyword (arguments_more (keyword name e) args) h = more_names (settles_expression e h.0) (settles_keyword args h.1)
+    settles_keyword (arguments_more _ args) h = absurd h
 
     settles_optional : (o : Optional) → IsRunnableIfGiven o → (missing : Val) → Always (λ m go. optional_walk missing o go)
     settles_optional absent h missing w kept = settles_now s w (Kept base) missing kept

@@ -2,7 +2,7 @@
 use Rattle.std.proofs.Common.{ℕ, ◌⊎◌, inl, inr, List, [], ◌∷◌}
 use Rattle.std.specs.Prelude.{IsTrue}
 use Rattle.std.specs.Str.{bytes_eq}
-use Rattle.template_process.specs.Process.{Ask, look_up, store, open_frame, close_frame, open_loop, next_item, close_loop, Answer, Process, over, step, asks, amiss, cut_short, stuck}
+use Rattle.template_process.specs.Process.{Ask, look_up, call_function, store, open_frame, close_frame, open_loop, next_item, close_loop, Answer, Process, over, step, asks, amiss, cut_short, stuck}
 
 -- the names that are stored in each open frame, the innermost first
 pub data Known : Type 0 where
@@ -84,6 +84,7 @@ module _ (names : List ℕ → Type 0) where
 
   abbrev pub May : Known → Ask → Type 0
   May k (look_up name) = IsSafe k name
+  May k (call_function name vs) = IsSafe k name
   May k close_frame = IsInner k
   May k close_loop = IsInner k
   May k _ = Unit {0}

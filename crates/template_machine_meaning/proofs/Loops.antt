@@ -6,13 +6,13 @@ use Rattle.template_values_model.specs.Val.{Val}
 use Rattle.template_process.specs.Process.{next_item, close_loop, done, item, no_item, Process, step, asks, on_done, on_item}
 use Rattle.template_process.specs.Trace.{paid, run, behind, replied}
 use Rattle.template_walk.specs.Statements.{Exits, rounds}
-use Rattle.template_machine_meaning.specs.World.{Loop, Frame, World}
+use Rattle.template_machine_meaning.specs.World.{Loop, Frame, World, drop_given}
 use Rattle.template_machine_meaning.specs.Replies.{changed}
 use Rattle.template_machine_meaning.specs.Surroundings.{Programs, next_reply, answer}
 use Rattle.template_machine_meaning.proofs.Settling.{Walk, Settles, settles_then, settles_now, settles_step, settles_before, settles_to}
 use Rattle.template_machine_meaning.proofs.Keeping.{Keeps, loops_of, Top, top, on_loop_is}
 use Rattle.template_machine_meaning.proofs.Expressions.{Kept}
-use Rattle.template_machine_meaning.proofs.Scopes.{behind_frame, closed}
+use Rattle.template_machine_meaning.proofs.Scopes.{behind_frame}
 
 -- how a statement comes to its end
 pub data Leave : Type 0 where
@@ -45,9 +45,10 @@ pub loop_closed : {O : Type 0} (s : Programs) (base w : World) (own : Loop) (ask
     → ((z : World) → Keeps base z → Settles {O = O} s z shape Q) → Settles {O = O} s w shape (λ m go. asks close_loop (on_done (Q m go)))
 loop_closed s base w own asked inside shape Q next =
     let t = top w (Some (loop_at own asked)) (loops_of base.frames) inside.loops in
-    let z : World = record w { frames = t.rest } in
-    settles_to s w z shape close_loop Q (λ n. on_loop_is w t.frame t.rest (loop_at own asked) t.frames t.own (λ f l fs. changed (record w { frames = fs }) done))
-    (next z (closed base w (frame_at own asked) inside t))
+    let z : World = record w { frames = t.rest; given = drop_given own.number w.given } in
+    settles_to s w z shape close_loop Q
+    (λ n. on_loop_is w t.frame t.rest (loop_at own asked) t.frames t.own (λ f l fs. changed (record w { frames = fs; given = drop_given l.number w.given }) done))
+    (next z (record { loops = t.others; outer = inside.outer; saved = inside.saved; captures = inside.captures }))
 
 -- a round under a bound, over an item
 abbrev pub Round : Type 0

@@ -1,9 +1,11 @@
 -- The answers over one context are those over the other, where both agree on the names.
 use Rattle.std.proofs.Common.{◌≡◌, ℕ, ◌+◌, Bool, true, false, nat_le, List, [], ◌∷◌, Option, None, Some, Result, Ok, Err, map, refl, sym, ap, subst, ◌∙◌}
+use Rattle.std.specs.Option.{option_or}
 use Rattle.std.specs.Prelude.{if◌then◌else◌, is_some, slice_get, unwrap_or}
 use Rattle.template_values_errors.specs.declared.ErrorKind.{ErrorKind}
 use Rattle.template_values_errors.specs.declared.ErrorKind.TheVariants.{InvalidOperation}
 use Rattle.template_values_errors.specs.declared.modes.AutoEscape.{AutoEscape}
+use Rattle.template_values_model.specs.Val as values
 use Rattle.template_values_model.specs.Val.{Val, undefined}
 use Rattle.template_values_core.specs.Answers.{text_in}
 use Rattle.template_values_forms.specs.Escaped.{escaped}
@@ -12,21 +14,22 @@ use Rattle.template_values_forms.specs.Truth as truths
 use Rattle.template_values_operators.specs.Iterated.{iterated}
 use Rattle.template_values_operators.specs.Kinds.{list_made}
 use Rattle.template_values_operators.specs.Slices.{slice_of}
-use Rattle.template_process.specs.Process.{Looping, Ask, look_up, store, negate, invert, operate, compare, get_attribute, get_item, get_slice, build_list, build_tuple, build_map, truth_of, unpack, spread, write_raw, write_value, open_frame, close_frame, open_loop, next_item, did_not_iterate, close_loop, open_escape, close_escape, begin_capture, end_capture, include, Answer, done, value, truth, items, Told, tells, fails, breaks_off, leaves, Process, over, step, asks, amiss, cut_short, stuck}
+use Rattle.template_process.specs.Process.{Looping, Ask, look_up, store, negate, invert, operate, compare, get_attribute, get_item, get_slice, set_attribute, build_list, build_tuple, build_map, build_kwargs, call_function, call_method, call_value, truth_of, unpack, spread, write_raw, write_value, open_frame, close_frame, open_loop, next_item, did_not_iterate, close_loop, open_escape, close_escape, begin_capture, end_capture, include, Answer, done, value, truth, items, Told, tells, fails, breaks_off, leaves, Process, over, step, asks, amiss, cut_short, stuck}
 use Rattle.template_process.specs.Drive.{End, ends, faults}
 use Rattle.template_process.specs.Trace.{paid, written, Reply, Run, run, behind, go_on, replied}
-use Rattle.template_walk.specs.Containers.{tuple_made, map_made}
+use Rattle.template_walk.specs.Containers.{tuple_made, map_made, kwargs_made}
 use Rattle.template_walk.specs.Operators.{operated, compared, inverted, negated}
-use Rattle.template_machine_meaning.specs.World.{Loop, Frame, Capture, World, lookup, has_room, loop_over}
+use Rattle.template_machine_meaning.specs.World.{Loop, Frame, Capture, World, function_named, looked_up, value_named, given_at, put_given, has_room, loop_over}
 use Rattle.template_machine_meaning.specs.Records.{known_of}
 use Rattle.template_machine_meaning.specs.Undefined.{forbids_printing, forbids_iterating, forbids_truth, forbids_slicing, forbids_operator, forbids_link}
 use Rattle.template_machine_meaning.specs.Replies.{told, changed, refused, kinded, guarded, replied_with, changed_with}
+use Rattle.template_machine_meaning.specs.Functions.{Called, gives, makes, compares, name_called, first_method, first_called}
 use Rattle.template_machine_meaning.specs.Keys.{Key, Around}
 use Rattle.template_machine_meaning.specs.Plans as plans
 use Rattle.template_machine_meaning.specs.Plans.{Purpose, includes, Plan, replies, enters, room_for, caller_of, after_by, given, wrapped_by, told_by, came, Runners, came_from, settled}
 use Rattle.template_machine_meaning.specs.Includes.{Found, choices_in, first_standing, include_levels, include_within, not_found, included_by, included_from}
-use Rattle.template_machine_meaning.specs.Surroundings.{with_text, printed_reply, attribute_given, item_given, unpacked, unpacked_into, empty_frame, loop_frame, opened_loop, asked_once, next_reply, escape_named, escape_put_back, captured, plan, respond}
-use Rattle.template_machine_meaning.proofs.Known.{Known, inner, stored, closed, cleared, learnt, May, Within}
+use Rattle.template_machine_meaning.specs.Surroundings.{with_text, printed_reply, attribute_given, item_given, unpacked, unpacked_into, empty_frame, loop_frame, opened_loop, asked_once, next_reply, escape_named, escape_put_back, captured, are_as_before, called_reply, put_attribute, with_attribute, plan, respond}
+use Rattle.template_machine_meaning.proofs.Known.{Known, inner, stored, closed, cleared, learnt, IsSafe, May, Within}
 use Rattle.template_machine_meaning.proofs.Turned.{context_before, over_frames, over_context, Fits, fits_less, finds, same_known, same_depth, pushes, many, fits_stored, fits_cleared, fits_closed}
 
 -- the same over the context
@@ -89,13 +92,45 @@ module _ (names : List ℕ → Type 0) (d : Val) where
     replied_so answer (Ok x) = record { same = refl; stays = tt; fits = λ t. fits }
     replied_so answer (Err kind) = record { same = refl; stays = tt; fits = λ t. fits }
 
-    looked_up : (name : List ℕ) → May names k (look_up name)
-        → Replies k (told w (tells (value (lookup name w.frames)))) (told other (tells (value (lookup name other.frames))))
-    looked_up name may = record {
-      same = ap (λ o. told other (tells (value (unwrap_or o undefined)))) (finds names d name k w.frames fits may);
+    -- what a safe name stands for; under all frames the functions are the same
+    stands_so : (name : List ℕ) → IsSafe names k name → looked_up name other ≡ looked_up name w
+    stands_so name safe = ap (λ o. option_or o (function_named w.functions name)) (finds names d name k w.frames fits safe)
+
+    look_up_so : (name : List ℕ) → IsSafe names k name → Replies k (told w (tells (value (value_named name w)))) (told other (tells (value (value_named name other))))
+    look_up_so name safe = record {
+      same = ap (λ o. told other (tells (value (unwrap_or o undefined)))) (stands_so name safe);
       stays = tt;
       fits = λ t. fits;
     }
+
+    -- calls: what they make or compare is not in the frames
+    compared_so : (number : ℕ) (vs : List Val) (b : Bool)
+        → Replies k (if b then told w (tells (value (values.truth false))) else changed (record w { given = put_given number vs w.given }) (value (values.truth true)))
+        (if b then told other (tells (value (values.truth false))) else changed (record other { given = put_given number vs w.given }) (value (values.truth true)))
+    compared_so number vs true = record { same = refl; stays = tt; fits = λ t. fits }
+    compared_so number vs false = record { same = refl; stays = tt; fits = λ t. fits }
+
+    called_so : (c : Called) → Replies k (called_reply w c) (called_reply other c)
+    called_so (gives r) = replied_so value r
+    called_so (makes entries) = record { same = refl; stays = tt; fits = λ t. fits }
+    called_so (compares number vs) = compared_so number vs (are_as_before vs (given_at number w.given))
+
+    call_so : (name : List ℕ) (vs : List Val) → IsSafe names k name
+        → Replies k (called_reply w (name_called w.functions (looked_up name w) vs)) (called_reply other (name_called w.functions (looked_up name other) vs))
+    call_so name vs safe =
+        subst (λ o. Replies k (called_reply w (name_called w.functions (looked_up name w) vs)) (called_reply other (name_called w.functions o vs)))
+        (sym (stands_so name safe)) (called_so (name_called w.functions (looked_up name w) vs))
+
+    -- a namespace takes an attribute
+    put_so : (number : ℕ) (name : List ℕ) (v : Val) (o : Option (List (Val × Val)))
+        → Replies k (changed_with w (λ after. done) (λ after. after) (put_attribute w number name v o)) (changed_with other (λ after. done) (λ after. after) (put_attribute other number name v o))
+    put_so number name v (Some entries) = record { same = refl; stays = tt; fits = λ t. fits }
+    put_so number name v None = record { same = refl; stays = tt; fits = λ t. fits }
+
+    attribute_so : (name : List ℕ) (v holder : Val)
+        → Replies k (changed_with w (λ after. done) (λ after. after) (with_attribute w name v holder)) (changed_with other (λ after. done) (λ after. after) (with_attribute other name v holder))
+    attribute_so name v (values.namespace id number) = put_so number name v ((known_of w).namespaces id number)
+    attribute_so name v _ = record { same = refl; stays = tt; fits = λ t. fits }
 
     -- a text is written, where these captures are open
     abbrev text_into : World → List ℕ → List Capture → Reply World
@@ -270,7 +305,7 @@ module _ (names : List ℕ → Type 0) (d : Val) where
 
     -- each event that may be asked
     plans_so : (a : Around) (e : Ask) → May names k e → Plans (learnt k e) w (plan a w e) (plan a other e)
-    plans_so a (look_up name) may = looked_up name may
+    plans_so a (look_up name) may = look_up_so name may
     plans_so a (store name v) may =
         framed_so (stored name k) _ _ w.frames fits (λ f gs h. record { same = refl; stays = tt; fits = λ t. fits_stored names d name v k f gs h })
     plans_so a (negate v) may = replied_so value (kinded (negated v))
@@ -286,6 +321,13 @@ module _ (names : List ℕ → Type 0) (d : Val) where
     plans_so a (build_list vs) may = replied_so value (kinded (list_made vs))
     plans_so a (build_tuple vs) may = replied_so value (kinded (tuple_made vs))
     plans_so a (build_map entries) may = replied_so value (kinded (map_made entries))
+    plans_so a (build_kwargs entries) may = replied_so value (kinded (kwargs_made entries))
+    plans_so a (call_function name vs) may = call_so name vs may
+    plans_so a (set_attribute name v holder) may = attribute_so name v holder
+    plans_so a (call_method name vs) may =
+        at_known k (replies (called_reply w (first_method w.functions (known_of w) name vs))) (λ known. replies (called_reply other (first_method w.functions known name vs)))
+        (called_so (first_method w.functions (known_of w) name vs))
+    plans_so a (call_value vs) may = called_so (first_called w.functions vs)
     plans_so a (truth_of v) may = known_so truth (λ known. guarded (forbids_truth a.undefined v) (kinded (truths.truth_of known v)))
     plans_so a (unpack n v) may = replied_so items (unpacked_into n (unpacked v))
     plans_so a (spread []) may = record { same = refl; stays = tt; fits = λ t. fits }

@@ -1,7 +1,7 @@
 -- Worked rows, computed: texts, prices and ends.
 use Rattle.std.proofs.Common.{◌≡◌, ℕ, pos, false, List, [], ◌∷◌, None, Some, Option, codes, bytes_eq, refl}
 use Rattle.std.specs.Prelude.{if◌then◌else◌}
-use Rattle.template_values_errors.specs.declared.ErrorKind.TheVariants.{BadInclude, OutOfFuel}
+use Rattle.template_values_errors.specs.declared.ErrorKind.TheVariants.{InvalidOperation, TooManyArguments, UnknownFunction, BadInclude, OutOfFuel}
 use Rattle.template_values_errors.specs.declared.modes.AutoEscape.TheVariants as escapes
 use Rattle.template_values_errors.specs.declared.modes.UndefinedBehavior.{UndefinedBehavior}
 use Rattle.template_values_errors.specs.declared.modes.UndefinedBehavior.TheVariants.{Lenient, Strict}
@@ -11,7 +11,7 @@ use Rattle.template_tree.specs.declared.operators.CompareOpKind.TheVariants.{Lt,
 use Rattle.std.specs.Fmt as fmt
 use Rattle.template_values_forms.specs.Printed as printed_forms
 use Rattle.template_tree.specs.Tree as tree
-use Rattle.template_tree.specs.Tree.{Expression, Expressions, Statement, Statements, variable, constant, binary, chain, attribute, list_literal, absent, given, no_expressions, expressions_more, no_links, links_more, raw, print, for_loop, set, set_block, no_statements, statements_more}
+use Rattle.template_tree.specs.Tree.{Expression, Expressions, Arguments, Statement, Statements, variable, constant, binary, chain, attribute, call, list_literal, absent, given, no_expressions, expressions_more, no_arguments, arguments_more, positional, keyword, no_links, links_more, raw, print, for_loop, set, set_block, no_statements, statements_more}
 use Rattle.template_process.specs.Drive.{faults}
 use Rattle.template_process.specs.Trace.{Run, text_of, price_of}
 use Rattle.template_process.specs.Fuel.{under}
@@ -32,9 +32,13 @@ statements (s ∷ ss) = statements_more s (statements ss)
 abbrev named : List ℕ → List ℕ → Statements → Option Standing
 named name other t = if bytes_eq name other then Some (record { tree = t; escape = escapes.None }) else None
 
+abbrev passing : List Expression → Arguments
+passing [] = no_arguments
+passing (e ∷ es) = arguments_more (positional e) (passing es)
+
 -- one template, named `b`, stands
 abbrev setting : UndefinedBehavior → Statements → Setting
-setting mode b = record { templates = λ name. named (codes "b") name b; limit = 500; undefined = mode }
+setting mode b = record { templates = λ name. named (codes "b") name b; functions = Some 0; limit = 500; undefined = mode }
 
 abbrev run_of : UndefinedBehavior → Statements → List Statement → Val → Run World
 run_of mode b ss context = rendered (setting mode b) 0 5 (record { tree = statements ss; escape = escapes.None }) context
@@ -90,6 +94,76 @@ attributes_row = run_of Lenient no_statements (for_loop (variable (codes "i")) (
 attributes_text : text_of attributes_row.items ≡ codes "11false,20true1,"
 unfolding printed_forms.level_limit fmt.digits
 attributes_text = refl
+
+-- `{% for i in range(3) %}{{ loop.cycle("a", "b") }}{{ i }}{% endfor %}`
+abbrev range_row : Run World
+range_row = run_of Lenient no_statements (for_loop (variable (codes "i")) (call (variable (codes "range")) (passing (number 3 ∷ []))) absent false
+    (statements (print (call (attribute (variable (codes "loop")) (codes "cycle")) (passing (constant (text (codes "a")) ∷ constant (text (codes "b")) ∷ []))) ∷ print (variable (codes "i")) ∷ [])) no_statements ∷ []) (map no_pairs)
+
+range_text : text_of range_row.items ≡ codes "a0b1a2"
+unfolding printed_forms.level_limit fmt.digits
+range_text = refl
+
+-- `{{ dict(a=x).a }}`
+abbrev dict_row : Run World
+dict_row = run_of Lenient no_statements (print (attribute (call (variable (codes "dict")) (arguments_more (keyword (codes "a") (variable (codes "x"))) no_arguments)) (codes "a")) ∷ []) (only (codes "x") (int (pos 7)))
+
+dict_text : text_of dict_row.items ≡ codes "7"
+unfolding printed_forms.level_limit fmt.digits
+dict_text = refl
+
+dict_price : price_of dict_row.items ≡ 5
+unfolding printed_forms.level_limit fmt.digits
+dict_price = refl
+
+-- `{% set ns = namespace(n=0) %}{% for i in [1, 2, 3] %}{% set ns.n = ns.n + i %}{% endfor %}{{ ns.n }}`
+abbrev ns_n : Expression
+ns_n = attribute (variable (codes "ns")) (codes "n")
+
+abbrev namespace_row : Run World
+namespace_row = run_of Lenient no_statements (set (variable (codes "ns")) (call (variable (codes "namespace")) (arguments_more (keyword (codes "n") (number 0)) no_arguments))
+    ∷ for_loop (variable (codes "i")) (list_literal (expressions (number 1 ∷ number 2 ∷ number 3 ∷ []))) absent false
+    (statements (set ns_n (binary operators.Add ns_n (variable (codes "i"))) ∷ [])) no_statements
+    ∷ print ns_n ∷ []) (map no_pairs)
+
+namespace_text : text_of namespace_row.items ≡ codes "6"
+unfolding printed_forms.level_limit fmt.digits
+namespace_text = refl
+
+namespace_price : price_of namespace_row.items ≡ 34
+unfolding printed_forms.level_limit fmt.digits
+namespace_price = refl
+
+-- `{{ namespace(1) }}`, and `{{ namespace({}, n=0) }}`
+abbrev made_of : Arguments → Run World
+made_of args = run_of Lenient no_statements (print (call (variable (codes "namespace")) args) ∷ []) (map no_pairs)
+
+no_map_end : (made_of (passing (number 1 ∷ []))).end ≡ faults (InvalidOperation ∷ [])
+unfolding printed_forms.level_limit fmt.digits
+no_map_end = refl
+
+both_end : (made_of (arguments_more (positional (constant (map no_pairs))) (arguments_more (keyword (codes "n") (number 0)) no_arguments))).end ≡ faults (TooManyArguments ∷ [])
+unfolding printed_forms.level_limit fmt.digits
+both_end = refl
+
+-- `{% set x.a = 1 %}`, where x is no namespace
+no_namespace_end : (run_of Lenient no_statements (set (attribute (variable (codes "x")) (codes "a")) (number 1) ∷ []) (only (codes "x") (map no_pairs))).end ≡ faults (InvalidOperation ∷ [])
+unfolding printed_forms.level_limit fmt.digits
+no_namespace_end = refl
+
+-- `{% for i in [1, 1, 2] %}{{ loop.changed(i) }},{% endfor %}`
+abbrev changed_row : Run World
+changed_row = run_of Lenient no_statements (for_loop (variable (codes "i")) (list_literal (expressions (number 1 ∷ number 1 ∷ number 2 ∷ []))) absent false
+    (statements (print (call (attribute (variable (codes "loop")) (codes "changed")) (passing (variable (codes "i") ∷ []))) ∷ raw (codes ",") ∷ [])) no_statements ∷ []) (map no_pairs)
+
+changed_text : text_of changed_row.items ≡ codes "true,false,true,"
+unfolding printed_forms.level_limit fmt.digits
+changed_text = refl
+
+-- `{{ f() }}`
+unknown_end : (run_of Lenient no_statements (print (call (variable (codes "f")) no_arguments) ∷ []) (map no_pairs)).end ≡ faults (UnknownFunction ∷ [])
+unfolding printed_forms.level_limit fmt.digits
+unknown_end = refl
 
 -- `{{ 1 < x < 3 }}`
 abbrev chain_row : ℕ → Run World

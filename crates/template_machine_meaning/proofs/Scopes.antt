@@ -1,17 +1,21 @@
--- Stores, frames, loops and escapes settle, and keep what the world around them has.
+-- Stores, attributes, frames, loops and escapes settle, and keep what the world around them has.
 use Rattle.std.proofs.Common.{◌≡◌, ℕ, Bool, true, false, List, [], ◌∷◌, ◌==◌, length, Option, None, Some, Ok, Err, refl, sym, ap, ◌∙◌}
+use Rattle.std.specs.BTreeMap.{insert_entry}
 use Rattle.std.specs.Prelude.{if◌then◌else◌}
 use Rattle.template_values_errors.specs.declared.ErrorKind.TheVariants.{InvalidOperation, CannotUnpack}
+use Rattle.template_values_model.specs.Val as values
 use Rattle.template_values_model.specs.Val.{Val}
-use Rattle.template_tree.specs.Tree.{Expression, Expressions, variable, list_literal, no_expressions, expressions_more, Assignments, no_assignments, assignments_more}
-use Rattle.template_process.specs.Process.{Ask, store, unpack, close_frame, done, items, step, asks, amiss, on_done, on_items}
+use Rattle.template_values_core.specs.Order.{val_cmp}
+use Rattle.template_tree.specs.Tree.{Expression, Expressions, variable, attribute, list_literal, no_expressions, expressions_more, Assignments, no_assignments, assignments_more}
+use Rattle.template_process.specs.Process.{Ask, store, set_attribute, unpack, close_frame, done, items, step, asks, amiss, on_done, on_items}
 use Rattle.template_process.specs.Trace.{run, replied}
 use Rattle.template_walk.specs.Statements.{number_of, target_walk, targets_walk, assignments_walk}
 use Rattle.template_walk.specs.Expressions.{expression_walk}
 use Rattle.template_walk.specs.Runnable.{IsTarget, AreTargets, AreAssignments}
 use Rattle.template_machine_meaning.specs.World.{Loop, Frame, World, put_local, has_room}
+use Rattle.template_machine_meaning.specs.Records.{known_of}
 use Rattle.template_machine_meaning.specs.Replies.{changed, replied_with, changed_with}
-use Rattle.template_machine_meaning.specs.Surroundings.{Programs, unpacked, unpacked_into, pushed, answer}
+use Rattle.template_machine_meaning.specs.Surroundings.{Programs, unpacked, unpacked_into, pushed, put_attribute, replaced, answer}
 use Rattle.template_machine_meaning.proofs.Settling.{Walk, Settles, settles_then, settles_now, settles_step, settles_refused, settles_before, settles_to}
 use Rattle.template_machine_meaning.proofs.Keeping.{Keeps, loops_of, Top, top, on_frames_is}
 use Rattle.template_machine_meaning.proofs.Expressions.{Kept, settles_expression}
@@ -60,9 +64,27 @@ module _ (s : Programs) (base : World) (framed : IsFramed base) where
       settles_refused s w (Kept base) (unpack n v) CannotUnpack (λ m go. on_items n (λ vs. Q vs m go)) (λ k. ap (λ o. replied_with w items (unpacked_into n o)) is)
   unpacked_by n v w kept Q stays (Some vs) is = counted_by n v w kept Q stays vs is (length vs == n) refl
 
+  -- a namespace that is known takes the value, one that is not refuses it
+  put_by : (name : List ℕ) (v holder : Val) (number : ℕ) (w : World) → Keeps base w → (o : Option (List (Val × Val)))
+      → ((n : ℕ) → answer s n w (set_attribute name v holder) ≡ changed_with w (λ after. done) (λ after. after) (put_attribute w number name v o))
+      → Settles {O = Unit {0}} s w (Kept base) (λ m go. asks (set_attribute name v holder) (on_done (go tt)))
+  put_by name v holder number w kept None is = settles_refused s w (Kept base) (set_attribute name v holder) InvalidOperation (λ m go. on_done (go tt)) is
+  put_by name v holder number w kept (Some entries) is =
+      let z : World = record w { namespaces = replaced number (insert_entry val_cmp entries (values.text name) v) w.namespaces } in
+      let kept_there : Keeps base z = record { loops = kept.loops; outer = kept.outer; saved = kept.saved; captures = kept.captures } in
+      settles_to s w z (Kept base) (set_attribute name v holder) (λ m go. go tt) is (settles_now s z (Kept base) tt kept_there)
+
+  attribute_set : (name : List ℕ) (v holder : Val) → Stays (λ m go. asks (set_attribute name v holder) (on_done (go tt)))
+  attribute_set name v (values.namespace id number) w kept =
+      put_by name v (values.namespace id number) number w kept ((known_of w).namespaces id number) (λ n. refl)
+  attribute_set name v holder w kept = settles_refused s w (Kept base) (set_attribute name v holder) InvalidOperation (λ m go. on_done (go tt)) (λ n. refl)
+
   mutual
     pub settles_target : (target : Expression) → IsTarget target → (v : Val) → Stays (λ m go. target_walk target v (go tt))
     settles_target (variable name) h v w kept = stored name v w kept
+    settles_target (attribute e name) h v w kept =
+        settles_then s w (Kept base) (Kept base) (λ m go. expression_walk e go) (λ holder m go. step (asks (set_attribute name v holder) (on_done (go tt)))) (settles_expression s base e h w kept)
+        (λ holder x k. settles_step s x (Kept base) (λ m go. asks (set_attribute name v holder) (on_done (go tt))) (attribute_set name v holder x k))
     settles_target (list_literal targets) h v w kept =
         settles_step s w (Kept base) (λ m go. asks (unpack (number_of targets) v) (on_items (number_of targets) (λ vs. targets_walk targets vs (go tt))))
         (unpacked_by (number_of targets) v w kept (λ vs m go. targets_walk targets vs (go tt)) (λ vs. settles_targets targets h vs) (unpacked v) refl)
@@ -95,7 +117,7 @@ settles_pushed s w u shape e f Q false room is q =
     settles_refused s w shape e InvalidOperation (λ m go. on_done (Q m go)) (λ n. is n ∙ ap (λ b. changed_with w (λ after. done) (λ after. after) (if b then Ok (behind_frame u f) else Err InvalidOperation)) room)
 
 -- a world behind a frame whose loop is this one, or any: what is kept there keeps the base once the frame is closed
-pub closed : (base w : World) (f : Frame) → Keeps (behind_frame base f) w → (t : Top w f.loop (loops_of base.frames)) → Keeps base (record w { frames = t.rest })
+closed : (base w : World) (f : Frame) → Keeps (behind_frame base f) w → (t : Top w f.loop (loops_of base.frames)) → Keeps base (record w { frames = t.rest })
 closed base w f kept t = record { loops = t.others; outer = kept.outer; saved = kept.saved; captures = kept.captures }
 
 -- a frame is closed

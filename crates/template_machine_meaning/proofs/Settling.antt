@@ -112,6 +112,18 @@ settles_value s w shape e (Err kind) shaped is = inr (record {
   is = λ n m le ge go. answered s w e (refused w kind) on_value is n go;
 })
 
+-- an event that gives a value, and leaves another world
+pub settles_given : (s : Programs) (w after : World) (shape : Val → World → Type 0) (e : Ask) (v : Val)
+    → shape v after → ((n : ℕ) → answer s n w e ≡ changed after (value v)) → Settles {O = Val} s w shape (λ m go. asks e (on_value go))
+settles_given s w after shape e v shaped is = inl (record {
+  items = [];
+  least = 0;
+  out = v;
+  after = after;
+  shaped = shaped;
+  is = λ n m le ge go. answered s w e (changed after (value v)) on_value is n go;
+})
+
 -- an event that is done, and leaves another world
 pub settles_done : (s : Programs) (w after : World) (shape : Unit {0} → World → Type 0) (e : Ask)
     → shape tt after → ((n : ℕ) → answer s n w e ≡ changed after done) → Settles {O = Unit {0}} s w shape (λ m go. asks e (on_done (go tt)))

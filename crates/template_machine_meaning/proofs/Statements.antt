@@ -7,7 +7,7 @@ use Rattle.template_values_model.specs.Val.{Val}
 use Rattle.template_values_core.specs.Answers.{text_in}
 use Rattle.template_values_forms.specs.Escaped.{escaped}
 use Rattle.template_values_operators.specs.Iterated.{iterated}
-use Rattle.template_tree.specs.Tree.{Expression, Statement, Statements, absent, raw, print, for_loop, if_condition, with_block, set, set_block, auto_escape, include, continue_loop, break_loop, no_statements, statements_more}
+use Rattle.template_tree.specs.Tree.{Expression, Statement, Statements, call, absent, raw, print, for_loop, if_condition, with_block, set, set_block, auto_escape, include, continue_loop, break_loop, do_call, no_statements, statements_more}
 use Rattle.template_process.specs.Process as events
 use Rattle.template_process.specs.Process.{Ask, truth_of, write_raw, write_value, open_frame, close_frame, plain_loop, open_loop, did_not_iterate, close_loop, open_escape, close_escape, begin_capture, end_capture, done, value, tells, breaks_off, Process, step, asks, on_done, on_value, on_truth}
 use Rattle.template_process.specs.Trace.{written, Reply, run, replied}
@@ -287,6 +287,8 @@ module _ (s : Programs) (outer : ℕ) (deeper : (outer + include_levels ≤ s.ar
         (settles_then s x (Kept x) (LeavesTo looping base) (λ m go. asks (events.include ignore_missing v) (on_done (go tt))) (λ o m go. go goes)
         (settles_include s x ignore_missing v (framed_on base x framed.0 k) (deeper_from base framed x k))
         (λ o y l. settles_now s y (LeavesTo looping base) goes (keeps_on base x y k l, tt))))
+    settles_statement looping (do_call callee args) h base framed w kept =
+        valued looping base w kept (call callee args) h (λ v m go. go goes) (λ v x k. settles_now s x (LeavesTo looping base) goes (k, tt))
     settles_statement looping continue_loop h base framed w kept = settles_now s w (LeavesTo looping base) continues (kept, h)
     settles_statement looping break_loop h base framed w kept = settles_now s w (LeavesTo looping base) breaks_out (kept, h)
     settles_statement looping _ h base framed w kept = absurd h

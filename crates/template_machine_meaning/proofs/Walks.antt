@@ -5,18 +5,19 @@ use Rattle.std.specs.Str.{bytes_eq}
 use Rattle.std.proofs.lemmas.Bool.{or_cases, or_left, or_right}
 use Rattle.std.proofs.lemmas.Bool.Decides.{nat_tests}
 use Rattle.std.proofs.lemmas.Slice.Eq.{bytes_eq-Decides}
+use Rattle.template_values_model.specs.Val as values
 use Rattle.template_values_model.specs.Val.{Val}
 use Rattle.template_tree.specs.declared.operators.UnaryOpKind.{UnaryOpKind}
 use Rattle.template_tree.specs.declared.operators.UnaryOpKind.TheVariants.{Not, Neg}
 use Rattle.template_tree.specs.declared.operators.BinOpKind.{BinOpKind}
 use Rattle.template_tree.specs.declared.operators.BinOpKind.TheVariants.{ScAnd, ScOr}
-use Rattle.template_tree.specs.Tree.{Expression, Optional, Expressions, Links, variable, constant, slice, unary, binary, chain, conditional, attribute, item, list_literal, tuple_literal, map_literal, absent, given, no_expressions, expressions_more, no_links, links_more, Statement, Statements, Assignments, raw, print, for_loop, if_condition, with_block, set, set_block, auto_escape, include, continue_loop, break_loop, no_statements, statements_more, no_assignments, assignments_more}
+use Rattle.template_tree.specs.Tree.{Expression, Optional, Expressions, Links, Arguments, variable, constant, slice, unary, binary, chain, conditional, attribute, item, call, list_literal, tuple_literal, map_literal, absent, given, no_expressions, expressions_more, no_links, links_more, no_arguments, arguments_more, positional, keyword, Statement, Statements, Assignments, raw, print, for_loop, if_condition, with_block, set, set_block, auto_escape, include, continue_loop, break_loop, do_call, no_statements, statements_more, no_assignments, assignments_more}
 use Rattle.template_names.proofs.Plain.{in_attribute}
-use Rattle.template_names.specs.Names.{stands_in, stands_if_given, stands_in_one, stands_in_links, is_stored_in, is_stored_in_one, is_used_by_target, is_used_from, is_stored_by, is_used_by, is_used_in}
+use Rattle.template_names.specs.Names.{anywhere, place_in_argument, place_in_arguments, place_in_targets, stands_in, stands_if_given, stands_in_one, stands_in_links, is_stored_in, is_stored_in_one, is_used_by_target, is_used_from, is_stored_by, is_used_by, is_used_in}
 use Rattle.template_process.specs.Process as events
-use Rattle.template_process.specs.Process.{close_frame, Looping, plain_loop, open_loop, close_loop, close_escape, Answer, done, value, truth, items, no_item, Process, over, step, asks, amiss, on_done, on_value, on_truth, on_item, on_items, on_all}
+use Rattle.template_process.specs.Process.{build_kwargs, call_function, call_method, call_value, close_frame, Looping, plain_loop, open_loop, close_loop, close_escape, Answer, done, value, truth, items, no_item, Process, over, step, asks, amiss, on_done, on_value, on_truth, on_item, on_items, on_all}
 use Rattle.template_walk.specs.Constants.{constant_of}
-use Rattle.template_walk.specs.Expressions.{folded, unary_ask, binary_walk, expression_walk, optional_walk, expressions_walk, walks_of, entries_walk, chain_walk, linked_walk}
+use Rattle.template_walk.specs.Expressions.{folded, unary_ask, binary_walk, Giving, in_turn, named_in_turn, keywords_walk, passed_walk, Callee, by_name, by_method, by_value, callee_of, called_walk, expression_walk, object_walk, positional_walks, keyword_walks, optional_walk, expressions_walk, walks_of, entries_walk, chain_walk, linked_walk}
 use Rattle.template_walk.specs.Statements.{Exits, outside, closing, capture_left, capturing, number_of, target_walk, targets_walk, assignments_walk, rounds, kept_rounds, sifting, iterable_walk, loop_end, past, statement_walk, statements_walk, template_walk}
 use Rattle.template_machine_meaning.proofs.Known.{Known, base, inner, IsKnown, Grows, grows_itself, grows_on, known_on, stored, cleared, grows_stored, knows_stored, IsSafe, Within}
 
@@ -89,6 +90,10 @@ module _ (names : List ℕ → Type 0) (start : Known) where
       none_left : Each []
       each_more : {walk : (Val → Process) → Process} {walks : List ((Val → Process) → Process)} → Keeps walk → Each walks → Each (walk ∷ walks)
 
+    data EachNamed : List (List ℕ × Giving) → Type 0 where
+      no_names : EachNamed []
+      more_names : {named : List ℕ × Giving} {others : List (List ℕ × Giving)} → Keeps named.1 → EachNamed others → EachNamed (named ∷ others)
+
     in_folded : (o : Option Val) (go : Val → Process) (p : Process) → ((v : Val) → In k (go v)) → In k p → In k (folded o go p)
     in_folded None go p h i = i
     in_folded (Some v) go p h i = h v
@@ -101,6 +106,44 @@ module _ (names : List ℕ → Type 0) (start : Known) where
     in_binary ScAnd left right f g go h = f _ (λ v. (tt, at_truth k (right go) (go v) (g go h) (h v)))
     in_binary ScOr left right f g go h = f _ (λ v. (tt, at_truth k (go v) (right go) (h v) (g go h)))
     in_binary op left right f g go h = f _ (λ v. g _ (λ w. (tt, at_value k go h)))
+
+    -- the same with values in turn
+    abbrev KeepsAll : ((List Val → Process) → Process) → Type 0
+    KeepsAll walk = (go : List Val → Process) → ((vs : List Val) → In k (go vs)) → In k (walk go)
+
+    in_order : (walks : List Giving) → Each walks → KeepsAll (in_turn walks)
+    in_order [] each go h = h []
+    in_order (walk ∷ walks) (each_more f each) go h = f _ (λ v. in_order walks each _ (λ vs. h (v ∷ vs)))
+
+    in_named : (named : List (List ℕ × Giving)) → EachNamed named → (go : List (Val × Val) → Process) → ((entries : List (Val × Val)) → In k (go entries)) → In k (named_in_turn named go)
+    in_named [] each go h = h []
+    in_named (n ∷ ns) (more_names f each) go h = f _ (λ v. in_named ns each _ (λ entries. h ((values.text n.0, v) ∷ entries)))
+
+    in_keywords : (named : List (List ℕ × Giving)) → EachNamed named → KeepsAll (keywords_walk named)
+    in_keywords [] each go h = h []
+    in_keywords (n ∷ ns) each go h =
+        in_named (n ∷ ns) each (λ entries. step (asks (build_kwargs entries) (on_value (λ map. go (map ∷ []))))) (λ entries. (tt, at_value k (λ map. go (map ∷ [])) (λ map. h (map ∷ []))))
+
+    in_passed : (walks : List Giving) → Each walks → (named : List (List ℕ × Giving)) → EachNamed named → KeepsAll (passed_walk walks named)
+    in_passed walks each named others go h = in_order walks each _ (λ vs. in_keywords named others _ (λ last. h (vs ++ last)))
+
+    -- a name that is called is safe
+    abbrev MayCall : Callee → Type 0
+    MayCall (by_name name) = IsSafe names k name
+    MayCall _ = Unit {0}
+
+    in_called : (callee : Callee) → MayCall callee → (whole object : Giving) → Keeps whole → Keeps object → (walks : List Giving) → Each walks → (named : List (List ℕ × Giving)) → EachNamed named
+        → Keeps (called_walk callee whole object (passed_walk walks named))
+    in_called (by_name name) may whole object f g walks each named others go h =
+        in_passed walks each named others (λ vs. step (asks (call_function name vs) (on_value go))) (λ vs. (may, at_value k go h))
+    in_called (by_method name) may whole object f g walks each named others go h =
+        g _ (λ v. in_passed walks each named others (λ vs. step (asks (call_method name (v ∷ vs)) (on_value go))) (λ vs. (tt, at_value k go h)))
+    in_called by_value may whole object f g walks each named others go h =
+        f _ (λ v. in_passed walks each named others (λ vs. step (asks (call_value (v ∷ vs)) (on_value go))) (λ vs. (tt, at_value k go h)))
+
+    may_call : (callee : Expression) → Sees k (λ name. stands_in name callee) → MayCall (callee_of callee)
+    may_call (variable name) sees = sees name ((bytes_eq-Decides name name).1 refl)
+    may_call _ sees = tt
 
     mutual
       pub in_expression : (e : Expression) → Sees k (λ name. stands_in name e) → Keeps (expression_walk e)
@@ -143,7 +186,32 @@ module _ (names : List ℕ → Type 0) (start : Known) where
           in_folded (constant_of (map_literal ks vs)) go _ h
           (in_entries ks (walks_of vs) (sees_left k (λ name. stands_in_one name ks) (λ name. stands_in_one name vs) sees)
           (in_each vs (sees_right k (λ name. stands_in_one name ks) (λ name. stands_in_one name vs) sees)) _ (λ entries. (tt, at_value k go h)))
+      in_expression (call callee args) sees go h =
+          let in_callee = sees_left k (λ name. stands_in name callee) (λ name. place_in_arguments (anywhere name) args) sees in
+          let in_args = sees_right k (λ name. stands_in name callee) (λ name. place_in_arguments (anywhere name) args) sees in
+          in_called (callee_of callee) (may_call callee in_callee) (expression_walk callee) (object_walk callee) (in_expression callee in_callee) (in_object callee in_callee)
+          (positional_walks args) (in_positional args in_args) (keyword_walks args) (in_keyword args in_args) go h
       in_expression _ sees go h = tt
+
+      in_object : (e : Expression) → Sees k (λ name. stands_in name e) → Keeps (object_walk e)
+      in_object (attribute e field) sees go h = in_expression e (λ name used. sees name (in_attribute name e field ∙ used)) go h
+      in_object _ sees go h = tt
+
+      in_positional : (args : Arguments) → Sees k (λ name. place_in_arguments (anywhere name) args) → Each (positional_walks args)
+      in_positional no_arguments sees = none_left
+      in_positional (arguments_more (positional e) args) sees =
+          each_more (in_expression e (sees_left k (λ name. stands_in name e) (λ name. place_in_arguments (anywhere name) args) sees))
+          (in_positional args (sees_right k (λ name. stands_in name e) (λ name. place_in_arguments (anywhere name) args) sees))
+      in_positional (arguments_more argument args) sees =
+          in_positional args (sees_right k (λ name. place_in_argument (anywhere name) argument) (λ name. place_in_arguments (anywhere name) args) sees)
+
+      in_keyword : (args : Arguments) → Sees k (λ name. place_in_arguments (anywhere name) args) → EachNamed (keyword_walks args)
+      in_keyword no_arguments sees = no_names
+      in_keyword (arguments_more (keyword key e) args) sees =
+          more_names (in_expression e (sees_left k (λ name. stands_in name e) (λ name. place_in_arguments (anywhere name) args) sees))
+          (in_keyword args (sees_right k (λ name. stands_in name e) (λ name. place_in_arguments (anywhere name) args) sees))
+      in_keyword (arguments_more argument args) sees =
+          in_keyword args (sees_right k (λ name. place_in_argument (anywhere name) argument) (λ name. place_in_arguments (anywhere name) args) sees)
 
       in_optional : (o : Optional) (missing : Val) → Sees k (λ name. stands_if_given name o) → Keeps (optional_walk missing o)
       in_optional absent missing sees go h = h missing
@@ -216,18 +284,26 @@ module _ (names : List ℕ → Type 0) (start : Known) where
   sees_inner k f sees name used = elim (sees name used) [ inl n ↦ inl n | inr n ↦ inr (inr n) ]
 
   mutual
-    in_target : (target : Expression) (v : Val) (k : Known) (go : Process) → Goes k (λ name. is_stored_in name target) go → In k (target_walk target v go)
-    in_target (variable id) v k go h = (tt, at_done (stored id k) go (h (stored id k) (grows_stored id k) (λ name e. knows_stored id k name e)))
-    in_target (list_literal targets) v k go h = (tt, at_items k (number_of targets) _ (λ vs many. in_targets targets vs k go many h))
-    in_target _ v k go h = tt
+    in_target : (target : Expression) (v : Val) (k : Known) (go : Process) → Sees k (λ name. is_used_by_target name target) → Goes k (λ name. is_stored_in name target) go
+        → In k (target_walk target v go)
+    in_target (variable id) v k go sees h = (tt, at_done (stored id k) go (h (stored id k) (grows_stored id k) (λ name e. knows_stored id k name e)))
+    in_target (attribute e field) v k go sees h =
+        in_expression k e (λ name used. sees name (in_attribute name e field ∙ used)) _ (λ holder. (tt, at_done k go (nothing_stored k go h k (grows_itself k))))
+    in_target (list_literal targets) v k go sees h = (tt, at_items k (number_of targets) _ (λ vs many. in_targets targets vs k go many sees h))
+    in_target _ v k go sees h = tt
 
-    in_targets : (targets : Expressions) (vs : List Val) (k : Known) (go : Process) → length vs ≡ number_of targets → Goes k (λ name. is_stored_in_one name targets) go → In k (targets_walk targets vs go)
-    in_targets no_expressions vs k go many h = nothing_stored k go h k (grows_itself k)
-    in_targets (expressions_more target targets) [] k go many h = absurd (omega (arith, many))
-    in_targets (expressions_more target targets) (v ∷ vs) k go many h =
-        in_target target v k _ (λ l grows knows. in_targets targets vs l go (omega (arith, many))
-        (λ m more others. h m (grows_on k l m grows more)
-        (λ name e. elim (or_cases (is_stored_in name target) (is_stored_in_one name targets) e) [ inl i ↦ known_on l m more name (knows name i) | inr i ↦ others name i ])))
+    in_targets : (targets : Expressions) (vs : List Val) (k : Known) (go : Process) → length vs ≡ number_of targets → Sees k (λ name. place_in_targets (anywhere name) targets)
+        → Goes k (λ name. is_stored_in_one name targets) go → In k (targets_walk targets vs go)
+    in_targets no_expressions vs k go many sees h = nothing_stored k go h k (grows_itself k)
+    in_targets (expressions_more target targets) [] k go many sees h = absurd (omega (arith, many))
+    in_targets (expressions_more target targets) (v ∷ vs) k go many sees h =
+        let first : List ℕ → Bool = λ name. is_used_by_target name target in
+        let others : List ℕ → Bool = λ name. place_in_targets (anywhere name) targets in
+        let later : List ℕ → Bool = λ name. not (is_stored_in name target) && others name in
+        in_target target v k _ (sees_left k first later sees)
+        (λ l grows knows. in_targets targets vs l go (omega (arith, many)) (sees_behind k l (λ name. is_stored_in name target) others grows knows (sees_right k first later sees))
+        (λ m more stored_later. h m (grows_on k l m grows more)
+        (λ name e. elim (or_cases (is_stored_in name target) (is_stored_in_one name targets) e) [ inl i ↦ known_on l m more name (knows name i) | inr i ↦ stored_later name i ])))
 
   in_assignments : (assignments : Assignments) (k : Known) (go : Process) (follows : List ℕ → Bool) → Sees k (λ name. is_used_from name assignments (follows name))
       → ((l : Known) → Grows k l → Sees l follows → In l go) → In k (assignments_walk assignments go)
@@ -236,7 +312,7 @@ module _ (names : List ℕ → Type 0) (start : Known) where
       let first : List ℕ → Bool = λ name. stands_in name e || is_used_by_target name target in
       let later : List ℕ → Bool = λ name. not (is_stored_in name target) && is_used_from name more (follows name) in
       in_expression k e (sees_left k (λ name. stands_in name e) (λ name. is_used_by_target name target) (sees_left k first later sees)) _
-      (λ v. in_target target v k _ (λ l grows knows.
+      (λ v. in_target target v k _ (sees_right k (λ name. stands_in name e) (λ name. is_used_by_target name target) (sees_left k first later sees)) (λ l grows knows.
       in_assignments more l go follows (sees_behind k l (λ name. is_stored_in name target) (λ name. is_used_from name more (follows name)) grows knows (sees_right k first later sees))
       (λ m wider. h m (grows_on k l m grows wider))))
 
@@ -291,35 +367,37 @@ module _ (names : List ℕ → Type 0) (start : Known) where
 
   -- the rounds that gather what a condition keeps
   in_kept : (n : ℕ) (k : Known) (target condition : Expression) (kept : List Val) (finished : List Val → Process)
-      → Sees (inner [] k) (λ name. not (is_stored_in name target) && stands_in name condition) → ((vs : List Val) → Stays (inner [] k) (finished vs))
-      → Stays (inner [] k) (kept_rounds n (sifting target condition) kept finished)
-  in_kept zero k target condition kept finished sees h l grows = tt
-  in_kept (suc n) k target condition kept finished sees h l grows =
+      → Sees (inner [] k) (λ name. is_used_by_target name target) → Sees (inner [] k) (λ name. not (is_stored_in name target) && stands_in name condition)
+      → ((vs : List Val) → Stays (inner [] k) (finished vs)) → Stays (inner [] k) (kept_rounds n (sifting target condition) kept finished)
+  in_kept zero k target condition kept finished holders sees h l grows = tt
+  in_kept (suc n) k target condition kept finished holders sees h l grows =
       let begun = grows_cleared k l grows in
       let item : List ℕ → Bool = λ name. is_stored_in name target in
       let tests : List ℕ → Bool = λ name. stands_in name condition in (
         tt,
         at_item (cleared l) _ (finished kept)
-            (λ v. in_target target v (cleared l) _
+            (λ v. in_target target v (cleared l) _ (sees_on (inner [] k) (cleared l) (λ name. is_used_by_target name target) begun holders)
             (λ m more knows.
             let further = grows_on (inner [] k) (cleared l) m begun more in
             in_expression m condition (sees_behind (cleared l) m item tests more knows (sees_on (inner [] k) (cleared l) (λ name. not (item name) && tests name) begun sees)) _
-            (λ c. (tt, at_truth m _ _ (in_kept n k target condition (kept ++ v ∷ []) finished sees h m further) (in_kept n k target condition kept finished sees h m further)))))
+            (λ c. (tt, at_truth m _ _ (in_kept n k target condition (kept ++ v ∷ []) finished holders sees h m further) (in_kept n k target condition kept finished holders sees h m further)))))
             (h kept (cleared l) begun),
       )
 
   -- what a loop goes over
   in_iterable : (n : ℕ) (target e : Expression) (condition : Optional) (k : Known) (go : Val → Process) → Sees k (λ name. stands_in name e)
-      → Sees k (λ name. not (is_stored_in name target) && stands_if_given name condition) → ((v : Val) → Stays k (go v)) → In k (iterable_walk n target e condition go)
-  in_iterable n target e absent k go sees tests h = in_expression k e sees go (λ v. h v k (grows_itself k))
-  in_iterable n target e (given condition) k go sees tests h = (
+      → Sees k (λ name. is_used_by_target name target) → Sees k (λ name. not (is_stored_in name target) && stands_if_given name condition)
+      → ((v : Val) → Stays k (go v)) → In k (iterable_walk n target e condition go)
+  in_iterable n target e absent k go sees holders tests h = in_expression k e sees go (λ v. h v k (grows_itself k))
+  in_iterable n target e (given condition) k go sees holders tests h = (
     tt,
     at_all k _
         (λ none_yet. in_expression k e sees _
         (λ v. (
           tt,
           at_done (inner [] k) _
-              (in_kept n k target condition none_yet _ (sees_inner k (λ name. not (is_stored_in name target) && stands_in name condition) tests)
+              (in_kept n k target condition none_yet _ (sees_inner k (λ name. is_used_by_target name target) holders)
+              (sees_inner k (λ name. not (is_stored_in name target) && stands_in name condition) tests)
               (λ vs l grows. in_close_loop k l _ grows (λ m more. (tt, at_value m _ (λ made. h made m more))))
               (inner [] k) (grows_itself (inner [] k))),
         ))),
@@ -361,12 +439,13 @@ module _ (names : List ℕ → Type 0) (start : Known) where
           let sees_most = sees_left k most (λ name. is_used_in name otherwise) sees in
           let sees_within = sees_right k head (λ name. not (item name) && within name) sees_most in
           let sees_round = sees_inner k (λ name. not (item name) && inside name) (part_right k item tests inside sees_within) in
-          in_iterable n target e condition k _
-          (sees_left k (λ name. stands_in name e) (λ name. is_used_by_target name target) (sees_left k head (λ name. not (item name) && within name) sees_most))
-          (part_left k item tests inside sees_within)
+          let holds : List ℕ → Bool = λ name. is_used_by_target name target in
+          let sees_head = sees_left k head (λ name. not (item name) && within name) sees_most in
+          let sees_holders = sees_right k (λ name. stands_in name e) holds sees_head in
+          in_iterable n target e condition k _ (sees_left k (λ name. stands_in name e) holds sees_head) sees_holders (part_left k item tests inside sees_within)
           (λ v. in_open_loop k plain_loop v _
           (in_rounds n k _ _
-          (λ l grows v y again out back. in_target target v l _ (λ m more knows.
+          (λ l grows v y again out back. in_target target v l _ (sees_on (inner [] k) l holds grows (sees_inner k holds sees_holders)) (λ m more knows.
           in_statements n body m y again
           (sees_body m (λ name. is_used_in name body) (sees_behind l m item inside more knows (sees_on (inner [] k) l (λ name. not (item name) && inside name) grows sees_round)))
           (leads_on (inner [] k) m y (grows_on (inner [] k) l m grows more) out)
@@ -393,14 +472,18 @@ module _ (names : List ℕ → Type 0) (start : Known) where
             (λ m more. in_close_frame k m go (grows_on (inner [] k) l m grows more) (nothing_stored k go h)))),
       )
       in_statement n (set target e) k x go sees leads h =
-          in_expression k e (sees_left k (λ name. stands_in name e) (λ name. is_used_by_target name target) sees) _ (λ v. in_target target v k go h)
+          let value_of : List ℕ → Bool = λ name. stands_in name e in
+          let holds : List ℕ → Bool = λ name. is_used_by_target name target in
+          in_expression k e (sees_left k value_of holds sees) _ (λ v. in_target target v k go (sees_right k value_of holds sees) h)
       in_statement n (set_block target absent body) k x go sees leads h =
           let filters : List ℕ → Bool = λ name. stands_if_given name absent in
-          let sees_body = sees_left k (λ name. is_used_in name body) filters (sees_left k (λ name. is_used_in name body || filters name) (λ name. is_used_by_target name target) sees) in (
+          let holds : List ℕ → Bool = λ name. is_used_by_target name target in
+          let sees_body = sees_left k (λ name. is_used_in name body) filters (sees_left k (λ name. is_used_in name body || filters name) holds sees) in
+          let sees_holders = sees_right k (λ name. is_used_in name body || filters name) holds sees in (
             tt,
             at_done k _
                 (in_statements n body k (capturing x) _ sees_body (capturing_body k x leads)
-                (λ l grows. (tt, at_value l _ (λ text. in_target target text l go (λ m more knows. h m (grows_on k l m grows more) knows))))),
+                (λ l grows. (tt, at_value l _ (λ text. in_target target text l go (sees_on k l holds grows sees_holders) (λ m more knows. h m (grows_on k l m grows more) knows))))),
           )
       in_statement n (auto_escape e body) k x go sees leads h =
           in_expression k e (sees_left k (λ name. stands_in name e) (λ name. is_used_in name body) sees) _
@@ -411,6 +494,7 @@ module _ (names : List ℕ → Type 0) (start : Known) where
                 (in_close_escape k go (nothing_stored k go h))),
           ))
       in_statement n (include e ignore_missing) k x go sees leads h = in_expression k e sees _ (λ v. (tt, at_done k go (nothing_stored k go h k (grows_itself k))))
+      in_statement n (do_call callee args) k x go sees leads h = in_expression k (call callee args) sees _ (λ v. nothing_stored k go h k (grows_itself k))
       in_statement n continue_loop k x go sees leads h = leads.1 k (grows_itself k)
       in_statement n break_loop k x go sees leads h = leads.0 k (grows_itself k)
       in_statement n _ k x go sees leads h = tt

@@ -5,6 +5,7 @@ pub mod Replies
 pub mod Keys
 pub mod Plans
 pub mod Includes
+pub mod Functions
 pub mod Surroundings
 pub mod Meaning
 pub mod Laws

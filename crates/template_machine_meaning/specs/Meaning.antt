@@ -17,9 +17,11 @@ pub record Standing : Type 0 where
   pub tree : Statements
   pub escape : AutoEscape
 
--- what no render changes
+-- what no render changes: the templates that stand; the number of the environment, if it has functions by itself; the limit of
+-- the depth; and what may be done with undefined values
 pub record Setting : Type 0 where
   pub templates : List ℕ → Option Standing
+  pub functions : Option ℕ
   pub limit : ℕ
   pub undefined : UndefinedBehavior
 
@@ -65,7 +67,7 @@ meaning setting root n w = ran (runners (walks_of setting (Some root)) (suc n) t
 
 -- a template that stands, over a context, in the state of a number
 abbrev pub rendered : Setting → ℕ → ℕ → Standing → Val → Run World
-rendered setting id n t context = meaning setting t n (first_world id t.escape context)
+rendered setting id n t context = meaning setting t n (first_world id setting.functions t.escape context)
 
 -- an expression from a world on, to its value; it has no rounds and starts no run within, so the least bound will do
 abbrev pub evaluation : Setting → Expression → World → Run World
@@ -77,4 +79,4 @@ no_state = 2 ^ 64 - 1
 
 -- an expression over a context, under no escape; it opens no loop, so that no state's number need be known
 abbrev pub evaluated : Setting → Expression → Val → Run World
-evaluated setting e context = evaluation setting e (first_world no_state escapes.None context)
+evaluated setting e context = evaluation setting e (first_world no_state setting.functions escapes.None context)

@@ -1,5 +1,6 @@
--- What a run knows of records: of its own loops, as long as their frames are open.
-use Rattle.std.specs.Prelude.{ℕ, ◌-◌, ◌==◌, nat_le, List, [], ◌∷◌, length, map, Option, None, Some, option_map, if◌then◌else◌}
+-- What a run knows of records: of its own namespaces, and of its own loops, as long as their frames are open.
+use Rattle.std.specs.Prelude.{ℕ, ◌-◌, ◌==◌, nat_le, List, [], ◌∷◌, length, map, slice_get, Option, None, Some, option_map, if◌then◌else◌}
+use Rattle.template_values_model.specs.Val.{Val}
 use Rattle.template_values_forms.specs.Known.{LoopSeen, Known}
 use Rattle.template_machine_meaning.specs.World.{Loop, Frame, World}
 
@@ -21,13 +22,13 @@ place_in l =
 abbrev pub seen_of : Loop → LoopSeen
 seen_of l = record { items = l.items; place = place_in l; depth = l.depth }
 
--- of another state nothing is known; there are no namespaces and macros yet
-abbrev pub known_by : ℕ → List (Option Loop) → Known
-known_by id loops = record {
-  namespaces = λ other number. None;
+-- of another state nothing is known; there are no macros yet
+abbrev pub known_by : ℕ → List (List (Val × Val)) → List (Option Loop) → Known
+known_by id namespaces loops = record {
+  namespaces = λ other number. if other == id then slice_get namespaces number else None;
   loops = λ other number. if other == id then option_map seen_of (loop_numbered number loops) else None;
   macros = λ other number. None;
 }
 
 abbrev pub known_of : World → Known
-known_of w = known_by w.id (loops_of w.frames)
+known_of w = known_by w.id w.namespaces (loops_of w.frames)
