@@ -6,10 +6,11 @@ use Rattle.std.proofs.lemmas.List.{take_more}
 use Rattle.std.proofs.lemmas.List.Sums.{fold_push}
 use Rattle.std.proofs.lemmas.List.Elements.{All-nil, All-head, All-tail, All-same, All-push, All-get_or}
 use Rattle.template_values_model.specs.Val.{Val}
-use Rattle.template_tree.specs.Tree.{Expression, slice, binary, chain, filtered, tested, attribute, item, call}
+use Rattle.template_tree.specs.Tree.{Expression, slice, binary, chain, filtered, tested, variable, attribute, item, call}
 use Rattle.template_tree.specs.View.{expression_of}
 use Rattle.template_tree.specs.declared.expressions.Expr.{Expr, size-Expr}
-use Rattle.template_tree_parts.specs.Spine.{spine_of, left_of, before}
+use Rattle.template_tree_parts.specs.Spine.{before}
+use Rattle.template_compiler_expression_codegen.specs.Coded.{coded_spine, coded_left}
 use Rattle.template_walk.specs.Constants.{constant_of}
 use Rattle.template_walk.specs.Runnable.{IsRunnable}
 use Rattle.template_code.specs.Code.{Code}
@@ -21,15 +22,17 @@ use Rattle.template_compiler_emission.proofs.Putting.{same_then}
 use Rattle.template_compiler_expression_codegen.specs.Own.{own_constant, own_code}
 use Rattle.template_compiler_expression_codegen.proofs.Own.{known, add_own, with_own, no_left, own_step, own_runnable, added}
 
-runnable_along : (e : Expression) → IsRunnable e → All IsRunnable (spine_of e)
-runnable_along (slice e start stop by) h = All-push IsRunnable (spine_of e) (slice e start stop by) (runnable_along e h.0) h
-runnable_along (binary op l r) h = All-push IsRunnable (spine_of l) (binary op l r) (runnable_along l h.0) h
-runnable_along (chain e links) h = All-push IsRunnable (spine_of e) (chain e links) (runnable_along e h.0) h
+runnable_along : (e : Expression) → IsRunnable e → All IsRunnable (coded_spine e)
+runnable_along (slice e start stop by) h = All-push IsRunnable (coded_spine e) (slice e start stop by) (runnable_along e h.0) h
+runnable_along (binary op l r) h = All-push IsRunnable (coded_spine l) (binary op l r) (runnable_along l h.0) h
+runnable_along (chain e links) h = All-push IsRunnable (coded_spine e) (chain e links) (runnable_along e h.0) h
 runnable_along (filtered name value args) h = absurd h
 runnable_along (tested name e args) h = absurd h
-runnable_along (call e args) h = absurd h
-runnable_along (attribute e name) h = All-push IsRunnable (spine_of e) (attribute e name) (runnable_along e h) h
-runnable_along (item e key) h = All-push IsRunnable (spine_of e) (item e key) (runnable_along e h.0) h
+runnable_along (call (variable name) args) h = All-push IsRunnable [] (call (variable name) args) (All-nil IsRunnable) h
+runnable_along (call (attribute e name) args) h = All-push IsRunnable (coded_spine e) (call (attribute e name) args) (runnable_along e h.0) h
+runnable_along (call e args) h = All-push IsRunnable (coded_spine e) (call e args) (runnable_along e h.0) h
+runnable_along (attribute e name) h = All-push IsRunnable (coded_spine e) (attribute e name) (runnable_along e h) h
+runnable_along (item e key) h = All-push IsRunnable (coded_spine e) (item e key) (runnable_along e h.0) h
 runnable_along e h = All-push IsRunnable [] e (All-nil IsRunnable) h
 
 at_place : (ns : List (Bor Expr)) (i : ℕ) (n : Bor Expr) → All IsRunnable (map (λ (m : Bor Expr). expression_of m.now) ns) → i < length ns
@@ -40,10 +43,10 @@ at_place (m ∷ ms) (suc i) n all h =
     at_place ms i n (All-tail IsRunnable (expression_of m.now) (map (λ (m : Bor Expr). expression_of m.now) ms) all) (omega arith)
 
 -- the nodes of the left chain of a runnable tree are runnable
-pub runnable_at : (e : Expression) (ns : List (Bor Expr)) → IsRunnable e → map (λ (n : Bor Expr). expression_of n.now) ns ≡ spine_of e
+pub runnable_at : (e : Expression) (ns : List (Bor Expr)) → IsRunnable e → map (λ (n : Bor Expr). expression_of n.now) ns ≡ coded_spine e
     → (i : ℕ) (n : Bor Expr) → i < length ns → n ≡ get_or ns i n → IsRunnable (expression_of n.now)
 runnable_at e ns h nodes i n within read =
-    let all = All-same IsRunnable (map (λ (m : Bor Expr). expression_of m.now) ns) (spine_of e) nodes (runnable_along e h) in
+    let all = All-same IsRunnable (map (λ (m : Bor Expr). expression_of m.now) ns) (coded_spine e) nodes (runnable_along e h) in
     subst (λ (m : Bor Expr). IsRunnable (expression_of m.now)) (sym read) (at_place ns i n all within)
 
 -- and no deeper than the tree
@@ -77,13 +80,13 @@ one_node ns i n begun old new k o within read runnable known_is old_is own_is ne
           ap (λ (a : Option Val × List Code). begun ++ a.1) (sym more),
     )
 
-pub nothing_there : (x : Option (Bor Expr)) (e : Expression) → x ≡ None → option_map (λ (part : Bor Expr). expression_of part.now) x ≡ left_of e
-    → left_of e ≡ None
+pub nothing_there : (x : Option (Bor Expr)) (e : Expression) → x ≡ None → option_map (λ (part : Bor Expr). expression_of part.now) x ≡ coded_left e
+    → coded_left e ≡ None
 nothing_there None e n h = sym h
 nothing_there (Some part) e n h = cc
 
 -- a tree without a left part
-pub alone : (e : Expression) (old new : List Code) (o : Option Val) → IsRunnable e → left_of e ≡ None
+pub alone : (e : Expression) (old new : List Code) (o : Option Val) → IsRunnable e → coded_left e ≡ None
     → o ≡ own_constant None e → new ≡ old ++ unless o (own_code None e) (length old)
     → (o ≡ constant_of e) × (new ≡ old ++ unless o (expression_code e) (length old))
 alone e old new o runnable none own_is new_is =
@@ -98,7 +101,7 @@ alone e old new o runnable none own_is new_is =
           ap (λ (x : Option Val). old ++ unless x (expression_code e) p) (sym o_is),
     )
 
-pub alone_put : {X E : Type 0} (e : Expression) (k o : Option Val) (old new : Instructions) (x : Result X E) → IsRunnable e → left_of e ≡ None
+pub alone_put : {X E : Type 0} (e : Expression) (k o : Option Val) (old new : Instructions) (x : Result X E) → IsRunnable e → coded_left e ≡ None
     → k ≡ None → OnOk x (o ≡ own_constant k e) → OnOk x (Puts (unless o (own_code k e)) old new)
     → OnOk x ((o ≡ constant_of e) × Puts (unless o (expression_code e)) old new)
 alone_put e k o old new (Ok _) runnable none known_is own_is put =
@@ -108,7 +111,7 @@ alone_put e k o old new (Ok _) runnable none known_is own_is put =
 alone_put e k o old new (Err f) runnable none known_is own_is put = tt
 
 -- a tree behind its left part
-behind_part : (e l : Expression) (begun mid new : List Code) (k o : Option Val) → IsRunnable e → left_of e ≡ Some l
+behind_part : (e l : Expression) (begun mid new : List Code) (k o : Option Val) → IsRunnable e → coded_left e ≡ Some l
     → k ≡ constant_of l → mid ≡ begun ++ unless k (expression_code l) (length begun)
     → o ≡ own_constant k e → new ≡ mid ++ unless o (own_code k e) (length mid)
     → (o ≡ constant_of e) × (new ≡ begun ++ unless o (expression_code e) (length begun))
@@ -129,7 +132,7 @@ behind_part e l begun mid new k o runnable part known_is mid_is own_is new_is =
     )
 
 pub part_put : {X E : Type 0} (e l : Expression) (k o : Option Val) (begun mid new : Instructions) (x : Result X E) → IsRunnable e
-    → Some l ≡ left_of e → k ≡ constant_of l → Puts (unless k (expression_code l)) begun mid → OnOk x (o ≡ own_constant k e)
+    → Some l ≡ coded_left e → k ≡ constant_of l → Puts (unless k (expression_code l)) begun mid → OnOk x (o ≡ own_constant k e)
     → OnOk x (Puts (unless o (own_code k e)) mid new)
     → OnOk x ((o ≡ constant_of e) × Puts (unless o (expression_code e)) begun new)
 part_put e l k o begun mid new (Ok _) runnable part known_is left own_is put =

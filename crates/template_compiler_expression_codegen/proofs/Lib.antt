@@ -1,4 +1,7 @@
 pub mod Along
+pub mod Arguments
+pub mod CodedChains
+pub mod CodedWalks
 pub mod Ends
 pub mod Entries
 pub mod Items

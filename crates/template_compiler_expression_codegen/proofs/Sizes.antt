@@ -1,5 +1,6 @@
 -- How deep the parts of nodes are.
-use Rattle.std.proofs.Common.{◌≡◌, ℕ, ◌<◌, ◌≤◌, zero, suc, max, List, [], ◌∷◌, length, get_or, Option, None, Some, ap, arith}
+use Rattle.std.proofs.Common.{◌≡◌, ℕ, ◌<◌, ◌≤◌, zero, suc, max, List, [], ◌∷◌, length, get_or, Option, None, Some, sym, ap, ◌∙◌, arith, rules}
+use Rattle.template_tree.specs.declared.calls.CallArg.{CallArg, Pos, Kwarg, size-CallArg, the_lemmas}
 use Rattle.template_tree.specs.declared.expressions.CompareOp.{CompareOp}
 use Rattle.template_tree.specs.declared.expressions.Expr.{Expr, size-Expr}
 
@@ -45,3 +46,37 @@ links_below [] m h all = h
 links_below (l ∷ ls) m h all =
     let rest : links_deep ls < m = links_below ls m h (λ i d within. all (suc i) d (omega (arith, within))) in
     omega (arith, all zero l (omega arith), rest)
+
+abbrev pub arguments_deep : List CallArg → ℕ
+arguments_deep [] = 0
+arguments_deep (x ∷ xs) = max (size-CallArg x) (arguments_deep xs)
+
+argument_within : (xs : List CallArg) (i : ℕ) (d : CallArg) → i < length xs → size-CallArg (get_or xs i d) ≤ arguments_deep xs
+argument_within [] i d h = absurd (omega (arith, h))
+argument_within (x ∷ xs) zero d h = omega arith
+argument_within (x ∷ xs) (suc i) d h =
+    let inner : size-CallArg (get_or xs i d) ≤ arguments_deep xs = argument_within xs i d (omega (arith, h)) in omega arith
+
+positional_inside : (e : Expr) → size-Expr e < size-CallArg (Pos e)
+positional_inside e = search (rules, the_lemmas)
+
+keyword_inside : (name : _) (e : Expr) → size-Expr e < size-CallArg (Kwarg name e)
+keyword_inside name e = search (rules, the_lemmas)
+
+pub positional_deep : (xs : List CallArg) (i : ℕ) (a : CallArg) (e : Expr) → i < length xs → a ≡ get_or xs i a → a ≡ Pos e
+    → size-Expr e < arguments_deep xs
+positional_deep xs i a e h read is =
+    let same : size-CallArg (Pos e) ≡ size-CallArg (get_or xs i a) = ap (λ (x : CallArg). size-CallArg x) (sym is ∙ read) in
+    omega (arith, argument_within xs i a h, positional_inside e, same)
+
+pub keyword_deep : (xs : List CallArg) (i : ℕ) (a : CallArg) (name : _) (e : Expr) → i < length xs → a ≡ get_or xs i a → a ≡ Kwarg name e
+    → size-Expr e < arguments_deep xs
+keyword_deep xs i a name e h read is =
+    let same : size-CallArg (Kwarg name e) ≡ size-CallArg (get_or xs i a) = ap (λ (x : CallArg). size-CallArg x) (sym is ∙ read) in
+    omega (arith, argument_within xs i a h, keyword_inside name e, same)
+
+pub arguments_below : (xs : List CallArg) (m : ℕ) → 0 < m → ((i : ℕ) (d : CallArg) → i < length xs → size-CallArg (get_or xs i d) < m) → arguments_deep xs < m
+arguments_below [] m h all = h
+arguments_below (x ∷ xs) m h all =
+    let rest : arguments_deep xs < m = arguments_below xs m h (λ i d within. all (suc i) d (omega (arith, within))) in
+    omega (arith, all zero x (omega arith), rest)

@@ -1,18 +1,20 @@
 -- The trees of nodes, from the parts that a node holds.
 use Rattle.std.proofs.Common.{◌≡◌, ℕ, ◌<◌, List as Items, length, get_or, Box, Global, rules, sym, ap, ◌∙◌}
-use Rattle.template_tree.specs.Tree.{chain, conditional, list_literal, map_literal, slice, tuple_literal}
-use Rattle.template_tree.specs.View.{chain_of, expression_of, expressions_in, links_in, optional_in}
+use Rattle.template_tree.specs.Tree.{call, chain, conditional, list_literal, map_literal, slice, tuple_literal}
+use Rattle.template_tree.specs.View.{arguments_in, chain_of, expression_of, expressions_in, links_in, optional_in}
 use Rattle.template_tree.specs.declared.span.Spanned.{Spanned}
+use Rattle.template_tree.specs.declared.calls.Call.{Call as CallNode}
+use Rattle.template_tree.specs.declared.calls.CallArg.{CallArg, size-CallArg}
 use Rattle.template_tree.specs.declared.expressions.Compare.{Compare, Compare' as compared, out-Compare}
-use Rattle.template_tree.specs.declared.expressions.Expr.{Expr, Compare as CompareNode, IfExpr, List, Map, Slice, Tuple, size-Expr, the_lemmas}
+use Rattle.template_tree.specs.declared.expressions.Expr.{Expr, Call, Compare as CompareNode, IfExpr, List, Map, Slice, Tuple, size-Expr, the_lemmas}
 use Rattle.template_tree.specs.declared.expressions.CompareOp.{CompareOp}
 use Rattle.template_tree.specs.declared.expressions.IfExpr.{IfExpr as IfExprNode}
 use Rattle.template_tree.specs.declared.expressions.List.{List as ListNode}
 use Rattle.template_tree.specs.declared.expressions.Map.{Map as MapNode}
 use Rattle.template_tree.specs.declared.expressions.Slice.{Slice as SliceNode}
 use Rattle.template_tree.specs.declared.expressions.Tuple.{Tuple as TupleNode}
-use Rattle.template_tree.proofs.Rows.{expressions_row, links_row}
-use Rattle.template_compiler_expression_codegen.proofs.Sizes.{items_below, items_deep, links_below, links_deep}
+use Rattle.template_tree.proofs.Rows.{arguments_row, expressions_row, links_row}
+use Rattle.template_compiler_expression_codegen.proofs.Sizes.{arguments_below, arguments_deep, items_below, items_deep, links_below, links_deep}
 
 pub slice_tree : (n : Box (Spanned SliceNode) Global) → expression_of (Slice n)
     ≡ slice (expression_of n.value.node.expr) (optional_in n.value.node.start) (optional_in n.value.node.stop) (optional_in n.value.node.step)
@@ -34,6 +36,10 @@ map_tree n = search (rules, the_lemmas, expressions_row)
 
 pub chain_tree : (c : Compare) → chain_of c ≡ chain (expression_of (out-Compare c).expr) (links_in (out-Compare c).ops.items)
 chain_tree (compared expr shape ops) = search (rules, the_lemmas, links_row)
+
+call_tree : (n : Box (Spanned CallNode) Global) → expression_of (Call n)
+    ≡ call (expression_of n.value.node.expr) (arguments_in n.value.node.args.items)
+call_tree n = search (rules, the_lemmas, arguments_row)
 
 -- parts are smaller than the node
 list_smaller : (n : Box (Spanned ListNode) Global) (i : ℕ) (d : Expr) → i < length n.value.node.items.items
@@ -68,7 +74,14 @@ link_smaller n i d h = search (rules, the_lemmas)
 chain_positive : (n : Box (Spanned Compare) Global) → 0 < size-Expr (CompareNode n)
 chain_positive n = search (rules, the_lemmas)
 
--- a list, a tuple, a map, a chain: its tree, and how deep its parts are
+argument_smaller : (n : Box (Spanned CallNode) Global) (i : ℕ) (d : CallArg) → i < length n.value.node.args.items
+    → size-CallArg (get_or n.value.node.args.items i d) < size-Expr (Call n)
+argument_smaller n i d h = search (rules, the_lemmas)
+
+call_positive : (n : Box (Spanned CallNode) Global) → 0 < size-Expr (Call n)
+call_positive n = search (rules, the_lemmas)
+
+-- a list, a tuple, a map, a chain, a call: its tree, and how deep its parts are
 pub list_is : (e : Expr) (n : Box (Spanned ListNode) Global) (items : Items Expr) → e ≡ List n → items ≡ n.value.node.items.items
     → expression_of e ≡ list_literal (expressions_in items)
 list_is e n items node read =
@@ -115,3 +128,13 @@ pub chain_deep : (e : Expr) (n : Box (Spanned Compare) Global) (links : Items Co
     → links_deep links < size-Expr e
 chain_deep e n links node read =
     rw (node, read) (links_below (out-Compare n.value.node).ops.items (size-Expr (CompareNode n)) (chain_positive n) (link_smaller n))
+
+pub call_is : (e : Expr) (n : Box (Spanned CallNode) Global) (c : CallNode) → e ≡ Call n → c ≡ n.value.node
+    → expression_of e ≡ call (expression_of c.expr) (arguments_in c.args.items)
+call_is e n c node read =
+    ap (λ (x : Expr). expression_of x) node ∙ call_tree n ∙ ap (λ (x : CallNode). call (expression_of x.expr) (arguments_in x.args.items)) (sym read)
+
+pub call_deep : (e : Expr) (n : Box (Spanned CallNode) Global) (c : CallNode) → e ≡ Call n → c ≡ n.value.node
+    → arguments_deep c.args.items < size-Expr e
+call_deep e n c node read =
+    rw (node, read) (arguments_below n.value.node.args.items (size-Expr (Call n)) (call_positive n) (argument_smaller n))

@@ -1,3 +1,5 @@
 pub mod Chains
+pub mod Coded
 pub mod Ends
 pub mod Own
+pub mod Calls

@@ -4,33 +4,34 @@
 ghost use Rattle.std.specs.Prelude.{◌≡◌, [], ◌∷◌, IsNone, None, Some, OnOk, IfOk, IfErr, length, option_and_then};
 ghost use Rattle.template_values_model.specs.Val.{none, silent_undefined};
 ghost use Rattle.template_tree.specs.Tree.{list_literal, tuple_literal, map_literal};
-ghost use Rattle.template_tree.specs.View.{expression_of, optional_in, expressions_in, links_in};
+ghost use Rattle.template_tree.specs.View.{expression_of, optional_in, expressions_in, links_in, arguments_in};
 ghost use Rattle.template_walk.specs.Constants.{constant_of, chain_constant};
-ghost use Rattle.template_walk.specs.Runnable.{IsRunnable, IsRunnableIfGiven, AreRunnable, IsRunnableChain, AreRunnableLinks};
+ghost use Rattle.template_walk.specs.Runnable.{IsRunnable, IsRunnableIfGiven, AreRunnable, AreRunnableArguments, IsRunnableChain, AreRunnableLinks};
 ghost use Rattle.template_walk.specs.Statements.{number_of};
 ghost use Rattle.template_code.specs.Code.{build_list, build_map, build_tuple, get_item, operate, slice};
 ghost use Rattle.template_code.specs.Listing.{code_in, TakesNoMore};
-ghost use Rattle.template_compiler_codegen.specs.Expressions.{one, then_code, skipped, either_code, unary_code, expression_code, optional_code, expressions_code, entries_code, codes_of, entry_count, chain_code};
+ghost use Rattle.template_compiler_codegen.specs.Expressions.{one, then_code, skipped, either_code, unary_code, expression_code, optional_code, expressions_code, entries_code, codes_of, entry_count, chain_code, in_turn_code, named_code, passed_code, argument_count, positional_cores, keyword_cores};
 ghost use Rattle.template_compiler_folding.specs.Folding.{unary_folded, binary_folded, comparison_folded};
 ghost use Rattle.template_compiler_emission.specs.Leaps.{leap_code, leap_of};
 ghost use Rattle.template_compiler_emission.specs.Puts.{Puts, unless, held, behind};
 ghost use Rattle.template_compiler_expression_codegen.specs.Chains.{Grows, constant_behind, leaps_in, left_behind, link_code, linked_to};
-ghost use Rattle.template_compiler_expression_codegen.specs.Own.{own_constant, own_code};
+ghost use Rattle.template_compiler_expression_codegen.specs.Own.{own_constant, own_code, call_code};
 
 use crate::chains::{Link, Linked, end_link, is_false, put_leap, tell_leaps};
+use crate::coded::{coded_left, coded_spine};
 use crate::leaves::{
-    compile_attribute, first_from, hold, hold_literal, let_go, load_held, put_literal, put_name,
-    unless_refused,
+    compile_attribute, first_from, hold, hold_literal, let_go, load_held, one_more, put_keyword,
+    put_literal, put_name, unless_refused,
 };
 use crate::operators::{Choice, end_choice, end_constant_unary, end_operator};
 use std::alloc::Global;
+use std::borrow::CowStr;
 use template_code::{Instruction, Instructions};
 use template_compiler_emission::{
     Leap, land, leap_of, load_copy, operator_instruction, push, push_leap, unary_instruction,
 };
 use template_compiler_folding::{fold_list, fold_map, fold_tuple};
-use template_tree::{BinOpKind, CompareOp, Expr, Span, UnaryOpKind};
-use template_tree_parts::{left, spine};
+use template_tree::{BinOpKind, Call, CallArg, CompareOp, Expr, Span, UnaryOpKind};
 use template_values_core::Value;
 use template_values_errors::ErrorKind;
 
@@ -97,7 +98,7 @@ fn fold_tree<'source>(
     ensures put { OnOk result (Puts (unless value.new (expression_code (expression_of expr.now))) code.old code.new) }
     ensures refused { IfErr result (λ kind. TakesNoMore (code_in code.new) (kind ∷ [])) }
 {
-    match left(expr) {
+    match coded_left(expr) {
         Some(part) => {
             if near == 0 {
                 return fold_spine(alloc, code, expr, value, from);
@@ -126,7 +127,7 @@ fn fold_spine<'source>(
     ensures put { OnOk result (Puts (unless value.new (expression_code (expression_of expr.now))) code.old code.new) }
     ensures refused { IfErr result (λ kind. TakesNoMore (code_in code.new) (kind ∷ [])) }
 {
-    let nodes = unless_refused(spine(alloc, expr))?;
+    let nodes = unless_refused(coded_spine(alloc, expr))?;
     let mut i = 0;
     while i < nodes.len() {
         let told = first_from(i, &*value, from);
@@ -215,7 +216,7 @@ fn fold_node<'source>(
         Expr::GetItem(n) => compile_item(alloc, code, value, &n.node.subscript_expr, from),
         Expr::Filter(_) => unreachable!(),
         Expr::Test(_) => unreachable!(),
-        Expr::Call(_) => unreachable!(),
+        Expr::Call(n) => compile_call(alloc, code, value, &n.node, from),
         Expr::Slice(n) => {
             compile_slice(
                 alloc,
@@ -468,6 +469,122 @@ fn compile_slice<'source>(
     compile_optional(alloc, code, stop, Value::none())?;
     compile_optional(alloc, code, step, Value::none())?;
     push(code, Instruction::Slice, None)
+}
+
+// A call, of a name or behind its left part: of a method of that part, or of that part itself.
+#[cycle(expression)]
+#[inline(never)]
+pub(crate) fn compile_call<'source>(
+    alloc: Global,
+    code: &mut Instructions<'source>,
+    left: &mut Option<Value>,
+    call: &Call<'source>,
+    from: Option<&Span>,
+) -> Result<(), ErrorKind>
+    requires { AreRunnableArguments (arguments_in call.now.args.items) }
+    ensures taken { OnOk result (left.new ≡ None) }
+    ensures put { OnOk result
+        (Puts (call_code left.old (expression_of call.now.expr) (arguments_in call.now.args.items)) code.old code.new) }
+    ensures refused { IfErr result (λ kind. TakesNoMore (code_in code.new) (kind ∷ [])) }
+{
+    match &call.expr {
+        Expr::Var(n) => {
+            let_go(left);
+            let count = compile_arguments(alloc, code, &call.args, from)?;
+            let told = first_from(call.args.len(), left, from);
+            let name = CowStr::Borrowed(n.node.id);
+            push(code, Instruction::CallFunction(name, Some(count)), told)
+        }
+        Expr::GetAttr(n) => {
+            load_held(code, left, from)?;
+            let count = compile_arguments(alloc, code, &call.args, None)?;
+            let count = one_more(count)?;
+            let name = CowStr::Borrowed(n.node.name);
+            push(code, Instruction::CallMethod(name, Some(count)), None)
+        }
+        _ => {
+            load_held(code, left, from)?;
+            let count = compile_arguments(alloc, code, &call.args, None)?;
+            let count = one_more(count)?;
+            push(code, Instruction::CallObject(Some(count)), None)
+        }
+    }
+}
+
+// The arguments that are passed by their place, and behind them a map of those that are passed by a name, where there
+// are any. The answer is how many values they are.
+#[cycle(expression)]
+fn compile_arguments<'source>(
+    alloc: Global,
+    code: &mut Instructions<'source>,
+    arguments: &[CallArg<'source>],
+    from: Option<&Span>,
+) -> Result<u16, ErrorKind>
+    requires { AreRunnableArguments (arguments_in arguments.now) }
+    ensures count { IfOk result (λ count. count ≡ argument_count (arguments_in arguments.now)) }
+    ensures put { OnOk result (Puts (passed_code (arguments_in arguments.now)) code.old code.new) }
+    ensures refused { IfErr result (λ kind. TakesNoMore (code_in code.new) (kind ∷ [])) }
+{
+    let passed = compile_positional(alloc, code, arguments, from)?;
+    let told = first_from(passed as usize, &None, from);
+    let named = compile_keywords(alloc, code, arguments, told)?;
+    if named == 0 {
+        return Ok(passed);
+    }
+    let count = one_more(passed)?;
+    push(code, Instruction::BuildKwargs(named), None)?;
+    Ok(count)
+}
+
+// The arguments that are passed by their place, and how many they are.
+#[cycle(expression)]
+fn compile_positional<'source>(
+    alloc: Global,
+    code: &mut Instructions<'source>,
+    arguments: &[CallArg<'source>],
+    from: Option<&Span>,
+) -> Result<u16, ErrorKind>
+    requires { AreRunnableArguments (arguments_in arguments.now) }
+    ensures count { IfOk result (λ count. count ≡ length (positional_cores (arguments_in arguments.now))) }
+    ensures put { OnOk result (Puts (in_turn_code (positional_cores (arguments_in arguments.now))) code.old code.new) }
+    ensures refused { IfErr result (λ kind. TakesNoMore (code_in code.new) (kind ∷ [])) }
+{
+    let mut told = from;
+    let mut count = 0;
+    for argument in arguments {
+        if let CallArg::Pos(expr) = argument {
+            compile_expr(alloc, code, expr, told)?;
+            told = None;
+            count = one_more(count)?;
+        }
+    }
+    Ok(count)
+}
+
+// The arguments that are passed by a name, each behind it, and how many they are.
+#[cycle(expression)]
+fn compile_keywords<'source>(
+    alloc: Global,
+    code: &mut Instructions<'source>,
+    arguments: &[CallArg<'source>],
+    from: Option<&Span>,
+) -> Result<usize, ErrorKind>
+    requires { AreRunnableArguments (arguments_in arguments.now) }
+    ensures count { IfOk result (λ count. count ≡ length (keyword_cores (arguments_in arguments.now))) }
+    ensures put { OnOk result (Puts (named_code (keyword_cores (arguments_in arguments.now))) code.old code.new) }
+    ensures refused { IfErr result (λ kind. TakesNoMore (code_in code.new) (kind ∷ [])) }
+{
+    let mut told = from;
+    let mut count = 0;
+    for argument in arguments {
+        if let CallArg::Kwarg(name, expr) = argument {
+            put_keyword(alloc, code, name, told)?;
+            compile_expr(alloc, code, expr, None)?;
+            told = None;
+            count += 1;
+        }
+    }
+    Ok(count)
 }
 
 // The expressions, from the first to the last.

@@ -1,10 +1,12 @@
 //! Names, literals and attributes, and constants that are held back.
-ghost use Rattle.std.specs.Prelude.{◌≡◌, [], ◌∷◌, None, Some, Ok, OnOk, IfOk, IfErr};
+ghost use Rattle.std.specs.Prelude.{◌≡◌, ◌+◌, [], ◌∷◌, None, Some, Ok, OnOk, IfOk, IfErr};
+ghost use Rattle.template_values_model.specs.Val.{text};
 ghost use Rattle.template_code.specs.Code.{get_attr, load_const, lookup};
 ghost use Rattle.template_code.specs.Listing.{code_in, TakesNoMore};
 ghost use Rattle.template_compiler_codegen.specs.Expressions.{one};
 ghost use Rattle.template_compiler_emission.specs.Puts.{Puts, held, behind};
 
+use std::alloc::Global;
 use std::borrow::CowStr;
 use template_code::{Instruction, Instructions};
 use template_compiler_emission::{load, push};
@@ -78,6 +80,21 @@ fn put_copy<'source>(
 {
     let copy = unless_refused(value.copy())?;
     push(code, Instruction::LoadConst(copy), from)
+}
+
+// The load of the name of a keyword argument, which is a text.
+#[inline(never)]
+pub(crate) fn put_keyword<'source>(
+    alloc: Global,
+    code: &mut Instructions<'source>,
+    name: &str,
+    from: Option<&Span>,
+) -> Result<(), ErrorKind>
+    ensures put { OnOk result (Puts (one (load_const (text name.now))) code.old code.new) }
+    ensures refused { IfErr result (λ kind. TakesNoMore (code_in code.new) (kind ∷ [])) }
+{
+    let value = unless_refused(Value::from_str(alloc, name))?;
+    push(code, Instruction::LoadConst(value), from)
 }
 
 // Holds a literal back at the place.
@@ -155,4 +172,15 @@ pub(crate) fn compile_attribute<'source>(
 {
     load_held(code, left, from)?;
     push(code, Instruction::GetAttr(CowStr::Borrowed(name)), None)
+}
+
+// One value more is passed. More than an instruction counts are refused as memory is; the grammar reads far fewer.
+pub(crate) fn one_more(count: u16) -> Result<u16, ErrorKind>
+    ensures counted { IfOk result (λ n. n ≡ count + 1) }
+    ensures refused { IfErr result (λ kind. kind ≡ ErrorKind.OutOfMemory) }
+{
+    if count == u16::MAX {
+        return Err(ErrorKind::OutOfMemory);
+    }
+    Ok(count + 1)
 }

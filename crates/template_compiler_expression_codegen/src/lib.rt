@@ -2,9 +2,10 @@
 #![tactic(auto)]
 
 mod chains;
+mod coded;
 mod expressions;
 mod leaves;
 mod operators;
 mod whole;
 
-pub use whole::{compile_expr, fold_expr};
+pub use whole::{compile_call, compile_expr, fold_expr};

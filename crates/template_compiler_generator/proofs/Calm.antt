@@ -3,12 +3,13 @@ use Rattle.std.proofs.Common.{◌≡◌, ℕ, zero, suc, ◌+◌, Bool, true, fa
 use Rattle.template_values_model.specs.Val.{Val, silent_undefined, none}
 use Rattle.template_tree.specs.declared.operators.UnaryOpKind.{UnaryOpKind}
 use Rattle.template_tree.specs.declared.operators.UnaryOpKind.TheVariants.{Not, Neg}
-use Rattle.template_tree.specs.Tree.{Expression, Optional, Expressions, Links, Assignments, Statement, Statements, variable, constant, unary, binary, chain, conditional, attribute, item, list_literal, tuple_literal, map_literal, absent, given, no_expressions, expressions_more, no_links, links_more, no_assignments, assignments_more, raw, print, for_loop, if_condition, with_block, set, set_block, auto_escape, continue_loop, break_loop, no_statements, statements_more}
+use Rattle.template_tree.specs.Tree.{Expression, Optional, Expressions, Links, Arguments, Assignments, Statement, Statements, variable, constant, unary, binary, chain, conditional, attribute, item, call, list_literal, tuple_literal, map_literal, absent, given, no_expressions, expressions_more, no_links, links_more, no_arguments, arguments_more, positional, keyword, no_assignments, assignments_more, raw, print, for_loop, if_condition, with_block, set, set_block, auto_escape, continue_loop, break_loop, do_call, no_statements, statements_more}
 use Rattle.template_tree.specs.Tree as tree
+use Rattle.template_walk.specs.Expressions.{Callee, by_name, by_method, by_value, callee_of}
 use Rattle.template_code.specs.Code.{Code}
 use Rattle.template_code_shapes.specs.Effects.{leans}
 use Rattle.template_compiler_codegen.specs.Core.{Core, empty, straight, both, leaping, either, rounds, within, leave, sealed, loading, chosen, Ways, no_ways, own_ways, closing_with, flat}
-use Rattle.template_compiler_codegen.specs.Expressions.{unary_code, expression_core, optional_core, expressions_core, codes_of, entries_core, chain_core, linked_core}
+use Rattle.template_compiler_codegen.specs.Expressions.{unary_code, in_turn_core, named_core, keywords_core, passed_core, called_core, object_core, positional_cores, keyword_cores, expression_core, optional_core, expressions_core, codes_of, entries_core, chain_core, linked_core}
 use Rattle.template_compiler_codegen.specs.Statements.{target_core, targets_core, assignments_core, iterable_core, statement_core, statements_core}
 
 abbrev pub AreCalm : List Code → Type 0
@@ -69,6 +70,31 @@ abbrev EachCalm : List Core → Type 0
 EachCalm [] = Unit {0}
 EachCalm (c ∷ cores) = IsCalmCore c × EachCalm cores
 
+abbrev NamedCalm : List (List ℕ × Core) → Type 0
+NamedCalm [] = Unit {0}
+NamedCalm (n ∷ ns) = IsCalmCore n.1 × NamedCalm ns
+
+in_turn_calm : (cs : List Core) → EachCalm cs → IsCalmCore (in_turn_core cs)
+in_turn_calm [] h = tt
+in_turn_calm (c ∷ cs) h = (h.0, in_turn_calm cs h.1)
+
+named_calm : (ns : List (List ℕ × Core)) → NamedCalm ns → IsCalmCore (named_core ns)
+named_calm [] h = tt
+named_calm (n ∷ ns) h = (refl, (h.0, named_calm ns h.1))
+
+keywords_calm : (ns : List (List ℕ × Core)) → NamedCalm ns → IsCalmCore (keywords_core ns)
+keywords_calm [] h = tt
+keywords_calm (n ∷ ns) h = (named_calm (n ∷ ns) h, refl)
+
+passed_calm : (cs : List Core) (ns : List (List ℕ × Core)) → EachCalm cs → NamedCalm ns → IsCalmCore (passed_core cs ns)
+passed_calm cs ns h k = (in_turn_calm cs h, keywords_calm ns k)
+
+called_calm : (callee : Callee) (whole object : Core) (cs : List Core) (ns : List (List ℕ × Core)) → IsCalmCore whole → IsCalmCore object → EachCalm cs → NamedCalm ns
+    → IsCalmCore (called_core callee whole object cs ns)
+called_calm (by_name name) whole object cs ns f g h k = (passed_calm cs ns h k, refl)
+called_calm (by_method name) whole object cs ns f g h k = (g, (passed_calm cs ns h k, refl))
+called_calm by_value whole object cs ns f g h k = (f, (passed_calm cs ns h k, refl))
+
 unary_calm : (op : UnaryOpKind) → leans (Some (unary_code op)) ≡ false
 unary_calm Not = refl
 unary_calm Neg = refl
@@ -87,7 +113,24 @@ mutual
   expression_calm (list_literal es) = (expressions_calm es, refl)
   expression_calm (tuple_literal es) = (expressions_calm es, refl)
   expression_calm (map_literal ks vs) = (entries_calm ks (codes_of vs) (each_calm vs), refl)
+  expression_calm (call callee args) =
+      called_calm (callee_of callee) (expression_core callee) (object_core callee) (positional_cores args) (keyword_cores args)
+      (expression_calm callee) (object_calm callee) (positional_calm args) (keyword_calm args)
   expression_calm _ = tt
+
+  object_calm : (e : Expression) → IsCalmCore (object_core e)
+  object_calm (attribute e name) = expression_calm e
+  object_calm _ = tt
+
+  positional_calm : (args : Arguments) → EachCalm (positional_cores args)
+  positional_calm no_arguments = tt
+  positional_calm (arguments_more (positional e) args) = (expression_calm e, positional_calm args)
+  positional_calm (arguments_more _ args) = positional_calm args
+
+  keyword_calm : (args : Arguments) → NamedCalm (keyword_cores args)
+  keyword_calm no_arguments = tt
+  keyword_calm (arguments_more (keyword name e) args) = (expression_calm e, keyword_calm args)
+  keyword_calm (arguments_more _ args) = keyword_calm args
 
   optional_calm : (missing : Val) (o : Optional) → IsCalmCore (optional_core missing o)
   optional_calm missing absent = refl
@@ -117,6 +160,7 @@ mutual
 mutual
   target_calm : (e : Expression) → IsCalmCore (target_core e)
   target_calm (variable name) = refl
+  target_calm (attribute e name) = (expression_calm e, refl)
   target_calm (list_literal targets) = (refl, targets_calm targets)
   target_calm _ = tt
 
@@ -146,6 +190,7 @@ mutual
   statement_calm (set_block target absent body) = (refl, ((refl, (refl, statements_calm body)), (refl, target_calm target)))
   statement_calm (auto_escape e body) = (expression_calm e, (refl, ((refl, statements_calm body), refl)))
   statement_calm (tree.include e ignore_missing) = (expression_calm e, refl)
+  statement_calm (do_call callee args) = (expression_calm (call callee args), refl)
   statement_calm continue_loop = tt
   statement_calm break_loop = tt
   statement_calm _ = tt

@@ -1,22 +1,23 @@
 -- The code of expressions, targets and assignments: how many values it takes, and how many it leaves, over any shape.
 use Rattle.std.proofs.Common.{◌≡◌, ℕ, zero, suc, ◌+◌, ◌*◌, ◌<◌, ◌≤◌, Bool, true, false, ◌||◌, List, [], ◌∷◌, ◌++◌, length, Option, None, Some, slice_get, refl, sym, ap, subst, ◌∙◌, length-append, arith}
 use Rattle.std.specs.Prelude.{option_and_then}
-use Rattle.template_values_model.specs.Val.{Val, silent_undefined, none}
+use Rattle.template_values_model.specs.Val.{Val, silent_undefined, none, text}
 use Rattle.template_tree.specs.declared.operators.UnaryOpKind.{UnaryOpKind}
 use Rattle.template_tree.specs.declared.operators.UnaryOpKind.TheVariants.{Not, Neg}
 use Rattle.template_tree.specs.declared.operators.BinOpKind.{BinOpKind}
 use Rattle.template_tree.specs.declared.operators.BinOpKind.TheVariants.{ScAnd, ScOr}
 use Rattle.template_tree.specs.declared.operators.CompareOpKind.{CompareOpKind}
-use Rattle.template_tree.specs.Tree.{Expression, Optional, Expressions, Links, Assignments, variable, constant, unary, binary, chain, conditional, attribute, item, list_literal, tuple_literal, map_literal, absent, given as is_given, no_expressions, expressions_more, no_links, links_more, no_assignments, assignments_more}
+use Rattle.template_tree.specs.Tree.{Expression, Optional, Expressions, Links, Arguments, Assignments, variable, constant, unary, binary, chain, conditional, attribute, item, call, list_literal, tuple_literal, map_literal, absent, given as is_given, no_expressions, expressions_more, no_links, links_more, no_arguments, arguments_more, positional, keyword, positional_spread, keyword_spread, no_assignments, assignments_more}
 use Rattle.template_tree.specs.Tree as tree
 use Rattle.template_walk.specs.Constants.{constant_of}
+use Rattle.template_walk.specs.Expressions.{Callee, by_name, by_method, by_value, callee_of}
 use Rattle.template_walk.specs.Statements.{number_of}
-use Rattle.template_walk.specs.Runnable.{IsRunnable, IsRunnableIfGiven, AreRunnable, IsRunnableChain, AreRunnableLinks, IsTarget, AreTargets, AreAssignments}
-use Rattle.template_code.specs.Code.{Code, store_local, lookup, load_const, get_attr, get_item, slice, build_map, build_list, build_tuple, unpack_list, operate, compare_and_preserve, swap, discard_top, jump, jump_if_false, jump_if_false_or_pop, jump_if_true_or_pop}
+use Rattle.template_walk.specs.Runnable.{IsRunnable, IsRunnableIfGiven, AreRunnable, AreRunnableArguments, IsRunnableChain, AreRunnableLinks, IsTarget, AreTargets, AreAssignments}
+use Rattle.template_code.specs.Code.{Code, store_local, lookup, load_const, get_attr, set_attr, get_item, slice, build_map, build_kwargs, call_function, call_method, call_object, build_list, build_tuple, unpack_list, operate, compare_and_preserve, swap, discard_top, jump, jump_if_false, jump_if_false_or_pop, jump_if_true_or_pop}
 use Rattle.template_code_shapes.specs.Shapes.{Shape, taken, given}
 use Rattle.template_code_shapes.specs.Effects.{Effect, falling, jumping, effect_of}
 use Rattle.template_compiler_codegen.specs.Core.{Core, no_ways, flat}
-use Rattle.template_compiler_codegen.specs.Expressions.{Coded, then_code, one, nothing, dropped, loaded, skipped, either_code, unary_code, binary_code, entry_count, expression_code, optional_code, expressions_code, codes_of, entries_code, chain_code, linked_code}
+use Rattle.template_compiler_codegen.specs.Expressions.{Coded, then_code, one, nothing, dropped, loaded, skipped, either_code, unary_code, binary_code, called_core, passed_core, keyword_count, passed_count, in_turn_code, named_code, keywords_code, object_core, positional_cores, keyword_cores, expression_core, entry_count, expression_code, optional_code, expressions_code, codes_of, entries_code, chain_code, linked_code}
 use Rattle.template_compiler_codegen.specs.Statements.{target_code, targets_code, assignments_code}
 use Rattle.template_compiler_codegen.proofs.Standing.{StandsAt, behind_one, instruction_at, behind_then, stands_first, stands_second, stands_either, behind_either}
 use Rattle.template_compiler_codegen.proofs.Expressions.{behind_single, behind_skipped}
@@ -188,8 +189,70 @@ abbrev EachMoves : List Core → Type 0
 EachMoves [] = Unit {0}
 EachMoves (piece ∷ pieces) = Moves (flat no_ways piece) 0 1 × EachMoves pieces
 
+-- each of them leaves a value under a name
+abbrev NamedMove : List (List ℕ × Core) → Type 0
+NamedMove [] = Unit {0}
+NamedMove (n ∷ ns) = Moves (flat no_ways n.1) 0 1 × NamedMove ns
+
 two_more : (n : ℕ) → n * 2 + 2 ≡ suc n * 2
 two_more n = omega arith
+
+one_over : (n : ℕ) (f : Coded) → Moves f 0 n → Moves f 1 (suc n)
+one_over n f x =
+    let P : ℕ → Type 0 = λ m. Moves f 1 m in
+    let same : n + 1 ≡ suc n = omega arith in
+    subst P same (over_many f n 1 x)
+
+-- arguments in turn
+in_turn_moves : (cs : List Core) → EachMoves cs → Moves (in_turn_code cs) 0 (length cs)
+in_turn_moves [] each = moves_nothing 0
+in_turn_moves (c ∷ cs) each = moves_then (flat no_ways c) (in_turn_code cs) 0 1 (suc (length cs)) each.0 (one_over (length cs) (in_turn_code cs) (in_turn_moves cs each.1))
+
+named_moves : (ns : List (List ℕ × Core)) → NamedMove ns → Moves (named_code ns) 0 (length ns * 2)
+named_moves [] each = moves_nothing 0
+named_moves (n ∷ ns) each =
+    let more = named_code ns in
+    let later : Moves more 2 (suc (length ns) * 2) = (let P : ℕ → Type 0 = λ m. Moves more 2 m in subst P (two_more (length ns)) (over_many more (length ns * 2) 2 (named_moves ns each.1))) in
+    let value = flat no_ways n.1 in
+    moves_then (one (load_const (text n.0))) (then_code value more) 0 1 (suc (length ns) * 2) (moves_one (load_const (text n.0)) 0 1 (λ code place s plain. refl))
+    (moves_then value more 1 2 (suc (length ns) * 2) (over_more value 1 each.0) later)
+
+keywords_move : (ns : List (List ℕ × Core)) → NamedMove ns → Moves (keywords_code ns) 0 (keyword_count ns)
+keywords_move [] each = moves_nothing 0
+keywords_move (n ∷ ns) each =
+    let count = suc (length ns) in
+    moves_then (named_code (n ∷ ns)) (one (build_kwargs count)) 0 (count * 2) 1 (named_moves (n ∷ ns) each)
+    (moves_one (build_kwargs count) (count * 2) 1 (λ code place s plain. traded_plain (count * 2) 1 s plain.0))
+
+passed_moves : (cs : List Core) (ns : List (List ℕ × Core)) → EachMoves cs → NamedMove ns → Moves (flat no_ways (passed_core cs ns)) 0 (passed_count cs ns)
+passed_moves cs ns each named =
+    let more = keywords_code ns in
+    let later : Moves more (length cs) (length cs + keyword_count ns) = (let P : ℕ → Type 0 = λ m. Moves more (length cs) m in
+    let same : keyword_count ns + length cs ≡ length cs + keyword_count ns = omega arith in
+    subst P same (over_many more (keyword_count ns) (length cs) (keywords_move ns named))) in
+    moves_then (in_turn_code cs) more 0 (length cs) (length cs + keyword_count ns) (in_turn_moves cs each) later
+
+-- a call of what the first piece gives, or of its method
+over_passed : (first : Coded) (cs : List Core) (ns : List (List ℕ × Core)) (c : Code) → Moves first 0 1 → EachMoves cs → NamedMove ns
+    → Moves (one c) (suc (passed_count cs ns)) 1 → Moves (then_code first (then_code (flat no_ways (passed_core cs ns)) (one c))) 0 1
+over_passed first cs ns c x each named calls =
+    let passed = flat no_ways (passed_core cs ns) in
+    let n = passed_count cs ns in
+    moves_then first (then_code passed (one c)) 0 1 1 x (moves_then passed (one c) 1 (suc n) 1 (one_over n passed (passed_moves cs ns each named)) calls)
+
+called_moves : (callee : Callee) (whole object : Core) (cs : List Core) (ns : List (List ℕ × Core)) → Moves (flat no_ways whole) 0 1
+    → ((name : List ℕ) → callee ≡ by_method name → Moves (flat no_ways object) 0 1) → EachMoves cs → NamedMove ns
+    → Moves (flat no_ways (called_core callee whole object cs ns)) 0 1
+called_moves (by_name name) whole object cs ns f g each named =
+    let n = passed_count cs ns in
+    moves_then (flat no_ways (passed_core cs ns)) (one (call_function name (Some n))) 0 n 1 (passed_moves cs ns each named)
+    (moves_one (call_function name (Some n)) n 1 (λ code place s plain. traded_plain n 1 s plain.0))
+called_moves (by_method name) whole object cs ns f g each named =
+    let n = suc (passed_count cs ns) in
+    over_passed (flat no_ways object) cs ns (call_method name (Some n)) (g name refl) each named (moves_one (call_method name (Some n)) n 1 (λ code place s plain. traded_plain n 1 s plain.0))
+called_moves by_value whole object cs ns f g each named =
+    let n = suc (passed_count cs ns) in
+    over_passed (flat no_ways whole) cs ns (call_object (Some n)) f each named (moves_one (call_object (Some n)) n 1 (λ code place s plain. traded_plain n 1 s plain.0))
 
 mutual
   pub expression_moves : (e : Expression) → IsRunnable e → Moves (expression_code e) 0 1
@@ -231,7 +294,30 @@ mutual
       moves_loaded (constant_of (map_literal ks vs)) (then_code (entries_code ks (codes_of vs)) (one (build_map count)))
       (moves_then (entries_code ks (codes_of vs)) (one (build_map count)) 0 (count * 2) 1 (entries_move ks (codes_of vs) r.0 (each_moves vs r.1))
       (moves_one (build_map count) (count * 2) 1 (λ code place s plain. traded_plain (count * 2) 1 s plain.0)))
+  expression_moves (call callee args) r =
+      called_moves (callee_of callee) (expression_core callee) (object_core callee) (positional_cores args) (keyword_cores args) (expression_moves callee r.0)
+      (λ name is. object_moves callee r.0 name is) (positional_move args r.2) (keyword_move args r.2)
   expression_moves _ r = absurd r
+
+  -- the object of a method
+  object_moves : (e : Expression) → IsRunnable e → (name : List ℕ) → callee_of e ≡ by_method name → Moves (flat no_ways (object_core e)) 0 1
+  object_moves (attribute e name) r other is = expression_moves e r
+  object_moves (variable name) r other is = absurd cc
+  object_moves _ r other is = absurd cc
+
+  positional_move : (args : Arguments) → AreRunnableArguments args → EachMoves (positional_cores args)
+  positional_move no_arguments r = tt
+  positional_move (arguments_more (positional e) args) r = (expression_moves e r.0, positional_move args r.1)
+  positional_move (arguments_more (keyword name e) args) r = positional_move args r.1
+  positional_move (arguments_more (positional_spread e) args) r = absurd r
+  positional_move (arguments_more (keyword_spread e) args) r = absurd r
+
+  keyword_move : (args : Arguments) → AreRunnableArguments args → NamedMove (keyword_cores args)
+  keyword_move no_arguments r = tt
+  keyword_move (arguments_more (positional e) args) r = keyword_move args r.1
+  keyword_move (arguments_more (keyword name e) args) r = (expression_moves e r.0, keyword_move args r.1)
+  keyword_move (arguments_more (positional_spread e) args) r = absurd r
+  keyword_move (arguments_more (keyword_spread e) args) r = absurd r
 
   optional_moves : (o : Optional) (missing : Val) → IsRunnableIfGiven o → Moves (optional_code missing o) 0 1
   optional_moves absent missing r = moves_one (load_const missing) 0 1 (λ code place s plain. refl)
@@ -276,6 +362,9 @@ mutual
 mutual
   pub target_moves : (e : Expression) → IsTarget e → Moves (target_code e) 1 0
   target_moves (variable name) r = moves_one (store_local name) 1 0 (λ code place s plain. traded_plain 1 0 s plain.0)
+  target_moves (attribute e name) r =
+      moves_then (expression_code e) (one (set_attr name)) 1 2 0 (over_more (expression_code e) 1 (expression_moves e r))
+      (moves_one (set_attr name) 2 0 (λ code place s plain. traded_plain 2 0 s plain.0))
   target_moves (list_literal targets) r =
       moves_then (one (unpack_list (number_of targets))) (targets_code targets) 1 (number_of targets) 0
       (moves_one (unpack_list (number_of targets)) 1 (number_of targets) (λ code place s plain. traded_plain 1 (number_of targets) s plain.0)) (targets_move targets r)

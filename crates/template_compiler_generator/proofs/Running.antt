@@ -1,7 +1,7 @@
 -- The code of statements: it keeps the shape, or leaves a loop with what the loop began with.
 use Rattle.std.proofs.Common.{◌≡◌, ℕ, zero, suc, ◌+◌, ◌<◌, ◌≤◌, Bool, true, false, ◌||◌, List, [], ◌∷◌, ◌++◌, length, Option, None, Some, slice_get, refl, sym, ap, ◌∙◌, length-append, arith}
 use Rattle.std.specs.Prelude.{IsTrue, option_map, option_and_then, is_some}
-use Rattle.template_tree.specs.Tree.{Expression, Statement, Statements, Assignments, absent, raw, print, for_loop, if_condition, with_block, set, set_block, auto_escape, continue_loop, break_loop, no_statements, statements_more}
+use Rattle.template_tree.specs.Tree.{Expression, Statement, Statements, Assignments, call, absent, raw, print, for_loop, if_condition, with_block, set, set_block, auto_escape, continue_loop, break_loop, do_call, no_statements, statements_more}
 use Rattle.template_tree.specs.Tree as tree
 use Rattle.template_walk.specs.Runnable.{IsRunnable, IsTarget, AreAssignments, IsRunnableStatement, AreRunnableStatements}
 use Rattle.template_code.specs.Code.{Code, emit_raw, emit, jump, jump_if_false, push_with, pop_frame, push_loop, iterate, push_did_not_iterate, pop_loop_frame, push_auto_escape, pop_auto_escape, begin_capture, end_capture, discard_top, include}
@@ -428,6 +428,9 @@ mutual
   statement_runs looping (tree.include e ignore_missing) r ways =
       runs_with looping ways 0 1 (expression_code e) (one (include ignore_missing)) (expression_moves e r)
       (runs_moves looping ways 1 (one (include ignore_missing)) (moves_one (include ignore_missing) 1 0 (λ code place s plain. traded_plain 1 0 s plain.0)))
+  statement_runs looping (do_call callee args) r ways =
+      runs_with looping ways 0 1 (expression_code (call callee args)) (one discard_top) (expression_moves (call callee args) r)
+      (runs_moves looping ways 1 (one discard_top) (moves_one discard_top 1 0 (λ code place s plain. traded_plain 1 0 s plain.0)))
   statement_runs looping continue_loop r ways = runs_continue ways looping r
   statement_runs looping break_loop r ways = runs_break ways looping r
   statement_runs looping _ r ways = absurd r

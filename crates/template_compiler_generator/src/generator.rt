@@ -470,8 +470,8 @@ impl<'source> CodeGenerator<'source> {
         }
     }
 
-    /// Adds the instructions that store the value on top in a target. They come from the names in it, whatever line and
-    /// spans are open. Linear in the target.
+    /// Adds the instructions that store the value on top in a target. They come from the names, attributes and lists in
+    /// it, whatever line and spans are open. Linear in the target, besides what the operators of constant trees cost.
     ///
     /// # Errors
     ///
@@ -485,7 +485,7 @@ impl<'source> CodeGenerator<'source> {
         ensures kept { MatchOption (refused_of self.new) (IsOk result) (λ kind. result ≡ Err (kind ∷ [])) }
     {
         self.go_on()?;
-        match compile_assignment(&mut self.code, target) {
+        match compile_assignment(self.alloc, &mut self.code, target) {
             Ok(()) => Ok(()),
             Err(error) => Err(self.refuse(error)),
         }

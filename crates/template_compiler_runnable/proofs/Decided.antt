@@ -3,9 +3,9 @@ use Rattle.std.proofs.Common.{◌≡◌, Bool, true, false, ◌&&◌, refl}
 use Rattle.std.specs.Prelude.{not}
 use Rattle.std.specs.Bool.{Decides}
 use Rattle.std.proofs.lemmas.Bool.Decides.{Decides-and}
-use Rattle.template_tree.specs.Tree.{Expression, Optional, Expressions, Links, variable, constant, slice, unary, binary, chain, conditional, filtered, tested, attribute, item, call, list_literal, tuple_literal, map_literal, absent, given, no_expressions, expressions_more, no_links, links_more, Statement, Statements, Assignments, template, raw, print, for_loop, if_condition, with_block, set, set_block, auto_escape, filter_block, block, import, from_import, extends, include, macro, call_block, continue_loop, break_loop, do_call, no_statements, statements_more, no_assignments, assignments_more}
-use Rattle.template_walk.specs.Runnable.{is_kept_back, IsRunnable, IsRunnableIfGiven, AreRunnable, IsRunnableChain, AreRunnableLinks, IsTarget, AreTargets, AreAssignments, IsRunnableStatement, AreRunnableStatements}
-use Rattle.template_compiler_runnable.specs.Running.{runs, runs_if_given, all_run, chain_runs, links_run, is_target, are_targets, assignments_run, statement_runs, statements_run}
+use Rattle.template_tree.specs.Tree.{Expression, Optional, Expressions, Links, Arguments, Argument, variable, constant, slice, unary, binary, chain, conditional, filtered, tested, attribute, item, call, list_literal, tuple_literal, map_literal, absent, given, no_expressions, expressions_more, no_links, links_more, no_arguments, arguments_more, positional, keyword, positional_spread, keyword_spread, Statement, Statements, Assignments, template, raw, print, for_loop, if_condition, with_block, set, set_block, auto_escape, filter_block, block, import, from_import, extends, include, macro, call_block, continue_loop, break_loop, do_call, no_statements, statements_more, no_assignments, assignments_more}
+use Rattle.template_walk.specs.Runnable.{is_kept_back, is_loop_called, IsRunnable, IsRunnableIfGiven, AreRunnable, AreRunnableArguments, IsRunnableChain, AreRunnableLinks, IsTarget, AreTargets, AreAssignments, IsRunnableStatement, AreRunnableStatements}
+use Rattle.template_compiler_runnable.specs.Running.{runs, runs_if_given, all_run, chain_runs, links_run, arguments_run, is_target, are_targets, assignments_run, statement_runs, statements_run}
 
 yes : Decides true (Unit {0})
 yes = (λ h. tt, λ h. refl)
@@ -59,7 +59,8 @@ mutual
   Decides-runs (map_literal ks vs) = both (all_run ks) (all_run vs) (Decides-all_run ks) (Decides-all_run vs)
   Decides-runs (filtered name value args) = no
   Decides-runs (tested name e args) = no
-  Decides-runs (call callee args) = no
+  Decides-runs (call callee args) =
+      three (runs callee) (not (is_loop_called callee)) (arguments_run args) (Decides-runs callee) (other (is_loop_called callee)) (Decides-arguments_run args)
 
   Decides-runs_if_given : (o : Optional) → Decides (runs_if_given o) (IsRunnableIfGiven o)
   Decides-runs_if_given absent = yes
@@ -77,9 +78,17 @@ mutual
   Decides-links_run no_links = yes
   Decides-links_run (links_more op e ls) = both (runs e) (links_run ls) (Decides-runs e) (Decides-links_run ls)
 
+  Decides-arguments_run : (args : Arguments) → Decides (arguments_run args) (AreRunnableArguments args)
+  Decides-arguments_run no_arguments = yes
+  Decides-arguments_run (arguments_more (positional e) args) = both (runs e) (arguments_run args) (Decides-runs e) (Decides-arguments_run args)
+  Decides-arguments_run (arguments_more (keyword name e) args) = both (runs e) (arguments_run args) (Decides-runs e) (Decides-arguments_run args)
+  Decides-arguments_run (arguments_more (positional_spread e) args) = no
+  Decides-arguments_run (arguments_more (keyword_spread e) args) = no
+
 mutual
   Decides-is_target : (e : Expression) → Decides (is_target e) (IsTarget e)
   Decides-is_target (variable name) = yes
+  Decides-is_target (attribute e name) = Decides-runs e
   Decides-is_target (list_literal es) = Decides-are_targets es
   Decides-is_target (constant v) = no
   Decides-is_target (slice e start stop by) = no
@@ -89,7 +98,6 @@ mutual
   Decides-is_target (conditional test branch otherwise) = no
   Decides-is_target (filtered name value args) = no
   Decides-is_target (tested name e args) = no
-  Decides-is_target (attribute e name) = no
   Decides-is_target (item e key) = no
   Decides-is_target (call callee args) = no
   Decides-is_target (tuple_literal es) = no
@@ -135,7 +143,7 @@ mutual
   Decides-statement_runs looping (extends e) = no
   Decides-statement_runs looping (macro id arguments defaults body) = no
   Decides-statement_runs looping (call_block callee passed arguments defaults body) = no
-  Decides-statement_runs looping (do_call callee arguments) = no
+  Decides-statement_runs looping (do_call callee args) = Decides-runs (call callee args)
 
   pub Decides-statements_run : (looping : Bool) (ss : Statements) → Decides (statements_run looping ss) (AreRunnableStatements looping ss)
   Decides-statements_run looping no_statements = yes

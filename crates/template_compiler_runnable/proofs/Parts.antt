@@ -1,18 +1,21 @@
 -- An expression runs if its left part does, and all beside it.
-use Rattle.std.proofs.Common.{◌≡◌, Bool, true, false, ◌&&◌, Box, Global, refl, sym, ap, ◌∙◌}
-use Rattle.template_tree.specs.Tree.{Expression}
-use Rattle.template_tree.specs.View.{expression_of, expressions_in, links_in, optional_in}
+use Rattle.std.proofs.Common.{◌≡◌, Bool, true, false, ◌&&◌, Box, Global, refl, sym, ap, ◌∙◌, rules}
+use Rattle.template_tree.specs.Tree.{Expression, call}
+use Rattle.template_tree.specs.View.{arguments_in, expression_of, expressions_in, links_in, optional_in}
 use Rattle.template_tree.specs.declared.span.Spanned.{Spanned}
+use Rattle.template_tree.specs.declared.calls.Call.{Call as CallNode}
 use Rattle.template_tree.specs.declared.expressions.BinOp.{BinOp as BinOpNode}
-use Rattle.template_tree.specs.declared.expressions.Compare.{Compare, out-Compare}
+use Rattle.template_tree.specs.declared.expressions.Compare.{Compare, Compare' as compared, out-Compare}
 use Rattle.template_tree.specs.declared.expressions.GetItem.{GetItem as GetItemNode}
 use Rattle.template_tree.specs.declared.expressions.List.{List as ListNode}
 use Rattle.template_tree.specs.declared.expressions.Map.{Map as MapNode}
 use Rattle.template_tree.specs.declared.expressions.Slice.{Slice as SliceNode}
 use Rattle.template_tree.specs.declared.expressions.Tuple.{Tuple as TupleNode}
-use Rattle.template_tree.specs.declared.expressions.Expr.{Expr, BinOp, Compare as CompareNode, GetItem, List, Map, Slice, Tuple}
+use Rattle.template_tree.specs.declared.expressions.Expr.{Expr, BinOp, Call, Compare as CompareNode, Compare', GetItem, List, Map, Slice, Tuple, Var, the_lemmas}
+use Rattle.template_tree.proofs.Rows.{arguments_row}
 use Rattle.template_tree_parts.proofs.Trees.{chain_tree, list_tree, map_tree, slice_tree, tuple_tree}
-use Rattle.template_compiler_runnable.specs.Running.{runs, runs_if_given, all_run, chain_runs, is_target}
+use Rattle.template_walk.specs.Runnable.{is_loop_called}
+use Rattle.template_compiler_runnable.specs.Running.{runs, runs_if_given, all_run, chain_runs, passing_runs, is_target}
 
 and_true : (b : Bool) → b ≡ (b && true)
 and_true true = refl
@@ -54,6 +57,20 @@ map_runs e n node = ap (λ (x : Expr). runs (expression_of x)) node ∙ ap (λ (
 pub chain_all_runs : (e : Expr) (n : Box (Spanned Compare) Global) → e ≡ CompareNode n → runs (expression_of e)
     ≡ (runs (expression_of (out-Compare n.value.node).expr) && chain_runs (links_in (out-Compare n.value.node).ops.items))
 chain_all_runs e n node = ap (λ (x : Expr). runs (expression_of x)) node ∙ ap (λ (t : Expression). runs t) (chain_tree n.value.node)
+
+call_tree : (n : Box (Spanned CallNode) Global) → expression_of (Call n)
+    ≡ call (expression_of n.value.node.expr) (arguments_in n.value.node.args.items)
+call_tree n = search (rules, the_lemmas, arguments_row)
+
+pub call_parts_run : (e : Expr) (n : Box (Spanned CallNode) Global) → e ≡ Call n → runs (expression_of e)
+    ≡ (runs (expression_of n.value.node.expr) && passing_runs (expression_of n.value.node.expr) (arguments_in n.value.node.args.items))
+call_parts_run e n node = ap (λ (x : Expr). runs (expression_of x)) node ∙ ap (λ (t : Expression). runs t) (call_tree n)
+
+-- what is no name is no loop
+pub no_loop : (e : Expr) → ((n : _) → e ≡ Var n → ⊥) → false ≡ is_loop_called (expression_of e)
+no_loop (Var n) no_name = absurd (no_name n refl)
+no_loop (Compare' p (compared expr shape ops) span) no_name = refl
+no_loop _ no_name = refl
 
 -- one part after the other
 pub first_fails : {x a : Bool} (b : Bool) → x ≡ (a && b) → a ≡ false → false ≡ x

@@ -1,7 +1,7 @@
 -- Whether a tree is runnable, as tests.
 use Rattle.std.specs.Prelude.{Bool, true, false, not, ◌&&◌}
-use Rattle.template_tree.specs.Tree.{Expression, Optional, Expressions, Links, variable, constant, slice, unary, binary, chain, conditional, attribute, item, list_literal, tuple_literal, map_literal, absent, given, no_expressions, expressions_more, no_links, links_more, Statement, Statements, Assignments, raw, print, for_loop, if_condition, with_block, set, set_block, auto_escape, include, continue_loop, break_loop, no_statements, statements_more, no_assignments, assignments_more}
-use Rattle.template_walk.specs.Runnable.{is_kept_back}
+use Rattle.template_tree.specs.Tree.{Expression, Optional, Expressions, Links, Arguments, Argument, variable, constant, slice, unary, binary, chain, conditional, attribute, item, call, list_literal, tuple_literal, map_literal, absent, given, no_expressions, expressions_more, no_links, links_more, no_arguments, arguments_more, positional, keyword, Statement, Statements, Assignments, raw, print, for_loop, if_condition, with_block, set, set_block, auto_escape, include, continue_loop, break_loop, do_call, no_statements, statements_more, no_assignments, assignments_more}
+use Rattle.template_walk.specs.Runnable.{is_kept_back, is_loop_called}
 
 abbrev mutual
   pub runs : Expression → Bool
@@ -14,6 +14,7 @@ abbrev mutual
   runs (conditional test branch otherwise) = runs test && (runs branch && runs_if_given otherwise)
   runs (attribute e name) = runs e
   runs (item e key) = runs e && runs key
+  runs (call callee args) = runs callee && (not (is_loop_called callee) && arguments_run args)
   runs (list_literal es) = all_run es
   runs (tuple_literal es) = all_run es
   runs (map_literal ks vs) = all_run ks && all_run vs
@@ -36,9 +37,24 @@ abbrev mutual
   links_run no_links = true
   links_run (links_more op e links) = runs e && links_run links
 
+  pub arguments_run : Arguments → Bool
+  arguments_run no_arguments = true
+  arguments_run (arguments_more argument args) = argument_runs argument && arguments_run args
+
+  -- none is spread
+  pub argument_runs : Argument → Bool
+  argument_runs (positional e) = runs e
+  argument_runs (keyword name e) = runs e
+  argument_runs _ = false
+
+-- what is called is no loop, and the arguments run
+abbrev pub passing_runs : Expression → Arguments → Bool
+passing_runs callee args = not (is_loop_called callee) && arguments_run args
+
 abbrev mutual
   pub is_target : Expression → Bool
   is_target (variable name) = true
+  is_target (attribute e name) = runs e
   is_target (list_literal targets) = are_targets targets
   is_target _ = false
 
@@ -64,6 +80,7 @@ abbrev mutual
   statement_runs looping (set_block target absent body) = is_target target && statements_run looping body
   statement_runs looping (auto_escape e body) = runs e && statements_run looping body
   statement_runs looping (include e ignore_missing) = runs e
+  statement_runs looping (do_call callee args) = runs (call callee args)
   statement_runs looping continue_loop = looping
   statement_runs looping break_loop = looping
   statement_runs looping _ = false

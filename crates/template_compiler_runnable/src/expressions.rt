@@ -1,10 +1,11 @@
 //! Expressions. A tree is gone along its left parts in a loop; its other parts nest at most 150 deep.
 ghost use Rattle.std.specs.Prelude.{◌≡◌, ◌↔◌, IsTrue};
-ghost use Rattle.template_tree.specs.View.{expression_of, expressions_in, links_in, optional_in};
-ghost use Rattle.template_walk.specs.Runnable.{IsRunnable, is_kept_back};
-ghost use Rattle.template_compiler_runnable.specs.Running.{runs, runs_if_given, all_run, chain_runs, links_run};
+ghost use Rattle.template_tree.specs.Tree.{call};
+ghost use Rattle.template_tree.specs.View.{argument_of, arguments_in, expression_of, expressions_in, links_in, optional_in};
+ghost use Rattle.template_walk.specs.Runnable.{IsRunnable, is_kept_back, is_loop_called};
+ghost use Rattle.template_compiler_runnable.specs.Running.{runs, runs_if_given, all_run, chain_runs, links_run, passing_runs, arguments_run, argument_runs};
 
-use template_tree::{CompareOp, Expr};
+use template_tree::{Call, CallArg, CompareOp, Expr};
 use template_tree_nodes::has_walk;
 
 /// Whether an expression's tree is one whose constructs all have a walk. Takes linear time.
@@ -19,6 +20,26 @@ fn is_kept_back(name: &str) -> bool
     ensures { result ≡ is_kept_back name.now }
 {
     name == "caller" || name == "self" || name == "super"
+}
+
+// Whether what is called is a loop, by its name.
+fn is_loop(callee: &Expr<'_>) -> bool
+    ensures { result ≡ is_loop_called (expression_of callee.now) }
+{
+    match callee {
+        Expr::Var(n) => n.node.id == "loop",
+        _ => false,
+    }
+}
+
+// Whether a call runs.
+pub(crate) fn call_runs(called: &Call<'_>) -> bool
+    ensures { result ≡ runs (call (expression_of called.now.expr) (arguments_in called.now.args.items)) }
+{
+    if !passing_runs(called) {
+        return false;
+    }
+    operand_runs(&called.expr)
 }
 
 // Whether an expression runs. Most are names and literals.
@@ -89,7 +110,13 @@ pub(crate) fn expression_runs(expr: &Expr<'_>) -> bool
             }
             Expr::Filter(_) => return has_walk(at),
             Expr::Test(_) => return has_walk(at),
-            Expr::Call(_) => return has_walk(at),
+            Expr::Call(n) => {
+                let node = &n.node;
+                if !passing_runs(node) {
+                    return false;
+                }
+                &node.expr
+            }
             Expr::List(n) => return items_run(&n.node.items),
             Expr::Tuple(n) => return items_run(&n.node.items),
             Expr::Map(n) => {
@@ -140,4 +167,41 @@ fn chain_runs(links: &[CompareOp<'_>]) -> bool
         }
     }
     true
+}
+
+// Whether what is called is no loop, and the arguments run.
+#[cycle(expression)]
+fn passing_runs(called: &Call<'_>) -> bool
+    ensures { result ≡ passing_runs (expression_of called.now.expr) (arguments_in called.now.args.items) }
+{
+    if is_loop(&called.expr) {
+        return false;
+    }
+    arguments_run(&called.args)
+}
+
+// Whether all arguments run.
+#[cycle(expression)]
+fn arguments_run(arguments: &[CallArg<'_>]) -> bool
+    ensures { result ≡ arguments_run (arguments_in arguments.now) }
+{
+    for argument in arguments {
+        if !argument_runs(argument) {
+            return false;
+        }
+    }
+    true
+}
+
+// Whether an argument runs; none does that is spread.
+#[cycle(expression)]
+fn argument_runs(argument: &CallArg<'_>) -> bool
+    ensures { result ≡ argument_runs (argument_of argument.now) }
+{
+    match argument {
+        CallArg::Pos(expr) => operand_runs(expr),
+        CallArg::Kwarg(_, expr) => operand_runs(expr),
+        CallArg::PosSplat(_) => false,
+        CallArg::KwargSplat(_) => false,
+    }
 }

@@ -5,7 +5,7 @@ ghost use Rattle.template_tree_parts.specs.Listed.{statements_in};
 ghost use Rattle.template_compiler_runnable.specs.Running.{statement_runs, statements_run};
 ghost use Rattle.template_compiler_runnable.specs.Runs.{RunsWhole};
 
-use crate::expressions::{operand_runs, optional_runs};
+use crate::expressions::{call_runs, operand_runs, optional_runs};
 use crate::targets::{assignments_run, is_target};
 use template_tree_statements::Stmt;
 
@@ -158,6 +158,6 @@ fn parts_run(looping: bool, statement: &Stmt<'_>) -> bool
         Stmt::Extends(_) => false,
         Stmt::Macro(_) => false,
         Stmt::CallBlock(_) => false,
-        Stmt::Do(_) => false,
+        Stmt::Do(n) => call_runs(&n.node.call.node),
     }
 }

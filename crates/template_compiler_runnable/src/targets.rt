@@ -4,16 +4,17 @@ ghost use Rattle.template_tree.specs.View.{expression_of, expressions_in};
 ghost use Rattle.template_tree_statements.specs.View.{assignments_in};
 ghost use Rattle.template_compiler_runnable.specs.Running.{is_target, are_targets, assignments_run};
 
-use crate::expressions::expression_runs;
+use crate::expressions::{expression_runs, operand_runs};
 use template_tree::Expr;
 
-// Whether the expression is a name, or targets that a value is unpacked into.
+// Whether the expression is a name, an attribute of what runs, or targets that a value is unpacked into.
 #[cycle(target)]
 pub(crate) fn is_target(target: &Expr<'_>) -> bool
     ensures { result ≡ is_target (expression_of target.now) }
 {
     match target {
         Expr::Var(_) => true,
+        Expr::GetAttr(n) => operand_runs(&n.node.expr),
         Expr::List(n) => are_targets(&n.node.items),
         Expr::Const(_) => false,
         Expr::Slice(_) => false,
@@ -23,7 +24,6 @@ pub(crate) fn is_target(target: &Expr<'_>) -> bool
         Expr::IfExpr(_) => false,
         Expr::Filter(_) => false,
         Expr::Test(_) => false,
-        Expr::GetAttr(_) => false,
         Expr::GetItem(_) => false,
         Expr::Call(_) => false,
         Expr::Tuple(_) => false,

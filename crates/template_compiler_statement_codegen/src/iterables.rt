@@ -88,7 +88,7 @@ fn compile_kept_rounds<'source>(
 {
     let asks = reserve(code, Leap::Iterate, None)?;
     put(code, Instruction::DupTop, None)?;
-    store(code, target)?;
+    store(alloc, code, target)?;
     compile_expr(alloc, code, condition)?;
     keep_or_drop(code)?;
     put(code, Instruction::Jump(asks), Some(span))?;

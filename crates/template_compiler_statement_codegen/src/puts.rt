@@ -7,13 +7,14 @@ ghost use Rattle.template_code.specs.Listing.{code_in};
 ghost use Rattle.template_compiler_codegen.specs.Expressions.{one, expression_code};
 ghost use Rattle.template_compiler_emission.specs.Leaps.{leap_code};
 ghost use Rattle.template_compiler_emission.specs.Puts.{Puts};
+ghost use Rattle.template_compiler_expression_codegen.specs.Calls.{call_of};
 ghost use Rattle.template_values_errors.specs.Causes.{IsHead};
 ghost use Rattle.template_compiler_statement_codegen.specs.Refusals.{Refuses};
 
 use std::alloc::Global;
 use template_code::{Instruction, Instructions};
 use template_compiler_emission::{Leap, push, push_leap};
-use template_tree::{Expr, Span};
+use template_tree::{Call, Expr, Span, Spanned};
 use template_values_errors::{Error, ErrorKind};
 
 // Puts one instruction.
@@ -55,6 +56,23 @@ pub(crate) fn compile_expr<'source>(
     ensures refused { IfErr result (Refuses (code_in code.new)) }
 {
     match template_compiler_expression_codegen::compile_expr(alloc, code, expr) {
+        Ok(()) => Ok(()),
+        Err(error) => Err(kind_of(error)),
+    }
+}
+
+// Puts the code of a call.
+#[inline(always)]
+pub(crate) fn compile_call<'source>(
+    alloc: Global,
+    code: &mut Instructions<'source>,
+    call: &Spanned<Call<'source>>,
+) -> Result<(), ErrorKind>
+    requires { IsRunnable (call_of call.now.node) }
+    ensures put { OnOk result (Puts (expression_code (call_of call.now.node)) code.old code.new) }
+    ensures refused { IfErr result (Refuses (code_in code.new)) }
+{
+    match template_compiler_expression_codegen::compile_call(alloc, code, call) {
         Ok(()) => Ok(()),
         Err(error) => Err(kind_of(error)),
     }

@@ -5,11 +5,12 @@ ghost use Rattle.template_tree.specs.Tree.{absent, auto_escape, for_loop, set_bl
 ghost use Rattle.template_tree_statements.specs.View.{statement_of, assignments_in};
 ghost use Rattle.template_tree.specs.View.{expression_of, optional_in};
 ghost use Rattle.template_walk.specs.Runnable.{IsRunnable, IsRunnableIfGiven, IsTarget, AreAssignments, IsRunnableStatement, AreRunnableStatements};
-ghost use Rattle.template_code.specs.Code.{emit, emit_raw, include};
+ghost use Rattle.template_code.specs.Code.{discard_top, emit, emit_raw, include};
 ghost use Rattle.template_code.specs.Listing.{code_in, TakesNoMore};
 ghost use Rattle.template_compiler_codegen.specs.Expressions.{then_code, one, expression_code};
 ghost use Rattle.template_compiler_codegen.specs.Statements.{loop_end_code, no_ways, own_ways, rounds_code, statements_code, target_code};
 ghost use Rattle.template_compiler_emission.specs.Puts.{Keeps, Puts};
+ghost use Rattle.template_compiler_expression_codegen.specs.Calls.{call_of};
 ghost use Rattle.template_compiler_statement_codegen.specs.Breaks.{breaks_in, led, loop_end_places};
 ghost use Rattle.template_tree_parts.specs.Listed.{statements_in};
 ghost use Rattle.template_compiler_statement_codegen.specs.Listed.{IsRunnableTree, body_in, condition_of};
@@ -17,7 +18,7 @@ ghost use Rattle.template_compiler_statement_codegen.specs.Refusals.{Refuses};
 ghost use Rattle.template_compiler_statement_codegen.specs.Rounds.{Lowers, LowersBody, LowersStatement, LowersBranch, LowersChain, capturing, closed_code, closed_places, closing_code, places_in, ways_of};
 
 use crate::iterables::compile_iterable;
-use crate::puts::{append, compile_expr, put, reserve};
+use crate::puts::{append, compile_call, compile_expr, put, reserve};
 use crate::rounds::{Closing, Round, put_break, put_continue};
 use crate::targets::{store, store_all};
 use crate::tell_breaks;
@@ -25,7 +26,7 @@ use std::alloc::Global;
 use std::borrow::CowStr;
 use template_code::{CaptureMode, Instruction, Instructions, LOOP_FLAG_WITH_LOOP_VAR};
 use template_compiler_emission::{Leap, land};
-use template_tree::{Expr, Span, Spanned};
+use template_tree::{Call, Expr, Span, Spanned};
 use template_tree_statements::{ForLoop, IfCond, Stmt};
 use template_values_errors::{Error, ErrorKind};
 
@@ -135,6 +136,7 @@ fn compile_any<'source>(
         Stmt::EmitExpr(n) => compile_print(alloc, code, &n.node.expr),
         Stmt::Set(n) => compile_set(alloc, code, &n.node.target, &n.node.expr),
         Stmt::Include(n) => compile_include(alloc, code, &n.node.name, n.node.ignore_missing),
+        Stmt::Do(n) => compile_do(alloc, code, &n.node.call),
         Stmt::IfCond(n) => compile_condition(alloc, code, round, n),
         Stmt::ForLoop(n) => compile_loop(alloc, code, round, &n.node, &n.span),
         Stmt::WithBlock(n) => {
@@ -163,7 +165,6 @@ fn compile_any<'source>(
         Stmt::Extends(_) => unreachable!(),
         Stmt::Macro(_) => unreachable!(),
         Stmt::CallBlock(_) => unreachable!(),
-        Stmt::Do(_) => unreachable!(),
     }
 }
 
@@ -227,7 +228,7 @@ fn compile_set<'source>(
     ensures refused { IfErr result (Refuses (code_in code.new)) }
 {
     compile_expr(alloc, code, expr)?;
-    store(code, target)
+    store(alloc, code, target)
 }
 
 // A template that is run here.
@@ -245,6 +246,22 @@ fn compile_include<'source>(
 {
     compile_expr(alloc, code, name)?;
     put(code, Instruction::Include(ignore_missing), None)
+}
+
+// A call whose value is dropped.
+#[inline(never)]
+fn compile_do<'source>(
+    alloc: Global,
+    code: &mut Instructions<'source>,
+    call: &Spanned<Call<'source>>,
+) -> Result<(), ErrorKind>
+    requires { IsRunnable (call_of call.now.node) }
+    ensures put { OnOk result
+        (Puts (then_code (expression_code (call_of call.now.node)) (one discard_top)) code.old code.new) }
+    ensures refused { IfErr result (Refuses (code_in code.new)) }
+{
+    compile_call(alloc, code, call)?;
+    put(code, Instruction::DiscardTop, None)
 }
 
 // A body inside of what is closed behind it.
@@ -316,7 +333,7 @@ fn compile_set_block<'source>(
     )?;
     compile_captured(alloc, code, round, body)?;
     put(code, Instruction::EndCapture, Some(*span))?;
-    store(code, target)
+    store(alloc, code, target)
 }
 
 // A body whose text is captured: what leaves it ends the capture, and drops the text.
@@ -417,7 +434,7 @@ fn compile_rounds<'source>(
     ensures refused { IfErr result (Refuses (code_in code.new)) }
 {
     let asks = reserve(code, Leap::Iterate, None)?;
-    store(code, target)?;
+    store(alloc, code, target)?;
     let mut round = Round::new(alloc, asks);
     compile_body(alloc, code, &mut round, body)?;
     put(code, Instruction::Jump(asks), Some(span))?;

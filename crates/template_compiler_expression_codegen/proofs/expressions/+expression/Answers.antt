@@ -1,36 +1,42 @@
-use Rattle.std.proofs.Common.{◌≡◌, ℕ, ◌+◌, ◌<◌, ◌++◌, List, length, take, drop, false, Option, None, Some, ap, sym, subst, ◌∙◌, arith, refl}
+use Rattle.std.proofs.Common.{◌≡◌, ℕ, suc, ◌+◌, ◌<◌, ◌++◌, List, length, take, drop, false, Option, None, Some, ap, sym, subst, ◌∙◌, arith, refl}
 use Rattle.std.proofs.lemmas.Result.{IfOk-at_ok, on_ok_weaker}
 use Rattle.std.specs.Prelude.{IfOk, OnOk, option_and_then}
 use Rattle.template_values_model.specs.Val.{Val}
-use Rattle.template_tree.specs.Tree.{Expression, Links, chain, links_more, list_literal, map_literal, tuple_literal}
-use Rattle.template_tree.specs.View.{expression_of, expressions_in, links_in, optional_in}
+use Rattle.template_tree.specs.Tree.{Expression, Links, call, chain, links_more, list_literal, map_literal, tuple_literal}
+use Rattle.template_tree.specs.View.{arguments_in, expression_of, expressions_in, links_in, optional_in}
+use Rattle.template_tree.specs.declared.calls.Call.{Call as CallNode}
+use Rattle.template_tree.specs.declared.calls.CallArg.{CallArg}
 use Rattle.template_tree.specs.declared.expressions.Compare.{Compare, out-Compare}
 use Rattle.template_tree.specs.declared.expressions.CompareOp.{CompareOp}
 use Rattle.template_tree.specs.declared.expressions.Expr.{size-Expr}
+use Rattle.template_tree.specs.declared.expressions.GetAttr.{GetAttr as GetAttrNode}
 use Rattle.template_tree.specs.declared.expressions.List.{List as ListNode}
 use Rattle.template_tree.specs.declared.expressions.Map.{Map as MapNode}
 use Rattle.template_tree.specs.declared.expressions.Tuple.{Tuple as TupleNode}
 use Rattle.template_tree.specs.declared.span.Spanned.{Spanned}
-use Rattle.template_tree_parts.proofs.Walks.{walked}
+use Rattle.template_compiler_expression_codegen.proofs.CodedWalks.{coded_walked}
 use Rattle.template_walk.specs.Constants.{chain_constant, constant_of}
-use Rattle.template_walk.specs.Runnable.{IsRunnable}
-use Rattle.template_code.specs.Code.{build_list, build_tuple, compare_and_preserve, operate}
+use Rattle.template_walk.specs.Runnable.{IsRunnable, AreRunnableArguments}
+use Rattle.template_code.specs.Code.{build_list, build_tuple, call_method, compare_and_preserve, operate}
 use Rattle.template_code.specs.Listing.{code_in}
-use Rattle.template_compiler_codegen.specs.Expressions.{chain_code, expression_code, one, unary_code}
+use Rattle.template_compiler_codegen.specs.Expressions.{argument_count, chain_code, expression_code, keyword_cores, one, unary_code}
 use Rattle.template_compiler_folding.specs.Folding.{binary_folded, comparison_folded, unary_folded}
 use Rattle.template_compiler_emission.specs.declared.leaps.Leap.TheVariants.{Always, IfFalse}
 use Rattle.template_compiler_emission.specs.Puts.{Puts, unless}
 use Rattle.template_compiler_emission.proofs.Putting.{same_then, puts_then, puts_either, puts_skipped}
 use Rattle.template_compiler_expression_codegen.specs.Chains.{constant_behind, is_false, leaps_in, left_behind, linked_to}
+use Rattle.template_compiler_expression_codegen.specs.Own.{call_code}
 use Rattle.template_compiler_expression_codegen.proofs.Along.{alone_put, part_put, nothing_there, runnable_at, depth_at, one_node, so_far}
+use Rattle.template_compiler_expression_codegen.proofs.Arguments.{keyword_counted, keyword_more, keyword_passed, keyword_runnable, none_put, one_map, positional_runnable, puts_keywords, puts_method, puts_value}
 use Rattle.template_compiler_expression_codegen.proofs.Ends.{choice_behind_none, ends_choice, ends_operator, ends_unary, puts_over}
 use Rattle.template_compiler_expression_codegen.proofs.Items.{item_runnable, number_is, puts_item}
 use Rattle.template_compiler_expression_codegen.proofs.Linked.{behind_none, link_goes, link_known, link_more, link_runnable, links_at, place_more}
 use Rattle.template_compiler_expression_codegen.proofs.Own.{known, add_own, no_left, own_step}
 use Rattle.template_compiler_expression_codegen.proofs.Putting.{grows_back_at, grows_by, grows_itself, grows_then, landed_at, puts_as, puts_behind, puts_chain, puts_optional, puts_whole}
-use Rattle.template_compiler_expression_codegen.proofs.Sizes.{item_deep, link_deep}
-use Rattle.template_compiler_expression_codegen.proofs.Trees.{chain_deep, chain_is, keys_deep, list_deep, list_is, map_is, tuple_deep, tuple_is, values_deep}
+use Rattle.template_compiler_expression_codegen.proofs.Sizes.{arguments_deep, item_deep, keyword_deep, link_deep, positional_deep}
+use Rattle.template_compiler_expression_codegen.proofs.Trees.{call_deep, call_is, chain_deep, chain_is, keys_deep, list_deep, list_is, map_is, tuple_deep, tuple_is, values_deep}
 use Rattle.template_compiler_expression_codegen.proofs.expressions.+expression.Goals as goal
+use Rattle.template_compiler_expression_codegen.proofs.expressions.+expression.Goals.{compile_keywords-in-Kwarg+in_ok-put_keyword+in_ok-compile_expr, compile_keywords-in_default}
 
 pub fold_spine-loop-i-preserved : goal.fold_spine-loop-i-preserved
 fold_spine-loop-i-preserved t c =
@@ -38,7 +44,7 @@ fold_spine-loop-i-preserved t c =
     let within : c.loop-i.i < length ns = omega arith in
     let more = one_node ns c.loop-i.i c.index.result.now (code_in c.args.code.now) (code_in c.loop-i.code) (code_in c.fold_node.new.code)
     c.loop-i.value c.fold_node.new.value within c.index.ensures
-    (runnable_at (expression_of c.args.expr.now) ns c.requires.runs (IfOk-at_ok _ c.in_ok-nodes.ensures.given c.spine.ensures.nodes) c.loop-i.i c.index.result.now within c.index.ensures)
+    (runnable_at (expression_of c.args.expr.now) ns c.requires.runs (IfOk-at_ok _ c.in_ok-nodes.ensures.given c.coded_spine.ensures.nodes) c.loop-i.i c.index.result.now within c.index.ensures)
     c.loop-i.invariant.constant c.loop-i.invariant.code c.in_ok-fold_node.ensures.constant c.in_ok-fold_node.ensures.put.code in
     record { constant = more.0; code = more.1; same = same_then c.loop-i.invariant.same c.in_ok-fold_node.ensures.put.same }
 
@@ -48,7 +54,7 @@ fold_left-returns-in-Var-clause-put t c = rw (c.in-Var.is, c.requires.none) c.pu
 pub fold_tree-returns-in-None-clause-put : goal.fold_tree-returns-in-None-clause-put
 fold_tree-returns-in-None-clause-put t c =
     let e = expression_of c.args.expr.now in
-    let none = nothing_there c.left.result e c.in-None.is c.left.ensures.left in
+    let none = nothing_there c.coded_left.result e c.in-None.is c.coded_left.ensures.left in
     on_ok_weaker c.fold_node-in-None.result (λ both. both.1)
     (alone_put e c.args.value.now c.fold_node-in-None.new.value c.args.code.now c.fold_node-in-None.new.code c.fold_node-in-None.result
     c.requires.runs none c.requires.none c.fold_node-in-None.ensures.constant c.fold_node-in-None.ensures.put)
@@ -65,16 +71,16 @@ fold_spine-returns-clause-constant t c =
     let ns = c.in_ok-nodes.nodes.items in
     let p = length (code_in c.args.code.now) in
     let e = expression_of c.args.expr.now in
-    let all = walked (known p) (add_own p) no_left (own_step p) ns e c.loop-i.i (so_far p (take c.loop-i.i ns)) (IfOk-at_ok _ c.in_ok-nodes.ensures.given c.spine.ensures.nodes) (omega arith) refl in
+    let all = coded_walked (known p) (add_own p) no_left (own_step p) ns e c.loop-i.i (so_far p (take c.loop-i.i ns)) (IfOk-at_ok _ c.in_ok-nodes.ensures.given c.coded_spine.ensures.nodes) (omega arith) refl in
     c.loop-i.invariant.constant ∙ ap (λ a. a.0) all
 
 pub fold_spine-fold_node-requires : goal.fold_spine-fold_node-requires
 fold_spine-fold_node-requires t c =
     let ns = c.in_ok-nodes.nodes.items in
     let within : c.loop-i.i < length ns = omega arith in
-    let deep = depth_at (size-Expr c.args.expr.now) ns (IfOk-at_ok _ c.in_ok-nodes.ensures.given c.spine.ensures.depth) c.loop-i.i c.index.result.now within c.index.ensures in (
+    let deep = depth_at (size-Expr c.args.expr.now) ns (IfOk-at_ok _ c.in_ok-nodes.ensures.given c.coded_spine.ensures.depth) c.loop-i.i c.index.result.now within c.index.ensures in (
       omega (arith, deep, c.decreases),
-      runnable_at (expression_of c.args.expr.now) ns c.requires.runs (IfOk-at_ok _ c.in_ok-nodes.ensures.given c.spine.ensures.nodes) c.loop-i.i c.index.result.now within c.index.ensures,
+      runnable_at (expression_of c.args.expr.now) ns c.requires.runs (IfOk-at_ok _ c.in_ok-nodes.ensures.given c.coded_spine.ensures.nodes) c.loop-i.i c.index.result.now within c.index.ensures,
     )
 
 pub fold_spine-returns-clause-put : goal.fold_spine-returns-clause-put
@@ -82,7 +88,7 @@ fold_spine-returns-clause-put t c =
     let ns = c.in_ok-nodes.nodes.items in
     let p = length (code_in c.args.code.now) in
     let e = expression_of c.args.expr.now in
-    let all = walked (known p) (add_own p) no_left (own_step p) ns e c.loop-i.i (so_far p (take c.loop-i.i ns)) (IfOk-at_ok _ c.in_ok-nodes.ensures.given c.spine.ensures.nodes) (omega arith) refl in
+    let all = coded_walked (known p) (add_own p) no_left (own_step p) ns e c.loop-i.i (so_far p (take c.loop-i.i ns)) (IfOk-at_ok _ c.in_ok-nodes.ensures.given c.coded_spine.ensures.nodes) (omega arith) refl in
     let constant = c.loop-i.invariant.constant ∙ ap (λ a. a.0) all in
     record {
       code = c.loop-i.invariant.code ∙ ap (λ a. code_in c.args.code.now ++ a.1) all ∙
@@ -369,3 +375,129 @@ pub compile_link-returns-clause-put : goal.compile_link-returns-clause-put
 compile_link-returns-clause-put t c = on_ok_weaker c.end_link.result (λ last.
     puts_over (expression_of c.args.link.now.expr) (one (compare_and_preserve c.args.link.now.op)) _ c.in_ok-right.ensures.constant
     c.in_ok-right.ensures.put last) c.end_link.ensures.put
+
+pub fold_node-compile_call-requires : goal.fold_node-compile_call-requires
+fold_node-compile_call-requires t c =
+    let e = c.args.expr.now in
+    let n = c.in-Call.n in
+    let called = c.deref-in-Call.result.now.node in
+    let read = ap (λ (x : Spanned CallNode). x.node) c.deref-in-Call.ensures in
+    let tree = call_is e n called c.in-Call.is read in
+    let runs : IsRunnable (call (expression_of called.expr) (arguments_in called.args.items)) = subst (λ (x : Expression). IsRunnable x) tree c.requires in
+    (omega (arith, call_deep e n called c.in-Call.is read, c.decreases), runs.2)
+
+pub fold_node-returns-in-Call-clause-put : goal.fold_node-returns-in-Call-clause-put
+fold_node-returns-in-Call-clause-put t c =
+    let called = c.deref-in-Call.result.now.node in
+    let read = ap (λ (x : Spanned CallNode). x.node) c.deref-in-Call.ensures in
+    let tree = call_is c.args.expr.now c.in-Call.n called c.in-Call.is read in
+    rw tree (none_put c.compile_call.new.left (call_code c.args.value.now (expression_of called.expr) (arguments_in called.args.items))
+    c.compile_call.result c.args.code.now c.compile_call.new.code c.compile_call.ensures.taken c.compile_call.ensures.put)
+
+pub compile_positional-compile_expr-requires : goal.compile_positional-compile_expr-requires
+compile_positional-compile_expr-requires t c =
+    let xs = c.args.arguments.now in
+    let i = c.loop-argument.argument-index in
+    let within : i < length xs = omega arith in (
+      omega (arith, positional_deep xs i c.argument-item.result c.in-Pos.expr within c.argument-item.is c.in-Pos.is, c.decreases),
+      positional_runnable xs i c.argument-item.result c.in-Pos.expr c.requires within c.argument-item.is c.in-Pos.is,
+    )
+
+pub compile_keywords-compile_expr-requires : goal.compile_keywords-compile_expr-requires
+compile_keywords-compile_expr-requires t c =
+    let xs = c.args.arguments.now in
+    let i = c.loop-argument.argument-index in
+    let within : i < length xs = omega arith in (
+      omega (arith, keyword_deep xs i c.argument-item.result c.in-Kwarg.name c.in-Kwarg.expr within c.argument-item.is c.in-Kwarg.is, c.decreases),
+      keyword_runnable xs i c.argument-item.result c.in-Kwarg.name c.in-Kwarg.expr c.requires within c.argument-item.is c.in-Kwarg.is,
+    )
+
+pub compile_arguments-returns-clause-count : goal.compile_arguments-returns-clause-count
+compile_arguments-returns-clause-count t c =
+    let ns = keyword_cores (arguments_in c.args.arguments.now) in
+    let one = one_map ns c.in_ok-named.named c.in_ok-named.ensures.count c.if-named-eq0.false in
+    omega (arith, c.in_ok-passed.ensures.count, c.in_ok-count.ensures.counted, one)
+
+pub compile_arguments-returns-clause-put : goal.compile_arguments-returns-clause-put
+compile_arguments-returns-clause-put t c =
+    let ns = keyword_cores (arguments_in c.args.arguments.now) in
+    puts_then c.in_ok-passed.ensures.put
+    (puts_keywords ns c.in_ok-named.named c.in_ok-named.ensures.count c.if-named-eq0.false c.in_ok-named.ensures.put c.in_ok-push.ensures.put)
+
+pub compile_keywords-loop-argument-preserved : goal.compile_keywords-loop-argument-preserved
+compile_keywords-loop-argument-preserved t c =
+    let xs = c.args.arguments.now in
+    let i = c.loop-argument.argument-index in
+    let a = c.argument-item.result in
+    let inside : i < length xs = omega arith in
+    let so_far = c.loop-argument.invariant in
+    elim c.match-argument.branch [
+      | compile_keywords-in-Kwarg+in_ok-put_keyword+in_ok-compile_expr w ↦
+          let name = w.in-Kwarg.name in
+          let e = w.in-Kwarg.expr in
+          rw (w.count-is, w.code-is) (record {
+            within = omega (arith, so_far.within);
+            count = keyword_counted xs i a name e c.loop-argument.count inside c.argument-item.is w.in-Kwarg.is ∙ so_far.count;
+            code = keyword_more xs i a name e inside c.argument-item.is w.in-Kwarg.is w.in_ok-put_keyword.ensures.put w.in_ok-compile_expr.ensures.put ∙
+                so_far.code;
+            same = same_then so_far.same (same_then w.in_ok-put_keyword.ensures.put.same w.in_ok-compile_expr.ensures.put.same);
+          })
+      | compile_keywords-in_default w ↦
+          let passed = keyword_passed xs i a inside c.argument-item.is w.in_default.not-Kwarg in
+          rw (w.count-is, w.code-is, passed) (record {
+            within = omega (arith, so_far.within);
+            count = so_far.count;
+            code = so_far.code;
+            same = so_far.same;
+          })
+    ]
+
+pub compile_call-compile_arguments-requires : goal.compile_call-compile_arguments-requires
+compile_call-compile_arguments-requires t c =
+    let read = c.deref.ensures.value in
+    let same = ap (λ (xs : List CallArg). arguments_deep xs) read in
+    (omega (arith, same, c.decreases), subst (λ (xs : List CallArg). AreRunnableArguments (arguments_in xs)) (sym read) c.requires)
+
+pub compile_call-compile_arguments-requires-in-GetAttr : goal.compile_call-compile_arguments-requires-in-GetAttr
+compile_call-compile_arguments-requires-in-GetAttr t c =
+    let read = c.deref-in-GetAttr.ensures.value in
+    let same = ap (λ (xs : List CallArg). arguments_deep xs) read in
+    (omega (arith, same, c.decreases), subst (λ (xs : List CallArg). AreRunnableArguments (arguments_in xs)) (sym read) c.requires)
+
+pub compile_call-compile_arguments-requires-in_default : goal.compile_call-compile_arguments-requires-in_default
+compile_call-compile_arguments-requires-in_default t c =
+    let read = c.deref-in_default.ensures.value in
+    let same = ap (λ (xs : List CallArg). arguments_deep xs) read in
+    (omega (arith, same, c.decreases), subst (λ (xs : List CallArg). AreRunnableArguments (arguments_in xs)) (sym read) c.requires)
+
+pub compile_call-returns-in_ok-count-in-GetAttr-2-clause-put : goal.compile_call-returns-in_ok-count-in-GetAttr-2-clause-put
+compile_call-returns-in_ok-count-in-GetAttr-2-clause-put t c =
+    let v = c.args.left.now in
+    let e = c.args.call.now.expr in
+    let n = c.in-GetAttr.n in
+    let count = c.in_ok-count-in-GetAttr-2.count in
+    let args = arguments_in c.deref-in-GetAttr.result.now in
+    let counted : count ≡ suc (argument_count args) = omega (arith, c.in_ok-count-in-GetAttr-2.ensures.counted, c.in_ok-count-in-GetAttr.ensures.count) in
+    let named = ap (λ (g : Spanned GetAttrNode). call_method g.node.name.now (Some count)) c.deref-in-GetAttr-2.ensures in
+    subst (λ (xs : List CallArg). OnOk c.push-in-GetAttr.result (Puts (call_code v (expression_of e) (arguments_in xs)) c.args.code.now c.push-in-GetAttr.new.code))
+    c.deref-in-GetAttr.ensures.value
+    (on_ok_weaker c.push-in-GetAttr.result (λ last.
+    puts_method v e n args count c.in-GetAttr.is counted c.in_ok-load_held-in-GetAttr.ensures.put c.in_ok-count-in-GetAttr.ensures.put (puts_as named last))
+    c.push-in-GetAttr.ensures.put)
+
+pub compile_call-returns-in_ok-count-in_default-2 : goal.compile_call-returns-in_ok-count-in_default-2
+compile_call-returns-in_ok-count-in_default-2 t c =
+    let v = c.args.left.now in
+    let e = c.args.call.now.expr in
+    let count = c.in_ok-count-in_default-2.count in
+    let args = arguments_in c.deref-in_default.result.now in
+    let counted : count ≡ suc (argument_count args) = omega (arith, c.in_ok-count-in_default-2.ensures.counted, c.in_ok-count-in_default.ensures.count) in
+    record {
+      taken = on_ok_weaker c.push-in_default.result (λ last. c.in_ok-load_held-in_default.ensures.taken) c.push-in_default.ensures.put;
+      put = subst (λ (xs : List CallArg). OnOk c.push-in_default.result (Puts (call_code v (expression_of e) (arguments_in xs)) c.args.code.now c.push-in_default.new.code))
+          c.deref-in_default.ensures.value
+          (on_ok_weaker c.push-in_default.result (λ last.
+          puts_value v e args count c.in_default.not-Var c.in_default.not-GetAttr counted c.in_ok-load_held-in_default.ensures.put c.in_ok-count-in_default.ensures.put last)
+          c.push-in_default.ensures.put);
+      refused = c.push-in_default.ensures.refused;
+    }

@@ -1,14 +1,15 @@
 -- A node is gone to once it is reached along the left chain; other parts are smaller than the node.
 use Rattle.std.proofs.Common.{◌≡◌, ◌+◌, ◌-◌, ◌*◌, ◌≤◌, ◌++◌, None, length, max, take, drop}
-use Rattle.template_tree.specs.View.{expressions_in, links_in}
+use Rattle.template_tree.specs.View.{arguments_in, expressions_in, links_in}
 use Rattle.template_tree.specs.declared.expressions.Expr.{size-Expr}
 use Rattle.template_code.specs.Listing.{code_in}
-use Rattle.template_compiler_codegen.specs.Expressions.{codes_of, entry_count, expressions_code}
+use Rattle.template_compiler_codegen.specs.Expressions.{codes_of, entry_count, expressions_code, in_turn_code, keyword_cores, named_code, positional_cores}
 use Rattle.template_compiler_emission.specs.Puts.{Keeps, Puts}
 use Rattle.template_compiler_expression_codegen.specs.Chains.{Grows, constant_behind, leaps_in, linked_to}
 use Rattle.template_compiler_expression_codegen.proofs.Along.{so_far}
+use Rattle.template_compiler_expression_codegen.proofs.Arguments.{keywords_from, positional_from}
 use Rattle.template_compiler_expression_codegen.proofs.Entries.{count_from, entries_from}
-use Rattle.template_compiler_expression_codegen.proofs.Sizes.{items_deep, links_deep, optional_deep}
+use Rattle.template_compiler_expression_codegen.proofs.Sizes.{arguments_deep, items_deep, links_deep, optional_deep}
 use Rattle.template_compiler_expression_codegen.proofs.expressions.+expression.Given as goal
 
 abbrev pub decreases-fold_expr : goal.decreases-fold_expr
@@ -58,6 +59,18 @@ decreases-compile_item l = 16 * size-Expr l.key.now + 6
 
 abbrev pub decreases-compile_slice : goal.decreases-compile_slice
 decreases-compile_slice l = 16 * max (optional_deep l.start.now) (max (optional_deep l.stop.now) (optional_deep l.step.now)) + 7
+
+abbrev pub decreases-compile_call : goal.decreases-compile_call
+decreases-compile_call l = 16 * arguments_deep l.call.now.args.items + 8
+
+abbrev pub decreases-compile_arguments : goal.decreases-compile_arguments
+decreases-compile_arguments l = 16 * arguments_deep l.arguments.now + 7
+
+abbrev pub decreases-compile_positional : goal.decreases-compile_positional
+decreases-compile_positional l = 16 * arguments_deep l.arguments.now + 6
+
+abbrev pub decreases-compile_keywords : goal.decreases-compile_keywords
+decreases-compile_keywords l = 16 * arguments_deep l.arguments.now + 6
 
 abbrev pub decreases-compile_items : goal.decreases-compile_items
 decreases-compile_items l = 16 * items_deep l.items.now + 7
@@ -122,4 +135,22 @@ invariant-compile_links-loop-next l = record {
   code : code_in l.code ++ linked_to 0 (links_in (drop l.next-index l.links)) (length (code_in l.code))
       ≡ code_in l.initial.code ++ linked_to 0 (links_in l.links) (length (code_in l.initial.code));
   grown : Grows l.initial.code l.code;
+}
+
+-- the arguments that are left make the code of all
+abbrev pub invariant-compile_positional-loop-argument : goal.invariant-compile_positional-loop-argument
+invariant-compile_positional-loop-argument l = record {
+  count : l.count + length (positional_from l.arguments l.argument-index) ≡ length (positional_cores (arguments_in l.arguments));
+  code : code_in l.code ++ in_turn_code (positional_from l.arguments l.argument-index) (length (code_in l.code))
+      ≡ code_in l.initial.code ++ in_turn_code (positional_cores (arguments_in l.arguments)) (length (code_in l.initial.code));
+  same : Keeps l.initial.code l.code;
+}
+
+abbrev pub invariant-compile_keywords-loop-argument : goal.invariant-compile_keywords-loop-argument
+invariant-compile_keywords-loop-argument l = record {
+  within : l.count ≤ l.argument-index;
+  count : l.count + length (keywords_from l.arguments l.argument-index) ≡ length (keyword_cores (arguments_in l.arguments));
+  code : code_in l.code ++ named_code (keywords_from l.arguments l.argument-index) (length (code_in l.code))
+      ≡ code_in l.initial.code ++ named_code (keyword_cores (arguments_in l.arguments)) (length (code_in l.initial.code));
+  same : Keeps l.initial.code l.code;
 }

@@ -1,5 +1,6 @@
 use Rattle.std.proofs.Common.{◌≡◌, rules, sym, ap, ◌∙◌, List as Items}
-use Rattle.template_tree.specs.View.{expression_of, expressions_in, links_in, optional_in}
+use Rattle.template_tree.specs.View.{arguments_in, expression_of, expressions_in, links_in, optional_in}
+use Rattle.template_tree.specs.declared.calls.Call.{Call as CallNode}
 use Rattle.template_tree.specs.declared.expressions.BinOp.{BinOp as BinOpNode}
 use Rattle.template_tree.specs.declared.expressions.CompareOp.{CompareOp}
 use Rattle.template_tree.specs.declared.expressions.Compare.{Compare, out-Compare}
@@ -11,8 +12,8 @@ use Rattle.template_tree.specs.declared.expressions.Tuple.{Tuple as TupleNode}
 use Rattle.template_tree.specs.declared.expressions.Expr.{Expr, the_lemmas}
 use Rattle.template_tree.specs.declared.span.Spanned.{Spanned}
 use Rattle.template_tree_nodes.specs.Constructs.{has_walk}
-use Rattle.template_compiler_runnable.specs.Running.{all_run, chain_runs, runs, runs_if_given}
-use Rattle.template_compiler_runnable.proofs.Parts.{all_bounds, beside_fails, binary_runs, chain_all_runs, first_fails, goes_left, item_runs, list_runs, map_runs, no_start, no_stop, no_step, slice_runs, then, tuple_runs}
+use Rattle.template_compiler_runnable.specs.Running.{all_run, chain_runs, passing_runs, runs, runs_if_given}
+use Rattle.template_compiler_runnable.proofs.Parts.{all_bounds, beside_fails, binary_runs, call_parts_run, chain_all_runs, first_fails, goes_left, item_runs, list_runs, map_runs, no_start, no_stop, no_step, slice_runs, then, tuple_runs}
 use Rattle.template_compiler_runnable.proofs.expressions.+expression.Goals as goal
 
 pub expression_runs-returns-in-Filter : goal.expression_runs-returns-in-Filter
@@ -23,9 +24,21 @@ pub expression_runs-returns-in-Test : goal.expression_runs-returns-in-Test
 expression_runs-returns-in-Test t c =
     c.has_walk-in-Test.ensures ∙ ap (λ (x : Expr). has_walk (expression_of x)) c.in-Test.is ∙ ap (λ (x : Expr). runs (expression_of x)) (sym c.in-Test.is) ∙ sym c.loop-at.invariant.decides
 
-pub expression_runs-returns-in-Call : goal.expression_runs-returns-in-Call
-expression_runs-returns-in-Call t c =
-    c.has_walk-in-Call.ensures ∙ ap (λ (x : Expr). has_walk (expression_of x)) c.in-Call.is ∙ ap (λ (x : Expr). runs (expression_of x)) (sym c.in-Call.is) ∙ sym c.loop-at.invariant.decides
+pub expression_runs-returns-then-not-passing_runs : goal.expression_runs-returns-then-not-passing_runs
+expression_runs-returns-then-not-passing_runs t c =
+    let beside = c.passing_runs.ensures ∙
+    ap (λ (s : Spanned CallNode). passing_runs (expression_of s.node.expr) (arguments_in s.node.args.items)) c.deref-in-Call.ensures in
+    beside_fails _ (c.loop-at.invariant.decides ∙ call_parts_run c.loop-at.at.now c.in-Call.n c.in-Call.is) (sym beside ∙ c.if-not-passing_runs.true)
+
+pub expression_runs-loop-at-preserved : goal.expression_runs-loop-at-preserved
+expression_runs-loop-at-preserved t c =
+    let beside = c.passing_runs.ensures ∙
+    ap (λ (s : Spanned CallNode). passing_runs (expression_of s.node.expr) (arguments_in s.node.args.items)) c.deref-in-Call.ensures in
+    record {
+      decides = goes_left _ (c.loop-at.invariant.decides ∙ call_parts_run c.loop-at.at.now c.in-Call.n c.in-Call.is) (sym beside ∙ c.if-not-passing_runs.false) ∙
+          ap (λ (s : Spanned CallNode). runs (expression_of s.node.expr)) (sym c.deref-in-Call.ensures);
+      deep = search (rules, the_lemmas);
+    }
 
 pub expression_runs-returns-in-Const : goal.expression_runs-returns-in-Const
 expression_runs-returns-in-Const t c = ap (λ (x : Expr). runs (expression_of x)) (sym c.in-Const.is) ∙ sym c.loop-at.invariant.decides
@@ -90,8 +103,8 @@ expression_runs-returns-then-not-operand_runs-2 t c =
     let beside = c.operand_runs-in-GetItem.ensures ∙ ap (λ (s : Spanned GetItemNode). runs (expression_of s.node.subscript_expr)) c.deref-in-GetItem.ensures in
     beside_fails _ (c.loop-at.invariant.decides ∙ item_runs c.loop-at.at.now c.in-GetItem.n c.in-GetItem.is) (sym beside ∙ c.if-not-operand_runs-2.true)
 
-pub expression_runs-loop-at-preserved : goal.expression_runs-loop-at-preserved
-expression_runs-loop-at-preserved t c =
+pub expression_runs-loop-at-preserved-else-not-operand_runs-2 : goal.expression_runs-loop-at-preserved-else-not-operand_runs-2
+expression_runs-loop-at-preserved-else-not-operand_runs-2 t c =
     let beside = c.operand_runs-in-GetItem.ensures ∙ ap (λ (s : Spanned GetItemNode). runs (expression_of s.node.subscript_expr)) c.deref-in-GetItem.ensures in
     record {
       decides = goes_left _ (c.loop-at.invariant.decides ∙ item_runs c.loop-at.at.now c.in-GetItem.n c.in-GetItem.is) (sym beside ∙ c.if-not-operand_runs-2.false) ∙

@@ -158,6 +158,3 @@ parts_run-returns-in-Extends t c = ap (λ (x : Stmt). statement_runs c.args.loop
 
 pub parts_run-returns-in-Macro : goal.parts_run-returns-in-Macro
 parts_run-returns-in-Macro t c = ap (λ (x : Stmt). statement_runs c.args.looping (statement_of x)) (sym c.in-Macro.is)
-
-pub parts_run-returns-in-Do : goal.parts_run-returns-in-Do
-parts_run-returns-in-Do t c = ap (λ (x : Stmt). statement_runs c.args.looping (statement_of x)) (sym c.in-Do.is)

@@ -1,8 +1,10 @@
-use Rattle.std.proofs.Common.{rules, sym, ap}
+use Rattle.std.proofs.Common.{rules, sym, ap, ◌∙◌}
 use Rattle.template_tree.specs.View.{expression_of}
 use Rattle.template_tree.specs.declared.expressions.Expr.{Expr, the_lemmas}
+use Rattle.template_tree.specs.declared.expressions.GetAttr.{GetAttr as GetAttrNode}
+use Rattle.template_tree.specs.declared.span.Spanned.{Spanned}
 use Rattle.template_tree.proofs.Rows.{expressions_row}
-use Rattle.template_compiler_runnable.specs.Running.{is_target}
+use Rattle.template_compiler_runnable.specs.Running.{is_target, runs}
 use Rattle.template_compiler_runnable.proofs.Parts.{chain_target}
 use Rattle.template_compiler_runnable.proofs.targets.+target.Goals as goal
 
@@ -37,7 +39,9 @@ pub is_target-returns-in-Test : goal.is_target-returns-in-Test
 is_target-returns-in-Test t c = ap (λ (x : Expr). is_target (expression_of x)) (sym c.in-Test.is)
 
 pub is_target-returns-in-GetAttr : goal.is_target-returns-in-GetAttr
-is_target-returns-in-GetAttr t c = ap (λ (x : Expr). is_target (expression_of x)) (sym c.in-GetAttr.is)
+is_target-returns-in-GetAttr t c =
+    c.operand_runs.ensures ∙ ap (λ (s : Spanned GetAttrNode). runs (expression_of s.node.expr)) c.deref.ensures ∙
+    ap (λ (x : Expr). is_target (expression_of x)) (sym c.in-GetAttr.is)
 
 pub is_target-returns-in-GetItem : goal.is_target-returns-in-GetItem
 is_target-returns-in-GetItem t c = ap (λ (x : Expr). is_target (expression_of x)) (sym c.in-GetItem.is)

@@ -324,6 +324,3 @@ compile_any-unreachable-requires-in-Extends t c = subst (λ (s : Stmt). IsRunnab
 
 pub compile_any-unreachable-requires-in-Macro : goal.compile_any-unreachable-requires-in-Macro
 compile_any-unreachable-requires-in-Macro t c = subst (λ (s : Stmt). IsRunnableStatement true (statement_of s)) c.in-Macro.is c.requires
-
-pub compile_any-unreachable-requires-in-Do : goal.compile_any-unreachable-requires-in-Do
-compile_any-unreachable-requires-in-Do t c = subst (λ (s : Stmt). IsRunnableStatement true (statement_of s)) c.in-Do.is c.requires

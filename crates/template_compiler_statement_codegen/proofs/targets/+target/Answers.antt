@@ -78,9 +78,6 @@ store-unreachable-requires-in-Filter t c = subst (λ (e : Expr). IsTarget (expre
 pub store-unreachable-requires-in-Test : goal.store-unreachable-requires-in-Test
 store-unreachable-requires-in-Test t c = subst (λ (e : Expr). IsTarget (expression_of e)) c.in-Test.is c.requires
 
-pub store-unreachable-requires-in-GetAttr : goal.store-unreachable-requires-in-GetAttr
-store-unreachable-requires-in-GetAttr t c = subst (λ (e : Expr). IsTarget (expression_of e)) c.in-GetAttr.is c.requires
-
 pub store-unreachable-requires-in-GetItem : goal.store-unreachable-requires-in-GetItem
 store-unreachable-requires-in-GetItem t c = subst (λ (e : Expr). IsTarget (expression_of e)) c.in-GetItem.is c.requires
 
