@@ -3,6 +3,8 @@
 
 mod caller;
 mod capture;
+mod functions;
+mod records;
 mod state;
 
 pub use caller::Caller;

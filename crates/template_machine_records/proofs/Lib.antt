@@ -1,0 +1,4 @@
+pub mod Placing
+pub mod Replacing
+pub mod Comparing
+pub mod Calling
