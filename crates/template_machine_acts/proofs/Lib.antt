@@ -1,6 +1,7 @@
 pub mod Acting
 pub mod Coming
 pub mod Laws
+pub mod Calling
 pub mod Unpacking
 pub mod Framing
 pub mod Capturing

@@ -2,6 +2,7 @@ pub mod Events
 pub mod Comings
 pub mod Answers
 pub mod Values
+pub mod Calls
 pub mod Scopes
 pub mod Writings
 pub mod Captures

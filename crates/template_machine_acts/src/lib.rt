@@ -2,12 +2,13 @@
 #![tactic(auto)]
 
 ghost use Rattle.template_machine_acts.specs.Answers.{AddCountedActs, ConstantActs, DiscardActs, DoubleActs, JumpActs, LookupActs, SwapActs, SwapCountedActs, UndefinedActs};
+ghost use Rattle.template_machine_acts.specs.Calls.{BuildKwargsActs, CallFunctionActs, CallMethodActs, CallObjectActs};
 ghost use Rattle.template_machine_acts.specs.Captures.{BeginCaptureActs, EndCaptureActs, PrintCaptures, WriteCaptures};
 ghost use Rattle.template_machine_acts.specs.Events.{BreaksAstray, EventsAct, EventsFault, PassesActs, StuckAstray};
 ghost use Rattle.template_machine_acts.specs.Includes.{IncludeActs, IncludeFaults, IncludeRunsOut, IncludeStrays, IncludeWants};
 ghost use Rattle.template_machine_acts.specs.Nested.{NestedActs, NestedFaults, NestedRunsOut, NestedStrays, NestedWants};
 ghost use Rattle.template_machine_acts.specs.Refusals.{ChoiceRefused, IncludeRefused, MissingActs, RoomRefused};
-ghost use Rattle.template_machine_acts.specs.Scopes.{CloseEscapeActs, CloseFrameActs, CloseLoopActs, DidNotIterateActs, NextItemActs, NoItemActs, OpenEscapeActs, OpenFrameActs, OpenLoopActs, StoreActs};
+ghost use Rattle.template_machine_acts.specs.Scopes.{CloseEscapeActs, CloseFrameActs, CloseLoopActs, DidNotIterateActs, NextItemActs, NoItemActs, OpenEscapeActs, OpenFrameActs, OpenLoopActs, SetAttributeActs, StoreActs};
 ghost use Rattle.template_machine_acts.specs.Values.{BuildListActs, BuildMapActs, BuildTupleActs, CompareActs, GetAttributeActs, GetItemActs, InvertActs, JumpIfFalseActs, JumpIfFalseOrPopActs, JumpIfTrueOrPopActs, NegateActs, OperateActs, SliceActs, UnpackActs, UnpackListsActs};
 ghost use Rattle.template_machine_acts.specs.Writings.{PrintActs, PrintFaults, WriteActs};
 
@@ -58,6 +59,15 @@ pub fn containers_act()
     ensures counted { UnpackListsActs }
 {}
 
+/// Keyword arguments are built; and names, methods and values are called, which gives a value, makes a namespace or compares
+/// arguments with those of the call before; or that faults.
+pub fn calls_act()
+    ensures kwargs { BuildKwargsActs }
+    ensures function { CallFunctionActs }
+    ensures method { CallMethodActs }
+    ensures object { CallObjectActs }
+{}
+
 /// Jumps on a value's truth lead on or to their targets, or fault.
 pub fn truths_act()
     ensures jump_if_false { JumpIfFalseActs }
@@ -70,6 +80,11 @@ pub fn frames_act()
     ensures store { StoreActs }
     ensures opened { OpenFrameActs }
     ensures closed { CloseFrameActs }
+{}
+
+/// A namespace takes an attribute, or that faults.
+pub fn namespaces_act()
+    ensures set { SetAttributeActs }
 {}
 
 /// A loop opens over the items of a value, gives one after another, tells whether it gave any, and closes.

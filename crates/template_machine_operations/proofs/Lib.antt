@@ -1,3 +1,6 @@
 mod Answering
 mod Unprinted
 mod Unpacked
+mod Mapping
+mod Ranging
+mod Naming

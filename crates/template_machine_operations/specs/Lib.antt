@@ -1,3 +1,5 @@
 pub mod Answers
+pub mod Called
+pub mod Entries
 pub mod Outcomes
 pub mod Texts

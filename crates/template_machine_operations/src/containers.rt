@@ -1,7 +1,8 @@
 //! Containers that are built of values.
+ghost use Rattle.template_values_model.specs.Gives.{Gives};
 ghost use Rattle.template_values_core.specs.Shape.{pairs_in};
 ghost use Rattle.template_values_operators.specs.Kinds.{list_made};
-ghost use Rattle.template_walk.specs.Containers.{tuple_made, map_made};
+ghost use Rattle.template_walk.specs.Containers.{tuple_made, map_made, kwargs_made};
 ghost use Rattle.template_machine_meaning.specs.Replies.{kinded};
 ghost use Rattle.template_machine_operations.specs.Answers.{Answers};
 
@@ -46,4 +47,21 @@ pub fn build_map(alloc: Global, entries: Vec<Entry>) -> Result<Value, Error>
     ensures { Answers result (kinded (map_made (pairs_in entries.items))) }
 {
     make_map(alloc, entries)
+}
+
+/// The keyword arguments of the entries, whose keys are their names, kept as [`build_map`] does.
+///
+/// # Errors
+///
+/// As [`build_list`].
+pub fn build_kwargs(alloc: Global, entries: Vec<Entry>) -> Result<Value, Error>
+    ensures { Answers result (kinded (kwargs_made (pairs_in entries.items))) }
+{
+    make_kwargs(alloc, entries)
+}
+
+fn make_kwargs(alloc: Global, entries: Vec<Entry>) -> Result<Value, Error>
+    ensures { Gives result (kwargs_made (pairs_in entries.items)) }
+{
+    Value::from_kwargs(alloc, entries)
 }

@@ -1,16 +1,26 @@
-//! How the values' events of a running template are answered: operators, parts of values, containers,
+//! How the values' events of a running template are answered: operators, parts of values, containers, calls,
 //! truth, loops' items, printed texts and escapes, under what may be done with undefined values.
 #![tactic(auto)]
 
+mod called;
+mod calls;
 mod containers;
+mod dict;
 mod escapes;
+mod functions;
+mod methods;
+mod namespaces;
 mod operators;
 mod parts;
 mod printing;
+mod range;
 mod sequence;
 
-pub use containers::{build_list, build_map, build_tuple};
+pub use called::Called;
+pub use calls::{call_named, call_value};
+pub use containers::{build_kwargs, build_list, build_map, build_tuple};
 pub use escapes::escape_named;
+pub use methods::call_method;
 pub use operators::{compare, invert, negate, operate, truth_of};
 pub use parts::{get_attribute, get_item, get_slice};
 pub use printing::{print, write};

@@ -6,3 +6,6 @@ pub mod Scoping
 pub mod Straying
 mod Catching
 mod Unanswered
+mod Naming
+mod Declining
+mod Calling

@@ -3,6 +3,8 @@
 
 mod asides;
 mod at_once;
+mod attributes;
+mod calls;
 mod captures;
 mod escapes;
 mod frames;
@@ -16,6 +18,8 @@ mod writing;
 
 pub use asides::{made_of, number_given};
 pub use at_once::{begin_at_once, perform_at_once};
+pub use attributes::set_attr;
+pub use calls::{call_function, call_method, call_object};
 pub use captures::{begin_capture, end_capture};
 pub use escapes::{pop_auto_escape, push_auto_escape};
 pub use frames::{pop_frame, push_with};

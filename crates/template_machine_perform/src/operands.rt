@@ -11,9 +11,9 @@ use template_code::{CompareOp, Instruction};
 use template_machine_operands::Operands;
 use template_machine_state::State;
 use template_machine_steps::{
-    Way, build_list, build_map, build_tuple, compare_and_preserve, discard_top, dup_top, get_attr,
-    get_item, invert, is_undefined, jump, jump_if_false, jump_if_false_or_pop, jump_if_true_or_pop,
-    load_const, negate, operate, slice, swap, unpack_list, unpack_lists,
+    Way, build_kwargs, build_list, build_map, build_tuple, compare_and_preserve, discard_top,
+    dup_top, get_attr, get_item, invert, is_undefined, jump, jump_if_false, jump_if_false_or_pop,
+    jump_if_true_or_pop, load_const, negate, operate, slice, swap, unpack_list, unpack_lists,
 };
 use template_tree::{BinOpKind, CompareOpKind};
 use template_values_errors::{Error, ErrorKind, UndefinedBehavior};
@@ -116,6 +116,7 @@ fn perform_without_operator(
         Instruction::BuildList(count) => straight(build_list(alloc, *count, operands)),
         Instruction::BuildTuple(count) => straight(build_tuple(alloc, *count, operands)),
         Instruction::BuildMap(count) => straight(build_map(alloc, *count, operands)),
+        Instruction::BuildKwargs(count) => straight(build_kwargs(alloc, *count, operands)),
         Instruction::UnpackList(count) => straight(unpack_list(alloc, *count, operands)),
         Instruction::UnpackLists(count) => straight(unpack_lists(alloc, *count, operands)),
         Instruction::Neg => straight(negate(operands)),

@@ -9,8 +9,9 @@ ghost use Rattle.template_machine_perform.specs.Performs.{IsQuiet};
 use crate::operands::{perform_on_operands, straight};
 use crate::rules::Rules;
 use crate::{
-    begin_capture, end_capture, iterate, lookup, pop_auto_escape, pop_frame, pop_loop_frame,
-    push_auto_escape, push_did_not_iterate, push_loop, push_with, store_local,
+    begin_capture, call_function, call_method, call_object, end_capture, iterate, lookup,
+    pop_auto_escape, pop_frame, pop_loop_frame, push_auto_escape, push_did_not_iterate, push_loop,
+    push_with, set_attr, store_local,
 };
 use std::alloc::Global;
 use template_code::Instruction;
@@ -49,6 +50,14 @@ pub(crate) fn perform_quietly<'env>(
         Instruction::PopAutoEscape => straight(pop_auto_escape(state)),
         Instruction::BeginCapture(mode) => straight(begin_capture(alloc, *mode, state)),
         Instruction::EndCapture => straight(end_capture(state, operands)),
+        Instruction::SetAttr(name) => straight(set_attr(alloc, name.as_str(), state, operands)),
+        Instruction::CallFunction(name, count) => {
+            straight(call_function(alloc, name.as_str(), *count, state, operands))
+        }
+        Instruction::CallMethod(name, count) => {
+            straight(call_method(alloc, name.as_str(), *count, state, operands))
+        }
+        Instruction::CallObject(count) => straight(call_object(alloc, *count, state, operands)),
         _ => perform_on_operands(alloc, mode, instruction, state, operands),
     }
 }

@@ -1,8 +1,8 @@
-//! Containers that are built of operands, and items that are unpacked.
+//! Containers and keyword arguments that are built of operands, and items that are unpacked.
 ghost use Rattle.std.specs.Prelude.{◌≡◌, ◌++◌, ℕ, List, Option, map, OnOk, IfErr};
 ghost use Rattle.template_values_errors.specs.Memory.{NoMemory};
 ghost use Rattle.template_values_errors.specs.declared.modes.UndefinedBehavior.{UndefinedBehavior};
-ghost use Rattle.template_code.specs.Code.{single, build_list, build_tuple, build_map, unpack_list, unpack_lists};
+ghost use Rattle.template_code.specs.Code.{single, build_list, build_tuple, build_map, build_kwargs, unpack_list, unpack_lists};
 ghost use Rattle.template_machine_meaning.specs.Surroundings.{Programs};
 ghost use Rattle.template_machine_meaning.specs.World.{World};
 ghost use Rattle.template_machine_operands.specs.Operands.{operands_in};
@@ -58,6 +58,20 @@ pub fn build_map(alloc: Global, count: usize, operands: &mut Operands) -> Result
 {
     let entries = operands.take_pairs(alloc, count)?;
     let built = values::build_map(alloc, entries)?;
+    operands.push(built)
+}
+
+/// Takes so many names, each with its value above it, and gives them as keyword arguments. As dear as [`values::build_kwargs`].
+///
+/// # Errors
+///
+/// Those of [`values::build_kwargs`], and as [`build_list`].
+pub fn build_kwargs(alloc: Global, count: usize, operands: &mut Operands) -> Result<(), Error>
+    ensures { (program : Programs) (limit : ℕ) (mode : UndefinedBehavior) (w : World) →
+        Performs (ruled program limit mode) (build_kwargs count) (operands_in operands.old) w result (operands_in operands.new) w }
+{
+    let entries = operands.take_pairs(alloc, count)?;
+    let built = values::build_kwargs(alloc, entries)?;
     operands.push(built)
 }
 

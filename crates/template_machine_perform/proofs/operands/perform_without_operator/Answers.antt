@@ -80,6 +80,10 @@ pub returns-in-BuildMap : goal.returns-in-BuildMap
 returns-in-BuildMap c program limit =
     straight_leads _ (codes.build_map _) _ _ _ _ _ _ _ (ap code_of c.in-BuildMap.is) c.straight-in-BuildMap.ensures (c.build_map.ensures program limit c.args.mode c.args.state.now)
 
+pub returns-in-BuildKwargs : goal.returns-in-BuildKwargs
+returns-in-BuildKwargs c program limit =
+    straight_leads _ (codes.build_kwargs _) _ _ _ _ _ _ _ (ap code_of c.in-BuildKwargs.is) c.straight-in-BuildKwargs.ensures (c.build_kwargs.ensures program limit c.args.mode c.args.state.now)
+
 pub returns-in-UnpackList : goal.returns-in-UnpackList
 returns-in-UnpackList c program limit =
     straight_leads _ (codes.unpack_list _) _ _ _ _ _ _ _ (ap code_of c.in-UnpackList.is) c.straight-in-UnpackList.ensures (c.unpack_list.ensures program limit c.args.mode c.args.state.now)
@@ -93,5 +97,5 @@ returns-in_default c program limit =
     let h = c.in_default in
     astray_out (ruled program limit c.args.mode) (code_of c.args.instruction.now) _ c.args.state.now _ _ _ _
     (λ before place left taken. unanswered_astray (ruled program limit c.args.mode) before _ (spot place _ c.args.state.now left taken)
-    (none_left c.args.instruction.now c.requires.operands c.requires.no_operator h.not-LoadConst h.not-Swap h.not-DupTop h.not-DiscardTop h.not-GetAttr h.not-GetItem h.not-Slice h.not-BuildList h.not-BuildTuple h.not-BuildMap h.not-UnpackList h.not-UnpackLists h.not-Neg h.not-Not h.not-IsUndefined h.not-CompareAndPreserve h.not-Jump h.not-JumpIfFalse h.not-JumpIfFalseOrPop h.not-JumpIfTrueOrPop))
+    (none_left c.args.instruction.now c.requires.operands c.requires.no_operator h.not-LoadConst h.not-Swap h.not-DupTop h.not-DiscardTop h.not-GetAttr h.not-GetItem h.not-Slice h.not-BuildList h.not-BuildTuple h.not-BuildMap h.not-BuildKwargs h.not-UnpackList h.not-UnpackLists h.not-Neg h.not-Not h.not-IsUndefined h.not-CompareAndPreserve h.not-Jump h.not-JumpIfFalse h.not-JumpIfFalseOrPop h.not-JumpIfTrueOrPop))
     c.new.ensures

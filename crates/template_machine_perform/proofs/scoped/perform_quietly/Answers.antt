@@ -54,10 +54,26 @@ pub returns-in-EndCapture : goal.returns-in-EndCapture
 returns-in-EndCapture c program =
     straight_leads _ codes.end_capture _ _ _ _ _ _ _ (ap code_of c.in-EndCapture.is) c.straight-in-EndCapture.ensures (c.end_capture.ensures (ruled program c.args.rules.limit c.args.rules.undefined))
 
+pub returns-in-SetAttr : goal.returns-in-SetAttr
+returns-in-SetAttr c program =
+    straight_leads _ (codes.set_attr _) _ _ _ _ _ _ _ (ap code_of c.in-SetAttr.is ∙ ap (λ t. codes.set_attr t) (sym c.as_str-in-SetAttr.ensures.value)) c.straight-in-SetAttr.ensures (c.set_attr.ensures (ruled program c.args.rules.limit c.args.rules.undefined))
+
+pub returns-in-CallFunction : goal.returns-in-CallFunction
+returns-in-CallFunction c program =
+    straight_leads _ (codes.call_function _ _) _ _ _ _ _ _ _ (ap code_of c.in-CallFunction.is ∙ ap (λ t. codes.call_function t c.in-CallFunction.count) (sym c.as_str-in-CallFunction.ensures.value)) c.straight-in-CallFunction.ensures (c.call_function.ensures (ruled program c.args.rules.limit c.args.rules.undefined))
+
+pub returns-in-CallMethod : goal.returns-in-CallMethod
+returns-in-CallMethod c program =
+    straight_leads _ (codes.call_method _ _) _ _ _ _ _ _ _ (ap code_of c.in-CallMethod.is ∙ ap (λ t. codes.call_method t c.in-CallMethod.count) (sym c.as_str-in-CallMethod.ensures.value)) c.straight-in-CallMethod.ensures (c.call_method.ensures (ruled program c.args.rules.limit c.args.rules.undefined))
+
+pub returns-in-CallObject : goal.returns-in-CallObject
+returns-in-CallObject c program =
+    straight_leads _ (codes.call_object _) _ _ _ _ _ _ _ (ap code_of c.in-CallObject.is) c.straight-in-CallObject.ensures (c.call_object.ensures (ruled program c.args.rules.limit c.args.rules.undefined))
+
 pub perform_on_operands-requires : goal.perform_on_operands-requires
 perform_on_operands-requires c =
     let h = c.in_default in
-    operands_left c.args.instruction.now c.requires h.not-Lookup h.not-StoreLocal h.not-PushWith h.not-PopFrame h.not-PushLoop h.not-Iterate h.not-PushDidNotIterate h.not-PopLoopFrame h.not-PushAutoEscape h.not-PopAutoEscape h.not-BeginCapture h.not-EndCapture
+    operands_left c.args.instruction.now c.requires h.not-Lookup h.not-StoreLocal h.not-PushWith h.not-PopFrame h.not-PushLoop h.not-Iterate h.not-PushDidNotIterate h.not-PopLoopFrame h.not-PushAutoEscape h.not-PopAutoEscape h.not-BeginCapture h.not-EndCapture h.not-SetAttr h.not-CallFunction h.not-CallMethod h.not-CallObject
 
 pub returns-in_default : goal.returns-in_default
 returns-in_default c program = c.perform_on_operands.ensures program c.args.rules.limit

@@ -1,0 +1,22 @@
+-- What the calls come to that call functions and methods, or want of memory where they grow something.
+use Rattle.std.specs.Prelude.{◌≡◌, ◌⊎◌, List, [], ◌∷◌, Option, None, Some, Result, Ok, Err}
+use Rattle.template_values_errors.specs.declared.ErrorKind.{ErrorKind}
+use Rattle.template_values_errors.specs.Memory.{NoMemory}
+use Rattle.template_values_model.specs.Val.{Val}
+use Rattle.template_values_core.specs.Shape.{pairs_in}
+use Rattle.template_machine_meaning.specs.Functions as functions
+use Rattle.template_machine_meaning.specs.Functions.{gives, makes, compares}
+use Rattle.template_machine_operations.specs.declared.called.Called.{Called}
+use Rattle.template_machine_operations.specs.declared.called.Called.TheVariants as called
+
+-- the kinds that a call is refused with, if it is
+abbrev pub refusal_of : functions.Called → Option (List ErrorKind)
+refusal_of (gives (Err kind)) = Some (kind ∷ [])
+refusal_of _ = None
+
+-- a call with these arguments comes to this, or no memory is left
+abbrev pub Comes : Result Called (List ErrorKind) → List Val → functions.Called → Type 0
+Comes (Ok (called.Value v)) args reply = reply ≡ gives (Ok v)
+Comes (Ok (called.Namespace entries)) args reply = reply ≡ makes (pairs_in entries.items)
+Comes (Ok (called.Changed number)) args reply = reply ≡ compares number args
+Comes (Err kinds) args reply = NoMemory kinds ⊎ (refusal_of reply ≡ Some kinds)

@@ -1,0 +1,13 @@
+//! What calls come to.
+use template_values_core::{Entry, Value};
+
+/// What a call comes to.
+#[derive(Drop)]
+pub enum Called {
+    /// A value.
+    Value(Value),
+    /// A namespace, which is to be made of these entries.
+    Namespace(Vec<Entry>),
+    /// The arguments are to be compared with those that `changed` was called with last for the loop of this number.
+    Changed(usize),
+}
