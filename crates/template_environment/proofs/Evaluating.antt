@@ -30,13 +30,13 @@ gives (Err kinds) r failures (inr quiet) (inr (inr failure)) = absurd (quiet.0 f
 
 pub evaluates : (e : Registry) (source : List ℕ) (context : Val) (s : Programs) (code : List Code) (w after : World) (fuel left : Option ℕ)
     (before taken : Option (List ℕ)) (failures : ℕ) (result : Result Val (List ErrorKind)) → IsFaithfulExpression source → s ≡ codes_of (setting_of e) None
-    → code ≡ standalone_code (expression_in source) → w ≡ first_world no_state escapes.None context → fuel ≡ e.fuel
+    → code ≡ standalone_code (expression_in source) → w ≡ first_world no_state e.functions escapes.None context → fuel ≡ e.fuel
     → TellsFailures result failures failures → Evaluates s code w fuel before result after left taken
     → Gives result (under e.fuel (evaluated (setting_of e) (expression_in source) context))
 evaluates e source context s code w after fuel left before taken failures result is programs is_code start same quiet runs =
     gives result (under e.fuel (evaluated (setting_of e) (expression_in source) context)) failures quiet
     (subst (λ (f : Option ℕ). GivesValue result (under f (evaluated (setting_of e) (expression_in source) context))) same
-    (expressions_evaluate (setting_of e) (expression_in source) is.has_expression.1 (first_world no_state escapes.None context) after fuel left before taken result
+    (expressions_evaluate (setting_of e) (expression_in source) is.has_expression.1 (first_world no_state e.functions escapes.None context) after fuel left before taken result
     (subst (λ (x : World). Evaluates (codes_of (setting_of e) None) (standalone_code (expression_in source)) x fuel before result after left taken) start
     (subst (λ (k : List Code). Evaluates (codes_of (setting_of e) None) k w fuel before result after left taken) is_code
     (subst (λ (p : Programs). Evaluates p code w fuel before result after left taken) programs runs)))))

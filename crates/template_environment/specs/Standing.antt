@@ -1,5 +1,5 @@
 -- What stands in an environment, and what it means.
-use Rattle.std.specs.Prelude.{ℕ, List, Option, None, codes}
+use Rattle.std.specs.Prelude.{ℕ, Bool, List, Option, None, Some, codes, if◌then◌else◌}
 use Rattle.std.specs.Option.{option_map}
 use Rattle.template_values_errors.specs.declared.modes.UndefinedBehavior.{UndefinedBehavior}
 use Rattle.template_values_errors.specs.declared.modes.UndefinedBehavior.TheVariants.{Lenient}
@@ -24,9 +24,15 @@ unnamed = codes "<string>"
 abbrev pub greatest_limit : ℕ
 greatest_limit = 500
 
--- what an environment is set to beside its templates and a rule of escapes of its own
+-- the number of an environment, if it has functions by itself
+abbrev pub functions_under : Bool → ℕ → Option ℕ
+functions_under has_functions id = if has_functions then Some id else None
+
+-- what an environment is set to beside its templates and a rule of escapes of its own: its number, also as the one of its own
+-- functions, if it has any; how templates are read; and what renders keep to
 pub record Settings : Type 0 where
   pub id : ℕ
+  pub functions : Option ℕ
   pub syntax : Syntax
   pub escapes : EscapeRule
   pub fuel : Option ℕ
@@ -34,9 +40,10 @@ pub record Settings : Type 0 where
   pub undefined : UndefinedBehavior
 
 -- those of a new one: without fuel, with the greatest limit, where undefined values are lenient
-abbrev pub new_settings : ℕ → Syntax → EscapeRule → Settings
-new_settings id syntax escapes = record {
+abbrev pub new_settings : ℕ → Option ℕ → Syntax → EscapeRule → Settings
+new_settings id functions syntax escapes = record {
   id = id;
+  functions = functions;
   syntax = syntax;
   escapes = escapes;
   fuel = None;
@@ -47,6 +54,7 @@ new_settings id syntax escapes = record {
 abbrev pub settings_of : Registry → Settings
 settings_of e = record {
   id = e.id;
+  functions = e.functions;
   syntax = e.config.syntax_config;
   escapes = e.config.default_auto_escape;
   fuel = e.fuel;
@@ -58,6 +66,7 @@ settings_of e = record {
 abbrev pub setting_of : Registry → Setting
 setting_of e = record {
   templates = λ name. option_map standing_of (compiled_at e.templates name);
+  functions = e.functions;
   limit = e.recursion_limit;
   undefined = e.undefined_behavior;
 }

@@ -14,7 +14,7 @@ module _ {R : Type 0} where
   abbrev pub name_in : State R → List ℕ
   name_in s = s.name.now
 
-  -- its frames, the escape in force, the captures that are open, and its number
+  -- its frames, the escape in force, the captures that are open, its number, and what its namespaces hold
   abbrev pub world_in : State R → World
   world_in s = s.machine
 
@@ -29,9 +29,21 @@ module _ {R : Type 0} where
   abbrev pub id_in : State R → ℕ
   id_in s = s.id
 
--- no frame and no capture, under an escape, in the state of a number
-abbrev pub frameless : ℕ → AutoEscape → World
-frameless id escape = record { frames = []; outer = 0; escape = escape; saved = []; first = escape; captures = []; id = id; opened = 0 }
+-- no frame, no capture and no namespace, under an escape, in the state of a number, with the functions of an environment
+abbrev pub frameless : ℕ → Option ℕ → AutoEscape → World
+frameless id functions escape = record {
+  frames = [];
+  outer = 0;
+  escape = escape;
+  saved = [];
+  first = escape;
+  captures = [];
+  id = id;
+  opened = 0;
+  functions = functions;
+  namespaces = [];
+  given = [];
+}
 
 -- the name of a state without a template
 abbrev pub unknown : List ℕ

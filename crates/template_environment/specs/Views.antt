@@ -39,6 +39,10 @@ module _ {R : Type 0} where
   abbrev pub fuel_of : Template R → Option ℕ
   fuel_of t = t.environment.now.registry.fuel
 
+  -- the number of its environment, if that has functions by itself, which each of its renders knows
+  abbrev pub functions_of : Template R → Option ℕ
+  functions_of t = t.environment.now.registry.functions
+
   -- what its render over a context means, in the state of a number, under a bound
   abbrev pub render_of : Template R → ℕ → ℕ → Val → Run World
   render_of t id n context = rendering t.environment.now.registry id (compiled_in t.compiled) n context

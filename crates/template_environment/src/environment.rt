@@ -13,7 +13,7 @@ ghost use Rattle.template_compiled.specs.Sources.{IsAccepted, IsRefusedWith};
 ghost use Rattle.template_compiled.specs.Plain.{IsPlain, text_kept};
 ghost use Rattle.template_environment_histories.specs.Histories as changes;
 ghost use Rattle.template_environment.specs.Plain.{IsRefusedForRoom, ReadGivesItself};
-ghost use Rattle.template_environment.specs.Standing.{greatest_limit, new_settings};
+ghost use Rattle.template_environment.specs.Standing.{functions_under, greatest_limit, new_settings};
 
 use crate::laws::every_render_ends;
 use crate::registry::Registry;
@@ -37,6 +37,13 @@ const UNNAMED: &str = "<string>";
 // The name of a state without a template.
 const UNKNOWN: &str = "<unknown>";
 
+// The number of an environment, if it has functions by itself.
+fn functions_under(has_functions: bool, id: u64) -> Option<u64>
+    ensures { result ≡ functions_under has_functions id }
+{
+    if has_functions { Some(id) } else { None }
+}
+
 /// The templates that stand, by name, and what each render keeps to.
 pub struct Environment<'source, R: AutoEscapeRule = NoRule> {
     pub(crate) registry: Registry<'source>,
@@ -59,30 +66,33 @@ impl<'source> Environment<'source> {
     ghost use Rattle.template_environment.specs.Reading.{callback_of, registry_of};
 
     /// An environment without templates, under the default syntax and escapes by name, without fuel, with the greatest
-    /// recursion limit, where undefined values are lenient. It takes a state id as its own.
+    /// recursion limit, where undefined values are lenient. It has the functions `range`, `dict` and `namespace`. It takes a
+    /// state id as its own.
     ///
     /// # Errors
     ///
     /// [`ErrorKind::InvalidOperation`] where no state id is left.
     pub fn new(alloc: Global, ids: &mut StateIds) -> Result<Environment<'source>, Error>
         ensures empty { IfOk result (λ e. (name : List ℕ) → source_at (registry_of e) name ≡ None) }
-        ensures settings { IfOk result (λ e. settings_of (registry_of e) ≡ new_settings ids.old default_syntax EscapeRule.ByName) }
+        ensures settings { IfOk result (λ e. settings_of (registry_of e)
+            ≡ new_settings ids.old (Some ids.old) default_syntax EscapeRule.ByName) }
         ensures callback { IfOk result (λ e. callback_of e ≡ None) }
         ensures had_one { OnOk result (ids.old ≢ u64.MAX) }
         ensures counted { OnOk result (ids.new ≡ ids.old + 1) }
         ensures refused { IfErr result (λ kinds. (kinds ≡ ErrorKind.InvalidOperation ∷ []) × (ids.old ≡ u64.MAX) × (ids.new ≡ ids.old)) }
     {
-        Environment::under(alloc, TemplateConfig::new(), None, ids)
+        Environment::under(alloc, true, TemplateConfig::new(), None, ids)
     }
 
-    /// The same with no escape, whatever a template's name is.
+    /// The same with no functions, and no escape, whatever a template's name is.
     ///
     /// # Errors
     ///
     /// As [`Environment::new`].
     pub fn empty(alloc: Global, ids: &mut StateIds) -> Result<Environment<'source>, Error>
         ensures empty { IfOk result (λ e. (name : List ℕ) → source_at (registry_of e) name ≡ None) }
-        ensures settings { IfOk result (λ e. settings_of (registry_of e) ≡ new_settings ids.old default_syntax EscapeRule.Never) }
+        ensures settings { IfOk result (λ e. settings_of (registry_of e)
+            ≡ new_settings ids.old None default_syntax EscapeRule.Never) }
         ensures callback { IfOk result (λ e. callback_of e ≡ None) }
         ensures had_one { OnOk result (ids.old ≢ u64.MAX) }
         ensures counted { OnOk result (ids.new ≡ ids.old + 1) }
@@ -92,7 +102,7 @@ impl<'source> Environment<'source> {
             default_auto_escape: EscapeRule::Never,
             ..TemplateConfig::new()
         };
-        Environment::under(alloc, config, None, ids)
+        Environment::under(alloc, false, config, None, ids)
     }
 }
 
@@ -118,26 +128,28 @@ impl<'source, R: AutoEscapeRule> Environment<'source, R> {
         ids: &mut StateIds,
     ) -> Result<Environment<'source, R>, Error>
         ensures empty { IfOk result (λ e. (name : List ℕ) → source_at (registry_of e) name ≡ None) }
-        ensures settings { IfOk result (λ e. settings_of (registry_of e) ≡ new_settings ids.old default_syntax EscapeRule.ByName) }
+        ensures settings { IfOk result (λ e. settings_of (registry_of e)
+            ≡ new_settings ids.old (Some ids.old) default_syntax EscapeRule.ByName) }
         ensures callback { IfOk result (λ e. callback_of e ≡ Some rule) }
         ensures had_one { OnOk result (ids.old ≢ u64.MAX) }
         ensures counted { OnOk result (ids.new ≡ ids.old + 1) }
         ensures refused { IfErr result (λ kinds. (kinds ≡ ErrorKind.InvalidOperation ∷ []) × (ids.old ≡ u64.MAX) × (ids.new ≡ ids.old)) }
     {
-        Environment::under(alloc, TemplateConfig::new(), Some(rule), ids)
+        Environment::under(alloc, true, TemplateConfig::new(), Some(rule), ids)
     }
 
-    // An environment without templates, as new but for what its templates are compiled under and
-    // for a rule of its own.
+    // An environment without templates, as new but for whether it has functions by itself, for what its
+    // templates are compiled under and for a rule of its own.
     fn under(
         alloc: Global,
+        has_functions: bool,
         config: TemplateConfig,
         callback: Option<R>,
         ids: &mut StateIds,
     ) -> Result<Environment<'source, R>, Error>
         ensures empty { IfOk result (λ e. (name : List ℕ) → source_at (registry_of e) name ≡ None) }
         ensures settings { IfOk result (λ e. settings_of (registry_of e)
-            ≡ new_settings ids.old config.syntax_config config.default_auto_escape) }
+            ≡ new_settings ids.old (functions_under has_functions ids.old) config.syntax_config config.default_auto_escape) }
         ensures callback { IfOk result (λ e. callback_of e ≡ callback) }
         ensures had_one { OnOk result (ids.old ≢ u64.MAX) }
         ensures counted { OnOk result (ids.new ≡ ids.old + 1) }
@@ -147,6 +159,7 @@ impl<'source, R: AutoEscapeRule> Environment<'source, R> {
         Ok(Environment {
             registry: Registry {
                 id,
+                functions: functions_under(has_functions, id),
                 alloc,
                 templates: CompiledTemplates::new(alloc),
                 config,
@@ -435,7 +448,8 @@ impl<'source, R: AutoEscapeRule> Environment<'source, R> {
     pub fn empty_state(&self, ids: &mut StateIds) -> Result<State<'_, 'source, R>, Error>
         ensures here { IfOk result (λ s. environment_in s ≡ self.now) }
         ensures named { IfOk result (λ s. name_in s ≡ unknown) }
-        ensures world { IfOk result (λ s. world_in s ≡ frameless ids.old AutoEscape.None) }
+        ensures world { IfOk result (λ s. world_in s
+            ≡ frameless ids.old (settings_of (registry_of self.now)).functions AutoEscape.None) }
         ensures given { IfOk result (λ s. fuel_set_in s ≡ (settings_of (registry_of self.now)).fuel) }
         ensures remains { IfOk result (λ s. fuel_left_in s ≡ (settings_of (registry_of self.now)).fuel) }
         ensures id { IfOk result (λ s. id_in s ≡ ids.old) }

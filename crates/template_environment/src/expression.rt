@@ -95,8 +95,9 @@ impl<'env, 'source, R: AutoEscapeRule> Expression<'env, 'source, R> {
     ghost use Rattle.template_environment.specs.Evaluations.{AgreeAlong, IsSameEvaluation, evaluation_of, fuel_under, text_of};
 
     /// The value of the expression over a context, under no escape and the fuel of its environment. The templates that
-    /// stand there do so here. Contexts that agree at the names that stand in the expression give the same. Linear in
-    /// the instructions that it runs, besides what operators cost.
+    /// stand there do so here. Contexts that agree at the names that stand in the expression give the same. A namespace
+    /// is given as it is, and no render knows it. Linear in the instructions that it runs, besides what operators and
+    /// functions cost.
     ///
     /// # Errors
     ///
@@ -132,8 +133,8 @@ impl<'env, 'source, R: AutoEscapeRule> Expression<'env, 'source, R> {
     }
 }
 
-// Runs the code of an expression over a context. It writes nothing, and opens no loop that could tell the number of its
-// state: it has the one that no state is given.
+// Runs the code of an expression over a context. It writes nothing and opens no loop. It has the number that no state is
+// given, and so have the namespaces that it makes.
 fn evaluate<'env, 'source>(
     registry: &'env Registry<'source>,
     compiled: &'env CompiledExpression<'source>,
@@ -146,6 +147,7 @@ fn evaluate<'env, 'source>(
     let mut state: MachineState<'env> = MachineState::new(
         alloc,
         NO_STATE,
+        registry.functions,
         AutoEscape::None,
         context,
     )?;

@@ -13,6 +13,8 @@ use template_values_errors::{Error, UndefinedBehavior};
 #[derive(Drop)]
 pub struct Registry<'source> {
     pub(crate) id: u64,
+    // The number of the environment, where it has functions by itself.
+    pub(crate) functions: Option<u64>,
     pub(crate) alloc: Global,
     pub(crate) templates: CompiledTemplates<'source>,
     pub(crate) config: TemplateConfig,

@@ -2,7 +2,7 @@
 ghost use Rattle.std.specs.Prelude.{◌≡◌, ◌≢◌, ◌+◌, ◌∷◌, [], ℕ, List, IfOk, IfErr, Err, is_some, option_map};
 ghost use Rattle.std.specs.BTreeSet.{contains_text};
 ghost use Rattle.template_values_errors.specs.Memory.{NoMemory};
-ghost use Rattle.template_machine_meaning.specs.World.{known_at};
+ghost use Rattle.template_machine_meaning.specs.World.{looked_up};
 ghost use Rattle.template_machine_state.specs.Names.{is_exported};
 ghost use Rattle.template_environment.specs.Renderings.{left_of, set_of};
 
@@ -48,7 +48,8 @@ impl<'env, 'source, R: AutoEscapeRule> State<'env, 'source, R> {
     ) -> Result<State<'env, 'source, R>, Error>
         ensures here { IfOk result (λ s. environment_in s ≡ environment.now) }
         ensures named { IfOk result (λ s. name_in s ≡ name.now) }
-        ensures world { IfOk result (λ s. world_in s ≡ frameless ids.old escape) }
+        ensures world { IfOk result (λ s. world_in s
+            ≡ frameless ids.old (settings_of (registry_of environment.now)).functions escape) }
         ensures given { IfOk result (λ s. fuel_set_in s ≡ (registry_of environment.now).fuel) }
         ensures remains { IfOk result (λ s. fuel_left_in s ≡ (registry_of environment.now).fuel) }
         ensures id { IfOk result (λ s. id_in s ≡ ids.old) }
@@ -60,6 +61,7 @@ impl<'env, 'source, R: AutoEscapeRule> State<'env, 'source, R> {
         let mut machine: MachineState<'env> = MachineState::new(
             environment.allocator(),
             id,
+            environment.registry.functions,
             escape,
             Value::undefined(),
         )?;
@@ -108,21 +110,19 @@ impl<'env, 'source, R: AutoEscapeRule> State<'env, 'source, R> {
         self.environment.undefined_behavior()
     }
 
-    /// What the innermost frame that knows the name has under it: a local value first, then its loop, which `loop` is
-    /// the name of, then what its context has. Linear in the number of frames and of their names, and logarithmic in
-    /// the size of each context. The value shares its contents.
+    /// What a name stands for: what the innermost frame that knows it has under it, a local value first, then its loop,
+    /// which `loop` is the name of, then what its context has; else the environment's own function of this name. Linear
+    /// in the number of frames and of their names, and logarithmic in the size of each context. The value shares its
+    /// contents.
     ///
     /// # Errors
     ///
     /// [`ErrorKind::OutOfMemory`]
     pub fn lookup(&self, name: &str) -> Result<Option<Value>, Error>
-        ensures found { IfOk result (λ found. found ≡ known_at name.now (world_in self.now).frames) }
+        ensures found { IfOk result (λ found. found ≡ looked_up name.now (world_in self.now)) }
         ensures refused { IfErr result NoMemory }
     {
-        match self.machine.load(name) {
-            Some(value) => Ok(Some(value.copy()?)),
-            None => Ok(None),
-        }
+        self.machine.looked_up(name)
     }
 
     /// The names of the outermost frame's locals that do not begin with `_`. Takes n log n comparisons for n locals.
@@ -137,16 +137,16 @@ impl<'env, 'source, R: AutoEscapeRule> State<'env, 'source, R> {
         self.machine.exports(self.environment.allocator())
     }
 
-    /// The names that [`State::lookup`] finds: each frame's locals, `loop` where a frame's loop has its variable, and
-    /// the text keys of a context that is a map. Takes n log n comparisons for n names in all frames and their
-    /// contexts.
+    /// The names that [`State::lookup`] finds: each frame's locals, `loop` where a frame's loop has its variable, the
+    /// text keys of a context that is a map, and the environment's own functions. Takes n log n comparisons for n names
+    /// in all frames and their contexts.
     ///
     /// # Errors
     ///
     /// [`ErrorKind::OutOfMemory`]
     pub fn known_variables(&self) -> Result<BTreeSet<String>, Error>
         ensures known { IfOk result (λ names. (name : List ℕ) → contains_text names name
-            ≡ is_some (known_at name (world_in self.now).frames)) }
+            ≡ is_some (looked_up name (world_in self.now))) }
         ensures refused { IfErr result NoMemory }
     {
         self.machine.known_variables(self.environment.allocator())

@@ -7,9 +7,11 @@ use Rattle.template_environment.specs.Renderings.{rendering}
 use Rattle.template_environment.specs.Standing.{setting_of, settings_of, source_at}
 use Rattle.template_environment.specs.declared.registry.Registry.{Registry}
 
--- The same source stands under each name, and renders keep to the same limit and let undefined values do the same.
+-- The same source stands under each name, and renders know the same functions, keep to the same limit and let undefined values
+-- do the same. Functions are known by the number of their environment: so the two have one number there, or none has functions.
 pub record AreAlike (e other : Registry) : Type 0 where
   pub sources : (name : List ℕ) → source_at e name ≡ source_at other name
+  pub functions : (settings_of e).functions ≡ (settings_of other).functions
   pub limit : (settings_of e).limit ≡ (settings_of other).limit
   pub undefined : (settings_of e).undefined ≡ (settings_of other).undefined
 

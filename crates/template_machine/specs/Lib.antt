@@ -28,6 +28,7 @@ pub use Rattle.template_machine_fuel.specs.Paying
 pub use Rattle.template_machine_fuel.specs.Trackers
 pub use Rattle.template_machine_operands.specs.Operands
 pub use Rattle.template_machine_meaning.specs.World
+pub use Rattle.template_machine_meaning.specs.Functions
 pub use Rattle.template_machine_meaning.specs.Records
 pub use Rattle.template_machine_meaning.specs.Undefined
 pub use Rattle.template_machine_meaning.specs.Replies

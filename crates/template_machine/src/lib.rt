@@ -19,6 +19,8 @@
 //! # The main calls
 //!
 //! - [`context_from_json`] gives the context that a JSON object says, and [`Value`] has makers for every other one.
+//! - [`Environment::new`] makes an environment that has the functions `range`, `dict` and `namespace`, and
+//!   [`Environment::empty`] one without functions.
 //! - [`Environment::add_template`] adds a template in the place of one of that name, or refuses it and
 //!   changes nothing; [`Environment::add_template_owned`] keeps copies of its texts. [`Environment::get_template`]
 //!   finds it, and [`Environment::remove_template`] takes it away.

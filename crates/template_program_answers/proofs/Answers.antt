@@ -82,9 +82,14 @@ rendered_alike a b r q same one other quiet too = record {
   );
 }
 
+-- an environment of a number, by another word for it
+of_number : (request : Request) (additions : List (List ℕ × List ℕ)) (e : Registry) {id other : ℕ} → id ≡ other → IsMade request additions id e
+    → IsMade request additions other e
+of_number request additions e same made = subst (λ (n : ℕ). IsMade request additions n e) same made
+
 -- two renders of one template over contexts that agree, in states of one number
 renders_alike : IsolatesNames → (request : Request) (additions : List (List ℕ × List ℕ)) (a b : Answer) (e f : Registry)
-    → IsMade request additions e → IsMade request additions f → (t u : Standing) → t ≡ u → (c d : Val) → ((name : List ℕ) → AgreesAt c d name)
+    → IsMade request additions a.next e → IsMade request additions b.next f → (t u : Standing) → t ≡ u → (c d : Val) → ((name : List ℕ) → AgreesAt c d name)
     → Rendered e t c (a.next + 1) a.outcome a.before a.after a.failed a.fails
     → Rendered f u d (b.next + 1) b.outcome b.before b.after b.failed b.fails
     → a.next ≡ b.next → IsUnwanting a → IsUnwanting b → AreAlike a b
@@ -93,8 +98,9 @@ renders_alike isolates request additions a b e f made more t u standing c d agre
     let rb = other.1 ub.second_id in
     let id = a.next + 1 in
     let n = ra.3.finished.0 in
-    let setting = one_setting request additions e f made more in
-    let fuel = one_fuel request additions e f made more in
+    let too = of_number request additions f (sym next) more in
+    let setting = one_setting request additions a.next e f made too in
+    let fuel = one_fuel request additions a.next e f made too in
     let isolated = isolates (setting_of e) id t c d (λ name can_matter. agree name) n in
     let there : rendered (setting_of e) id n t d ≡ rendered (setting_of f) (b.next + 1) n u d =
     λ i. rendered (setting i) (next i + 1) n (standing i) d in
@@ -126,10 +132,10 @@ told e t (Template kinds) before after failed fails tells room = absurd (room (i
 
 -- two tellings of the names of one template
 tells_alike : (request : Request) (additions : List (List ℕ × List ℕ)) (a b : Answer) (e f : Registry)
-    → IsMade request additions e → IsMade request additions f → (t u : Standing) → t ≡ u
+    → IsMade request additions a.next e → IsMade request additions b.next f → a.next ≡ b.next → (t u : Standing) → t ≡ u
     → IsTold e t a.outcome a.before a.after a.failed a.fails → IsTold f u b.outcome b.before b.after b.failed b.fails → AreAlike a b
-tells_alike request additions a b e f made more t u standing one other =
-    let setting = one_setting request additions e f made more in
+tells_alike request additions a b e f made more next t u standing one other =
+    let setting = one_setting request additions a.next e f made (of_number request additions f (sym next) more) in
     let lines : lines_of one.names.keys ≡ lines_of other.names.keys =
     same_lines one.names other.names one.has.0 other.has.0
     (same_sets (setting_of e) (setting_of f) t u setting standing one.names other.names one.has.1 other.has.1) in
@@ -161,7 +167,7 @@ performed_alike isolates asked.Render request additions json a b p q next ua ub 
 performed_alike isolates asked.Names request additions json a b p q next ua ub =
     let main = string_bytes request.main in
     let template = one_template main p.2.0 q.2.0 p.2.2.0 q.2.2.0 (same_Some _ _ (sym p.2.1 ∙ q.2.1)) p.2.2.1 q.2.2.1 in
-    tells_alike request additions a b p.0 q.0 p.1 q.1 p.2.2.0 q.2.2.0 template
+    tells_alike request additions a b p.0 q.0 p.1 q.1 next p.2.2.0 q.2.2.0 template
     (told p.0 p.2.2.0 a.outcome a.before a.after a.failed a.fails p.2.2.2 ua.unwanted)
     (told q.0 q.2.2.0 b.outcome b.before b.after b.failed b.fails q.2.2.2 ub.unwanted)
 

@@ -1,4 +1,4 @@
--- What two environments of one request share.
+-- What two environments of one request and one number share.
 use Rattle.std.proofs.Common.{◌≡◌, ◌∙◌, ℕ, List, sym, ap, subst, IsTrue, ◌↔◌}
 use Rattle.std.specs.BTreeSet.{BTreeSet, contains_text}
 use Rattle.std.specs.Prelude.{String}
@@ -15,17 +15,18 @@ use Rattle.template_program_run.specs.Environments.{IsMade}
 use Rattle.template_program_run.specs.History.{source_for}
 use Rattle.template_program_run.specs.declared.request.Request.{Request}
 
-pub one_setting : (request : Request) (additions : List (List ℕ × List ℕ)) (e other : Registry) → IsMade request additions e
-    → IsMade request additions other → setting_of e ≡ setting_of other
-one_setting request additions e other made more = settings.one_setting e other (record {
+pub one_setting : (request : Request) (additions : List (List ℕ × List ℕ)) (id : ℕ) (e other : Registry) → IsMade request additions id e
+    → IsMade request additions id other → setting_of e ≡ setting_of other
+one_setting request additions id e other made more = settings.one_setting e other (record {
   sources = λ name. made.sources name ∙ sym (more.sources name);
+  functions = made.settings.functions ∙ sym more.settings.functions;
   limit = made.settings.limit ∙ sym more.settings.limit;
   undefined = made.settings.undefined ∙ sym more.settings.undefined;
 })
 
-pub one_fuel : (request : Request) (additions : List (List ℕ × List ℕ)) (e other : Registry) → IsMade request additions e
-    → IsMade request additions other → e.fuel ≡ other.fuel
-one_fuel request additions e other made more = made.settings.fuel ∙ sym more.settings.fuel
+pub one_fuel : (request : Request) (additions : List (List ℕ × List ℕ)) (id : ℕ) (e other : Registry) → IsMade request additions id e
+    → IsMade request additions id other → e.fuel ≡ other.fuel
+one_fuel request additions id e other made more = made.settings.fuel ∙ sym more.settings.fuel
 
 -- a name and a text stand for one template
 pub one_template : (name text other : List ℕ) (t u : Standing) → text ≡ other → IsTemplateOf name text t → IsTemplateOf name other u → t ≡ u

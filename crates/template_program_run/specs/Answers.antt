@@ -98,11 +98,11 @@ Does asked.Render e t request json next outcome before after failed fails =
 Does asked.Names e t request json next outcome before after failed fails =
     TellsNames e t outcome before after failed fails
 
--- The main template stands, in an environment of the request, and that is done with it.
+-- The main template stands, in an environment of the request that took the next id, and that is done with it.
 abbrev pub Performed : Command → Request → List (List ℕ × List ℕ) → Option (List ℕ) → ℕ → Outcome
     → Option (List ℕ) → Option (List ℕ) → ℕ → ℕ → Type 0
 Performed command request additions json next outcome before after failed fails =
-    (e : Registry) × IsMade request additions e
+    (e : Registry) × IsMade request additions next e
     × ((text : List ℕ) × (standing additions (string_bytes request.main) ≡ Some text)
     × ((t : Standing) × IsTemplateOf (string_bytes request.main) text t
     × Does command e t request json next outcome before after failed fails))

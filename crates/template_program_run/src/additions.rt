@@ -26,7 +26,7 @@ pub(crate) fn environment_of<'source>(
     ids: &mut StateIds,
 ) -> Result<Environment<'source>, Error>
     ensures accepted { IfOk result (λ e. AllAreAccepted (text_pairs templates.entry.now)) }
-    ensures made { IfOk result (λ e. IsMade request.now (text_pairs templates.entry.now) (registry_of e)) }
+    ensures made { IfOk result (λ e. IsMade request.now (text_pairs templates.entry.now) ids.old (registry_of e)) }
     ensures had_one { OnOk result (¬ IsLastId ids.old) }
     ensures counted { ids.new ≡ behind_one ids.old }
     ensures refused { IfErr result (IsRefusedAddition (text_pairs templates.entry.now) ids.old) }
@@ -45,7 +45,7 @@ fn set_up<'source>(
     ids: &mut StateIds,
 ) -> Result<Environment<'source>, Error>
     ensures empty { IfOk result (λ e. (name : List ℕ) → source_at (registry_of e) name ≡ None) }
-    ensures settings { IfOk result (λ e. IsSetFor request.now (settings_of (registry_of e))) }
+    ensures settings { IfOk result (λ e. IsSetFor request.now ids.old (settings_of (registry_of e))) }
     ensures callback { IfOk result (λ e. callback_of e ≡ None) }
     ensures had_one { OnOk result (¬ IsLastId ids.old) }
     ensures counted { ids.new ≡ behind_one ids.old }

@@ -57,6 +57,6 @@ loop-name-preserved c =
           ∙ ap (λ n. if bytes_eq n q then Some (source_for (string_bytes (get_or xs i d).1)) else source_at before q) name
           ∙ ap (λ o. if bytes_eq (string_bytes (get_or xs i d).0) q then Some (source_for (string_bytes (get_or xs i d).1)) else o) (c.loop-name.invariant.stands q)
           ∙ sym (source-next xs i d c.loop-name-test.true q);
-      settings = subst (λ (s : Settings). IsSetFor c.args.request.now s) (sym c.in_ok-add_template.ensures.settings) c.loop-name.invariant.settings;
+      settings = subst (λ (s : Settings). IsSetFor c.args.request.now c.args.ids.now s) (sym c.in_ok-add_template.ensures.settings) c.loop-name.invariant.settings;
       callback = c.in_ok-add_template.ensures.callback ∙ c.loop-name.invariant.callback;
     }

@@ -12,6 +12,6 @@ abbrev pub invariant-loop-name : goal.invariant-loop-name
 invariant-loop-name l = record {
   accepted : AllAreAccepted (text_pairs (take l.name-index l.templates));
   stands : (q : List ℕ) → source_at (registry_of l.environment) q ≡ source_standing (text_pairs (take l.name-index l.templates)) q;
-  settings : IsSetFor l.request (settings_of (registry_of l.environment));
+  settings : IsSetFor l.request l.fn.ids (settings_of (registry_of l.environment));
   callback : callback_of l.environment ≡ None;
 }

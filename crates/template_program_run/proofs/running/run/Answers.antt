@@ -14,7 +14,7 @@ pub returns-in-Render-clause-answers : goal.returns-in-Render-clause-answers
 returns-in-Render-clause-answers g c =
     let e = c.in-Ok-environment_of in
     let t = c.in-Ok-get_template in
-    let made = subst (λ x. IsMade c.args.request.now (text_pairs c.args.templates.now) (registry_of x)) (sym t.ensures.here) e.ensures.made in
+    let made = subst (λ x. IsMade c.args.request.now (text_pairs c.args.templates.now) c.args.ids.now (registry_of x)) (sym t.ensures.here) e.ensures.made in
     let main = c.as_str.ensures.value in
     answers_done c.args.request.now (text_pairs c.args.templates.now) (option_copied c.args.context) c.args.ids.now c.render.result _ _ _ _
     c.in-Ok.context c.in-Ok.ensures.has e.ensures.had_one e.ensures.accepted (registry_of (environment_of t.template)) made (compiled_in t.template.compiled)
