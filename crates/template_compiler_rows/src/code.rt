@@ -114,8 +114,45 @@ fn write_moved(instruction: &Instruction<'_>, out: &mut Report) {
         Instruction::DupTop => out.push_str("dup"),
         Instruction::DiscardTop => out.push_str("discard"),
         Instruction::Add => out.push_str("add"),
+        _ => write_looked(instruction, out),
+    }
+}
+
+// What gives or sets a part of a value.
+fn write_looked(instruction: &Instruction<'_>, out: &mut Report) {
+    match instruction {
+        Instruction::GetAttr(name) => write_named("(attr", name.as_str(), out),
+        Instruction::SetAttr(name) => write_named("(set_attr", name.as_str(), out),
+        Instruction::GetItem => out.push_str("item"),
+        Instruction::BuildKwargs(count) => out.group("keywords", count),
+        _ => write_called(instruction, out),
+    }
+}
+
+// A call, with the number of values that it takes.
+fn write_called(instruction: &Instruction<'_>, out: &mut Report) {
+    match instruction {
+        Instruction::CallFunction(name, count) => {
+            write_call("(call", Some(name.as_str()), *count, out)
+        }
+        Instruction::CallMethod(name, count) => {
+            write_call("(method", Some(name.as_str()), *count, out)
+        }
+        Instruction::CallObject(count) => write_call("(call_value", None, *count, out),
         _ => out.push('?'),
     }
+}
+
+fn write_call(head: &str, name: Option<&str>, count: Option<u16>, out: &mut Report) {
+    out.push_str(head);
+    if let Some(name) = name {
+        out.word(name)
+    }
+    match count {
+        Some(count) => out.tell(" ", &count),
+        None => out.word("counted"),
+    }
+    out.push(')')
 }
 
 // A constant of a kind that literals have.

@@ -33,7 +33,8 @@
 //!   with `, ` between, where refusals are skipped);
 //! - `! Kind` where the main template does not stand, where a source or an expression is refused, and where a call ended
 //!   with a fault that leaves no text;
-//! - the value of an expression, as JSON, or `undefined`;
+//! - the value of an expression, as JSON, or `undefined`, or `function N of M` for a function, N being its number and M that
+//!   of its environment, or `namespace N of M` for a namespace, M being the number of its state;
 //! - `[name, name]` where names are asked for, and two such lists for those that are used: without what stands behind
 //!   dots, then with it;
 //! - `[name "source", name "source"]` for the templates that stand;

@@ -92,12 +92,22 @@ impl Report {
         }
     }
 
-    /// A value as JSON, but for the undefined one.
+    /// A value as JSON, but for the undefined one, and for functions and namespaces, which are told by their numbers.
     pub(crate) fn value(&mut self, value: &Value) {
         match value.content() {
             Content::Undefined => self.push_str("undefined"),
+            Content::Function(environment, number) => {
+                self.numbered("function ", number, environment)
+            }
+            Content::Namespace(state, number) => self.numbered("namespace ", number, state),
             _ => self.json(value),
         }
+    }
+
+    // The number of what an environment or a state has, behind words, and then whose it is.
+    fn numbered(&mut self, words: &str, number: usize, owner: u64) {
+        self.tell(words, &number);
+        self.tell(" of ", &owner);
     }
 
     fn json(&mut self, value: &Value) {
