@@ -1,7 +1,7 @@
 -- Worked rows, computed: texts, prices and ends.
 use Rattle.std.proofs.Common.{◌≡◌, ℕ, pos, false, List, [], ◌∷◌, None, Some, Option, codes, bytes_eq, refl}
 use Rattle.std.specs.Prelude.{if◌then◌else◌}
-use Rattle.template_values_errors.specs.declared.ErrorKind.TheVariants.{InvalidOperation, TooManyArguments, UnknownFunction, BadInclude, OutOfFuel}
+use Rattle.template_values_errors.specs.declared.ErrorKind.TheVariants.{InvalidOperation, UndefinedError, TooManyArguments, UnknownFilter, UnknownTest, UnknownFunction, BadInclude, OutOfFuel}
 use Rattle.template_values_errors.specs.declared.modes.AutoEscape.TheVariants as escapes
 use Rattle.template_values_errors.specs.declared.modes.UndefinedBehavior.{UndefinedBehavior}
 use Rattle.template_values_errors.specs.declared.modes.UndefinedBehavior.TheVariants.{Lenient, Strict}
@@ -11,7 +11,7 @@ use Rattle.template_tree.specs.declared.operators.CompareOpKind.TheVariants.{Lt,
 use Rattle.std.specs.Fmt as fmt
 use Rattle.template_values_forms.specs.Printed as printed_forms
 use Rattle.template_tree.specs.Tree as tree
-use Rattle.template_tree.specs.Tree.{Expression, Expressions, Arguments, Statement, Statements, variable, constant, binary, chain, attribute, call, list_literal, absent, given, no_expressions, expressions_more, no_arguments, arguments_more, positional, keyword, no_links, links_more, raw, print, for_loop, set, set_block, no_statements, statements_more}
+use Rattle.template_tree.specs.Tree.{Expression, Expressions, Arguments, Statement, Statements, variable, constant, binary, chain, filtered, tested, attribute, call, list_literal, absent, given, no_expressions, expressions_more, no_arguments, arguments_more, positional, keyword, positional_spread, keyword_spread, no_links, links_more, raw, print, for_loop, set, set_block, filter_block, no_statements, statements_more}
 use Rattle.template_process.specs.Drive.{faults}
 use Rattle.template_process.specs.Trace.{Run, text_of, price_of}
 use Rattle.template_process.specs.Fuel.{under}
@@ -159,6 +159,98 @@ changed_row = run_of Lenient no_statements (for_loop (variable (codes "i")) (lis
 changed_text : text_of changed_row.items ≡ codes "true,false,true,"
 unfolding printed_forms.level_limit fmt.digits
 changed_text = refl
+
+-- `{% set n = namespace() %}{% for i in [1, 2] %}{% set n.l = loop %}{% endfor %}{{ n.l.index }}{{ n.l.last }}{{ n.l.cycle(1, 2, 3) }}`
+abbrev n_l : Expression
+n_l = attribute (variable (codes "n")) (codes "l")
+
+abbrev of_n_l : List ℕ → Expression
+of_n_l name = attribute n_l name
+
+abbrev made_n : Statement
+made_n = set (variable (codes "n")) (call (variable (codes "namespace")) no_arguments)
+
+abbrev kept_loop_row : Run World
+kept_loop_row = run_of Lenient no_statements (made_n ∷ for_loop (variable (codes "i")) (list_literal (expressions (number 1 ∷ number 2 ∷ []))) absent false (statements (set n_l (variable (codes "loop")) ∷ [])) no_statements
+    ∷ print (of_n_l (codes "index")) ∷ print (of_n_l (codes "last")) ∷ print (call (of_n_l (codes "cycle")) (passing (number 1 ∷ number 2 ∷ number 3 ∷ []))) ∷ []) (map no_pairs)
+
+kept_loop_text : text_of kept_loop_row.items ≡ codes "3false3"
+unfolding printed_forms.level_limit fmt.digits
+kept_loop_text = refl
+
+-- `{% set n = namespace() %}{% for i in [1] %}{% set n.l = [loop] %}{{ loop.changed(1) }}{% endfor %}{{ n.l[0].changed(1) }}{{ n.l[0].changed(2) }}`
+abbrev changed_by : Expression → ℕ → Statement
+changed_by e n = print (call (attribute e (codes "changed")) (passing (number n ∷ [])))
+
+abbrev kept_changed_row : Run World
+kept_changed_row = run_of Lenient no_statements (made_n ∷ for_loop (variable (codes "i")) (list_literal (expressions (number 1 ∷ []))) absent false
+    (statements (set n_l (list_literal (expressions (variable (codes "loop") ∷ []))) ∷ changed_by (variable (codes "loop")) 1 ∷ [])) no_statements
+    ∷ changed_by (tree.item n_l (number 0)) 1 ∷ changed_by (tree.item n_l (number 0)) 2 ∷ []) (map no_pairs)
+
+kept_changed_text : text_of kept_changed_row.items ≡ codes "truefalsetrue"
+unfolding printed_forms.level_limit fmt.digits
+kept_changed_text = refl
+
+-- `{{ dict(**{"a": 1}, a=2).a }}`
+abbrev merged_row : Run World
+merged_row = run_of Lenient no_statements (print (attribute (call (variable (codes "dict"))
+    (arguments_more (keyword_spread (constant (only (codes "a") (int (pos 1))))) (arguments_more (keyword (codes "a") (number 2)) no_arguments))) (codes "a")) ∷ []) (map no_pairs)
+
+merged_text : text_of merged_row.items ≡ codes "2"
+unfolding printed_forms.level_limit fmt.digits
+merged_text = refl
+
+merged_price : price_of merged_row.items ≡ 5
+unfolding printed_forms.level_limit fmt.digits
+merged_price = refl
+
+-- `{% for i in range(*[1], 3) %}{{ i }}{% endfor %}`
+abbrev spread_row : Run World
+spread_row = run_of Lenient no_statements (for_loop (variable (codes "i")) (call (variable (codes "range"))
+    (arguments_more (positional_spread (list_literal (expressions (number 1 ∷ [])))) (passing (number 3 ∷ [])))) absent false
+    (statements (print (variable (codes "i")) ∷ [])) no_statements ∷ []) (map no_pairs)
+
+spread_text : text_of spread_row.items ≡ codes "12"
+unfolding printed_forms.level_limit fmt.digits
+spread_text = refl
+
+spread_price : price_of spread_row.items ≡ 14
+unfolding printed_forms.level_limit fmt.digits
+spread_price = refl
+
+-- `{{ dict(*x, a=1).a }}`, where x is undefined
+abbrev nothing_spread : Run World
+nothing_spread = run_of Strict no_statements (print (attribute (call (variable (codes "dict"))
+    (arguments_more (positional_spread (variable (codes "x"))) (arguments_more (keyword (codes "a") (number 1)) no_arguments))) (codes "a")) ∷ []) (map no_pairs)
+
+nothing_spread_text : text_of nothing_spread.items ≡ codes "1"
+unfolding printed_forms.level_limit fmt.digits
+nothing_spread_text = refl
+
+-- `{{ dict(**x) }}`, where x is undefined
+abbrev nothing_merged : UndefinedBehavior → Run World
+nothing_merged mode = run_of mode no_statements (print (call (variable (codes "dict")) (arguments_more (keyword_spread (variable (codes "x"))) no_arguments)) ∷ []) (map no_pairs)
+
+lenient_merged_end : (nothing_merged Lenient).end ≡ faults (InvalidOperation ∷ [])
+unfolding printed_forms.level_limit fmt.digits
+lenient_merged_end = refl
+
+strict_merged_end : (nothing_merged Strict).end ≡ faults (UndefinedError ∷ [])
+unfolding printed_forms.level_limit fmt.digits
+strict_merged_end = refl
+
+-- `{{ 1|f }}`, `{% filter f %}a{% endfilter %}` and `{{ 1 is f }}`
+unknown_filter_end : (run_of Lenient no_statements (print (filtered (codes "f") (given (number 1)) no_arguments) ∷ []) (map no_pairs)).end ≡ faults (UnknownFilter ∷ [])
+unfolding printed_forms.level_limit fmt.digits
+unknown_filter_end = refl
+
+unknown_block_end : (run_of Lenient no_statements (filter_block (filtered (codes "f") absent no_arguments) (statements (raw (codes "a") ∷ [])) ∷ []) (map no_pairs)).end ≡ faults (UnknownFilter ∷ [])
+unfolding printed_forms.level_limit fmt.digits
+unknown_block_end = refl
+
+unknown_test_end : (run_of Lenient no_statements (print (tested (codes "f") (number 1) no_arguments) ∷ []) (map no_pairs)).end ≡ faults (UnknownTest ∷ [])
+unfolding printed_forms.level_limit fmt.digits
+unknown_test_end = refl
 
 -- `{{ f() }}`
 unknown_end : (run_of Lenient no_statements (print (call (variable (codes "f")) no_arguments) ∷ []) (map no_pairs)).end ≡ faults (UnknownFunction ∷ [])

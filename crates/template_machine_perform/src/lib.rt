@@ -7,6 +7,7 @@ mod attributes;
 mod calls;
 mod captures;
 mod escapes;
+mod filters;
 mod frames;
 mod loops;
 mod names;
