@@ -73,13 +73,13 @@ mutual
   filter_parts_bound (is_not_test t) = let p = test_bound t in omega arith
 
   pub filter_bound : {d : ℕ} {value : Optional} {e : Expression} {ts us : List Token} → IsFilter d value ts e us →
-      expression_size e + 51 * weight us ≤ 51 * weight ts
-  filter_bound (filter n l) = let p = name_weighs n in let q = optional_arguments_weigh l in omega arith
+      expression_size e + 51 * weight us ≤ optional_size value + 51 * weight ts
+  filter_bound (filter n l) = let p = name_weighs n in let q = optional_arguments_bound l in omega arith
 
   test_bound : {d : ℕ} {negated : Bool} {a e : Expression} {ts us : List Token} → IsTest d negated a ts e us →
-      expression_size e + 51 * weight us ≤ 51 * weight ts
+      expression_size e + 51 * weight us ≤ expression_size a + 51 * weight ts
   test_bound (test {negated = negated} {a = a} {n = n} {args = args} m e l p) =
-      let q = name_weighs m in let r = optional_arguments_weigh l in let s = parts_bound p in omega (arith, tested_size negated n a args)
+      let q = name_weighs m in let r = optional_arguments_bound l in let s = parts_bound p in omega (arith, tested_size negated n a args)
   test_bound (bare_test {negated = negated} {a = a} {b = b} {n = n} m e u f) =
       let q = name_weighs m in let r = unary_bound u in
       omega (arith, tested_size negated n a (arguments_more (positional b) no_arguments), ap expression_size f)
@@ -151,10 +151,11 @@ mutual
       let a = expression_bound g in let b = expression_bound h in let c = pairs_bound i in
       omega (arith, and_expression_size p.0 k, and_expression_size p.1 v)
 
-  -- behind a filter or a test, whose arguments have no code
-  optional_arguments_weigh : {d : ℕ} {args : Arguments} {ts us : List Token} → IsOptionalArguments d ts args us → weight us ≤ weight ts
-  optional_arguments_weigh (no_list e) = omega arith
-  optional_arguments_weigh (a_list l) = let p = argument_list_bound l in omega arith
+  -- behind a filter or a test
+  optional_arguments_bound : {d : ℕ} {args : Arguments} {ts us : List Token} → IsOptionalArguments d ts args us →
+      arguments_size args + 51 * weight us ≤ 51 * weight ts
+  optional_arguments_bound (no_list e) = omega arith
+  optional_arguments_bound (a_list l) = let p = argument_list_bound l in omega arith
 
   argument_list_bound : {d : ℕ} {args : Arguments} {ts us : List Token} → IsArgumentList d ts args us →
       arguments_size args + 51 * weight us ≤ 51 * weight ts

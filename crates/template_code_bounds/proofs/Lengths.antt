@@ -1,16 +1,16 @@
 -- The code of a tree is no longer than the tree is large, wherever it begins.
-use Rattle.std.proofs.Common.{◌≤◌, ℕ, ◌+◌, suc, true, false, List, [], ◌∷◌, ◌++◌, length, Option, None, Some, arith, length-append}
+use Rattle.std.proofs.Common.{◌≤◌, ℕ, ◌+◌, zero, suc, Bool, true, false, List, [], ◌∷◌, ◌++◌, length, Option, None, Some, arith, length-append}
 use Rattle.template_values_model.specs.Val.{Val, silent_undefined, none, text}
 use Rattle.template_tree.specs.declared.operators.BinOpKind.{BinOpKind}
 use Rattle.template_tree.specs.declared.operators.BinOpKind.TheVariants.{Add, ScAnd, ScOr}
-use Rattle.template_tree.specs.Tree.{Expression, Optional, Expressions, Links, Arguments, unary, binary, chain, conditional, attribute, item, call, list_literal, tuple_literal, map_literal, absent, given, no_expressions, expressions_more, no_links, links_more, no_arguments, arguments_more, positional, keyword, positional_spread, keyword_spread, Statement, print, for_loop, if_condition, with_block, set, set_block, auto_escape, continue_loop, break_loop, do_call, Statements, no_statements, statements_more, Assignments, no_assignments, assignments_more}
+use Rattle.template_tree.specs.Tree.{Expression, Optional, Expressions, Links, Arguments, unary, binary, chain, conditional, attribute, item, call, filtered, tested, list_literal, tuple_literal, map_literal, absent, given, no_expressions, expressions_more, no_links, links_more, no_arguments, arguments_more, positional, keyword, positional_spread, keyword_spread, Statement, print, for_loop, if_condition, with_block, set, set_block, auto_escape, filter_block, continue_loop, break_loop, do_call, Statements, no_statements, statements_more, Assignments, no_assignments, assignments_more}
 use Rattle.template_tree.specs.Tree as tree
 use Rattle.template_walk.specs.Constants.{constant_of}
-use Rattle.template_walk.specs.Expressions.{Callee, by_name, by_method, by_value, callee_of}
+use Rattle.template_walk.specs.Expressions.{Passing, has_spread, Callee, by_name, by_method, by_value, callee_of}
 use Rattle.template_walk.specs.Statements.{number_of}
-use Rattle.template_code.specs.Code.{Code, get_attr, set_attr, get_item, slice, build_map, build_kwargs, build_list, build_tuple, call_function, call_method, call_object, operate, compare_and_preserve, jump, jump_if_false, jump_if_false_or_pop, jump_if_true_or_pop, emit, load_const, unpack_list, unpack_lists, swap, dup_top, discard_top, push_with, pop_frame, push_loop, pop_loop_frame, push_auto_escape, pop_auto_escape, begin_capture, end_capture, include}
+use Rattle.template_code.specs.Code.{Code, get_attr, set_attr, get_item, slice, build_map, build_kwargs, merge_kwargs, build_list, build_tuple, call_function, call_method, call_object, apply_filter, perform_test, operate, compare_and_preserve, jump, jump_if_false, jump_if_false_or_pop, jump_if_true_or_pop, emit, load_const, unpack_list, unpack_lists, swap, dup_top, discard_top, push_with, pop_frame, push_loop, pop_loop_frame, push_auto_escape, pop_auto_escape, begin_capture, end_capture, include}
 use Rattle.template_compiler_codegen.specs.Core.{Core, no_ways, flat}
-use Rattle.template_compiler_codegen.specs.Expressions.{Coded, unary_code, then_code, one, dropped, loaded, skipped, either_code, binary_code, entry_count, passed_core, passed_count, called_core, expression_core, object_core, positional_cores, keyword_cores, expression_code, optional_code, expressions_code, codes_of, entries_code, chain_code, linked_code, in_turn_code, named_code, keywords_code, passed_code}
+use Rattle.template_compiler_codegen.specs.Expressions.{Coded, unary_code, then_code, one, dropped, loaded, skipped, either_code, binary_code, entry_count, listed_core, mapped_core, at_most_one, stretches_core, entries_stretches_core, list_count, rest_count, merged_core, map_count, keywords_core, keyword_count, run_core, passed_core, passed_count, called_core, no_number, expression_core, object_core, positional_cores, keyword_cores, expression_code, optional_code, expressions_code, codes_of, entries_code, chain_code, linked_code, filter_code, filters_code, passed_code, argument_count}
 use Rattle.template_compiler_codegen.specs.Statements.{Ways, own_ways, closing_with, target_code, targets_code, assignments_code, loop_flags, no_flags, one_item, rounds_code, iterable_code, keep_code, kept_code, loop_end_code, branches_code, left_by, statement_code, statements_code}
 use Rattle.template_code_bounds.proofs.Sizes.{expression_size, optional_size, expressions_size, arguments_size, chain_size, links_size, target_size, targets_size, iterable_size, assignments_size, statement_size, statements_size}
 
@@ -61,11 +61,13 @@ chain_some (links_more op e links) = omega arith
 abbrev positional_size : Arguments → ℕ
 positional_size no_arguments = 0
 positional_size (arguments_more (positional e) args) = expression_size e + positional_size args
+positional_size (arguments_more (positional_spread e) args) = suc (expression_size e + positional_size args)
 positional_size (arguments_more _ args) = positional_size args
 
 abbrev keyword_size : Arguments → ℕ
 keyword_size no_arguments = 0
 keyword_size (arguments_more (keyword name e) args) = suc (expression_size e + keyword_size args)
+keyword_size (arguments_more (keyword_spread e) args) = suc (expression_size e + keyword_size args)
 keyword_size (arguments_more _ args) = keyword_size args
 
 parted_size : (args : Arguments) → positional_size args + keyword_size args ≤ arguments_size args
@@ -75,28 +77,66 @@ parted_size (arguments_more (keyword name e) args) = omega (arith, parted_size a
 parted_size (arguments_more (positional_spread e) args) = omega (arith, parted_size args)
 parted_size (arguments_more (keyword_spread e) args) = omega (arith, parted_size args)
 
-keywords_most : (ns : List (List ℕ × Core)) (k : ℕ) → AtMost (named_code ns) k → AtMost (keywords_code ns) (suc k)
-keywords_most [] k most = λ place. omega arith
-keywords_most (n ∷ ns) k most = and_one_most (build_kwargs (suc (length ns))) (named_code (n ∷ ns)) k most
+-- stretches of arguments, behind so many values or entries
+abbrev stretches_code : ℕ → Arguments → Coded
+stretches_code n args = flat no_ways (stretches_core n (positional_cores args))
 
-passed_most : (args : Arguments) → AtMost (in_turn_code (positional_cores args)) (positional_size args) →
-    AtMost (named_code (keyword_cores args)) (keyword_size args) → AtMost (passed_code args) (suc (arguments_size args))
-passed_most args first later =
-    let ns = keyword_cores args in let k = keyword_size args in
-    then_most (in_turn_code (positional_cores args)) (keywords_code ns) (positional_size args) (suc k) (suc (arguments_size args)) first
-    (keywords_most ns k later) (omega (arith, parted_size args))
+abbrev named_code : ℕ → Arguments → Coded
+named_code n args = flat no_ways (entries_stretches_core n (keyword_cores args))
 
-called_most : (callee : Callee) (whole object : Core) (cs : List Core) (ns : List (List ℕ × Core)) (m n k : ℕ) →
-    AtMost (flat no_ways whole) m → AtMost (flat no_ways object) m → AtMost (flat no_ways (passed_core cs ns)) n → suc (m + n) ≤ k →
+listed_most : (n : ℕ) → AtMost (flat no_ways (listed_core n)) 1
+listed_most zero = λ place. omega arith
+listed_most (suc n) = one_most (build_list (Some (suc n)))
+
+mapped_most : (n : ℕ) → AtMost (flat no_ways (mapped_core n)) 1
+mapped_most zero = λ place. omega arith
+mapped_most (suc n) = one_most (build_kwargs (suc n))
+
+merged_most : (several : Bool) (n : ℕ) → AtMost (flat no_ways (merged_core several n)) 1
+merged_most false n = λ place. omega arith
+merged_most true n = one_most (merge_kwargs n)
+
+run_most : (spread_one : Bool) (lists n : ℕ) → AtMost (flat no_ways (run_core spread_one lists n)) 2
+run_most false lists n = λ place. omega arith
+run_most true lists n =
+    let c = unpack_lists (lists + at_most_one n) in
+    then_most (flat no_ways (listed_core n)) (one c) 1 1 2 (listed_most n) (one_most c) (omega arith)
+
+keywords_most : (args : Arguments) → AtMost (named_code 0 args) (keyword_size args) → AtMost (flat no_ways (keywords_core (keyword_cores args))) (2 + keyword_size args)
+keywords_most args most =
+    let named = keyword_cores args in
+    let mapped = flat no_ways (mapped_core (rest_count 0 named)) in
+    let merged = flat no_ways (merged_core (has_spread named) (map_count named)) in
+    then_most (named_code 0 args) (then_code mapped merged) (keyword_size args) 2 (2 + keyword_size args) most
+    (then_most mapped merged 1 1 2 (mapped_most (rest_count 0 named)) (merged_most (has_spread named) (map_count named)) (omega arith)) (omega arith)
+
+passed_most : (front : ℕ) (args : Arguments) → AtMost (stretches_code front args) (positional_size args) → AtMost (named_code 0 args) (keyword_size args) →
+    AtMost (passed_code front args) (4 + arguments_size args)
+passed_most front args first later =
+    let pieces = positional_cores args in let named = keyword_cores args in
+    let keywords = flat no_ways (keywords_core named) in
+    let count = rest_count front pieces + keyword_count named in
+    let run = flat no_ways (run_core (has_spread pieces) (list_count front pieces) count) in
+    let k = 2 + keyword_size args in
+    then_most (stretches_code front args) (then_code keywords run) (positional_size args) (k + 2) (4 + arguments_size args) first
+    (then_most keywords run k 2 (k + 2) (keywords_most args later) (run_most (has_spread pieces) (list_count front pieces) count) (omega arith)) (omega (arith, parted_size args))
+
+called_most : (callee : Callee) (whole object : Core) (cs : List (Passing Core Core)) (ns : List (Passing (List ℕ × Core) Core)) (m n k : ℕ) →
+    AtMost (flat no_ways whole) m → AtMost (flat no_ways object) m → ((front : ℕ) → AtMost (flat no_ways (passed_core front cs ns)) n) → suc (m + n) ≤ k →
     AtMost (flat no_ways (called_core callee whole object cs ns)) k
 called_most (by_name name) whole object cs ns m n k f g h most =
-    then_most (flat no_ways (passed_core cs ns)) (one (call_function name (Some (passed_count cs ns)))) n 1 k h (one_most (call_function name (Some (passed_count cs ns)))) (omega arith)
+    let c = call_function name (passed_count 0 cs ns) in
+    then_most (flat no_ways (passed_core 0 cs ns)) (one c) n 1 k (h 0) (one_most c) (omega arith)
 called_most (by_method name) whole object cs ns m n k f g h most =
-    let c = call_method name (Some (suc (passed_count cs ns))) in let passed = flat no_ways (passed_core cs ns) in
-    then_most (flat no_ways object) (then_code passed (one c)) m (suc n) k g (and_one_most c passed n h) (omega arith)
+    let c = call_method name (passed_count 1 cs ns) in let passed = flat no_ways (passed_core 1 cs ns) in
+    then_most (flat no_ways object) (then_code passed (one c)) m (suc n) k g (and_one_most c passed n (h 1)) (omega arith)
 called_most by_value whole object cs ns m n k f g h most =
-    let c = call_object (Some (suc (passed_count cs ns))) in let passed = flat no_ways (passed_core cs ns) in
-    then_most (flat no_ways whole) (then_code passed (one c)) m (suc n) k f (and_one_most c passed n h) (omega arith)
+    let c = call_object (passed_count 1 cs ns) in let passed = flat no_ways (passed_core 1 cs ns) in
+    then_most (flat no_ways whole) (then_code passed (one c)) m (suc n) k f (and_one_most c passed n (h 1)) (omega arith)
+
+-- an instruction over a value and arguments
+applied_most : (c : Code) (args : Arguments) → AtMost (passed_code 1 args) (4 + arguments_size args) → AtMost (then_code (passed_code 1 args) (one c)) (5 + arguments_size args)
+applied_most c args most = then_most (passed_code 1 args) (one c) (4 + arguments_size args) 1 (5 + arguments_size args) most (one_most c) (omega arith)
 
 mutual
   pub expression_most : (e : Expression) → AtMost (expression_code e) (expression_size e)
@@ -129,8 +169,16 @@ mutual
       (and_one_most slice (optional_code none by) (optional_size by) (optional_most none by)) (omega arith)) (omega arith)) (omega arith)
   expression_most (call callee args) =
       called_most (callee_of callee) (expression_core callee) (object_core callee) (positional_cores args) (keyword_cores args)
-      (expression_size callee) (suc (arguments_size args)) (expression_size (call callee args))
-      (expression_most callee) (object_most callee) (passed_most args (positional_most args) (keyword_most args)) (omega arith)
+      (expression_size callee) (4 + arguments_size args) (expression_size (call callee args))
+      (expression_most callee) (object_most callee) (λ front. passed_most front args (stretches_most args front) (named_most args 0)) (omega arith)
+  expression_most (filtered name absent args) = λ place. omega arith
+  expression_most (filtered name (given e) args) =
+      then_most (expression_code e) (filter_code name args) (expression_size e) (5 + arguments_size args) (expression_size (filtered name (given e) args)) (expression_most e)
+      (applied_most (apply_filter name (argument_count 1 args) no_number) args (passed_most 1 args (stretches_most args 1) (named_most args 0))) (omega arith)
+  expression_most (tested name e args) =
+      let c = perform_test name (argument_count 1 args) no_number in
+      then_most (expression_code e) (then_code (passed_code 1 args) (one c)) (expression_size e) (5 + arguments_size args) (expression_size (tested name e args)) (expression_most e)
+      (applied_most c args (passed_most 1 args (stretches_most args 1) (named_most args 0))) (omega arith)
   expression_most (list_literal es) =
       loaded_most (constant_of (list_literal es)) (then_code (expressions_code es) (one (build_list (Some (number_of es))))) (suc (expressions_size es))
       (and_one_most (build_list (Some (number_of es))) (expressions_code es) (expressions_size es) (expressions_most es)) (omega arith)
@@ -147,25 +195,30 @@ mutual
   object_most (attribute e name) = λ place. omega (arith, expression_most e place)
   object_most _ = λ place. omega arith
 
-  positional_most : (args : Arguments) → AtMost (in_turn_code (positional_cores args)) (positional_size args)
-  positional_most no_arguments = λ place. omega arith
-  positional_most (arguments_more (positional e) args) =
-      let more = in_turn_code (positional_cores args) in
-      then_most (expression_code e) more (expression_size e) (positional_size args) (expression_size e + positional_size args)
-      (expression_most e) (positional_most args) (omega arith)
-  positional_most (arguments_more (keyword name e) args) = positional_most args
-  positional_most (arguments_more (positional_spread e) args) = positional_most args
-  positional_most (arguments_more (keyword_spread e) args) = positional_most args
+  stretches_most : (args : Arguments) (n : ℕ) → AtMost (stretches_code n args) (positional_size args)
+  stretches_most no_arguments n = λ place. omega arith
+  stretches_most (arguments_more (positional e) args) n =
+      then_most (expression_code e) (stretches_code (suc n) args) (expression_size e) (positional_size args) (expression_size e + positional_size args)
+      (expression_most e) (stretches_most args (suc n)) (omega arith)
+  stretches_most (arguments_more (positional_spread e) args) n =
+      let more = stretches_code 0 args in let m = expression_size e + positional_size args in
+      then_most (flat no_ways (listed_core n)) (then_code (expression_code e) more) 1 m (suc m) (listed_most n)
+      (then_most (expression_code e) more (expression_size e) (positional_size args) m (expression_most e) (stretches_most args 0) (omega arith)) (omega arith)
+  stretches_most (arguments_more (keyword name e) args) n = stretches_most args n
+  stretches_most (arguments_more (keyword_spread e) args) n = stretches_most args n
 
-  keyword_most : (args : Arguments) → AtMost (named_code (keyword_cores args)) (keyword_size args)
-  keyword_most no_arguments = λ place. omega arith
-  keyword_most (arguments_more (positional e) args) = keyword_most args
-  keyword_most (arguments_more (keyword name e) args) =
-      let more = named_code (keyword_cores args) in let n = expression_size e + keyword_size args in
-      then_most (one (load_const (text name))) (then_code (expression_code e) more) 1 n (suc n) (one_most (load_const (text name)))
-      (then_most (expression_code e) more (expression_size e) (keyword_size args) n (expression_most e) (keyword_most args) (omega arith)) (omega arith)
-  keyword_most (arguments_more (positional_spread e) args) = keyword_most args
-  keyword_most (arguments_more (keyword_spread e) args) = keyword_most args
+  named_most : (args : Arguments) (n : ℕ) → AtMost (named_code n args) (keyword_size args)
+  named_most no_arguments n = λ place. omega arith
+  named_most (arguments_more (positional e) args) n = named_most args n
+  named_most (arguments_more (keyword name e) args) n =
+      let more = named_code (suc n) args in let m = expression_size e + keyword_size args in
+      then_most (one (load_const (text name))) (then_code (expression_code e) more) 1 m (suc m) (one_most (load_const (text name)))
+      (then_most (expression_code e) more (expression_size e) (keyword_size args) m (expression_most e) (named_most args (suc n)) (omega arith)) (omega arith)
+  named_most (arguments_more (positional_spread e) args) n = named_most args n
+  named_most (arguments_more (keyword_spread e) args) n =
+      let more = named_code 0 args in let m = expression_size e + keyword_size args in
+      then_most (flat no_ways (mapped_core n)) (then_code (expression_code e) more) 1 m (suc m) (mapped_most n)
+      (then_most (expression_code e) more (expression_size e) (keyword_size args) m (expression_most e) (named_most args 0) (omega arith)) (omega arith)
 
   optional_most : (missing : Val) (o : Optional) → AtMost (optional_code missing o) (optional_size o)
   optional_most missing absent = λ place. omega arith
@@ -203,6 +256,18 @@ mutual
       skipped_most jump_if_false_or_pop (then_code (then_code (expression_code e) (one c)) (linked_code links)) n (links_size (links_more op e links))
       (then_most (then_code (expression_code e) (one c)) (linked_code links) (suc (expression_size e)) (links_size links) n
       (and_one_most c (expression_code e) (expression_size e) (expression_most e)) (linked_most links) (omega arith)) (omega arith)
+
+arguments_most : (args : Arguments) (front : ℕ) → AtMost (passed_code front args) (4 + arguments_size args)
+arguments_most args front = passed_most front args (stretches_most args front) (named_most args 0)
+
+-- the filters of a block
+filters_most : (e : Expression) → AtMost (filters_code e) (expression_size e)
+filters_most (filtered name absent args) =
+    λ place. omega (arith, applied_most (apply_filter name (argument_count 1 args) no_number) args (arguments_most args 1) place)
+filters_most (filtered name (given e) args) =
+    then_most (filters_code e) (filter_code name args) (expression_size e) (5 + arguments_size args) (expression_size (filtered name (given e) args)) (filters_most e)
+    (applied_most (apply_filter name (argument_count 1 args) no_number) args (arguments_most args 1)) (omega arith)
+filters_most _ = λ place. omega arith
 
 mutual
   target_most : (target : Expression) → AtMost (target_code target) (target_size target)
@@ -303,6 +368,23 @@ mutual
       then_most (one (begin_capture true)) (then_code bodied tail) 1 (b + t) (statement_size n (set_block target absent body)) (one_most (begin_capture true))
       (then_most bodied tail b t (b + t) (statements_most body inner)
       (then_most (one end_capture) (target_code target) 1 (target_size target) t (one_most end_capture) (target_most target) (omega arith)) (omega arith)) (omega arith)
+  statement_most (set_block target (given filters) body) ways =
+      let n = length ways.closings in let inner = closing_with end_capture (closing_with discard_top ways) in
+      let bodied = statements_code inner body in let stored = then_code (filters_code filters) (target_code target) in
+      let tail = then_code (one end_capture) stored in
+      let b = statements_size (suc (suc n)) body in let u = expression_size filters + target_size target in let t = suc u in
+      then_most (one (begin_capture true)) (then_code bodied tail) 1 (b + t) (statement_size n (set_block target (given filters) body)) (one_most (begin_capture true))
+      (then_most bodied tail b t (b + t) (statements_most body inner)
+      (then_most (one end_capture) stored 1 u t (one_most end_capture)
+      (then_most (filters_code filters) (target_code target) (expression_size filters) (target_size target) u (filters_most filters) (target_most target) (omega arith)) (omega arith)) (omega arith)) (omega arith)
+  statement_most (filter_block filters body) ways =
+      let n = length ways.closings in let inner = closing_with end_capture (closing_with discard_top ways) in
+      let bodied = statements_code inner body in let printed = then_code (filters_code filters) (one emit) in
+      let tail = then_code (one end_capture) printed in
+      let b = statements_size (suc (suc n)) body in let u = suc (expression_size filters) in let t = suc u in
+      then_most (one (begin_capture true)) (then_code bodied tail) 1 (b + t) (statement_size n (filter_block filters body)) (one_most (begin_capture true))
+      (then_most bodied tail b t (b + t) (statements_most body inner)
+      (then_most (one end_capture) printed 1 u t (one_most end_capture) (and_one_most emit (filters_code filters) (expression_size filters) (filters_most filters)) (omega arith)) (omega arith)) (omega arith)
   statement_most (do_call callee args) ways =
       and_one_most discard_top (expression_code (call callee args)) (expression_size (call callee args)) (expression_most (call callee args))
   statement_most (auto_escape e body) ways =

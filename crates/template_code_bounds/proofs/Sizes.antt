@@ -3,7 +3,7 @@
 use Rattle.std.proofs.Common.{◌≡◌, ◌≤◌, ℕ, ◌+◌, suc, Bool, true, false, List, arith}
 use Rattle.template_tree.specs.declared.operators.CompareOpKind.{CompareOpKind}
 use Rattle.template_tree.specs.declared.operators.CompareOpKind.TheVariants as comparisons
-use Rattle.template_tree.specs.Tree.{Expression, unary, binary, chain, conditional, attribute, item, slice, call, list_literal, tuple_literal, map_literal, Optional, absent, given, Expressions, no_expressions, expressions_more, Links, no_links, links_more, Arguments, no_arguments, arguments_more, Argument, positional, keyword, positional_spread, keyword_spread, Statement, print, for_loop, if_condition, with_block, set, set_block, auto_escape, include, continue_loop, break_loop, do_call, Statements, no_statements, statements_more, Assignments, no_assignments, assignments_more}
+use Rattle.template_tree.specs.Tree.{Expression, unary, binary, chain, conditional, attribute, item, slice, call, filtered, tested, list_literal, tuple_literal, map_literal, Optional, absent, given, Expressions, no_expressions, expressions_more, Links, no_links, links_more, Arguments, no_arguments, arguments_more, Argument, positional, keyword, positional_spread, keyword_spread, Statement, print, for_loop, if_condition, with_block, set, set_block, auto_escape, filter_block, include, continue_loop, break_loop, do_call, Statements, no_statements, statements_more, Assignments, no_assignments, assignments_more}
 use Rattle.template_compiler_grammar.specs.Trees.{and_expression, and_link, and_argument, Written, and_written, followed_by, compared_once, compared, tested_as}
 use Rattle.template_compiler_grammar.specs.TemplateTrees.{and_statement, and_assignment, unpacked, together, Branches, no_branches, branches_more, and_branch, branched}
 
@@ -16,7 +16,9 @@ abbrev mutual
   expression_size (attribute e name) = suc (expression_size e)
   expression_size (item e key) = suc (expression_size e + expression_size key)
   expression_size (slice e start stop by) = suc (expression_size e + optional_size start + optional_size stop + optional_size by)
-  expression_size (call callee args) = 2 + (expression_size callee + arguments_size args)
+  expression_size (call callee args) = 5 + (expression_size callee + arguments_size args)
+  expression_size (filtered name value args) = 5 + (optional_size value + arguments_size args)
+  expression_size (tested name e args) = 5 + (expression_size e + arguments_size args)
   expression_size (list_literal es) = suc (expressions_size es)
   expression_size (tuple_literal es) = suc (expressions_size es)
   expression_size (map_literal ks vs) = suc (expressions_size ks + expressions_size vs)
@@ -30,12 +32,12 @@ abbrev mutual
   expressions_size no_expressions = 0
   expressions_size (expressions_more e es) = expression_size e + expressions_size es
 
-  -- a name has one instruction
+  -- a name has one instruction, and so have the values or names before a spread
   pub argument_size : Argument → ℕ
   argument_size (positional e) = expression_size e
   argument_size (keyword name e) = suc (expression_size e)
-  argument_size (positional_spread e) = expression_size e
-  argument_size (keyword_spread e) = expression_size e
+  argument_size (positional_spread e) = suc (expression_size e)
+  argument_size (keyword_spread e) = suc (expression_size e)
 
   pub arguments_size : Arguments → ℕ
   arguments_size no_arguments = 0
@@ -81,8 +83,9 @@ abbrev mutual
   statement_size n (if_condition e body otherwise) = 2 + (expression_size e + statements_size n body + statements_size n otherwise)
   statement_size n (with_block assignments body) = 2 + (assignments_size assignments + statements_size (suc n) body)
   statement_size n (set target e) = expression_size e + target_size target
-  statement_size n (set_block target filters body) = 2 + (target_size target + statements_size (suc (suc n)) body)
+  statement_size n (set_block target filters body) = 2 + (optional_size filters + target_size target + statements_size (suc (suc n)) body)
   statement_size n (auto_escape e body) = 2 + (expression_size e + statements_size (suc n) body)
+  statement_size n (filter_block filters body) = 3 + (expression_size filters + statements_size (suc (suc n)) body)
   statement_size n (include e ignore_missing) = suc (expression_size e)
   statement_size n (do_call callee args) = suc (expression_size (call callee args))
   statement_size n continue_loop = suc n
@@ -155,7 +158,8 @@ compared_size a no_links = omega arith
 compared_size a (links_more op b no_links) = omega (arith, once_size a op b)
 compared_size a (links_more op b (links_more op' c ls)) = omega arith
 
-pub tested_size : (negated : Bool) (n : List ℕ) (a : Expression) (args : Arguments) → expression_size (tested_as negated n a args) ≤ 2
+pub tested_size : (negated : Bool) (n : List ℕ) (a : Expression) (args : Arguments) →
+    expression_size (tested_as negated n a args) ≤ 6 + (expression_size a + arguments_size args)
 tested_size true n a args = omega arith
 tested_size false n a args = omega arith
 

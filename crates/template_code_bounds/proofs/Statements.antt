@@ -7,7 +7,7 @@ use Rattle.template_compiler_tokens.specs.Token.{Token, identifier}
 use Rattle.template_compiler_grammar.specs.TemplateTrees.{Branches, Parameters}
 use Rattle.template_compiler_grammar.specs.Grammar.{IsFilterChain, chain_end, chain_more}
 use Rattle.template_compiler_grammar.specs.TemplateGrammar.{Around, IsStored, stored, IsMore, more_end, more_next, IsTarget, name_target, path_target, paren_target, IsTargets, targets, IsMoreTargets, targets_end, targets_next, IsPath, path_end, path_more, IsValue, value, IsValues, values, IsAssignment, assignment, IsAssignments, none_assigned, some_assigned, IsLoopFilter, no_loop_filter, a_loop_filter, IsParameter, plain_parameter, default_parameter, IsParameters, none_declared, some_declared, IsOptionalParameters, not_declared, declared, IsStatements, statements_end, statements_next, IsStatement, text_statement, print_statement, for_statement, if_statement, with_statement, set_statement, set_block_statement, autoescape_statement, filter_statement, block_statement, import_statement, from_statement, extends_statement, include_statement, macro_statement, call_statement, do_statement, break_statement, continue_statement, IsBranches, branches_end, branches_next, IsElse, no_else, an_else, IsTemplate, whole_template}
-use Rattle.template_code_bounds.proofs.Sizes.{expression_size, expressions_size, target_size, targets_size, iterable_size, assignments_size, statement_size, statements_size, branches_size, and_expression_size, and_target_size, and_assignment_size, and_statement_size, and_branch_size, unpacked_size, together_size, branched_size}
+use Rattle.template_code_bounds.proofs.Sizes.{expression_size, optional_size, expressions_size, target_size, targets_size, iterable_size, assignments_size, statement_size, statements_size, branches_size, and_expression_size, and_target_size, and_assignment_size, and_statement_size, and_branch_size, unpacked_size, together_size, branched_size}
 use Rattle.template_code_bounds.proofs.Expressions.{expression_bound, binary_bound, filter_bound}
 use Rattle.template_code_bounds.proofs.Weights.{letters, weight, stored_weighs, word_weighs, context_weighs, missing_weighs, import_weighs, block_end_weighs, more_weigh}
 
@@ -75,11 +75,13 @@ iterable_bound : (target e : Expression) {d : ℕ} {f : Optional} {ts us : List 
 iterable_bound target e no_loop_filter = omega arith
 iterable_bound target e (a_loop_filter c) = let l = expression_bound c in omega arith
 
--- what has no code
-chain_weighs : {d : ℕ} {v all : Optional} {ts us : List Token} → IsFilterChain d v ts all us → weight us ≤ weight ts
-chain_weighs chain_end = omega arith
-chain_weighs (chain_more f c) = let k = filter_bound f in let l = chain_weighs c in omega arith
+-- the filters of a block
+chain_bound : {d : ℕ} {v all : Optional} {ts us : List Token} → IsFilterChain d v ts all us →
+    optional_size all + 51 * weight us ≤ optional_size v + 51 * weight ts
+chain_bound chain_end = omega arith
+chain_bound (chain_more f c) = let k = filter_bound f in let l = chain_bound c in omega arith
 
+-- what has no code
 parameter_weighs : {d : ℕ} {p q : Parameters} {ts us : List Token} → IsParameter d p ts q us → weight us ≤ weight ts
 parameter_weighs (plain_parameter s e f) = let k = stored_weighs s in omega arith
 parameter_weighs (default_parameter s e f) = let k = stored_weighs s in let l = expression_bound e in omega arith
@@ -120,11 +122,11 @@ mutual
       let k = assignments_bound a in let l = statements_bound (suc n) b (omega arith) in omega arith
   statement_bound n (set_statement t v) depth = let k = targets_bound t in let l = values_bound v in omega arith
   statement_bound n (set_block_statement t f b) depth =
-      let j = target_bound t in let k = chain_weighs f in let l = statements_bound (suc (suc n)) b (omega arith) in omega arith
+      let j = target_bound t in let k = chain_bound f in let l = statements_bound (suc (suc n)) b (omega arith) in omega arith
   statement_bound n (autoescape_statement e b) depth =
       let k = expression_bound e in let l = statements_bound (suc n) b (omega arith) in omega arith
   statement_bound n (filter_statement f c b) depth =
-      let j = filter_bound f in let k = chain_weighs c in let l = statements_bound 0 b (omega arith) in omega arith
+      let j = filter_bound f in let k = chain_bound c in let l = statements_bound (suc (suc n)) b (omega arith) in omega arith
   statement_bound n (block_statement q w b f e) depth =
       let j = word_weighs w in let k = statements_bound 0 b (omega arith) in let l = block_end_weighs e in omega arith
   statement_bound n (import_statement e a c) depth =

@@ -5,7 +5,7 @@ use Rattle.template_process.specs.Process as events
 use Rattle.template_process.specs.Process.{Counts, Ask, truth_of, Process, step, asks, on_value, on_truth, Below}
 use Rattle.template_process.proofs.Below.{below-step, below-asks_value, below-asks_truth, below-trans}
 use Rattle.template_walk.specs.Expressions.{folded}
-use Rattle.template_code.specs.Code.{Operand, single, Code, load_const, build_map, build_kwargs, build_list, build_tuple, call_function, call_method, call_object, jump, jump_if_false, jump_if_false_or_pop, jump_if_true_or_pop}
+use Rattle.template_code.specs.Code.{Operand, single, Code, load_const, build_map, build_kwargs, build_list, build_tuple, merge_kwargs, jump, jump_if_false, jump_if_false_or_pop, jump_if_true_or_pop}
 use Rattle.template_code.specs.Counting.{counts_before}
 use Rattle.template_code.specs.Steps.{taken, on_taken, paired, act, exec}
 use Rattle.template_code.proofs.Rising.{exec_more}
@@ -168,6 +168,11 @@ unfoldable pub pushed : List Val → List Operand → List Operand
 pushed [] operands = operands
 pushed (v ∷ vs) operands = pushed vs (single v ∷ operands)
 
+pub pushed_twice : (vs us : List Val) (operands : List Operand) → pushed (vs ++ us) operands ≡ pushed us (pushed vs operands)
+unfolding pushed
+pushed_twice [] us operands = refl
+pushed_twice (v ∷ vs) us operands = pushed_twice vs us (single v ∷ operands)
+
 taken_pushed : (vs : List Val) (n : ℕ) (operands : List Operand) (later : List Val) → taken (length vs + n) (pushed vs operands) later ≡ taken n operands (vs ++ later)
 unfolding pushed
 taken_pushed [] n operands later = let e : length {A = Val} [] + n ≡ n = omega arith in ap (λ m. taken m operands later) e
@@ -175,7 +180,7 @@ taken_pushed (v ∷ vs) n operands later =
     let e : length (v ∷ vs) + n ≡ length vs + suc n = omega arith in
     ap (λ m. taken m (pushed vs (single v ∷ operands)) later) e ∙ taken_pushed vs (suc n) (single v ∷ operands) later
 
-taken_all : (vs : List Val) (n : ℕ) (operands : List Operand) → length vs ≡ n → taken n (pushed vs operands) [] ≡ Some (vs, operands)
+pub taken_all : (vs : List Val) (n : ℕ) (operands : List Operand) → length vs ≡ n → taken n (pushed vs operands) [] ≡ Some (vs, operands)
 taken_all vs n operands e =
     let same : n ≡ length vs + 0 = omega arith in
     ap (λ m. taken m (pushed vs operands) []) same ∙ taken_pushed vs 0 operands [] ∙ ap (λ us. Some (us, operands)) (append-nil vs)
@@ -216,22 +221,18 @@ pub built_tuple : (n : ℕ) (next : ℕ → List Operand → Process) (before : 
     → act next before (Some (build_tuple (Some n))) place (pushed vs operands) ≡ step (asks (events.build_tuple vs) (on_value (λ w. next (suc place) (single w ∷ operands))))
 built_tuple n next before place vs operands many = ap (λ o. step (on_taken o (λ us rest. asks (events.build_tuple us) (on_value (λ w. next (suc place) (single w ∷ rest)))))) (taken_all vs n operands many)
 
-pub built_function : (name : List ℕ) (n : ℕ) (next : ℕ → List Operand → Process) (before : Counts) (place : ℕ) (vs : List Val) (operands : List Operand) → length vs ≡ n
-    → act next before (Some (call_function name (Some n))) place (pushed vs operands) ≡ step (asks (events.call_function name vs) (on_value (λ w. next (suc place) (single w ∷ operands))))
-built_function name n next before place vs operands many = ap (λ o. step (on_taken o (λ us rest. asks (events.call_function name us) (on_value (λ w. next (suc place) (single w ∷ rest)))))) (taken_all vs n operands many)
-
-pub built_method : (name : List ℕ) (n : ℕ) (next : ℕ → List Operand → Process) (before : Counts) (place : ℕ) (vs : List Val) (operands : List Operand) → length vs ≡ n
-    → act next before (Some (call_method name (Some n))) place (pushed vs operands) ≡ step (asks (events.call_method name vs) (on_value (λ w. next (suc place) (single w ∷ operands))))
-built_method name n next before place vs operands many = ap (λ o. step (on_taken o (λ us rest. asks (events.call_method name us) (on_value (λ w. next (suc place) (single w ∷ rest)))))) (taken_all vs n operands many)
-
-pub built_value : (n : ℕ) (next : ℕ → List Operand → Process) (before : Counts) (place : ℕ) (vs : List Val) (operands : List Operand) → length vs ≡ n
-    → act next before (Some (call_object (Some n))) place (pushed vs operands) ≡ step (asks (events.call_value vs) (on_value (λ w. next (suc place) (single w ∷ operands))))
-built_value n next before place vs operands many = ap (λ o. step (on_taken o (λ us rest. asks (events.call_value us) (on_value (λ w. next (suc place) (single w ∷ rest)))))) (taken_all vs n operands many)
+pub built_merged : (n : ℕ) (next : ℕ → List Operand → Process) (before : Counts) (place : ℕ) (vs : List Val) (operands : List Operand) → length vs ≡ n
+    → act next before (Some (merge_kwargs n)) place (pushed vs operands) ≡ step (asks (events.merge_kwargs vs) (on_value (λ w. next (suc place) (single w ∷ operands))))
+built_merged n next before place vs operands many = ap (λ o. step (on_taken o (λ us rest. asks (events.merge_kwargs us) (on_value (λ w. next (suc place) (single w ∷ rest)))))) (taken_all vs n operands many)
 
 -- keys and values in turn, as they stand on the operands
 abbrev pub laid : List (Val × Val) → List Val
 laid [] = []
 laid (entry ∷ entries) = entry.0 ∷ entry.1 ∷ laid entries
+
+pub laid_twice : (es ds : List (Val × Val)) → laid (es ++ ds) ≡ laid es ++ laid ds
+laid_twice [] ds = refl
+laid_twice (e ∷ es) ds = ap (λ vs. e.0 ∷ e.1 ∷ vs) (laid_twice es ds)
 
 paired_laid : (entries : List (Val × Val)) → paired (laid entries) ≡ entries
 paired_laid [] = refl

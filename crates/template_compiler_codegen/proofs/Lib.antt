@@ -1,8 +1,10 @@
 pub mod Standing
 pub mod Expressions
+pub mod Passing
 pub mod Performing
 pub mod Lengths
 pub mod Storing
+pub mod Filtering
 pub mod Gathering
 pub mod Statements
 pub mod Whole

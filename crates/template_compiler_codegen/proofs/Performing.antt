@@ -6,21 +6,22 @@ use Rattle.template_tree.specs.declared.operators.UnaryOpKind.TheVariants.{Not, 
 use Rattle.template_tree.specs.declared.operators.BinOpKind.{BinOpKind}
 use Rattle.template_tree.specs.declared.operators.BinOpKind.TheVariants.{ScAnd, ScOr}
 use Rattle.template_tree.specs.declared.operators.CompareOpKind.{CompareOpKind}
-use Rattle.template_tree.specs.Tree.{Expression, Optional, Expressions, Links, Arguments, variable, constant, unary, binary, chain, conditional, attribute, item, call, list_literal, tuple_literal, map_literal, absent, given, no_expressions, expressions_more, no_links, links_more, no_arguments, arguments_more, positional, keyword}
+use Rattle.template_tree.specs.Tree.{Expression, Optional, Expressions, Links, Arguments, variable, constant, unary, binary, chain, conditional, attribute, item, call, filtered, tested, list_literal, tuple_literal, map_literal, absent, given, no_expressions, expressions_more, no_links, links_more, no_arguments, arguments_more, positional, keyword, positional_spread, keyword_spread}
 use Rattle.template_tree.specs.Tree as tree
 use Rattle.template_process.specs.Process as events
 use Rattle.template_process.specs.Process.{Counts, Ask, truth_of, Process, step, asks, cut_short, on_value, on_truth, Below}
 use Rattle.template_process.proofs.Below.{below-cut_short, below-step}
 use Rattle.template_walk.specs.Constants.{constant_of}
 use Rattle.template_walk.specs.Statements.{number_of}
-use Rattle.template_walk.specs.Expressions.{unary_ask, binary_walk, Giving, in_turn, named_in_turn, keywords_walk, passed_walk, Callee, by_name, by_method, by_value, callee_of, called_walk, expression_walk, object_walk, positional_walks, keyword_walks, optional_walk, expressions_walk, walks_of, entries_walk, chain_walk, linked_walk}
-use Rattle.template_code.specs.Code.{Operand, single, Code, lookup, get_attr, get_item, slice, build_map, build_kwargs, build_list, build_tuple, load_const, call_function, call_method, call_object, operate, negate, invert, compare_and_preserve, swap, discard_top, jump_if_false_or_pop}
+use Rattle.template_walk.specs.Expressions.{unary_ask, binary_walk, Giving, Passing, has_spread, passed_walk, Callee, by_name, by_method, by_value, callee_of, called_walk, expression_walk, object_walk, positional_walks, keyword_walks, optional_walk, expressions_walk, walks_of, entries_walk, chain_walk, linked_walk}
+use Rattle.template_code.specs.Code.{Operand, single, Code, lookup, get_attr, get_item, slice, build_map, build_kwargs, build_list, build_tuple, load_const, call_function, call_method, call_object, apply_filter, perform_test, operate, negate, invert, compare_and_preserve, swap, discard_top, jump_if_false_or_pop}
 use Rattle.template_code.specs.Counting.{counts_before}
-use Rattle.template_code.specs.Steps.{act, exec}
+use Rattle.template_code.specs.Steps.{handed, on_taken, act, exec}
 use Rattle.template_compiler_codegen.specs.Core.{Core, no_ways, flat}
-use Rattle.template_compiler_codegen.specs.Expressions.{Coded, then_code, one, nothing, dropped, skipped, either_code, unary_code, binary_code, called_core, in_turn_core, keyword_count, passed_count, in_turn_code, named_code, keywords_code, passed_core, expression_core, object_core, positional_cores, keyword_cores, expression_code, optional_code, expressions_code, codes_of, entry_count, entries_code, chain_code, linked_code}
+use Rattle.template_compiler_codegen.specs.Expressions.{Coded, then_code, one, nothing, dropped, skipped, either_code, unary_code, binary_code, called_core, no_number, passed_count, passed_core, expression_core, object_core, positional_cores, keyword_cores, expression_code, optional_code, expressions_code, codes_of, entry_count, entries_code, chain_code, linked_code}
 use Rattle.template_compiler_codegen.proofs.Standing.{StandsAt, behind_one, instruction_at, below_at, behind_then, stands_first, stands_second}
-use Rattle.template_compiler_codegen.proofs.Expressions.{Performs, Over, GivesAll, gives_to, behind_single, asks_at, performs_load, performs_loaded, gives_then, moved, longer, over_one, over_two, tests_at, behind_skipped, over_and, over_or, over_either, pushed, performs_load, performs_built, built_list, built_tuple, built_function, built_method, built_value, builds_at, laid, built_map, built_kwargs}
+use Rattle.template_compiler_codegen.proofs.Expressions.{Performs, Over, GivesAll, gives_to, behind_single, asks_at, performs_load, performs_loaded, gives_then, moved, longer, over_one, over_two, tests_at, behind_skipped, over_and, over_or, over_either, pushed, performs_built, built_list, built_tuple, builds_at, laid, built_map}
+use Rattle.template_compiler_codegen.proofs.Passing.{EachPassed, none_passed, alone_more, spread_more, EachNamed, none_named, named_more, merged_more, Takes, gives_passed, performs_alone, over_front}
 
 looks_up : (name : List ℕ) → Performs (one (lookup name)) (λ go. step (asks (events.look_up name) (on_value go)))
 looks_up name code place h =
@@ -177,108 +178,42 @@ one_more first more f g count pf pg code place stands k =
           (λ vs many. moved code k (place + length (then_code first more place)) (more_at + length (more more_at)) (pushed vs (single v ∷ operands)) (go (v ∷ vs)) (behind_then first more place) (below (v ∷ vs) (ap suc many)))),
     )
 
--- pieces in turn
-gives_in_turn : (cs : List Core) (walks : List Giving) → EachPerforms cs walks → AllPerform (in_turn_code cs) (in_turn walks) (length cs)
-gives_in_turn _ _ none_left = none_at_all
-gives_in_turn _ _ (each_more {piece = c} {walk = walk} {pieces = cs} {walks = walks} f each) = one_more (flat no_ways c) (in_turn_code cs) walk (in_turn walks) (length cs) f (gives_in_turn cs walks each)
-
-data NamedPerform : List (List ℕ × Core) → List (List ℕ × Giving) → Type 0 where
-  no_names : NamedPerform [] []
-  more_names : {name : List ℕ} {piece : Core} {walk : Giving} {pieces : List (List ℕ × Core)} {walks : List (List ℕ × Giving)}
-      → Performs (flat no_ways piece) walk → NamedPerform pieces walks → NamedPerform ((name, piece) ∷ pieces) ((name, walk) ∷ walks)
-
-gives_named : (ns : List (List ℕ × Core)) (ws : List (List ℕ × Giving)) → NamedPerform ns ws → EntriesPerform (named_code ns) (named_in_turn ws) (length ns)
-gives_named _ _ no_names = no_entries
-gives_named _ _ (more_names {name = name} {piece = piece} {walk = walk} {pieces = ns} {walks = ws} f each) =
-    more_entries (one (load_const (text name))) (flat no_ways piece) (named_code ns) (λ go. go (text name)) walk (named_in_turn ws) (length ns) (performs_load (text name)) f (gives_named ns ws each)
-
-performs_kwargs : (piece : Coded) (walk : (List (Val × Val) → Process) → Process) (count : ℕ) → EntriesPerform piece walk count
-    → Performs (then_code piece (one (build_kwargs count))) (λ go. walk (λ entries. step (asks (events.build_kwargs entries) (on_value go))))
-performs_kwargs piece walk count f code place h =
-    let mid = place + length (piece place) in
-    gives_to code (λ go. walk (λ entries. step (asks (events.build_kwargs entries) (on_value go)))) place (mid + length (one (build_kwargs count) mid)) (place + length (then_code piece (one (build_kwargs count)) place))
-    (sym (behind_then piece (one (build_kwargs count)) place))
-    (λ k.
-    let earlier = f code place (stands_first code place piece (one (build_kwargs count)) h) (suc k) in (
-      earlier.0,
-      λ operands go below. earlier.1 operands (λ entries. step (asks (events.build_kwargs entries) (on_value go)))
-          (λ entries many. builds_at code mid (build_kwargs count) (stands_second code place piece (one (build_kwargs count)) h) k (laid entries) operands (events.build_kwargs entries) go (built_kwargs count (exec code k) (counts_before code mid) mid entries operands many) below),
-    ))
-
--- a value alone
-alone : (piece : Coded) (walk : Giving) → Performs piece walk → AllPerform piece (λ go. walk (λ v. go (v ∷ []))) 1
-unfolding pushed
-alone piece walk f code place h k =
-    let b = f code place h k in
-    (b.0, λ operands go below. b.1 operands (λ v. go (v ∷ [])) (λ v. below (v ∷ []) refl))
-
-gives_keywords : (ns : List (List ℕ × Core)) (ws : List (List ℕ × Giving)) → NamedPerform ns ws → AllPerform (keywords_code ns) (keywords_walk ws) (keyword_count ns)
-gives_keywords _ _ no_names = none_at_all
-gives_keywords _ _ (more_names {name = name} {piece = piece} {walk = walk} {pieces = ns} {walks = ws} f each) =
-    let named = (name, piece) ∷ ns in
-    let walks = (name, walk) ∷ ws in
-    alone (then_code (named_code named) (one (build_kwargs (suc (length ns))))) (λ go. named_in_turn walks (λ entries. step (asks (events.build_kwargs entries) (on_value go))))
-    (performs_kwargs (named_code named) (named_in_turn walks) (suc (length ns)) (gives_named named walks (more_names f each)))
-
-pushed_twice : (vs us : List Val) (operands : List Operand) → pushed (vs ++ us) operands ≡ pushed us (pushed vs operands)
-unfolding pushed
-pushed_twice [] us operands = refl
-pushed_twice (v ∷ vs) us operands = pushed_twice vs us (single v ∷ operands)
-
--- some values, and then others
-some_then : (first second : Coded) (f g : (List Val → Process) → Process) (m n : ℕ) → AllPerform first f m → AllPerform second g n
-    → AllPerform (then_code first second) (λ go. f (λ vs. g (λ us. go (vs ++ us)))) (m + n)
-some_then first second f g m n pf pg code place stands k =
-    let mid = place + length (first place) in
-    let b = pg code mid (stands_second code place first second stands) k in
-    let a = pf code place (stands_first code place first second stands) b.0 in (
-      a.0,
-      λ operands go below.
-          a.1 operands (λ vs. g (λ us. go (vs ++ us)))
-          (λ vs many. b.1 (pushed vs operands) (λ us. go (vs ++ us))
-          (λ us few.
-          let P : List Operand → Type 0 = λ o. Below (go (vs ++ us)) (exec code k (mid + length (second mid)) o) in
-          subst P (pushed_twice vs us operands)
-          (moved code k (place + length (then_code first second place)) (mid + length (second mid)) (pushed (vs ++ us) operands) (go (vs ++ us)) (behind_then first second place)
-          (below (vs ++ us) (omega (length-append vs us, many, few, arith)))))),
-    )
-
-gives_passed : (cs : List Core) (walks : List Giving) → EachPerforms cs walks → (ns : List (List ℕ × Core)) (ws : List (List ℕ × Giving)) → NamedPerform ns ws
-    → AllPerform (flat no_ways (passed_core cs ns)) (passed_walk walks ws) (passed_count cs ns)
-gives_passed cs walks each ns ws named =
-    some_then (in_turn_code cs) (keywords_code ns) (in_turn walks) (keywords_walk ws) (length cs) (keyword_count ns) (gives_in_turn cs walks each) (gives_keywords ns ws named)
-
--- arguments behind a value, and the call of it or of its method
-over_passed : (piece : Coded) (walk : (List Val → Process) → Process) (count : ℕ) → AllPerform piece walk count → (c : Code) (e : List Val → Ask)
-    → ((next : ℕ → List Operand → Process) (before : Counts) (place : ℕ) (vs : List Val) (operands : List Operand) → length vs ≡ suc count
-    → act next before (Some c) place (pushed vs operands) ≡ step (asks (e vs) (on_value (λ w. next (suc place) (single w ∷ operands)))))
-    → Over (then_code piece (one c)) (λ v go. walk (λ vs. step (asks (e (v ∷ vs)) (on_value go))))
-unfolding pushed
-over_passed piece walk count f c e is code place h k =
-    let mid = place + length (piece place) in
-    let earlier = f code place (stands_first code place piece (one c) h) (suc k) in (
-      earlier.0,
-      λ v operands go below.
-          earlier.1 (single v ∷ operands) (λ vs. step (asks (e (v ∷ vs)) (on_value go)))
-          (λ vs many. builds_at code mid c (stands_second code place piece (one c) h) k (v ∷ vs) operands (e (v ∷ vs)) go (is (exec code k) (counts_before code mid) mid (v ∷ vs) operands (ap suc many))
-          (λ w. moved code k (place + length (then_code piece (one c) place)) (mid + length (one c mid)) (single w ∷ operands) (go w) (behind_then piece (one c) place) (below w))),
-    )
+-- arguments, with their walk
+pub takes : (n : ℕ) (args : List (Passing Core Core)) (walks : List (Passing Giving Giving)) → EachPassed args walks → has_spread walks ≡ has_spread args
+    → (named : List (Passing (List ℕ × Core) Core)) (named_walks : List (Passing (List ℕ × Giving) Giving)) → EachNamed named named_walks → has_spread named_walks ≡ has_spread named
+    → Takes (λ front. passed_walk front walks named_walks) (flat no_ways (passed_core n args named)) n (passed_count n args named)
+takes n args walks each same named named_walks others alike = gives_passed n args walks each same named named_walks others alike
 
 -- a call
 performs_called : (callee : Callee) (whole object : Core) (f g : Giving) → Performs (flat no_ways whole) f → Performs (flat no_ways object) g
-    → (cs : List Core) (walks : List Giving) → EachPerforms cs walks → (ns : List (List ℕ × Core)) (ws : List (List ℕ × Giving)) → NamedPerform ns ws
-    → Performs (flat no_ways (called_core callee whole object cs ns)) (called_walk callee f g (passed_walk walks ws))
-performs_called (by_name name) whole object f g pf pg cs walks each ns ws named =
-    performs_built (flat no_ways (passed_core cs ns)) (passed_walk walks ws) (passed_count cs ns) (call_function name (Some (passed_count cs ns))) (events.call_function name)
-    (gives_passed cs walks each ns ws named) (built_function name (passed_count cs ns))
-performs_called (by_method name) whole object f g pf pg cs walks each ns ws named =
-    let n = passed_count cs ns in
-    gives_then (flat no_ways object) (then_code (flat no_ways (passed_core cs ns)) (one (call_method name (Some (suc n))))) g (λ v go. passed_walk walks ws (λ vs. step (asks (events.call_method name (v ∷ vs)) (on_value go)))) pg
-    (over_passed (flat no_ways (passed_core cs ns)) (passed_walk walks ws) n (gives_passed cs walks each ns ws named) (call_method name (Some (suc n))) (events.call_method name) (built_method name (suc n)))
-performs_called by_value whole object f g pf pg cs walks each ns ws named =
-    let n = passed_count cs ns in
-    gives_then (flat no_ways whole) (then_code (flat no_ways (passed_core cs ns)) (one (call_object (Some (suc n))))) f (λ v go. passed_walk walks ws (λ vs. step (asks (events.call_value (v ∷ vs)) (on_value go)))) pf
-    (over_passed (flat no_ways (passed_core cs ns)) (passed_walk walks ws) n (gives_passed cs walks each ns ws named) (call_object (Some (suc n))) events.call_value (built_value (suc n)))
+    → (args : List (Passing Core Core)) (walks : List (Passing Giving Giving)) → EachPassed args walks → has_spread walks ≡ has_spread args
+    → (named : List (Passing (List ℕ × Core) Core)) (named_walks : List (Passing (List ℕ × Giving) Giving)) → EachNamed named named_walks → has_spread named_walks ≡ has_spread named
+    → Performs (flat no_ways (called_core callee whole object args named)) (called_walk callee f g (λ front. passed_walk front walks named_walks))
+performs_called (by_name name) whole object f g pf pg args walks each same named named_walks others alike =
+    performs_alone (λ front. passed_walk front walks named_walks) (flat no_ways (passed_core 0 args named)) (passed_count 0 args named) (takes 0 args walks each same named named_walks others alike)
+    (call_function name (passed_count 0 args named)) (events.call_function name) (λ next before place operands. refl)
+performs_called (by_method name) whole object f g pf pg args walks each same named named_walks others alike =
+    gives_then (flat no_ways object) (then_code (flat no_ways (passed_core 1 args named)) (one (call_method name (passed_count 1 args named)))) g
+    (λ v go. passed_walk (v ∷ []) walks named_walks (λ vs. step (asks (events.call_method name vs) (on_value go)))) pg
+    (over_front (λ front. passed_walk front walks named_walks) (flat no_ways (passed_core 1 args named)) (passed_count 1 args named) (takes 1 args walks each same named named_walks others alike)
+    (call_method name (passed_count 1 args named)) (events.call_method name) (λ next before place operands. refl))
+performs_called by_value whole object f g pf pg args walks each same named named_walks others alike =
+    gives_then (flat no_ways whole) (then_code (flat no_ways (passed_core 1 args named)) (one (call_object (passed_count 1 args named)))) f
+    (λ v go. passed_walk (v ∷ []) walks named_walks (λ vs. step (asks (events.call_value vs) (on_value go)))) pf
+    (over_front (λ front. passed_walk front walks named_walks) (flat no_ways (passed_core 1 args named)) (passed_count 1 args named) (takes 1 args walks each same named named_walks others alike)
+    (call_object (passed_count 1 args named)) events.call_value (λ next before place operands. refl))
+
+-- an instruction over a value and arguments
+performs_applied : (whole : Core) (f : Giving) → Performs (flat no_ways whole) f
+    → (args : List (Passing Core Core)) (walks : List (Passing Giving Giving)) → EachPassed args walks → has_spread walks ≡ has_spread args
+    → (named : List (Passing (List ℕ × Core) Core)) (named_walks : List (Passing (List ℕ × Giving) Giving)) → EachNamed named named_walks → has_spread named_walks ≡ has_spread named
+    → (c : Code) (e : List Val → Ask)
+    → ((next : ℕ → List Operand → Process) (before : Counts) (place : ℕ) (operands : List Operand) → act next before (Some c) place operands ≡ step (on_taken (handed (passed_count 1 args named) operands) (λ vs rest. asks (e vs) (on_value (λ w. next (suc place) (single w ∷ rest))))))
+    → Performs (then_code (flat no_ways whole) (then_code (flat no_ways (passed_core 1 args named)) (one c))) (λ go. f (λ v. passed_walk (v ∷ []) walks named_walks (λ vs. step (asks (e vs) (on_value go)))))
+performs_applied whole f pf args walks each same named named_walks others alike c e is =
+    gives_then (flat no_ways whole) (then_code (flat no_ways (passed_core 1 args named)) (one c)) f
+    (λ v go. passed_walk (v ∷ []) walks named_walks (λ vs. step (asks (e vs) (on_value go)))) pf
+    (over_front (λ front. passed_walk front walks named_walks) (flat no_ways (passed_core 1 args named)) (passed_count 1 args named) (takes 1 args walks each same named named_walks others alike) c e is)
 
 -- no links are left: what the last comparison gave stays
 linked_over : LinkedPerforms no_links
@@ -343,6 +278,21 @@ over_chain op e links f rest code place h k =
 unwalked : (piece : Coded) → Performs piece (λ go. cut_short)
 unwalked piece code place h k = (0, λ operands go below. below-cut_short _)
 
+-- the walks of arguments have a spread where their codes have one
+pub spreads_alike : (args : Arguments) → has_spread (positional_walks args) ≡ has_spread (positional_cores args)
+spreads_alike no_arguments = refl
+spreads_alike (arguments_more (positional e) args) = spreads_alike args
+spreads_alike (arguments_more (positional_spread e) args) = refl
+spreads_alike (arguments_more (keyword name e) args) = spreads_alike args
+spreads_alike (arguments_more (keyword_spread e) args) = spreads_alike args
+
+pub merges_alike : (args : Arguments) → has_spread (keyword_walks args) ≡ has_spread (keyword_cores args)
+merges_alike no_arguments = refl
+merges_alike (arguments_more (positional e) args) = merges_alike args
+merges_alike (arguments_more (positional_spread e) args) = merges_alike args
+merges_alike (arguments_more (keyword name e) args) = merges_alike args
+merges_alike (arguments_more (keyword_spread e) args) = refl
+
 mutual
   pub performs : (e : Expression) → Performs (expression_code e) (expression_walk e)
   performs (variable name) = looks_up name
@@ -382,21 +332,31 @@ mutual
       (performs_map (entries_code ks (codes_of vs)) (entries_walk ks (walks_of vs)) (entry_count ks (codes_of vs)) (performs_entries ks (codes_of vs) (walks_of vs) (performs_each vs)))
   performs (call callee args) =
       performs_called (callee_of callee) (expression_core callee) (object_core callee) (expression_walk callee) (object_walk callee) (performs callee) (performs_object callee)
-      (positional_cores args) (positional_walks args) (performs_positional args) (keyword_cores args) (keyword_walks args) (performs_keyword args)
+      (positional_cores args) (positional_walks args) (performs_positional args) (spreads_alike args) (keyword_cores args) (keyword_walks args) (performs_keyword args) (merges_alike args)
+  performs (filtered name (given e) args) =
+      performs_applied (expression_core e) (expression_walk e) (performs e)
+      (positional_cores args) (positional_walks args) (performs_positional args) (spreads_alike args) (keyword_cores args) (keyword_walks args) (performs_keyword args) (merges_alike args)
+      (apply_filter name (passed_count 1 (positional_cores args) (keyword_cores args)) no_number) (events.apply_filter name) (λ next before place operands. refl)
+  performs (tested name e args) =
+      performs_applied (expression_core e) (expression_walk e) (performs e)
+      (positional_cores args) (positional_walks args) (performs_positional args) (spreads_alike args) (keyword_cores args) (keyword_walks args) (performs_keyword args) (merges_alike args)
+      (perform_test name (passed_count 1 (positional_cores args) (keyword_cores args)) no_number) (events.perform_test name) (λ next before place operands. refl)
   performs _ = unwalked _
 
   performs_object : (e : Expression) → Performs (flat no_ways (object_core e)) (object_walk e)
   performs_object (attribute e name) = performs e
   performs_object _ = unwalked _
 
-  performs_positional : (args : Arguments) → EachPerforms (positional_cores args) (positional_walks args)
-  performs_positional no_arguments = none_left
-  performs_positional (arguments_more (positional e) args) = each_more (performs e) (performs_positional args)
+  pub performs_positional : (args : Arguments) → EachPassed (positional_cores args) (positional_walks args)
+  performs_positional no_arguments = none_passed
+  performs_positional (arguments_more (positional e) args) = alone_more (performs e) (performs_positional args)
+  performs_positional (arguments_more (positional_spread e) args) = spread_more (performs e) (performs_positional args)
   performs_positional (arguments_more _ args) = performs_positional args
 
-  performs_keyword : (args : Arguments) → NamedPerform (keyword_cores args) (keyword_walks args)
-  performs_keyword no_arguments = no_names
-  performs_keyword (arguments_more (keyword name e) args) = more_names (performs e) (performs_keyword args)
+  pub performs_keyword : (args : Arguments) → EachNamed (keyword_cores args) (keyword_walks args)
+  performs_keyword no_arguments = none_named
+  performs_keyword (arguments_more (keyword name e) args) = named_more (performs e) (performs_keyword args)
+  performs_keyword (arguments_more (keyword_spread e) args) = merged_more (performs e) (performs_keyword args)
   performs_keyword (arguments_more _ args) = performs_keyword args
 
   performs_optional : (o : Optional) (missing : Val) → Performs (optional_code missing o) (optional_walk missing o)

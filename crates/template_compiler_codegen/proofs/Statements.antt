@@ -1,23 +1,24 @@
 -- The code of each statement performs its walk: from any place, over any operands, with any ways out.
 use Rattle.std.proofs.Common.{◌≡◌, ℕ, ◌+◌, ◌≤◌, zero, suc, true, false, List, [], ◌∷◌, ◌++◌, length, Some, refl, sym, ap, subst, ◌∙◌, length-append, arith}
 use Rattle.template_values_model.specs.Val.{Val}
-use Rattle.template_tree.specs.Tree.{Expression, Expressions, Statement, Statements, Assignments, absent, raw, print, for_loop, if_condition, with_block, set, set_block, auto_escape, call, continue_loop, break_loop, do_call, no_statements, statements_more, no_assignments, assignments_more}
+use Rattle.template_tree.specs.Tree.{Expression, Expressions, Statement, Statements, Assignments, absent, given, raw, print, for_loop, if_condition, with_block, set, set_block, auto_escape, filter_block, call, continue_loop, break_loop, do_call, no_statements, statements_more, no_assignments, assignments_more}
 use Rattle.template_tree.specs.Tree as tree
 use Rattle.template_process.specs.Process as events
 use Rattle.template_process.specs.Process.{Counts, Ask, truth_of, write_raw, write_value, open_frame, close_frame, plain_loop, open_loop, next_item, did_not_iterate, close_loop, open_escape, close_escape, Process, over, step, asks, cut_short, on_done, on_value, on_truth, on_item, value_asked, Below}
 use Rattle.template_process.proofs.Below.{below-cut_short, below-step, below-asks_value, below-asks_item}
-use Rattle.template_walk.specs.Expressions.{expression_walk}
+use Rattle.template_walk.specs.Expressions.{expression_walk, filters_walk}
 use Rattle.template_walk.specs.Statements.{Exits, closing, capture_left, capturing, target_walk, assignments_walk, rounds, iterable_walk, loop_end, past, statement_walk, statements_walk}
 use Rattle.template_code.specs.Code.{Operand, single, Code, emit_raw, emit, discard_top, jump, jump_if_false, push_with, pop_frame, push_loop, iterate, push_did_not_iterate, pop_loop_frame, push_auto_escape, pop_auto_escape, begin_capture, end_capture, include}
 use Rattle.template_code.specs.Counting.{counts_before}
 use Rattle.template_code.specs.Steps.{act, exec}
-use Rattle.template_compiler_codegen.specs.Expressions.{Coded, then_code, one, nothing, skipped, either_code, expression_code}
+use Rattle.template_compiler_codegen.specs.Expressions.{Coded, then_code, one, nothing, skipped, either_code, expression_code, filters_code}
 use Rattle.template_compiler_codegen.specs.Statements.{Ways, closing_with, target_code, assignments_code, loop_flags, iterable_code, rounds_code, loop_end_code, branches_code, left_by, statement_code, statements_code}
 use Rattle.template_compiler_codegen.proofs.Standing.{StandsAt, behind_one, instruction_at, below_at, behind_then, stands_first, stands_second, first_part, last_part, stands_either, behind_either}
 use Rattle.template_compiler_codegen.proofs.Expressions.{Performs, behind_single, asks_at, moved, longer, tests_at, jumps_at, behind_skipped}
 use Rattle.template_compiler_codegen.proofs.Performing.{performs}
 use Rattle.template_compiler_codegen.proofs.Lengths.{long_statements}
 use Rattle.template_compiler_codegen.proofs.Storing.{done_at, done_free, Stores, stores}
+use Rattle.template_compiler_codegen.proofs.Filtering.{stores_over, over_filters}
 use Rattle.template_compiler_codegen.proofs.Gathering.{performs_iterable}
 
 -- what leaves a loop goes as far as the closings and the jump do, wherever they stand
@@ -197,15 +198,15 @@ closed_body ways c e body walk is f code place h k =
           (record { on_break = way_out ways.break_to x.on_break operands outs.on_break; on_continue = way_out ways.continue_to x.on_continue operands outs.on_continue }),
     )
 
--- a body that is captured, and the target of its text
-captured_body : (ways : Ways) (body : Coded) (walk : Walk) (target : Expression) → PerformsAs (closing_with end_capture (closing_with discard_top ways)) body walk
-    → PerformsAs ways (then_code body (then_code (one end_capture) (target_code target))) (λ x go. walk (capturing x) (value_asked events.end_capture (λ text. target_walk target text go)))
-captured_body ways body walk target f code place h k =
-    let tail = then_code (one end_capture) (target_code target) in
+-- a body that is captured, and what takes its text
+captured_body : (ways : Ways) (body taking : Coded) (walk : Walk) (takes : Val → Process → Process) → Stores taking takes → PerformsAs (closing_with end_capture (closing_with discard_top ways)) body walk
+    → PerformsAs ways (then_code body (then_code (one end_capture) taking)) (λ x go. walk (capturing x) (value_asked events.end_capture (λ text. takes text go)))
+captured_body ways body taking walk takes g f code place h k =
+    let tail = then_code (one end_capture) taking in
     let mid = place + length (body place) in
     let store_at = mid + length (one end_capture mid) in
     let behind_body = stands_second code place body tail h in
-    let stored = stores target code store_at (stands_second code mid (one end_capture) (target_code target) behind_body) k in
+    let stored = g code store_at (stands_second code mid (one end_capture) taking behind_body) k in
     let m = suc (suc (stored.0 + k)) in
     let b = f code place (stands_first code place body tail h) m in
     let way_out : (to : ℕ) (p : Process) (operands : List Operand) → WayOut code ways.closings to k p operands → WayOut code (end_capture ∷ discard_top ∷ ways.closings) to m (capture_left p) operands =
@@ -218,14 +219,32 @@ captured_body ways body walk target f code place h k =
     (out (suc (suc at)) (behind_one code (suc at) discard_top rest second)))) in (
       b.0,
       λ operands x go below outs.
-          let ended : Process = value_asked events.end_capture (λ text. target_walk target text go) in
+          let ended : Process = value_asked events.end_capture (λ text. takes text go) in
           b.1 operands (capturing x) ended
           (longer code (suc stored.0) m mid operands ended (omega arith)
-          (asks_at code mid end_capture [] (stands_first code mid (one end_capture) (target_code target) behind_body) stored.0 operands operands events.end_capture (λ text. target_walk target text go) refl
-          (λ text. moved code stored.0 store_at (suc mid) (single text ∷ operands) (target_walk target text go) (sym (behind_single mid end_capture))
-          (stored.1 text operands go (moved code k (place + length (then_code body tail place)) (store_at + length (target_code target store_at)) operands go (behind_then body tail place ∙ behind_then (one end_capture) (target_code target) mid) below)))))
+          (asks_at code mid end_capture [] (stands_first code mid (one end_capture) taking behind_body) stored.0 operands operands events.end_capture (λ text. takes text go) refl
+          (λ text. moved code stored.0 store_at (suc mid) (single text ∷ operands) (takes text go) (sym (behind_single mid end_capture))
+          (stored.1 text operands go (moved code k (place + length (then_code body tail place)) (store_at + length (taking store_at)) operands go (behind_then body tail place ∙ behind_then (one end_capture) taking mid) below)))))
           (record { on_break = way_out ways.break_to x.on_break operands outs.on_break; on_continue = way_out ways.continue_to x.on_continue operands outs.on_continue }),
     )
+
+-- a capture, its body, and what takes its text
+performs_capture : (ways : Ways) (body taking : Coded) (walk : Walk) (takes : Val → Process → Process) → Stores taking takes → PerformsAs (closing_with end_capture (closing_with discard_top ways)) body walk
+    → PerformsAs ways (then_code (one (begin_capture true)) (then_code body (then_code (one end_capture) taking)))
+    (λ x go. asks (events.begin_capture true) (on_done (walk (capturing x) (value_asked events.end_capture (λ text. takes text go)))))
+performs_capture ways body taking walk takes g f =
+    done_then ways (one (begin_capture true)) (then_code body (then_code (one end_capture) taking)) (λ x go. asks (events.begin_capture true) (on_done go))
+    (λ x go. walk (capturing x) (value_asked events.end_capture (λ text. takes text go)))
+    (does_free ways (begin_capture true) (events.begin_capture true) (λ next before place operands. refl))
+    (captured_body ways body taking walk takes g f)
+
+-- a value is printed
+stores_printed : Stores (one emit) (λ v go. step (asks (write_value v) (on_done go)))
+stores_printed code place h k = (
+  suc k,
+  λ v operands go below. done_at code place emit [] h k (single v ∷ operands) operands (write_value v) go refl
+      (moved code k (place + length (one emit place)) (suc place) operands go (sym (behind_single place emit)) below),
+)
 
 -- the value on top is dropped, for nothing
 takes_dropped : (ways : Ways) → TakesAs ways (one discard_top) (λ v x go. go)
@@ -366,17 +385,22 @@ mutual
   performs_statement n (set target e) ways =
       done_with ways e (target_code target) (λ v x go. target_walk target v go) (takes_stored ways (target_code target) (target_walk target) (stores target))
   performs_statement n (set_block target absent body) ways =
-      let inner = statements_code (closing_with end_capture (closing_with discard_top ways)) body in
-      done_then ways (one (begin_capture true)) (then_code inner (then_code (one end_capture) (target_code target))) (λ x go. asks (events.begin_capture true) (on_done go))
-      (λ x go. statements_walk n body (capturing x) (value_asked events.end_capture (λ text. target_walk target text go)))
-      (does_free ways (begin_capture true) (events.begin_capture true) (λ next before place operands. refl))
-      (captured_body ways inner (statements_walk n body) target (performs_statements n body (closing_with end_capture (closing_with discard_top ways))))
+      performs_capture ways (statements_code (closing_with end_capture (closing_with discard_top ways)) body) (target_code target) (statements_walk n body) (target_walk target) (stores target)
+      (performs_statements n body (closing_with end_capture (closing_with discard_top ways)))
+  performs_statement n (set_block target (given filters) body) ways =
+      performs_capture ways (statements_code (closing_with end_capture (closing_with discard_top ways)) body) (then_code (filters_code filters) (target_code target)) (statements_walk n body)
+      (λ v go. filters_walk filters v (λ w. target_walk target w go)) (stores_over (filters_code filters) (target_code target) (filters_walk filters) (target_walk target) (over_filters filters) (stores target))
+      (performs_statements n body (closing_with end_capture (closing_with discard_top ways)))
   performs_statement n (auto_escape e body) ways =
       let bodied = then_code (statements_code (closing_with pop_auto_escape ways) body) (one pop_auto_escape) in
       done_with ways e (then_code (one push_auto_escape) bodied) (λ v x go. asks (open_escape v) (on_done (statements_walk n body (closing close_escape x) (asks close_escape (on_done go)))))
       (taken_then ways (one push_auto_escape) bodied (λ v x go. asks (open_escape v) (on_done go)) (λ x go. statements_walk n body (closing close_escape x) (asks close_escape (on_done go)))
       (takes_free ways push_auto_escape open_escape (λ next before place v operands. refl))
       (closed_body ways pop_auto_escape close_escape (statements_code (closing_with pop_auto_escape ways) body) (statements_walk n body) (λ next before place operands. refl) (performs_statements n body (closing_with pop_auto_escape ways))))
+  performs_statement n (filter_block filters body) ways =
+      performs_capture ways (statements_code (closing_with end_capture (closing_with discard_top ways)) body) (then_code (filters_code filters) (one emit)) (statements_walk n body)
+      (λ v go. filters_walk filters v (λ w. step (asks (write_value w) (on_done go)))) (stores_over (filters_code filters) (one emit) (filters_walk filters) (λ v go. step (asks (write_value v) (on_done go))) (over_filters filters) stores_printed)
+      (performs_statements n body (closing_with end_capture (closing_with discard_top ways)))
   performs_statement n (tree.include e ignore_missing) ways =
       done_with ways e (one (include ignore_missing)) (λ v x go. step (asks (events.include ignore_missing v) (on_done go))) (takes_one ways (include ignore_missing) (events.include ignore_missing) (λ next before place v operands. refl))
   performs_statement n (do_call callee args) ways = done_with ways (call callee args) (one discard_top) (λ v x go. go) (takes_dropped ways)

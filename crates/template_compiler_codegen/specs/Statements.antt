@@ -2,13 +2,13 @@
 use Rattle.std.specs.Prelude.{ℕ, Bool, true, false, List, None, pos}
 use Rattle.template_tree.specs.declared.operators.BinOpKind.TheVariants.{Add}
 use Rattle.template_values_model.specs.Val.{Val, int}
-use Rattle.template_tree.specs.Tree.{Expression, Optional, Expressions, Statement, Statements, Assignments, variable, attribute, list_literal, call, absent, given, no_expressions, expressions_more, raw, print, for_loop, if_condition, with_block, set, set_block, auto_escape, continue_loop, break_loop, do_call, no_statements, statements_more, no_assignments, assignments_more}
+use Rattle.template_tree.specs.Tree.{Expression, Optional, Expressions, Statement, Statements, Assignments, variable, attribute, list_literal, call, absent, given, no_expressions, expressions_more, raw, print, for_loop, if_condition, with_block, set, set_block, auto_escape, filter_block, continue_loop, break_loop, do_call, no_statements, statements_more, no_assignments, assignments_more}
 use Rattle.template_tree.specs.Tree as tree
 use Rattle.template_walk.specs.Statements.{number_of}
 use Rattle.template_code.specs.Code.{Code, emit_raw, emit, store_local, set_attr, load_const, build_list, unpack_list, unpack_lists, operate, swap, dup_top, discard_top, jump_if_false, push_with, pop_frame, push_loop, push_did_not_iterate, pop_loop_frame, push_auto_escape, pop_auto_escape, begin_capture, end_capture, include}
 use Rattle.template_compiler_codegen.specs.Core.{Core, empty, straight, both, leaping, either, rounds, within, leave, sealed, chosen, choose, flat}
 pub use Rattle.template_compiler_codegen.specs.Core.{Ways, no_ways, own_ways, closing_with, rounds_code, left_by}
-use Rattle.template_compiler_codegen.specs.Expressions.{Coded, then_code, one, skipped, either_code, expression_core, expression_code}
+use Rattle.template_compiler_codegen.specs.Expressions.{Coded, then_code, one, skipped, either_code, expression_core, filters_core, expression_code}
 
 abbrev mutual
   -- the value on top is stored in a target
@@ -82,9 +82,15 @@ abbrev mutual
   statement_core (set_block target absent body) =
       both (straight (begin_capture true)) (both (within discard_top (within end_capture (statements_core body)))
       (both (straight end_capture) (sealed (target_core target))))
+  statement_core (set_block target (given filters) body) =
+      both (straight (begin_capture true)) (both (within discard_top (within end_capture (statements_core body)))
+      (both (straight end_capture) (both (sealed (filters_core filters)) (sealed (target_core target)))))
   statement_core (auto_escape e body) =
       both (sealed (expression_core e)) (both (straight push_auto_escape)
       (both (within pop_auto_escape (statements_core body)) (straight pop_auto_escape)))
+  statement_core (filter_block filters body) =
+      both (straight (begin_capture true)) (both (within discard_top (within end_capture (statements_core body)))
+      (both (straight end_capture) (both (sealed (filters_core filters)) (straight emit))))
   statement_core (tree.include e ignore_missing) = both (sealed (expression_core e)) (straight (include ignore_missing))
   statement_core (do_call callee args) = both (sealed (expression_core (call callee args))) (straight discard_top)
   statement_core continue_loop = leave false

@@ -1,15 +1,15 @@
 -- What follows further takes a walk further, and so does a greater bound on rounds.
-use Rattle.std.proofs.Common.{ℕ, ◌≤◌, zero, suc, true, false, List, [], ◌∷◌, ◌++◌, Option, None, Some, arith}
+use Rattle.std.proofs.Common.{ℕ, ◌≤◌, zero, suc, Bool, true, false, List, [], ◌∷◌, ◌++◌, Option, None, Some, arith}
 use Rattle.template_values_model.specs.Val as values
 use Rattle.template_values_model.specs.Val.{Val}
 use Rattle.template_tree.specs.declared.operators.BinOpKind.{BinOpKind}
 use Rattle.template_tree.specs.declared.operators.BinOpKind.TheVariants.{ScAnd, ScOr}
-use Rattle.template_tree.specs.Tree.{Expression, Optional, Expressions, Links, Arguments, variable, constant, slice, unary, binary, chain, conditional, attribute, item, call, list_literal, tuple_literal, map_literal, absent, given, no_expressions, expressions_more, no_links, links_more, no_arguments, arguments_more, positional, keyword, Statement, Statements, Assignments, raw, print, for_loop, if_condition, with_block, set, set_block, auto_escape, include, continue_loop, break_loop, do_call, no_statements, statements_more, no_assignments, assignments_more}
+use Rattle.template_tree.specs.Tree.{Expression, Optional, Expressions, Links, Arguments, variable, constant, slice, unary, binary, chain, conditional, attribute, item, call, filtered, tested, list_literal, tuple_literal, map_literal, absent, given, no_expressions, expressions_more, no_links, links_more, no_arguments, arguments_more, positional, keyword, positional_spread, keyword_spread, Statement, Statements, Assignments, raw, print, for_loop, if_condition, with_block, set, set_block, auto_escape, filter_block, include, continue_loop, break_loop, do_call, no_statements, statements_more, no_assignments, assignments_more}
 use Rattle.template_process.specs.Process as events
-use Rattle.template_process.specs.Process.{Ask, look_up, operate, compare, get_attribute, get_item, get_slice, build_list, build_tuple, build_map, build_kwargs, call_function, call_method, call_value, store, set_attribute, truth_of, unpack, spread, write_raw, write_value, open_frame, close_frame, plain_loop, open_loop, next_item, did_not_iterate, close_loop, open_escape, close_escape, begin_capture, end_capture, Process, over, step, asks, cut_short, on_done, on_value, on_truth, on_item, on_all, Below}
+use Rattle.template_process.specs.Process.{Ask, look_up, operate, compare, get_attribute, get_item, get_slice, build_list, build_tuple, build_map, build_kwargs, merge_kwargs, spread, apply_filter, perform_test, call_function, call_method, call_value, store, set_attribute, truth_of, unpack, spread, write_raw, write_value, open_frame, close_frame, plain_loop, open_loop, next_item, did_not_iterate, close_loop, open_escape, close_escape, begin_capture, end_capture, Process, over, step, asks, cut_short, on_done, on_value, on_truth, on_item, on_all, Below}
 use Rattle.template_process.proofs.Below.{below-cut_short, below-over, below-step, below-asks_done, below-asks_value, below-asks_truth, below-asks_item, below-asks_items, below-asks_all}
 use Rattle.template_walk.specs.Constants.{constant_of}
-use Rattle.template_walk.specs.Expressions.{folded, unary_ask, binary_walk, Giving, in_turn, named_in_turn, keywords_walk, passed_walk, Callee, by_name, by_method, by_value, callee_of, called_walk, expression_walk, object_walk, positional_walks, keyword_walks, optional_walk, expressions_walk, walks_of, entries_walk, chain_walk, linked_walk}
+use Rattle.template_walk.specs.Expressions.{folded, unary_ask, binary_walk, Giving, Passing, alone, spreads, listed, stretches_walk, mapped, entries_stretches, has_spread, merged_if, keywords_walk, run_if, passed_walk, Callee, by_name, by_method, by_value, callee_of, called_walk, expression_walk, object_walk, positional_walks, keyword_walks, optional_walk, expressions_walk, walks_of, entries_walk, chain_walk, linked_walk, filter_walk, filters_walk}
 use Rattle.template_walk.specs.Statements.{Exits, outside, closing, capture_left, capturing, number_of, target_walk, targets_walk, assignments_walk, rounds, nameless_loop, kept_rounds, sifting, iterable_walk, loop_end, past, statement_walk, statements_walk}
 use Rattle.template_walk.specs.Laws.{WalksRise}
 
@@ -25,9 +25,17 @@ data Each : List ((Val → Process) → Process) → Type 0 where
   none_left : Each []
   each_more : {walk : (Val → Process) → Process} {walks : List ((Val → Process) → Process)} → Lifts walk → Each walks → Each (walk ∷ walks)
 
-data EachNamed : List (List ℕ × Giving) → Type 0 where
-  no_names : EachNamed []
-  more_names : {named : List ℕ × Giving} {others : List (List ℕ × Giving)} → Lifts named.1 → EachNamed others → EachNamed (named ∷ others)
+-- so does each argument, whatever gives its walk
+data EachPassed {X : Type 0} (walk_of : X → Giving) : List (Passing X Giving) → Type 0 where
+  none_passed : EachPassed walk_of []
+  alone_more : {x : X} {args : List (Passing X Giving)} → Lifts (walk_of x) → EachPassed walk_of args → EachPassed walk_of (alone x ∷ args)
+  spread_more : {walk : Giving} {args : List (Passing X Giving)} → Lifts walk → EachPassed walk_of args → EachPassed walk_of (spreads walk ∷ args)
+
+abbrev itself : Giving → Giving
+itself walk = walk
+
+abbrev value_walk : List ℕ × Giving → Giving
+value_walk named = named.1
 
 step_value : (e : Ask) (go on : Val → Process) → Follows go on → Below (step (asks e (on_value go))) (step (asks e (on_value on)))
 step_value e go on h = below-step (asks e (on_value go)) (asks e (on_value on)) (below-asks_value e go on h)
@@ -54,31 +62,57 @@ lift_binary op left right f g go on h =
 abbrev FollowsAll : (List Val → Process) → (List Val → Process) → Type 0
 FollowsAll go on = (vs : List Val) → Below (go vs) (on vs)
 
-lift_in_turn : (walks : List Giving) → Each walks → (go on : List Val → Process) → FollowsAll go on → Below (in_turn walks go) (in_turn walks on)
-lift_in_turn [] each go on h = h []
-lift_in_turn (walk ∷ walks) (each_more f each) go on h = f _ _ (λ v. lift_in_turn walks each _ _ (λ vs. h (v ∷ vs)))
+lift_listed : (vs : List Val) (go on : List Val → Process) → FollowsAll go on → Below (listed vs go) (listed vs on)
+lift_listed [] go on h = h []
+lift_listed (v ∷ vs) go on h = step_value (build_list (v ∷ vs)) _ _ (λ list. h (list ∷ []))
 
-lift_named : (named : List (List ℕ × Giving)) → EachNamed named → (go on : List (Val × Val) → Process)
-    → ((entries : List (Val × Val)) → Below (go entries) (on entries)) → Below (named_in_turn named go) (named_in_turn named on)
-lift_named [] each go on h = h []
-lift_named (n ∷ ns) (more_names f each) go on h = f _ _ (λ v. lift_named ns each _ _ (λ entries. h ((values.text n.0, v) ∷ entries)))
+lift_stretches : (vs : List Val) (args : List (Passing Giving Giving)) → EachPassed itself args → (go on : List Val → List Val → Process)
+    → ((lists rest : List Val) → Below (go lists rest) (on lists rest)) → Below (stretches_walk vs args go) (stretches_walk vs args on)
+lift_stretches vs [] each go on h = h [] vs
+lift_stretches vs (alone walk ∷ args) (alone_more f each) go on h = f _ _ (λ v. lift_stretches (vs ++ v ∷ []) args each _ _ h)
+lift_stretches vs (spreads walk ∷ args) (spread_more f each) go on h =
+    lift_listed vs _ _ (λ before. f _ _ (λ v. lift_stretches [] args each _ _ (λ later rest. h (before ++ v ∷ later) rest)))
 
-lift_keywords : (named : List (List ℕ × Giving)) → EachNamed named → (go on : List Val → Process) → FollowsAll go on → Below (keywords_walk named go) (keywords_walk named on)
-lift_keywords [] each go on h = h []
-lift_keywords (n ∷ ns) each go on h = lift_named (n ∷ ns) each _ _ (λ entries. step_value (build_kwargs entries) _ _ (λ map. h (map ∷ [])))
+lift_mapped : (es : List (Val × Val)) (go on : List Val → Process) → FollowsAll go on → Below (mapped es go) (mapped es on)
+lift_mapped [] go on h = h []
+lift_mapped (e ∷ es) go on h = step_value (build_kwargs (e ∷ es)) _ _ (λ map. h (map ∷ []))
 
-lift_passed : (walks : List Giving) → Each walks → (named : List (List ℕ × Giving)) → EachNamed named → (go on : List Val → Process) → FollowsAll go on
-    → Below (passed_walk walks named go) (passed_walk walks named on)
-lift_passed walks each named others go on h = lift_in_turn walks each _ _ (λ vs. lift_keywords named others _ _ (λ last. h (vs ++ last)))
+lift_entries_stretches : (es : List (Val × Val)) (args : List (Passing (List ℕ × Giving) Giving)) → EachPassed value_walk args
+    → (go on : List Val → List (Val × Val) → Process) → ((maps : List Val) (rest : List (Val × Val)) → Below (go maps rest) (on maps rest))
+    → Below (entries_stretches es args go) (entries_stretches es args on)
+lift_entries_stretches es [] each go on h = h [] es
+lift_entries_stretches es (alone n ∷ args) (alone_more f each) go on h =
+    f _ _ (λ v. lift_entries_stretches (es ++ (values.text n.0, v) ∷ []) args each _ _ h)
+lift_entries_stretches es (spreads walk ∷ args) (spread_more f each) go on h =
+    lift_mapped es _ _ (λ before. f _ _ (λ v. lift_entries_stretches [] args each _ _ (λ later rest. h (before ++ v ∷ later) rest)))
 
-lift_called : (callee : Callee) (whole object : Giving) → Lifts whole → Lifts object → (walks : List Giving) → Each walks → (named : List (List ℕ × Giving)) → EachNamed named
-    → Lifts (called_walk callee whole object (passed_walk walks named))
-lift_called (by_name name) whole object f g walks each named others go on h =
-    lift_passed walks each named others _ _ (λ vs. step_value (call_function name vs) go on h)
-lift_called (by_method name) whole object f g walks each named others go on h =
-    g _ _ (λ v. lift_passed walks each named others _ _ (λ vs. step_value (call_method name (v ∷ vs)) go on h))
-lift_called by_value whole object f g walks each named others go on h =
-    f _ _ (λ v. lift_passed walks each named others _ _ (λ vs. step_value (call_value (v ∷ vs)) go on h))
+lift_merged : (several : Bool) (maps : List Val) (go on : List Val → Process) → FollowsAll go on → Below (merged_if several maps go) (merged_if several maps on)
+lift_merged false maps go on h = h maps
+lift_merged true maps go on h = step_value (merge_kwargs maps) _ _ (λ map. h (map ∷ []))
+
+lift_keywords : (named : List (Passing (List ℕ × Giving) Giving)) → EachPassed value_walk named → (go on : List Val → Process) → FollowsAll go on
+    → Below (keywords_walk named go) (keywords_walk named on)
+lift_keywords named each go on h =
+    lift_entries_stretches [] named each _ _ (λ maps rest. lift_mapped rest _ _ (λ more. lift_merged (has_spread named) (maps ++ more) go on h))
+
+lift_run : (spread_one : Bool) (lists vs : List Val) (go on : List Val → Process) → FollowsAll go on → Below (run_if spread_one lists vs go) (run_if spread_one lists vs on)
+lift_run false lists vs go on h = h vs
+lift_run true lists vs go on h = lift_listed vs _ _ (λ more. below-step _ _ (below-asks_all (spread (lists ++ more)) go on h))
+
+lift_passed : (front : List Val) (args : List (Passing Giving Giving)) → EachPassed itself args → (named : List (Passing (List ℕ × Giving) Giving))
+    → EachPassed value_walk named → (go on : List Val → Process) → FollowsAll go on → Below (passed_walk front args named go) (passed_walk front args named on)
+lift_passed front args each named others go on h =
+    lift_stretches front args each _ _ (λ lists vs. lift_keywords named others _ _ (λ last. lift_run (has_spread args) lists (vs ++ last) go on h))
+
+lift_called : (callee : Callee) (whole object : Giving) → Lifts whole → Lifts object → (args : List (Passing Giving Giving)) → EachPassed itself args
+    → (named : List (Passing (List ℕ × Giving) Giving)) → EachPassed value_walk named
+    → Lifts (called_walk callee whole object (λ front. passed_walk front args named))
+lift_called (by_name name) whole object f g args each named others go on h =
+    lift_passed [] args each named others _ _ (λ vs. step_value (call_function name vs) go on h)
+lift_called (by_method name) whole object f g args each named others go on h =
+    g _ _ (λ v. lift_passed (v ∷ []) args each named others _ _ (λ vs. step_value (call_method name vs) go on h))
+lift_called by_value whole object f g args each named others go on h =
+    f _ _ (λ v. lift_passed (v ∷ []) args each named others _ _ (λ vs. step_value (call_value vs) go on h))
 
 mutual
   pub lift : (e : Expression) → Lifts (expression_walk e)
@@ -103,20 +137,26 @@ mutual
   lift (call callee args) go on h =
       lift_called (callee_of callee) (expression_walk callee) (object_walk callee) (lift callee) (lift_object callee)
       (positional_walks args) (lift_positional args) (keyword_walks args) (lift_keyword args) go on h
+  lift (filtered name (given e) args) go on h =
+      lift e _ _ (λ v. lift_passed (v ∷ []) (positional_walks args) (lift_positional args) (keyword_walks args) (lift_keyword args) _ _ (λ vs. step_value (apply_filter name vs) go on h))
+  lift (tested name e args) go on h =
+      lift e _ _ (λ v. lift_passed (v ∷ []) (positional_walks args) (lift_positional args) (keyword_walks args) (lift_keyword args) _ _ (λ vs. step_value (perform_test name vs) go on h))
   lift _ go on h = below-cut_short _
 
   lift_object : (e : Expression) → Lifts (object_walk e)
   lift_object (attribute e name) go on h = lift e go on h
   lift_object _ go on h = below-cut_short _
 
-  lift_positional : (args : Arguments) → Each (positional_walks args)
-  lift_positional no_arguments = none_left
-  lift_positional (arguments_more (positional e) args) = each_more (lift e) (lift_positional args)
+  lift_positional : (args : Arguments) → EachPassed itself (positional_walks args)
+  lift_positional no_arguments = none_passed
+  lift_positional (arguments_more (positional e) args) = alone_more (lift e) (lift_positional args)
+  lift_positional (arguments_more (positional_spread e) args) = spread_more (lift e) (lift_positional args)
   lift_positional (arguments_more _ args) = lift_positional args
 
-  lift_keyword : (args : Arguments) → EachNamed (keyword_walks args)
-  lift_keyword no_arguments = no_names
-  lift_keyword (arguments_more (keyword name e) args) = more_names (lift e) (lift_keyword args)
+  lift_keyword : (args : Arguments) → EachPassed value_walk (keyword_walks args)
+  lift_keyword no_arguments = none_passed
+  lift_keyword (arguments_more (keyword name e) args) = alone_more (lift e) (lift_keyword args)
+  lift_keyword (arguments_more (keyword_spread e) args) = spread_more (lift e) (lift_keyword args)
   lift_keyword (arguments_more _ args) = lift_keyword args
 
   lift_optional : (o : Optional) (missing : Val) → Lifts (optional_walk missing o)
@@ -146,6 +186,15 @@ mutual
   lift_linked no_links v holds go on h = below-step (go holds) (on holds) (h holds)
   lift_linked (links_more op e links) v holds go on h =
       step_truth (truth_of holds) _ _ _ _ (lift e _ _ (λ w. step_value (compare op v w) _ _ (λ later. lift_linked links w later go on h))) (below-step (go holds) (on holds) (h holds))
+
+lift_filter : (name : List ℕ) (args : Arguments) (v : Val) → Lifts (filter_walk name args v)
+lift_filter name args v go on h =
+    lift_passed (v ∷ []) (positional_walks args) (lift_positional args) (keyword_walks args) (lift_keyword args) _ _ (λ vs. step_value (apply_filter name vs) go on h)
+
+lift_filters : (e : Expression) (v : Val) → Lifts (filters_walk e v)
+lift_filters (filtered name absent args) v go on h = lift_filter name args v go on h
+lift_filters (filtered name (given e) args) v go on h = lift_filters e v _ _ (λ w. lift_filter name args w go on h)
+lift_filters _ v go on h = below-cut_short _
 
 mutual
   lift_target : (target : Expression) (v : Val) (p q : Process) → Below p q → Below (target_walk target v p) (target_walk target v q)
@@ -241,9 +290,17 @@ mutual
   lift_statement n m less (set_block target absent body) x y p q leads h =
       below-asks_done (begin_capture true) _ _
       (lift_statements n m less body _ _ _ _ (leads_capturing x y leads) (step_value end_capture _ _ (λ text. lift_target target text p q h)))
+  lift_statement n m less (set_block target (given filters) body) x y p q leads h =
+      below-asks_done (begin_capture true) _ _
+      (lift_statements n m less body _ _ _ _ (leads_capturing x y leads)
+      (step_value end_capture _ _ (λ text. lift_filters filters text _ _ (λ v. lift_target target v p q h))))
   lift_statement n m less (auto_escape e body) x y p q leads h =
       lift e _ _ (λ v. below-asks_done (open_escape v) _ _
       (lift_statements n m less body _ _ _ _ (leads_closing close_escape x y leads) (below-asks_done close_escape p q h)))
+  lift_statement n m less (filter_block filters body) x y p q leads h =
+      below-asks_done (begin_capture true) _ _
+      (lift_statements n m less body _ _ _ _ (leads_capturing x y leads)
+      (step_value end_capture _ _ (λ text. lift_filters filters text _ _ (λ v. step_done (write_value v) p q h))))
   lift_statement n m less (include e ignore_missing) x y p q leads h = lift e _ _ (λ v. step_done (events.include ignore_missing v) p q h)
   lift_statement n m less (do_call callee args) x y p q leads h = lift (call callee args) _ _ (λ v. h)
   lift_statement n m less continue_loop x y p q leads h = leads.on_continue

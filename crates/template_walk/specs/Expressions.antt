@@ -1,12 +1,12 @@
 -- The walk of an expression: its events in the order of execution, and between them the priced steps.
-use Rattle.std.specs.Prelude.{ℕ, List, [], ◌∷◌, ◌++◌, Option, None, Some}
+use Rattle.std.specs.Prelude.{ℕ, Bool, true, false, List, [], ◌∷◌, ◌++◌, Option, None, Some}
 use Rattle.template_values_model.specs.Val.{Val, silent_undefined, none, text}
 use Rattle.template_tree.specs.declared.operators.UnaryOpKind.{UnaryOpKind}
 use Rattle.template_tree.specs.declared.operators.UnaryOpKind.TheVariants.{Not, Neg}
 use Rattle.template_tree.specs.declared.operators.BinOpKind.{BinOpKind}
 use Rattle.template_tree.specs.declared.operators.BinOpKind.TheVariants.{ScAnd, ScOr}
-use Rattle.template_tree.specs.Tree.{Expression, Optional, Expressions, Links, Arguments, variable, constant, slice, unary, binary, chain, conditional, attribute, item, call, list_literal, tuple_literal, map_literal, absent, given, no_expressions, expressions_more, no_links, links_more, no_arguments, arguments_more, positional, keyword}
-use Rattle.template_process.specs.Process.{Ask, look_up, negate, invert, operate, compare, get_attribute, get_item, get_slice, build_list, build_tuple, build_map, build_kwargs, call_function, call_method, call_value, Process, step, cut_short, value_asked, truth_asked}
+use Rattle.template_tree.specs.Tree.{Expression, Optional, Expressions, Links, Arguments, variable, constant, slice, unary, binary, chain, conditional, attribute, item, call, filtered, tested, list_literal, tuple_literal, map_literal, absent, given, no_expressions, expressions_more, no_links, links_more, no_arguments, arguments_more, positional, keyword, positional_spread, keyword_spread}
+use Rattle.template_process.specs.Process.{Ask, look_up, negate, invert, operate, compare, get_attribute, get_item, get_slice, build_list, build_tuple, build_map, build_kwargs, merge_kwargs, spread, call_function, call_method, call_value, apply_filter, perform_test, Process, step, asks, cut_short, on_all, value_asked, truth_asked}
 use Rattle.template_walk.specs.Constants.{constant_of}
 
 -- a constant costs nothing and asks nothing; what is none does its own walk
@@ -28,24 +28,59 @@ binary_walk op left right go = left (λ v. right (λ w. value_asked (operate op 
 abbrev pub Giving : Type 0
 Giving = (Val → Process) → Process
 
--- each of them, and then what follows their values
-abbrev pub in_turn : List Giving → (List Val → Process) → Process
-in_turn [] go = go []
-in_turn (walk ∷ walks) go = walk (λ v. in_turn walks (λ vs. go (v ∷ vs)))
+-- an argument is a value of its own, or one whose items or entries are passed
+pub data Passing (X Y : Type 0) : Type 0 where
+  alone : X → Passing X Y
+  spreads : Y → Passing X Y
 
--- names with the walks of their values, in turn
-abbrev pub named_in_turn : List (List ℕ × Giving) → (List (Val × Val) → Process) → Process
-named_in_turn [] go = go []
-named_in_turn (n ∷ ns) go = n.1 (λ v. named_in_turn ns (λ entries. go ((text n.0, v) ∷ entries)))
+-- a stretch of values becomes a list, if there are any
+abbrev pub listed : List Val → (List Val → Process) → Process
+listed [] go = go []
+listed (v ∷ vs) go = value_asked (build_list (v ∷ vs)) (λ list. go (list ∷ []))
 
--- the keyword arguments, if there are any, become one keyword map
-abbrev pub keywords_walk : List (List ℕ × Giving) → (List Val → Process) → Process
-keywords_walk [] go = go []
-keywords_walk (n ∷ ns) go = named_in_turn (n ∷ ns) (λ entries. value_asked (build_kwargs entries) (λ map. go (map ∷ [])))
+-- behind values that are not in a list yet: each stretch of values becomes a list where a spread follows; what follows is given
+-- all lists and spreads, and the last stretch
+abbrev pub stretches_walk : List Val → List (Passing Giving Giving) → (List Val → List Val → Process) → Process
+stretches_walk vs [] go = go [] vs
+stretches_walk vs (alone walk ∷ args) go = walk (λ v. stretches_walk (vs ++ v ∷ []) args go)
+stretches_walk vs (spreads walk ∷ args) go =
+    listed vs (λ before. walk (λ v. stretches_walk [] args (λ later rest. go (before ++ v ∷ later) rest)))
+
+-- entries become a keyword map, if there are any
+abbrev pub mapped : List (Val × Val) → (List Val → Process) → Process
+mapped [] go = go []
+mapped (e ∷ es) go = value_asked (build_kwargs (e ∷ es)) (λ map. go (map ∷ []))
+
+-- so it is of names with their values, which become keyword maps
+abbrev pub entries_stretches : List (Val × Val) → List (Passing (List ℕ × Giving) Giving) → (List Val → List (Val × Val) → Process) → Process
+entries_stretches es [] go = go [] es
+entries_stretches es (alone n ∷ args) go = n.1 (λ v. entries_stretches (es ++ (text n.0, v) ∷ []) args go)
+entries_stretches es (spreads walk ∷ args) go =
+    mapped es (λ before. walk (λ v. entries_stretches [] args (λ later rest. go (before ++ v ∷ later) rest)))
+
+-- whether one of the arguments is a spread
+abbrev pub has_spread : {X Y : Type 0} → List (Passing X Y) → Bool
+has_spread [] = false
+has_spread (alone x ∷ args) = has_spread args
+has_spread (spreads y ∷ args) = true
+
+-- the keyword arguments, if there are any, become one keyword map, for which several are merged
+abbrev pub merged_if : Bool → List Val → (List Val → Process) → Process
+merged_if false maps go = go maps
+merged_if true maps go = value_asked (merge_kwargs maps) (λ map. go (map ∷ []))
+
+abbrev pub keywords_walk : List (Passing (List ℕ × Giving) Giving) → (List Val → Process) → Process
+keywords_walk args go = entries_stretches [] args (λ maps rest. mapped rest (λ more. merged_if (has_spread args) (maps ++ more) go))
+
+-- the values that are passed, those at the front among them; where one is spread all become one run
+abbrev pub run_if : Bool → List Val → List Val → (List Val → Process) → Process
+run_if false lists vs go = go vs
+run_if true lists vs go = listed vs (λ more. step (asks (spread (lists ++ more)) (on_all go)))
 
 -- positional arguments come before keyword ones, whatever order they are written in
-abbrev pub passed_walk : List Giving → List (List ℕ × Giving) → (List Val → Process) → Process
-passed_walk walks named go = in_turn walks (λ vs. keywords_walk named (λ last. go (vs ++ last)))
+abbrev pub passed_walk : List Val → List (Passing Giving Giving) → List (Passing (List ℕ × Giving) Giving) → (List Val → Process) → Process
+passed_walk front args named go =
+    stretches_walk front args (λ lists vs. keywords_walk named (λ last. run_if (has_spread args) lists (vs ++ last) go))
 
 -- what is called: a name, a method of an object, or a value
 pub data Callee : Type 0 where
@@ -59,10 +94,10 @@ callee_of (attribute e name) = by_method name
 callee_of _ = by_value
 
 -- a call: the object, or what is called where it is no name; then the arguments
-abbrev pub called_walk : Callee → Giving → Giving → ((List Val → Process) → Process) → Giving
-called_walk (by_name name) whole object passed go = passed (λ vs. value_asked (call_function name vs) go)
-called_walk (by_method name) whole object passed go = object (λ v. passed (λ vs. value_asked (call_method name (v ∷ vs)) go))
-called_walk by_value whole object passed go = whole (λ v. passed (λ vs. value_asked (call_value (v ∷ vs)) go))
+abbrev pub called_walk : Callee → Giving → Giving → (List Val → (List Val → Process) → Process) → Giving
+called_walk (by_name name) whole object passed go = passed [] (λ vs. value_asked (call_function name vs) go)
+called_walk (by_method name) whole object passed go = object (λ v. passed (v ∷ []) (λ vs. value_asked (call_method name vs) go))
+called_walk by_value whole object passed go = whole (λ v. passed (v ∷ []) (λ vs. value_asked (call_value vs) go))
 
 abbrev mutual
   pub expression_walk : Expression → (Val → Process) → Process
@@ -86,7 +121,11 @@ abbrev mutual
   expression_walk (map_literal ks vs) go =
       folded (constant_of (map_literal ks vs)) go (entries_walk ks (walks_of vs) (λ entries. value_asked (build_map entries) go))
   expression_walk (call callee args) go =
-      called_walk (callee_of callee) (expression_walk callee) (object_walk callee) (passed_walk (positional_walks args) (keyword_walks args)) go
+      called_walk (callee_of callee) (expression_walk callee) (object_walk callee) (λ front. passed_walk front (positional_walks args) (keyword_walks args)) go
+  expression_walk (filtered name (given e) args) go =
+      expression_walk e (λ v. passed_walk (v ∷ []) (positional_walks args) (keyword_walks args) (λ vs. value_asked (apply_filter name vs) go))
+  expression_walk (tested name e args) go =
+      expression_walk e (λ v. passed_walk (v ∷ []) (positional_walks args) (keyword_walks args) (λ vs. value_asked (perform_test name vs) go))
   expression_walk _ go = cut_short
 
   -- the object of a method
@@ -95,14 +134,16 @@ abbrev mutual
   object_walk _ go = cut_short
 
   -- the walks of the positional arguments, and those of the keyword ones with their names
-  pub positional_walks : Arguments → List Giving
+  pub positional_walks : Arguments → List (Passing Giving Giving)
   positional_walks no_arguments = []
-  positional_walks (arguments_more (positional e) args) = expression_walk e ∷ positional_walks args
+  positional_walks (arguments_more (positional e) args) = alone (expression_walk e) ∷ positional_walks args
+  positional_walks (arguments_more (positional_spread e) args) = spreads (expression_walk e) ∷ positional_walks args
   positional_walks (arguments_more _ args) = positional_walks args
 
-  pub keyword_walks : Arguments → List (List ℕ × Giving)
+  pub keyword_walks : Arguments → List (Passing (List ℕ × Giving) Giving)
   keyword_walks no_arguments = []
-  keyword_walks (arguments_more (keyword name e) args) = (name, expression_walk e) ∷ keyword_walks args
+  keyword_walks (arguments_more (keyword name e) args) = alone (name, expression_walk e) ∷ keyword_walks args
+  keyword_walks (arguments_more (keyword_spread e) args) = spreads (expression_walk e) ∷ keyword_walks args
   keyword_walks (arguments_more _ args) = keyword_walks args
 
   -- what is left out is a constant
@@ -136,3 +177,14 @@ abbrev mutual
   linked_walk v holds no_links go = step (go holds)
   linked_walk v holds (links_more op e links) go =
       truth_asked holds (expression_walk e (λ w. value_asked (compare op v w) (λ later. linked_walk w later links go))) (step (go holds))
+
+-- one filter, over the value that it is handed
+abbrev pub filter_walk : List ℕ → Arguments → Val → Giving
+filter_walk name args v go =
+    passed_walk (v ∷ []) (positional_walks args) (keyword_walks args) (λ vs. value_asked (apply_filter name vs) go)
+
+-- the filters of a block, one over what the other gives, over a value
+abbrev pub filters_walk : Expression → Val → Giving
+filters_walk (filtered name absent args) v go = filter_walk name args v go
+filters_walk (filtered name (given e) args) v go = filters_walk e v (λ w. filter_walk name args w go)
+filters_walk _ v go = cut_short

@@ -1,7 +1,7 @@
 -- The trees whose constructs have a walk today. What holds another construct is refused where it is added.
 use Rattle.std.specs.Prelude.{◌≡◌, ℕ, Bool, true, false, ◌||◌, List, IsTrue, codes}
 use Rattle.std.specs.Str.{bytes_eq}
-use Rattle.template_tree.specs.Tree.{Expression, Optional, Expressions, Links, Arguments, Argument, variable, constant, slice, unary, binary, chain, conditional, attribute, item, call, list_literal, tuple_literal, map_literal, absent, given, no_expressions, expressions_more, no_links, links_more, no_arguments, arguments_more, positional, keyword, Statement, Statements, Assignments, raw, print, for_loop, if_condition, with_block, set, set_block, auto_escape, include, continue_loop, break_loop, do_call, no_statements, statements_more, no_assignments, assignments_more}
+use Rattle.template_tree.specs.Tree.{Expression, Optional, Expressions, Links, Arguments, Argument, variable, constant, slice, unary, binary, chain, conditional, attribute, item, call, filtered, tested, list_literal, tuple_literal, map_literal, absent, given, no_expressions, expressions_more, no_links, links_more, no_arguments, arguments_more, positional, keyword, positional_spread, keyword_spread, Statement, Statements, Assignments, raw, print, for_loop, if_condition, with_block, set, set_block, auto_escape, filter_block, include, continue_loop, break_loop, do_call, no_statements, statements_more, no_assignments, assignments_more}
 
 -- the engine gives these names, in places, values that are not there yet
 abbrev pub is_kept_back : List ℕ → Bool
@@ -14,7 +14,7 @@ is_loop_called (variable name) = bytes_eq name (codes "loop")
 is_loop_called _ = false
 
 abbrev mutual
-  -- names that are not kept back, constants, operators, items, slices, containers and calls; no filters or tests
+  -- names that are not kept back, constants, operators, items, slices, containers, calls, filters and tests
   pub IsRunnable : Expression → Type 0
   IsRunnable (variable name) = is_kept_back name ≡ false
   IsRunnable (constant v) = Unit {0}
@@ -26,6 +26,8 @@ abbrev mutual
   IsRunnable (attribute e name) = IsRunnable e
   IsRunnable (item e key) = IsRunnable e × IsRunnable key
   IsRunnable (call callee args) = IsRunnable callee × (is_loop_called callee ≡ false) × AreRunnableArguments args
+  IsRunnable (filtered name (given e) args) = IsRunnable e × AreRunnableArguments args
+  IsRunnable (tested name e args) = IsRunnable e × AreRunnableArguments args
   IsRunnable (list_literal es) = AreRunnable es
   IsRunnable (tuple_literal es) = AreRunnable es
   IsRunnable (map_literal ks vs) = AreRunnable ks × AreRunnable vs
@@ -35,12 +37,13 @@ abbrev mutual
   IsRunnableIfGiven absent = Unit {0}
   IsRunnableIfGiven (given e) = IsRunnable e
 
-  -- positional and keyword ones; no spreads
+  -- positional and keyword ones, and spreads
   pub AreRunnableArguments : Arguments → Type 0
   AreRunnableArguments no_arguments = Unit {0}
   AreRunnableArguments (arguments_more (positional e) args) = IsRunnable e × AreRunnableArguments args
   AreRunnableArguments (arguments_more (keyword name e) args) = IsRunnable e × AreRunnableArguments args
-  AreRunnableArguments _ = ⊥
+  AreRunnableArguments (arguments_more (positional_spread e) args) = IsRunnable e × AreRunnableArguments args
+  AreRunnableArguments (arguments_more (keyword_spread e) args) = IsRunnable e × AreRunnableArguments args
 
   pub AreRunnable : Expressions → Type 0
   AreRunnable no_expressions = Unit {0}
@@ -54,6 +57,12 @@ abbrev mutual
   pub AreRunnableLinks : Links → Type 0
   AreRunnableLinks no_links = Unit {0}
   AreRunnableLinks (links_more op e links) = IsRunnable e × AreRunnableLinks links
+
+-- the filters of a block: one, or one over what others give
+abbrev pub AreFilters : Expression → Type 0
+AreFilters (filtered name absent args) = AreRunnableArguments args
+AreFilters (filtered name (given e) args) = AreFilters e × AreRunnableArguments args
+AreFilters _ = ⊥
 
 abbrev mutual
   -- a name, an attribute, or targets that a value is unpacked into
@@ -83,7 +92,10 @@ abbrev mutual
   IsRunnableStatement looping (with_block assignments body) = AreAssignments assignments × AreRunnableStatements looping body
   IsRunnableStatement looping (set target e) = IsTarget target × IsRunnable e
   IsRunnableStatement looping (set_block target absent body) = IsTarget target × AreRunnableStatements looping body
+  IsRunnableStatement looping (set_block target (given filters) body) =
+      AreFilters filters × IsTarget target × AreRunnableStatements looping body
   IsRunnableStatement looping (auto_escape e body) = IsRunnable e × AreRunnableStatements looping body
+  IsRunnableStatement looping (filter_block filters body) = AreFilters filters × AreRunnableStatements looping body
   IsRunnableStatement looping (include e ignore_missing) = IsRunnable e
   IsRunnableStatement looping (do_call callee args) = IsRunnable (call callee args)
   IsRunnableStatement looping continue_loop = IsTrue looping

@@ -2,10 +2,10 @@
 -- most so many rounds as the bound says.
 use Rattle.std.specs.Prelude.{ℕ, zero, suc, true, false, List, [], ◌∷◌, ◌++◌, None}
 use Rattle.template_values_model.specs.Val.{Val}
-use Rattle.template_tree.specs.Tree.{Expression, Optional, Expressions, Statement, Statements, Assignments, variable, attribute, list_literal, call, absent, given, no_expressions, expressions_more, raw, print, for_loop, if_condition, with_block, set, set_block, auto_escape, include, continue_loop, break_loop, do_call, no_statements, statements_more, no_assignments, assignments_more}
+use Rattle.template_tree.specs.Tree.{Expression, Optional, Expressions, Statement, Statements, Assignments, variable, attribute, list_literal, call, absent, given, no_expressions, expressions_more, raw, print, for_loop, if_condition, with_block, set, set_block, auto_escape, filter_block, include, continue_loop, break_loop, do_call, no_statements, statements_more, no_assignments, assignments_more}
 use Rattle.template_process.specs.Process as events
 use Rattle.template_process.specs.Process.{Ask, store, set_attribute, unpack, spread, build_list, write_raw, write_value, open_frame, close_frame, Looping, plain_loop, open_loop, next_item, did_not_iterate, close_loop, open_escape, close_escape, begin_capture, end_capture, Process, over, step, asks, cut_short, on_done, on_value, on_item, on_items, on_all, done_asked, value_asked, truth_asked}
-use Rattle.template_walk.specs.Expressions.{expression_walk}
+use Rattle.template_walk.specs.Expressions.{expression_walk, filters_walk}
 
 -- where `break` and `continue` lead
 pub record Exits : Type 0 where
@@ -110,9 +110,15 @@ abbrev mutual
   statement_walk n (set_block target absent body) exits go =
       asks (begin_capture true) (on_done
       (statements_walk n body (capturing exits) (value_asked end_capture (λ text. target_walk target text go))))
+  statement_walk n (set_block target (given filters) body) exits go =
+      asks (begin_capture true) (on_done
+      (statements_walk n body (capturing exits) (value_asked end_capture (λ text. filters_walk filters text (λ v. target_walk target v go)))))
   statement_walk n (auto_escape e body) exits go =
       expression_walk e (λ v. asks (open_escape v) (on_done
       (statements_walk n body (closing close_escape exits) (asks close_escape (on_done go)))))
+  statement_walk n (filter_block filters body) exits go =
+      asks (begin_capture true) (on_done
+      (statements_walk n body (capturing exits) (value_asked end_capture (λ text. filters_walk filters text (λ v. done_asked (write_value v) go)))))
   statement_walk n (include e ignore_missing) exits go = expression_walk e (λ v. done_asked (events.include ignore_missing v) go)
   statement_walk n (do_call callee args) exits go = expression_walk (call callee args) (λ v. go)
   statement_walk n continue_loop exits go = exits.on_continue
