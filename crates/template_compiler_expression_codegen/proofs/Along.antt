@@ -6,7 +6,7 @@ use Rattle.std.proofs.lemmas.List.{take_more}
 use Rattle.std.proofs.lemmas.List.Sums.{fold_push}
 use Rattle.std.proofs.lemmas.List.Elements.{All-nil, All-head, All-tail, All-same, All-push, All-get_or}
 use Rattle.template_values_model.specs.Val.{Val}
-use Rattle.template_tree.specs.Tree.{Expression, slice, binary, chain, filtered, tested, variable, attribute, item, call}
+use Rattle.template_tree.specs.Tree.{Expression, slice, binary, chain, filtered, tested, variable, attribute, item, call, absent, given}
 use Rattle.template_tree.specs.View.{expression_of}
 use Rattle.template_tree.specs.declared.expressions.Expr.{Expr, size-Expr}
 use Rattle.template_tree_parts.specs.Spine.{before}
@@ -26,14 +26,33 @@ runnable_along : (e : Expression) → IsRunnable e → All IsRunnable (coded_spi
 runnable_along (slice e start stop by) h = All-push IsRunnable (coded_spine e) (slice e start stop by) (runnable_along e h.0) h
 runnable_along (binary op l r) h = All-push IsRunnable (coded_spine l) (binary op l r) (runnable_along l h.0) h
 runnable_along (chain e links) h = All-push IsRunnable (coded_spine e) (chain e links) (runnable_along e h.0) h
-runnable_along (filtered name value args) h = absurd h
-runnable_along (tested name e args) h = absurd h
+runnable_along (filtered name absent args) h = absurd h
+runnable_along (filtered name (given e) args) h = All-push IsRunnable (coded_spine e) (filtered name (given e) args) (runnable_along e h.0) h
+runnable_along (tested name e args) h = All-push IsRunnable (coded_spine e) (tested name e args) (runnable_along e h.0) h
 runnable_along (call (variable name) args) h = All-push IsRunnable [] (call (variable name) args) (All-nil IsRunnable) h
 runnable_along (call (attribute e name) args) h = All-push IsRunnable (coded_spine e) (call (attribute e name) args) (runnable_along e h.0) h
 runnable_along (call e args) h = All-push IsRunnable (coded_spine e) (call e args) (runnable_along e h.0) h
 runnable_along (attribute e name) h = All-push IsRunnable (coded_spine e) (attribute e name) (runnable_along e h) h
 runnable_along (item e key) h = All-push IsRunnable (coded_spine e) (item e key) (runnable_along e h.0) h
 runnable_along e h = All-push IsRunnable [] e (All-nil IsRunnable) h
+
+-- the left part of a runnable tree is runnable
+is_left : (l e : Expression) → IsRunnable e → ◌≡◌ {A = Option Expression} (Some l) (Some e) → IsRunnable l
+is_left l e h same = let is : e ≡ l = cc in subst (λ (x : Expression). IsRunnable x) is h
+
+pub left_runnable : (e l : Expression) → IsRunnable e → Some l ≡ coded_left e → IsRunnable l
+left_runnable (slice e start stop by) l h left = is_left l e h.0 left
+left_runnable (binary op a b) l h left = is_left l a h.0 left
+left_runnable (chain e links) l h left = is_left l e h.0 left
+left_runnable (filtered name absent args) l h left = absurd h
+left_runnable (filtered name (given e) args) l h left = is_left l e h.0 left
+left_runnable (tested name e args) l h left = is_left l e h.0 left
+left_runnable (call (variable name) args) l h left = absurd cc
+left_runnable (call (attribute e name) args) l h left = is_left l e h.0 left
+left_runnable (call e args) l h left = is_left l e h.0 left
+left_runnable (attribute e name) l h left = is_left l e h left
+left_runnable (item e key) l h left = is_left l e h.0 left
+left_runnable _ l h left = absurd cc
 
 at_place : (ns : List (Bor Expr)) (i : ℕ) (n : Bor Expr) → All IsRunnable (map (λ (m : Bor Expr). expression_of m.now) ns) → i < length ns
     → IsRunnable (expression_of (get_or ns i n).now)

@@ -4,6 +4,7 @@ pub mod CodedChains
 pub mod CodedWalks
 pub mod Ends
 pub mod Entries
+pub mod Filtering
 pub mod Items
 pub mod Linked
 pub mod Own

@@ -1,10 +1,10 @@
 -- What a tree adds to its left part makes its constant and its code: one step of the walk along a left chain.
-use Rattle.std.proofs.Common.{◌≡◌, ℕ, ◌+◌, suc, List, [], ◌∷◌, ◌++◌, length, Option, None, Some, refl, sym, ap, ◌∙◌, append-nil, append_assoc, add-zero, length-append}
+use Rattle.std.proofs.Common.{◌≡◌, ℕ, ◌+◌, List, [], ◌∷◌, ◌++◌, length, Option, None, Some, refl, sym, ap, ◌∙◌, append-nil, append_assoc, add-zero, length-append}
 use Rattle.std.specs.Prelude.{option_and_then}
 use Rattle.template_values_model.specs.Val.{Val, none}
 use Rattle.template_tree.specs.declared.operators.BinOpKind.{BinOpKind}
 use Rattle.template_tree.specs.declared.operators.BinOpKind.TheVariants.{ScAnd, ScOr}
-use Rattle.template_tree.specs.Tree.{Expression, variable, constant, unary, binary, chain, conditional, filtered, tested, attribute, item, call, list_literal, tuple_literal, map_literal}
+use Rattle.template_tree.specs.Tree.{Expression, variable, constant, unary, binary, chain, conditional, filtered, tested, attribute, item, call, list_literal, tuple_literal, map_literal, absent, given}
 use Rattle.template_tree.specs.Tree as tree
 use Rattle.template_tree_parts.specs.Spine.{before}
 use Rattle.template_compiler_expression_codegen.specs.Coded.{coded_left}
@@ -12,9 +12,9 @@ use Rattle.template_walk.specs.Constants.{constant_of, binary_constant, chain_co
 use Rattle.template_walk.specs.Runnable.{IsRunnable}
 use Rattle.template_walk.specs.Statements.{number_of}
 use Rattle.template_code.specs.Code.{Code, load_const, get_attr, get_item, slice, build_list, build_tuple, build_map, call_method, call_object}
-use Rattle.template_compiler_codegen.specs.Expressions.{Coded, one, then_code, loaded, unary_code, binary_code, expression_code, optional_code, expressions_code, entries_code, entry_count, codes_of, chain_code, passed_code, argument_count}
+use Rattle.template_compiler_codegen.specs.Expressions.{Coded, one, then_code, loaded, unary_code, binary_code, expression_code, optional_code, expressions_code, entries_code, entry_count, codes_of, chain_code, filter_code, passed_code, argument_count}
 use Rattle.template_compiler_emission.specs.Puts.{unless, held, behind}
-use Rattle.template_compiler_expression_codegen.specs.Own.{own_constant, own_code, operator_code}
+use Rattle.template_compiler_expression_codegen.specs.Own.{own_constant, own_code, operator_code, test_code}
 
 loads_known : (o : Option Val) (code : Coded) (v : Val) → o ≡ Some v → loaded o code ≡ one (load_const v)
 loads_known o code v h = ap (λ (k : Option Val). loaded k code) h
@@ -48,13 +48,11 @@ abbrev pub no_left : Option Val × List Code
 no_left = (None, [])
 
 abbrev pub add_own : ℕ → Option Val × List Code → Expression → Option Val × List Code
-add_own p left (filtered name value args) = (None, [])
-add_own p left (tested name value args) = (None, [])
+add_own p left (filtered name absent args) = (None, [])
 add_own p left e = with_own p left e
 
 pub own_runnable : (p : ℕ) (left : Option Val × List Code) (e : Expression) → IsRunnable e → add_own p left e ≡ with_own p left e
-own_runnable p left (filtered name value args) h = absurd h
-own_runnable p left (tested name value args) h = absurd h
+own_runnable p left (filtered name absent args) h = absurd h
 own_runnable p left _ h = refl
 
 at_first : (o : Option Val) (f g : Coded) (p : ℕ) → ((q : ℕ) → unless o f q ≡ unless o g q) →
@@ -101,16 +99,17 @@ own_step p (chain first links) =
     along p first o (chain_code links) (λ e. ap (λ (k : Option Val). option_and_then (λ v. chain_constant v links) k) e))
 own_step p (conditional test branch otherwise) =
     let e = conditional test branch otherwise in at_first None (expression_code e) (expression_code e) p (λ q. refl)
-own_step p (filtered name value args) = refl
-own_step p (tested name e args) = refl
+own_step p (filtered name absent args) = refl
+own_step p (filtered name (given e) args) = ap (λ (code : List Code). (None, code)) (along p e None (filter_code name args) (λ h. refl))
+own_step p (tested name e args) = ap (λ (code : List Code). (None, code)) (along p e None (test_code name args) (λ h. refl))
 own_step p (call (variable name) args) =
     let e = call (variable name) args in at_first None (expression_code e) (expression_code e) p (λ q. refl)
 own_step p (call (attribute e name) args) =
     ap (λ (code : List Code). (None, code))
-    (along p e None (then_code (passed_code args) (one (call_method name (Some (suc (argument_count args)))))) (λ h. refl))
+    (along p e None (then_code (passed_code 1 args) (one (call_method name (argument_count 1 args)))) (λ h. refl))
 own_step p (call e args) =
     ap (λ (code : List Code). (None, code))
-    (along p e None (then_code (passed_code args) (one (call_object (Some (suc (argument_count args)))))) (λ h. refl))
+    (along p e None (then_code (passed_code 1 args) (one (call_object (argument_count 1 args)))) (λ h. refl))
 own_step p (attribute e name) = ap (λ (code : List Code). (None, code)) (along p e None (one (get_attr name)) (λ h. refl))
 own_step p (item e key) =
     ap (λ (code : List Code). (None, code)) (along p e None (then_code (expression_code key) (one get_item)) (λ h. refl))

@@ -1,6 +1,6 @@
 -- How deep the parts of nodes are.
-use Rattle.std.proofs.Common.{◌≡◌, ℕ, ◌<◌, ◌≤◌, zero, suc, max, List, [], ◌∷◌, length, get_or, Option, None, Some, sym, ap, ◌∙◌, arith, rules}
-use Rattle.template_tree.specs.declared.calls.CallArg.{CallArg, Pos, Kwarg, size-CallArg, the_lemmas}
+use Rattle.std.proofs.Common.{◌≡◌, ℕ, ◌<◌, ◌≤◌, zero, suc, max, List, [], ◌∷◌, length, get_or, Option, None, Some, ap, arith, rules}
+use Rattle.template_tree.specs.declared.calls.CallArg.{CallArg, Pos, Kwarg, PosSplat, KwargSplat, size-CallArg, the_lemmas}
 use Rattle.template_tree.specs.declared.expressions.CompareOp.{CompareOp}
 use Rattle.template_tree.specs.declared.expressions.Expr.{Expr, size-Expr}
 
@@ -57,23 +57,36 @@ argument_within (x ∷ xs) zero d h = omega arith
 argument_within (x ∷ xs) (suc i) d h =
     let inner : size-CallArg (get_or xs i d) ≤ arguments_deep xs = argument_within xs i d (omega (arith, h)) in omega arith
 
-positional_inside : (e : Expr) → size-Expr e < size-CallArg (Pos e)
-positional_inside e = search (rules, the_lemmas)
+pub argument_deep : (xs : List CallArg) (i : ℕ) (a : CallArg) → i < length xs → a ≡ get_or xs i a → size-CallArg a ≤ arguments_deep xs
+argument_deep xs i a h read =
+    let same : size-CallArg a ≡ size-CallArg (get_or xs i a) = ap (λ (x : CallArg). size-CallArg x) read in omega (arith, argument_within xs i a h, same)
+
+-- the expression of an argument is smaller than it
+value_inside : (e : Expr) → size-Expr e < size-CallArg (Pos e)
+value_inside e = search (rules, the_lemmas)
 
 keyword_inside : (name : _) (e : Expr) → size-Expr e < size-CallArg (Kwarg name e)
 keyword_inside name e = search (rules, the_lemmas)
 
-pub positional_deep : (xs : List CallArg) (i : ℕ) (a : CallArg) (e : Expr) → i < length xs → a ≡ get_or xs i a → a ≡ Pos e
-    → size-Expr e < arguments_deep xs
-positional_deep xs i a e h read is =
-    let same : size-CallArg (Pos e) ≡ size-CallArg (get_or xs i a) = ap (λ (x : CallArg). size-CallArg x) (sym is ∙ read) in
-    omega (arith, argument_within xs i a h, positional_inside e, same)
+spread_inside : (e : Expr) → size-Expr e < size-CallArg (PosSplat e)
+spread_inside e = search (rules, the_lemmas)
 
-pub keyword_deep : (xs : List CallArg) (i : ℕ) (a : CallArg) (name : _) (e : Expr) → i < length xs → a ≡ get_or xs i a → a ≡ Kwarg name e
-    → size-Expr e < arguments_deep xs
-keyword_deep xs i a name e h read is =
-    let same : size-CallArg (Kwarg name e) ≡ size-CallArg (get_or xs i a) = ap (λ (x : CallArg). size-CallArg x) (sym is ∙ read) in
-    omega (arith, argument_within xs i a h, keyword_inside name e, same)
+keyword_spread_inside : (e : Expr) → size-Expr e < size-CallArg (KwargSplat e)
+keyword_spread_inside e = search (rules, the_lemmas)
+
+pub value_deep : (a : CallArg) (e : Expr) → a ≡ Pos e → size-Expr e < size-CallArg a
+value_deep a e is = let same : size-CallArg a ≡ size-CallArg (Pos e) = ap (λ (x : CallArg). size-CallArg x) is in omega (arith, value_inside e, same)
+
+pub keyword_deep : (a : CallArg) (name : _) (e : Expr) → a ≡ Kwarg name e → size-Expr e < size-CallArg a
+keyword_deep a name e is =
+    let same : size-CallArg a ≡ size-CallArg (Kwarg name e) = ap (λ (x : CallArg). size-CallArg x) is in omega (arith, keyword_inside name e, same)
+
+pub spread_deep : (a : CallArg) (e : Expr) → a ≡ PosSplat e → size-Expr e < size-CallArg a
+spread_deep a e is = let same : size-CallArg a ≡ size-CallArg (PosSplat e) = ap (λ (x : CallArg). size-CallArg x) is in omega (arith, spread_inside e, same)
+
+pub keyword_spread_deep : (a : CallArg) (e : Expr) → a ≡ KwargSplat e → size-Expr e < size-CallArg a
+keyword_spread_deep a e is =
+    let same : size-CallArg a ≡ size-CallArg (KwargSplat e) = ap (λ (x : CallArg). size-CallArg x) is in omega (arith, keyword_spread_inside e, same)
 
 pub arguments_below : (xs : List CallArg) (m : ℕ) → 0 < m → ((i : ℕ) (d : CallArg) → i < length xs → size-CallArg (get_or xs i d) < m) → arguments_deep xs < m
 arguments_below [] m h all = h

@@ -1,17 +1,20 @@
 -- The trees of nodes, from the parts that a node holds.
 use Rattle.std.proofs.Common.{◌≡◌, ℕ, ◌<◌, List as Items, length, get_or, Box, Global, rules, sym, ap, ◌∙◌}
-use Rattle.template_tree.specs.Tree.{call, chain, conditional, list_literal, map_literal, slice, tuple_literal}
+use Rattle.std.specs.Cow.{cow_str_bytes}
+use Rattle.template_tree.specs.Tree.{call, chain, conditional, filtered, list_literal, map_literal, slice, tested, tuple_literal}
 use Rattle.template_tree.specs.View.{arguments_in, chain_of, expression_of, expressions_in, links_in, optional_in}
 use Rattle.template_tree.specs.declared.span.Spanned.{Spanned}
 use Rattle.template_tree.specs.declared.calls.Call.{Call as CallNode}
 use Rattle.template_tree.specs.declared.calls.CallArg.{CallArg, size-CallArg}
 use Rattle.template_tree.specs.declared.expressions.Compare.{Compare, Compare' as compared, out-Compare}
-use Rattle.template_tree.specs.declared.expressions.Expr.{Expr, Call, Compare as CompareNode, IfExpr, List, Map, Slice, Tuple, size-Expr, the_lemmas}
+use Rattle.template_tree.specs.declared.expressions.Expr.{Expr, Call, Compare as CompareNode, Filter, IfExpr, List, Map, Slice, Test, Tuple, size-Expr, the_lemmas}
 use Rattle.template_tree.specs.declared.expressions.CompareOp.{CompareOp}
+use Rattle.template_tree.specs.declared.expressions.Filter.{Filter as FilterNode}
 use Rattle.template_tree.specs.declared.expressions.IfExpr.{IfExpr as IfExprNode}
 use Rattle.template_tree.specs.declared.expressions.List.{List as ListNode}
 use Rattle.template_tree.specs.declared.expressions.Map.{Map as MapNode}
 use Rattle.template_tree.specs.declared.expressions.Slice.{Slice as SliceNode}
+use Rattle.template_tree.specs.declared.expressions.Test.{Test as TestNode}
 use Rattle.template_tree.specs.declared.expressions.Tuple.{Tuple as TupleNode}
 use Rattle.template_tree.proofs.Rows.{arguments_row, expressions_row, links_row}
 use Rattle.template_compiler_expression_codegen.proofs.Sizes.{arguments_below, arguments_deep, items_below, items_deep, links_below, links_deep}
@@ -40,6 +43,14 @@ chain_tree (compared expr shape ops) = search (rules, the_lemmas, links_row)
 call_tree : (n : Box (Spanned CallNode) Global) → expression_of (Call n)
     ≡ call (expression_of n.value.node.expr) (arguments_in n.value.node.args.items)
 call_tree n = search (rules, the_lemmas, arguments_row)
+
+filter_tree : (n : Box (Spanned FilterNode) Global) → expression_of (Filter n)
+    ≡ filtered (cow_str_bytes n.value.node.name) (optional_in n.value.node.expr) (arguments_in n.value.node.args.items)
+filter_tree n = search (rules, the_lemmas, arguments_row)
+
+test_tree : (n : Box (Spanned TestNode) Global) → expression_of (Test n)
+    ≡ tested (cow_str_bytes n.value.node.name) (expression_of n.value.node.expr) (arguments_in n.value.node.args.items)
+test_tree n = search (rules, the_lemmas, arguments_row)
 
 -- parts are smaller than the node
 list_smaller : (n : Box (Spanned ListNode) Global) (i : ℕ) (d : Expr) → i < length n.value.node.items.items
@@ -81,7 +92,21 @@ argument_smaller n i d h = search (rules, the_lemmas)
 call_positive : (n : Box (Spanned CallNode) Global) → 0 < size-Expr (Call n)
 call_positive n = search (rules, the_lemmas)
 
--- a list, a tuple, a map, a chain, a call: its tree, and how deep its parts are
+filter_argument_smaller : (n : Box (Spanned FilterNode) Global) (i : ℕ) (d : CallArg) → i < length n.value.node.args.items
+    → size-CallArg (get_or n.value.node.args.items i d) < size-Expr (Filter n)
+filter_argument_smaller n i d h = search (rules, the_lemmas)
+
+filter_positive : (n : Box (Spanned FilterNode) Global) → 0 < size-Expr (Filter n)
+filter_positive n = search (rules, the_lemmas)
+
+test_argument_smaller : (n : Box (Spanned TestNode) Global) (i : ℕ) (d : CallArg) → i < length n.value.node.args.items
+    → size-CallArg (get_or n.value.node.args.items i d) < size-Expr (Test n)
+test_argument_smaller n i d h = search (rules, the_lemmas)
+
+test_positive : (n : Box (Spanned TestNode) Global) → 0 < size-Expr (Test n)
+test_positive n = search (rules, the_lemmas)
+
+-- a list, a tuple, a map, a chain, a call, a filter, a test: its tree, and how deep its parts are
 pub list_is : (e : Expr) (n : Box (Spanned ListNode) Global) (items : Items Expr) → e ≡ List n → items ≡ n.value.node.items.items
     → expression_of e ≡ list_literal (expressions_in items)
 list_is e n items node read =
@@ -138,3 +163,25 @@ pub call_deep : (e : Expr) (n : Box (Spanned CallNode) Global) (c : CallNode) �
     → arguments_deep c.args.items < size-Expr e
 call_deep e n c node read =
     rw (node, read) (arguments_below n.value.node.args.items (size-Expr (Call n)) (call_positive n) (argument_smaller n))
+
+pub filter_is : (e : Expr) (n : Box (Spanned FilterNode) Global) (f : FilterNode) → e ≡ Filter n → f ≡ n.value.node
+    → expression_of e ≡ filtered (cow_str_bytes f.name) (optional_in f.expr) (arguments_in f.args.items)
+filter_is e n f node read =
+    ap (λ (x : Expr). expression_of x) node ∙ filter_tree n ∙
+    ap (λ (x : FilterNode). filtered (cow_str_bytes x.name) (optional_in x.expr) (arguments_in x.args.items)) (sym read)
+
+pub filter_deep : (e : Expr) (n : Box (Spanned FilterNode) Global) (f : FilterNode) → e ≡ Filter n → f ≡ n.value.node
+    → arguments_deep f.args.items < size-Expr e
+filter_deep e n f node read =
+    rw (node, read) (arguments_below n.value.node.args.items (size-Expr (Filter n)) (filter_positive n) (filter_argument_smaller n))
+
+pub test_is : (e : Expr) (n : Box (Spanned TestNode) Global) (t : TestNode) → e ≡ Test n → t ≡ n.value.node
+    → expression_of e ≡ tested (cow_str_bytes t.name) (expression_of t.expr) (arguments_in t.args.items)
+test_is e n t node read =
+    ap (λ (x : Expr). expression_of x) node ∙ test_tree n ∙
+    ap (λ (x : TestNode). tested (cow_str_bytes x.name) (expression_of x.expr) (arguments_in x.args.items)) (sym read)
+
+pub test_deep : (e : Expr) (n : Box (Spanned TestNode) Global) (t : TestNode) → e ≡ Test n → t ≡ n.value.node
+    → arguments_deep t.args.items < size-Expr e
+test_deep e n t node read =
+    rw (node, read) (arguments_below n.value.node.args.items (size-Expr (Test n)) (test_positive n) (test_argument_smaller n))

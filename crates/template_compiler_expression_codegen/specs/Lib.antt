@@ -3,3 +3,5 @@ pub mod Coded
 pub mod Ends
 pub mod Own
 pub mod Calls
+pub mod Passing
+pub mod Filters

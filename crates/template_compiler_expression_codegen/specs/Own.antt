@@ -1,15 +1,15 @@
 -- What a node of an expression adds to its left part: its constant, and its own code.
-use Rattle.std.specs.Prelude.{suc, Option, None, Some, option_and_then}
+use Rattle.std.specs.Prelude.{ℕ, List, Option, None, Some, option_and_then}
 use Rattle.template_values_model.specs.Val.{Val, none}
 use Rattle.template_tree.specs.declared.operators.BinOpKind.{BinOpKind}
-use Rattle.template_tree.specs.Tree.{Expression, Arguments, variable, constant, unary, binary, chain, conditional, attribute, item, call, list_literal, tuple_literal, map_literal}
+use Rattle.template_tree.specs.Tree.{Expression, Arguments, unary, binary, chain, attribute, item, call, filtered, tested, list_literal, tuple_literal, map_literal}
 use Rattle.template_tree.specs.Tree as tree
 use Rattle.template_walk.specs.Constants.{constant_of, chain_constant}
 use Rattle.template_walk.specs.Expressions.{Callee, by_name, by_method, by_value, callee_of}
 use Rattle.template_walk.specs.Statements.{number_of}
-use Rattle.template_code.specs.Code.{get_attr, get_item, slice, build_map, build_list, build_tuple, operate, call_function, call_method, call_object}
+use Rattle.template_code.specs.Code.{get_attr, get_item, slice, build_map, build_list, build_tuple, operate, call_function, call_method, call_object, perform_test}
 use Rattle.template_compiler_folding.specs.Folding.{binary_folded}
-use Rattle.template_compiler_codegen.specs.Expressions.{Coded, one, then_code, skipped, unary_code, expression_code, optional_code, expressions_code, entries_code, codes_of, entry_count, chain_code, passed_code, argument_count}
+use Rattle.template_compiler_codegen.specs.Expressions.{Coded, one, then_code, skipped, unary_code, expression_code, optional_code, expressions_code, entries_code, codes_of, entry_count, chain_code, no_number, filter_code, passed_code, argument_count}
 use Rattle.template_compiler_emission.specs.Puts.{behind}
 use Rattle.template_compiler_emission.specs.Leaps.{leap_code, leap_of}
 use Rattle.template_compiler_emission.specs.declared.leaps.Leap.{Leap}
@@ -33,14 +33,17 @@ operator_code op right = operator_with (leap_of op) op right
 
 -- a call: the left part is the object of a method, or what is called where it is no name
 abbrev pub called_behind : Callee → Option Val → Arguments → Coded
-called_behind (by_name name) left args = then_code (passed_code args) (one (call_function name (Some (argument_count args))))
+called_behind (by_name name) left args = then_code (passed_code 0 args) (one (call_function name (argument_count 0 args)))
 called_behind (by_method name) left args =
-    behind left (then_code (passed_code args) (one (call_method name (Some (suc (argument_count args))))))
-called_behind by_value left args =
-    behind left (then_code (passed_code args) (one (call_object (Some (suc (argument_count args))))))
+    behind left (then_code (passed_code 1 args) (one (call_method name (argument_count 1 args))))
+called_behind by_value left args = behind left (then_code (passed_code 1 args) (one (call_object (argument_count 1 args))))
 
 abbrev pub call_code : Option Val → Expression → Arguments → Coded
 call_code left callee args = called_behind (callee_of callee) left args
+
+-- a test, over the value on top
+abbrev pub test_code : List ℕ → Arguments → Coded
+test_code name args = then_code (passed_code 1 args) (one (perform_test name (argument_count 1 args) no_number))
 
 -- the code of a tree behind that of its left part; of one without a left part, its code where it is no constant
 abbrev pub own_code : Option Val → Expression → Coded
@@ -52,6 +55,8 @@ own_code left (item e key) = behind left (then_code (expression_code key) (one g
 own_code left (tree.slice e start stop by) =
     behind left (then_code (optional_code none start) (then_code (optional_code none stop) (then_code (optional_code none by) (one slice))))
 own_code left (call callee args) = call_code left callee args
+own_code left (filtered name value args) = behind left (filter_code name args)
+own_code left (tested name e args) = behind left (test_code name args)
 own_code left (list_literal es) = then_code (expressions_code es) (one (build_list (Some (number_of es))))
 own_code left (tuple_literal es) = then_code (expressions_code es) (one (build_tuple (Some (number_of es))))
 own_code left (map_literal ks vs) = then_code (entries_code ks (codes_of vs)) (one (build_map (entry_count ks (codes_of vs))))

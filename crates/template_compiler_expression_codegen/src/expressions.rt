@@ -2,28 +2,31 @@
 //! an expression comes from one span: it is told with the first instruction that is put, and none is told with the
 //! others, which come from where the one before them comes.
 ghost use Rattle.std.specs.Prelude.{◌≡◌, [], ◌∷◌, IsNone, None, Some, OnOk, IfOk, IfErr, length, option_and_then};
+ghost use Rattle.std.specs.Cow.{cow_str_bytes};
 ghost use Rattle.template_values_model.specs.Val.{none, silent_undefined};
 ghost use Rattle.template_tree.specs.Tree.{list_literal, tuple_literal, map_literal};
-ghost use Rattle.template_tree.specs.View.{expression_of, optional_in, expressions_in, links_in, arguments_in};
+ghost use Rattle.template_tree.specs.View.{expression_of, optional_in, expressions_in, links_in, argument_of, arguments_in};
 ghost use Rattle.template_walk.specs.Constants.{constant_of, chain_constant};
 ghost use Rattle.template_walk.specs.Runnable.{IsRunnable, IsRunnableIfGiven, AreRunnable, AreRunnableArguments, IsRunnableChain, AreRunnableLinks};
 ghost use Rattle.template_walk.specs.Statements.{number_of};
 ghost use Rattle.template_code.specs.Code.{build_list, build_map, build_tuple, get_item, operate, slice};
 ghost use Rattle.template_code.specs.Listing.{code_in, TakesNoMore};
-ghost use Rattle.template_compiler_codegen.specs.Expressions.{one, then_code, skipped, either_code, unary_code, expression_code, optional_code, expressions_code, entries_code, codes_of, entry_count, chain_code, in_turn_code, named_code, passed_code, argument_count, positional_cores, keyword_cores};
+ghost use Rattle.template_compiler_codegen.specs.Expressions.{one, then_code, skipped, either_code, unary_code, expression_code, optional_code, expressions_code, entries_code, codes_of, entry_count, chain_code, filter_code, passed_code, argument_count, keyword_count, keyword_cores};
 ghost use Rattle.template_compiler_folding.specs.Folding.{unary_folded, binary_folded, comparison_folded};
 ghost use Rattle.template_compiler_emission.specs.Leaps.{leap_code, leap_of};
 ghost use Rattle.template_compiler_emission.specs.Puts.{Puts, unless, held, behind};
 ghost use Rattle.template_compiler_expression_codegen.specs.Chains.{Grows, constant_behind, leaps_in, left_behind, link_code, linked_to};
-ghost use Rattle.template_compiler_expression_codegen.specs.Own.{own_constant, own_code, call_code};
+ghost use Rattle.template_compiler_expression_codegen.specs.Own.{own_constant, own_code, call_code, test_code};
+ghost use Rattle.template_compiler_expression_codegen.specs.Passing.{keywords_code, PassesByPlace, PassesByName, ArePassedByPlace, ArePassedByName};
 
 use crate::chains::{Link, Linked, end_link, is_false, put_leap, tell_leaps};
 use crate::coded::{coded_left, coded_spine};
 use crate::leaves::{
-    compile_attribute, first_from, hold, hold_literal, let_go, load_held, one_more, put_keyword,
-    put_literal, put_name, unless_refused,
+    compile_attribute, copied_name, first_from, hold, hold_literal, let_go, load_held, one_more,
+    put_keyword, put_literal, put_name, several_more, unless_refused,
 };
 use crate::operators::{Choice, end_choice, end_constant_unary, end_operator};
+use crate::stretches::{Stretches, put_list, put_map, put_merged, put_run, still_from};
 use std::alloc::Global;
 use std::borrow::CowStr;
 use template_code::{Instruction, Instructions};
@@ -31,7 +34,7 @@ use template_compiler_emission::{
     Leap, land, leap_of, load_copy, operator_instruction, push, push_leap, unary_instruction,
 };
 use template_compiler_folding::{fold_list, fold_map, fold_tuple};
-use template_tree::{BinOpKind, Call, CallArg, CompareOp, Expr, Span, UnaryOpKind};
+use template_tree::{BinOpKind, Call, CallArg, CompareOp, Expr, Filter, Span, Test, UnaryOpKind};
 use template_values_core::Value;
 use template_values_errors::ErrorKind;
 
@@ -214,8 +217,8 @@ fn fold_node<'source>(
         }
         Expr::GetAttr(n) => compile_attribute(code, value, n.node.name, from),
         Expr::GetItem(n) => compile_item(alloc, code, value, &n.node.subscript_expr, from),
-        Expr::Filter(_) => unreachable!(),
-        Expr::Test(_) => unreachable!(),
+        Expr::Filter(n) => compile_filter(alloc, code, value, &n.node, from),
+        Expr::Test(n) => compile_test(alloc, code, value, &n.node, from),
         Expr::Call(n) => compile_call(alloc, code, value, &n.node, from),
         Expr::Slice(n) => {
             compile_slice(
@@ -490,101 +493,242 @@ pub(crate) fn compile_call<'source>(
     match &call.expr {
         Expr::Var(n) => {
             let_go(left);
-            let count = compile_arguments(alloc, code, &call.args, from)?;
+            let count = compile_arguments(alloc, code, 0, &call.args, from)?;
             let told = first_from(call.args.len(), left, from);
             let name = CowStr::Borrowed(n.node.id);
-            push(code, Instruction::CallFunction(name, Some(count)), told)
+            push(code, Instruction::CallFunction(name, count), told)
         }
         Expr::GetAttr(n) => {
             load_held(code, left, from)?;
-            let count = compile_arguments(alloc, code, &call.args, None)?;
-            let count = one_more(count)?;
+            let count = compile_arguments(alloc, code, 1, &call.args, None)?;
             let name = CowStr::Borrowed(n.node.name);
-            push(code, Instruction::CallMethod(name, Some(count)), None)
+            push(code, Instruction::CallMethod(name, count), None)
         }
         _ => {
             load_held(code, left, from)?;
-            let count = compile_arguments(alloc, code, &call.args, None)?;
-            let count = one_more(count)?;
-            push(code, Instruction::CallObject(Some(count)), None)
+            let count = compile_arguments(alloc, code, 1, &call.args, None)?;
+            push(code, Instruction::CallObject(count), None)
         }
     }
 }
 
-// The arguments that are passed by their place, and behind them a map of those that are passed by a name, where there
-// are any. The answer is how many values they are.
+// A filter behind its value.
+#[cycle(expression)]
+#[inline(never)]
+pub(crate) fn compile_filter<'source>(
+    alloc: Global,
+    code: &mut Instructions<'source>,
+    left: &mut Option<Value>,
+    filter: &Filter<'source>,
+    from: Option<&Span>,
+) -> Result<(), ErrorKind>
+    requires { AreRunnableArguments (arguments_in filter.now.args.items) }
+    ensures taken { OnOk result (left.new ≡ None) }
+    ensures put { OnOk result
+        (Puts (behind left.old (filter_code (cow_str_bytes filter.now.name) (arguments_in filter.now.args.items))) code.old code.new) }
+    ensures refused { IfErr result (λ kind. TakesNoMore (code_in code.new) (kind ∷ [])) }
+{
+    let begins = code.len();
+    load_held(code, left, from)?;
+    let told = still_from(code, begins, from);
+    let count = compile_arguments(alloc, code, 1, &filter.args, told)?;
+    let name = copied_name(&filter.name)?;
+    let told = still_from(code, begins, from);
+    push(code, Instruction::ApplyFilter(name, count, u8::MAX), told)
+}
+
+// A test behind its value.
+#[cycle(expression)]
+#[inline(never)]
+fn compile_test<'source>(
+    alloc: Global,
+    code: &mut Instructions<'source>,
+    left: &mut Option<Value>,
+    test: &Test<'source>,
+    from: Option<&Span>,
+) -> Result<(), ErrorKind>
+    requires { AreRunnableArguments (arguments_in test.now.args.items) }
+    ensures taken { OnOk result (left.new ≡ None) }
+    ensures put { OnOk result
+        (Puts (behind left.old (test_code (cow_str_bytes test.now.name) (arguments_in test.now.args.items))) code.old code.new) }
+    ensures refused { IfErr result (λ kind. TakesNoMore (code_in code.new) (kind ∷ [])) }
+{
+    load_held(code, left, from)?;
+    let count = compile_arguments(alloc, code, 1, &test.args, None)?;
+    let name = copied_name(&test.name)?;
+    push(code, Instruction::PerformTest(name, count, u8::MAX), None)
+}
+
+// The arguments behind so many values at the front: those that are passed by their place, and behind them a map of those
+// that are passed by a name, where there are any; where one is spread, all of them become one counted run. The answer is
+// how many values they are with those at the front, or none for a run.
 #[cycle(expression)]
 fn compile_arguments<'source>(
     alloc: Global,
     code: &mut Instructions<'source>,
+    front: u16,
     arguments: &[CallArg<'source>],
     from: Option<&Span>,
-) -> Result<u16, ErrorKind>
+) -> Result<Option<u16>, ErrorKind>
     requires { AreRunnableArguments (arguments_in arguments.now) }
-    ensures count { IfOk result (λ count. count ≡ argument_count (arguments_in arguments.now)) }
-    ensures put { OnOk result (Puts (passed_code (arguments_in arguments.now)) code.old code.new) }
+    ensures count { IfOk result (λ count. count ≡ argument_count front (arguments_in arguments.now)) }
+    ensures put { OnOk result (Puts (passed_code front (arguments_in arguments.now)) code.old code.new) }
     ensures refused { IfErr result (λ kind. TakesNoMore (code_in code.new) (kind ∷ [])) }
 {
-    let passed = compile_positional(alloc, code, arguments, from)?;
-    let told = first_from(passed as usize, &None, from);
+    let begins = code.len();
+    let passed = compile_positional(alloc, code, front, arguments, from)?;
+    let told = still_from(code, begins, from);
     let named = compile_keywords(alloc, code, arguments, told)?;
-    if named == 0 {
-        return Ok(passed);
-    }
-    let count = one_more(passed)?;
-    push(code, Instruction::BuildKwargs(named), None)?;
-    Ok(count)
+    let count = several_more(passed.last, named)?;
+    put_run(code, passed.lists, count, passed.spread)
 }
 
-// The arguments that are passed by their place, and how many they are.
+// The arguments that are passed by their place, behind so many values at the front.
 #[cycle(expression)]
 fn compile_positional<'source>(
     alloc: Global,
     code: &mut Instructions<'source>,
+    front: u16,
     arguments: &[CallArg<'source>],
     from: Option<&Span>,
-) -> Result<u16, ErrorKind>
+) -> Result<Stretches, ErrorKind>
     requires { AreRunnableArguments (arguments_in arguments.now) }
-    ensures count { IfOk result (λ count. count ≡ length (positional_cores (arguments_in arguments.now))) }
-    ensures put { OnOk result (Puts (in_turn_code (positional_cores (arguments_in arguments.now))) code.old code.new) }
+    ensures put { IfOk result (λ after. ArePassedByPlace front (arguments_in arguments.now) after code.old code.new) }
     ensures refused { IfErr result (λ kind. TakesNoMore (code_in code.new) (kind ∷ [])) }
 {
-    let mut told = from;
-    let mut count = 0;
+    let begins = code.len();
+    let mut so_far = Stretches {
+        lists: 0,
+        last: front,
+        spread: false,
+    };
     for argument in arguments {
-        if let CallArg::Pos(expr) = argument {
-            compile_expr(alloc, code, expr, told)?;
-            told = None;
-            count = one_more(count)?;
-        }
+        let told = still_from(code, begins, from);
+        so_far = compile_value(alloc, code, argument, so_far, told)?;
     }
-    Ok(count)
+    Ok(so_far)
 }
 
-// The arguments that are passed by a name, each behind it, and how many they are.
+// An argument that is passed by its place, behind those so far; another one is passed over.
+#[cycle(expression)]
+fn compile_value<'source>(
+    alloc: Global,
+    code: &mut Instructions<'source>,
+    argument: &CallArg<'source>,
+    so_far: Stretches,
+    from: Option<&Span>,
+) -> Result<Stretches, ErrorKind>
+    requires { AreRunnableArguments (arguments_in (argument.now ∷ [])) }
+    ensures put { IfOk result (λ after. PassesByPlace (argument_of argument.now) so_far after code.old code.new) }
+    ensures refused { IfErr result (λ kind. TakesNoMore (code_in code.new) (kind ∷ [])) }
+{
+    match argument {
+        CallArg::Pos(expr) => {
+            compile_expr(alloc, code, expr, from)?;
+            let last = one_more(so_far.last)?;
+            Ok(Stretches {
+                lists: so_far.lists,
+                last,
+                spread: so_far.spread,
+            })
+        }
+        CallArg::PosSplat(expr) => {
+            let begins = code.len();
+            let before = put_list(code, so_far.lists, so_far.last, from)?;
+            let told = still_from(code, begins, from);
+            compile_expr(alloc, code, expr, told)?;
+            let lists = one_more(before)?;
+            Ok(Stretches {
+                lists,
+                last: 0,
+                spread: true,
+            })
+        }
+        CallArg::Kwarg(_, _) => Ok(so_far),
+        CallArg::KwargSplat(_) => Ok(so_far),
+    }
+}
+
+// The arguments that are passed by a name, as one keyword map, if there are any. The answer is how many maps there are.
 #[cycle(expression)]
 fn compile_keywords<'source>(
     alloc: Global,
     code: &mut Instructions<'source>,
     arguments: &[CallArg<'source>],
     from: Option<&Span>,
-) -> Result<usize, ErrorKind>
+) -> Result<u16, ErrorKind>
     requires { AreRunnableArguments (arguments_in arguments.now) }
-    ensures count { IfOk result (λ count. count ≡ length (keyword_cores (arguments_in arguments.now))) }
-    ensures put { OnOk result (Puts (named_code (keyword_cores (arguments_in arguments.now))) code.old code.new) }
+    ensures count { IfOk result (λ n. n ≡ keyword_count (keyword_cores (arguments_in arguments.now))) }
+    ensures put { OnOk result (Puts (keywords_code (keyword_cores (arguments_in arguments.now))) code.old code.new) }
     ensures refused { IfErr result (λ kind. TakesNoMore (code_in code.new) (kind ∷ [])) }
 {
-    let mut told = from;
-    let mut count = 0;
+    let named = compile_named(alloc, code, arguments, from)?;
+    let maps = put_map(code, named.lists, named.last)?;
+    put_merged(code, maps, named.spread)
+}
+
+// The arguments that are passed by a name, each behind it.
+#[cycle(expression)]
+fn compile_named<'source>(
+    alloc: Global,
+    code: &mut Instructions<'source>,
+    arguments: &[CallArg<'source>],
+    from: Option<&Span>,
+) -> Result<Stretches, ErrorKind>
+    requires { AreRunnableArguments (arguments_in arguments.now) }
+    ensures put { IfOk result (λ after. ArePassedByName (arguments_in arguments.now) after code.old code.new) }
+    ensures refused { IfErr result (λ kind. TakesNoMore (code_in code.new) (kind ∷ [])) }
+{
+    let begins = code.len();
+    let mut so_far = Stretches {
+        lists: 0,
+        last: 0,
+        spread: false,
+    };
     for argument in arguments {
-        if let CallArg::Kwarg(name, expr) = argument {
-            put_keyword(alloc, code, name, told)?;
-            compile_expr(alloc, code, expr, None)?;
-            told = None;
-            count += 1;
-        }
+        let told = still_from(code, begins, from);
+        so_far = compile_entry(alloc, code, argument, so_far, told)?;
     }
-    Ok(count)
+    Ok(so_far)
+}
+
+// An argument that is passed by a name, behind those so far; another one is passed over.
+#[cycle(expression)]
+fn compile_entry<'source>(
+    alloc: Global,
+    code: &mut Instructions<'source>,
+    argument: &CallArg<'source>,
+    so_far: Stretches,
+    from: Option<&Span>,
+) -> Result<Stretches, ErrorKind>
+    requires { AreRunnableArguments (arguments_in (argument.now ∷ [])) }
+    ensures put { IfOk result (λ after. PassesByName (argument_of argument.now) so_far after code.old code.new) }
+    ensures refused { IfErr result (λ kind. TakesNoMore (code_in code.new) (kind ∷ [])) }
+{
+    match argument {
+        CallArg::Kwarg(name, expr) => {
+            put_keyword(alloc, code, name, from)?;
+            compile_expr(alloc, code, expr, None)?;
+            let last = one_more(so_far.last)?;
+            Ok(Stretches {
+                lists: so_far.lists,
+                last,
+                spread: so_far.spread,
+            })
+        }
+        CallArg::KwargSplat(expr) => {
+            let before = put_map(code, so_far.lists, so_far.last)?;
+            compile_expr(alloc, code, expr, from)?;
+            let maps = one_more(before)?;
+            Ok(Stretches {
+                lists: maps,
+                last: 0,
+                spread: true,
+            })
+        }
+        CallArg::Pos(_) => Ok(so_far),
+        CallArg::PosSplat(_) => Ok(so_far),
+    }
 }
 
 // The expressions, from the first to the last.

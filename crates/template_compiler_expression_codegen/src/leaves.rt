@@ -1,5 +1,6 @@
 //! Names, literals and attributes, and constants that are held back.
 ghost use Rattle.std.specs.Prelude.{◌≡◌, ◌+◌, [], ◌∷◌, None, Some, Ok, OnOk, IfOk, IfErr};
+ghost use Rattle.std.specs.Cow.{cow_str_bytes};
 ghost use Rattle.template_values_model.specs.Val.{text};
 ghost use Rattle.template_code.specs.Code.{get_attr, load_const, lookup};
 ghost use Rattle.template_code.specs.Listing.{code_in, TakesNoMore};
@@ -183,4 +184,23 @@ pub(crate) fn one_more(count: u16) -> Result<u16, ErrorKind>
         return Err(ErrorKind::OutOfMemory);
     }
     Ok(count + 1)
+}
+
+// So many values more are passed.
+pub(crate) fn several_more(count: u16, more: u16) -> Result<u16, ErrorKind>
+    ensures counted { IfOk result (λ n. n ≡ count + more) }
+    ensures refused { IfErr result (λ kind. kind ≡ ErrorKind.OutOfMemory) }
+{
+    if u16::MAX - count < more {
+        return Err(ErrorKind::OutOfMemory);
+    }
+    Ok(count + more)
+}
+
+// A copy of the name of a filter or a test. One that is as the source has it is not copied byte by byte.
+pub(crate) fn copied_name<'source>(name: &CowStr<'source>) -> Result<CowStr<'source>, ErrorKind>
+    ensures copied { IfOk result (λ copy. cow_str_bytes copy ≡ cow_str_bytes name.now) }
+    ensures refused { IfErr result (λ kind. kind ≡ ErrorKind.OutOfMemory) }
+{
+    unless_refused(name.clone())
 }

@@ -4,8 +4,11 @@
 mod chains;
 mod coded;
 mod expressions;
+mod filters;
 mod leaves;
 mod operators;
+mod stretches;
 mod whole;
 
+pub use filters::compile_filters;
 pub use whole::{compile_call, compile_expr, fold_expr};

@@ -3,13 +3,13 @@ use Rattle.std.proofs.Common.{◌≡◌, ℕ, zero, suc, ◌+◌, Bool, true, fa
 use Rattle.template_values_model.specs.Val.{Val, silent_undefined, none}
 use Rattle.template_tree.specs.declared.operators.UnaryOpKind.{UnaryOpKind}
 use Rattle.template_tree.specs.declared.operators.UnaryOpKind.TheVariants.{Not, Neg}
-use Rattle.template_tree.specs.Tree.{Expression, Optional, Expressions, Links, Arguments, Assignments, Statement, Statements, variable, constant, unary, binary, chain, conditional, attribute, item, call, list_literal, tuple_literal, map_literal, absent, given, no_expressions, expressions_more, no_links, links_more, no_arguments, arguments_more, positional, keyword, no_assignments, assignments_more, raw, print, for_loop, if_condition, with_block, set, set_block, auto_escape, continue_loop, break_loop, do_call, no_statements, statements_more}
+use Rattle.template_tree.specs.Tree.{Expression, Optional, Expressions, Links, Arguments, Assignments, Statement, Statements, variable, constant, unary, binary, chain, conditional, attribute, item, call, filtered, tested, list_literal, tuple_literal, map_literal, absent, given, no_expressions, expressions_more, no_links, links_more, no_arguments, arguments_more, positional, keyword, positional_spread, keyword_spread, no_assignments, assignments_more, raw, print, for_loop, if_condition, with_block, set, set_block, auto_escape, filter_block, continue_loop, break_loop, do_call, no_statements, statements_more}
 use Rattle.template_tree.specs.Tree as tree
-use Rattle.template_walk.specs.Expressions.{Callee, by_name, by_method, by_value, callee_of}
+use Rattle.template_walk.specs.Expressions.{Passing, alone, spreads, Callee, by_name, by_method, by_value, callee_of}
 use Rattle.template_code.specs.Code.{Code}
 use Rattle.template_code_shapes.specs.Effects.{leans}
 use Rattle.template_compiler_codegen.specs.Core.{Core, empty, straight, both, leaping, either, rounds, within, leave, sealed, loading, chosen, Ways, no_ways, own_ways, closing_with, flat}
-use Rattle.template_compiler_codegen.specs.Expressions.{unary_code, in_turn_core, named_core, keywords_core, passed_core, called_core, object_core, positional_cores, keyword_cores, expression_core, optional_core, expressions_core, codes_of, entries_core, chain_core, linked_core}
+use Rattle.template_compiler_codegen.specs.Expressions.{unary_code, listed_core, mapped_core, stretches_core, entries_stretches_core, list_count, rest_count, keywords_core, keyword_count, passed_core, called_core, filters_core, object_core, positional_cores, keyword_cores, expression_core, optional_core, expressions_core, codes_of, entries_core, chain_core, linked_core}
 use Rattle.template_compiler_codegen.specs.Statements.{target_core, targets_core, assignments_core, iterable_core, statement_core, statements_core}
 
 abbrev pub AreCalm : List Code → Type 0
@@ -70,30 +70,47 @@ abbrev EachCalm : List Core → Type 0
 EachCalm [] = Unit {0}
 EachCalm (c ∷ cores) = IsCalmCore c × EachCalm cores
 
-abbrev NamedCalm : List (List ℕ × Core) → Type 0
+-- so has each argument none
+abbrev PassedCalm : List (Passing Core Core) → Type 0
+PassedCalm [] = Unit {0}
+PassedCalm (alone c ∷ args) = IsCalmCore c × PassedCalm args
+PassedCalm (spreads c ∷ args) = IsCalmCore c × PassedCalm args
+
+abbrev NamedCalm : List (Passing (List ℕ × Core) Core) → Type 0
 NamedCalm [] = Unit {0}
-NamedCalm (n ∷ ns) = IsCalmCore n.1 × NamedCalm ns
+NamedCalm (alone c ∷ named) = IsCalmCore c.1 × NamedCalm named
+NamedCalm (spreads c ∷ named) = IsCalmCore c × NamedCalm named
 
-in_turn_calm : (cs : List Core) → EachCalm cs → IsCalmCore (in_turn_core cs)
-in_turn_calm [] h = tt
-in_turn_calm (c ∷ cs) h = (h.0, in_turn_calm cs h.1)
+listed_calm : (n : ℕ) → IsCalmCore (listed_core n)
+listed_calm zero = tt
+listed_calm (suc n) = refl
 
-named_calm : (ns : List (List ℕ × Core)) → NamedCalm ns → IsCalmCore (named_core ns)
-named_calm [] h = tt
-named_calm (n ∷ ns) h = (refl, (h.0, named_calm ns h.1))
+mapped_calm : (n : ℕ) → IsCalmCore (mapped_core n)
+mapped_calm zero = tt
+mapped_calm (suc n) = refl
 
-keywords_calm : (ns : List (List ℕ × Core)) → NamedCalm ns → IsCalmCore (keywords_core ns)
-keywords_calm [] h = tt
-keywords_calm (n ∷ ns) h = (named_calm (n ∷ ns) h, refl)
+stretches_calm : (n : ℕ) (args : List (Passing Core Core)) → PassedCalm args → IsCalmCore (stretches_core n args)
+stretches_calm n [] h = tt
+stretches_calm n (alone c ∷ args) h = (h.0, stretches_calm (suc n) args h.1)
+stretches_calm n (spreads c ∷ args) h = (listed_calm n, (h.0, stretches_calm 0 args h.1))
 
-passed_calm : (cs : List Core) (ns : List (List ℕ × Core)) → EachCalm cs → NamedCalm ns → IsCalmCore (passed_core cs ns)
-passed_calm cs ns h k = (in_turn_calm cs h, keywords_calm ns k)
+named_calm : (n : ℕ) (named : List (Passing (List ℕ × Core) Core)) → NamedCalm named → IsCalmCore (entries_stretches_core n named)
+named_calm n [] h = tt
+named_calm n (alone c ∷ named) h = (refl, (h.0, named_calm (suc n) named h.1))
+named_calm n (spreads c ∷ named) h = (mapped_calm n, (h.0, named_calm 0 named h.1))
 
-called_calm : (callee : Callee) (whole object : Core) (cs : List Core) (ns : List (List ℕ × Core)) → IsCalmCore whole → IsCalmCore object → EachCalm cs → NamedCalm ns
-    → IsCalmCore (called_core callee whole object cs ns)
-called_calm (by_name name) whole object cs ns f g h k = (passed_calm cs ns h k, refl)
-called_calm (by_method name) whole object cs ns f g h k = (g, (passed_calm cs ns h k, refl))
-called_calm by_value whole object cs ns f g h k = (f, (passed_calm cs ns h k, refl))
+keywords_calm : (named : List (Passing (List ℕ × Core) Core)) → NamedCalm named → IsCalmCore (keywords_core named)
+keywords_calm named h = (named_calm 0 named h, (mapped_calm (rest_count 0 named), (refl, tt)))
+
+passed_calm : (front : ℕ) (args : List (Passing Core Core)) (named : List (Passing (List ℕ × Core) Core)) → PassedCalm args → NamedCalm named → IsCalmCore (passed_core front args named)
+passed_calm front args named h k =
+    (stretches_calm front args h, (keywords_calm named k, ((listed_calm (rest_count front args + keyword_count named), refl), tt)))
+
+called_calm : (callee : Callee) (whole object : Core) (args : List (Passing Core Core)) (named : List (Passing (List ℕ × Core) Core)) → IsCalmCore whole → IsCalmCore object → PassedCalm args → NamedCalm named
+    → IsCalmCore (called_core callee whole object args named)
+called_calm (by_name name) whole object args named f g h k = (passed_calm 0 args named h k, refl)
+called_calm (by_method name) whole object args named f g h k = (g, (passed_calm 1 args named h k, refl))
+called_calm by_value whole object args named f g h k = (f, (passed_calm 1 args named h k, refl))
 
 unary_calm : (op : UnaryOpKind) → leans (Some (unary_code op)) ≡ false
 unary_calm Not = refl
@@ -116,20 +133,24 @@ mutual
   expression_calm (call callee args) =
       called_calm (callee_of callee) (expression_core callee) (object_core callee) (positional_cores args) (keyword_cores args)
       (expression_calm callee) (object_calm callee) (positional_calm args) (keyword_calm args)
+  expression_calm (filtered name (given e) args) = (expression_calm e, (passed_calm 1 (positional_cores args) (keyword_cores args) (positional_calm args) (keyword_calm args), refl))
+  expression_calm (tested name e args) = (expression_calm e, (passed_calm 1 (positional_cores args) (keyword_cores args) (positional_calm args) (keyword_calm args), refl))
   expression_calm _ = tt
 
   object_calm : (e : Expression) → IsCalmCore (object_core e)
   object_calm (attribute e name) = expression_calm e
   object_calm _ = tt
 
-  positional_calm : (args : Arguments) → EachCalm (positional_cores args)
+  positional_calm : (args : Arguments) → PassedCalm (positional_cores args)
   positional_calm no_arguments = tt
   positional_calm (arguments_more (positional e) args) = (expression_calm e, positional_calm args)
+  positional_calm (arguments_more (positional_spread e) args) = (expression_calm e, positional_calm args)
   positional_calm (arguments_more _ args) = positional_calm args
 
   keyword_calm : (args : Arguments) → NamedCalm (keyword_cores args)
   keyword_calm no_arguments = tt
   keyword_calm (arguments_more (keyword name e) args) = (expression_calm e, keyword_calm args)
+  keyword_calm (arguments_more (keyword_spread e) args) = (expression_calm e, keyword_calm args)
   keyword_calm (arguments_more _ args) = keyword_calm args
 
   optional_calm : (missing : Val) (o : Optional) → IsCalmCore (optional_core missing o)
@@ -156,6 +177,12 @@ mutual
   linked_calm : (links : Links) → IsCalmCore (linked_core links)
   linked_calm no_links = tt
   linked_calm (links_more op e links) = ((λ to. refl), ((expression_calm e, refl), linked_calm links))
+
+filters_calm : (e : Expression) → IsCalmCore (filters_core e)
+filters_calm (filtered name absent args) = (passed_calm 1 (positional_cores args) (keyword_cores args) (positional_calm args) (keyword_calm args), refl)
+filters_calm (filtered name (given e) args) =
+    (filters_calm e, (passed_calm 1 (positional_cores args) (keyword_cores args) (positional_calm args) (keyword_calm args), refl))
+filters_calm _ = tt
 
 mutual
   target_calm : (e : Expression) → IsCalmCore (target_core e)
@@ -188,6 +215,9 @@ mutual
   statement_calm (with_block assignments body) = (refl, (assignments_calm assignments, ((refl, statements_calm body), refl)))
   statement_calm (set target e) = (expression_calm e, target_calm target)
   statement_calm (set_block target absent body) = (refl, ((refl, (refl, statements_calm body)), (refl, target_calm target)))
+  statement_calm (set_block target (given filters) body) =
+      (refl, ((refl, (refl, statements_calm body)), (refl, (filters_calm filters, target_calm target))))
+  statement_calm (filter_block filters body) = (refl, ((refl, (refl, statements_calm body)), (refl, (filters_calm filters, refl))))
   statement_calm (auto_escape e body) = (expression_calm e, (refl, ((refl, statements_calm body), refl)))
   statement_calm (tree.include e ignore_missing) = (expression_calm e, refl)
   statement_calm (do_call callee args) = (expression_calm (call callee args), refl)

@@ -1,28 +1,29 @@
 -- The code of expressions, targets and assignments: how many values it takes, and how many it leaves, over any shape.
 use Rattle.std.proofs.Common.{◌≡◌, ℕ, zero, suc, ◌+◌, ◌*◌, ◌<◌, ◌≤◌, Bool, true, false, ◌||◌, List, [], ◌∷◌, ◌++◌, length, Option, None, Some, slice_get, refl, sym, ap, subst, ◌∙◌, length-append, arith}
-use Rattle.std.specs.Prelude.{option_and_then}
+use Rattle.std.specs.Prelude.{option_and_then, if◌then◌else◌}
 use Rattle.template_values_model.specs.Val.{Val, silent_undefined, none, text}
 use Rattle.template_tree.specs.declared.operators.UnaryOpKind.{UnaryOpKind}
 use Rattle.template_tree.specs.declared.operators.UnaryOpKind.TheVariants.{Not, Neg}
 use Rattle.template_tree.specs.declared.operators.BinOpKind.{BinOpKind}
 use Rattle.template_tree.specs.declared.operators.BinOpKind.TheVariants.{ScAnd, ScOr}
 use Rattle.template_tree.specs.declared.operators.CompareOpKind.{CompareOpKind}
-use Rattle.template_tree.specs.Tree.{Expression, Optional, Expressions, Links, Arguments, Assignments, variable, constant, unary, binary, chain, conditional, attribute, item, call, list_literal, tuple_literal, map_literal, absent, given as is_given, no_expressions, expressions_more, no_links, links_more, no_arguments, arguments_more, positional, keyword, positional_spread, keyword_spread, no_assignments, assignments_more}
+use Rattle.template_tree.specs.Tree.{Expression, Optional, Expressions, Links, Arguments, Assignments, variable, constant, unary, binary, chain, conditional, attribute, item, call, filtered, tested, list_literal, tuple_literal, map_literal, absent, given as is_given, no_expressions, expressions_more, no_links, links_more, no_arguments, arguments_more, positional, keyword, positional_spread, keyword_spread, no_assignments, assignments_more}
 use Rattle.template_tree.specs.Tree as tree
 use Rattle.template_walk.specs.Constants.{constant_of}
-use Rattle.template_walk.specs.Expressions.{Callee, by_name, by_method, by_value, callee_of}
+use Rattle.template_walk.specs.Expressions.{Passing, alone, spreads, has_spread, Callee, by_name, by_method, by_value, callee_of}
 use Rattle.template_walk.specs.Statements.{number_of}
-use Rattle.template_walk.specs.Runnable.{IsRunnable, IsRunnableIfGiven, AreRunnable, AreRunnableArguments, IsRunnableChain, AreRunnableLinks, IsTarget, AreTargets, AreAssignments}
-use Rattle.template_code.specs.Code.{Code, store_local, lookup, load_const, get_attr, set_attr, get_item, slice, build_map, build_kwargs, call_function, call_method, call_object, build_list, build_tuple, unpack_list, operate, compare_and_preserve, swap, discard_top, jump, jump_if_false, jump_if_false_or_pop, jump_if_true_or_pop}
-use Rattle.template_code_shapes.specs.Shapes.{Shape, taken, given}
-use Rattle.template_code_shapes.specs.Effects.{Effect, falling, jumping, effect_of}
+use Rattle.template_walk.specs.Runnable.{IsRunnable, IsRunnableIfGiven, AreRunnable, AreRunnableArguments, IsRunnableChain, AreRunnableLinks, AreFilters, IsTarget, AreTargets, AreAssignments}
+use Rattle.template_code.specs.Code.{Code, store_local, lookup, load_const, get_attr, set_attr, get_item, slice, build_map, build_kwargs, merge_kwargs, call_function, call_method, call_object, apply_filter, perform_test, build_list, build_tuple, unpack_list, unpack_lists, operate, compare_and_preserve, swap, discard_top, jump, jump_if_false, jump_if_false_or_pop, jump_if_true_or_pop}
+use Rattle.template_code_shapes.specs.Shapes.{Shape, floor_of, single_form, counted_form, taken, handed, given, topped}
+use Rattle.template_code_shapes.specs.Effects.{Effect, falling, made, jumping, effect_of}
 use Rattle.template_compiler_codegen.specs.Core.{Core, no_ways, flat}
-use Rattle.template_compiler_codegen.specs.Expressions.{Coded, then_code, one, nothing, dropped, loaded, skipped, either_code, unary_code, binary_code, called_core, passed_core, keyword_count, passed_count, in_turn_code, named_code, keywords_code, object_core, positional_cores, keyword_cores, expression_core, entry_count, expression_code, optional_code, expressions_code, codes_of, entries_code, chain_code, linked_code}
+use Rattle.template_compiler_codegen.specs.Expressions.{Coded, then_code, one, nothing, dropped, loaded, skipped, either_code, unary_code, binary_code, listed_core, mapped_core, at_most_one, stretches_core, entries_stretches_core, list_count, rest_count, merged_core, merged_count, map_count, keywords_core, keyword_count, run_core, passed_core, passed_count, called_core, no_number, object_core, positional_cores, keyword_cores, expression_core, entry_count, expression_code, optional_code, expressions_code, codes_of, entries_code, chain_code, linked_code, filter_code, filters_code, passed_code, argument_count}
 use Rattle.template_compiler_codegen.specs.Statements.{target_code, targets_code, assignments_code}
 use Rattle.template_compiler_codegen.proofs.Standing.{StandsAt, behind_one, instruction_at, behind_then, stands_first, stands_second, stands_either, behind_either}
 use Rattle.template_compiler_codegen.proofs.Expressions.{behind_single, behind_skipped}
+use Rattle.template_compiler_codegen.proofs.Passing.{no_lists}
 use Rattle.template_compiler_generator.proofs.Segments.{Flows, Free, Lands, Goes, goes_to, goes_out_as, goes_nowhere, goes_on, goes_then, goes_dead, goes_with, gate, gate_is, flows_any, flows_left, flows_right, lands_at}
-use Rattle.template_compiler_generator.proofs.Plain.{IsPlain, taken_plain, traded_plain, given_more, jumps_forward}
+use Rattle.template_compiler_generator.proofs.Plain.{ground, IsPlain, taken_plain, traded_plain, lowered_plain, given_more, jumps_forward}
 
 some_is : {A : Type 0} (x y : A) → Some x ≡ Some y → x ≡ y
 some_is x y e = cc
@@ -127,8 +128,8 @@ module _ (code : List Code) (place : ℕ) (first second : Coded) (s t : Shape) (
   abbrev First : Bool → (ℕ → Option Shape) → Type 0
   First x table = (table begins_at ≡ Some s) × N table × Flows table (gate x t) behind_at
 
-  tested : (x : Bool) → IsPlain code s → behind_at ≤ length code → StandsAt code place (either_code first second place) → Goes code (suc place) leap_at s (gate x t) N → Goes code place leap_at (given 1 s) (gate x t) (First x)
-  tested x plain within h f =
+  test_taken : (x : Bool) → IsPlain code s → behind_at ≤ length code → StandsAt code place (either_code first second place) → Goes code (suc place) leap_at s (gate x t) N → Goes code place leap_at (given 1 s) (gate x t) (First x)
+  test_taken x plain within h f =
       let parts = stands_either code place first second h in
       let e : Effect = record { falls = Some s; jumps = Some (begins_at, s); enters = None } in
       goes_then code place (suc place) leap_at (given 1 s) s (Some s) (gate x t) (Lands e) N (First x)
@@ -151,7 +152,7 @@ module _ (code : List Code) (place : ℕ) (first second : Coded) (s t : Shape) (
       let within : behind_at ≤ length code = (let all = stands_within code place (either_code first second place) h in omega arith) in
       goes_to code place behind_at (place + length (either_code first second place)) (given 1 s) (gate (x || y) t) N same
       (goes_then code place begins_at behind_at (given 1 s) s None (gate (x || y) t) (First x) N N
-      (led_past x plain within h (tested x plain within h f))
+      (led_past x plain within h (test_taken x plain within h f))
       (goes_with code begins_at behind_at s (gate y t) (gate (x || y) t) N N g (λ table flows. flows_right x y t table behind_at flows) (λ table stands flows needs. needs))
       (λ u e. absurd cc) (λ table stands flows needs. ((stands, needs, flows_left x y t table behind_at flows), needs)))
 
@@ -189,70 +190,164 @@ abbrev EachMoves : List Core → Type 0
 EachMoves [] = Unit {0}
 EachMoves (piece ∷ pieces) = Moves (flat no_ways piece) 0 1 × EachMoves pieces
 
--- each of them leaves a value under a name
-abbrev NamedMove : List (List ℕ × Core) → Type 0
-NamedMove [] = Unit {0}
-NamedMove (n ∷ ns) = Moves (flat no_ways n.1) 0 1 × NamedMove ns
-
 two_more : (n : ℕ) → n * 2 + 2 ≡ suc n * 2
 two_more n = omega arith
 
-one_over : (n : ℕ) (f : Coded) → Moves f 0 n → Moves f 1 (suc n)
-one_over n f x =
-    let P : ℕ → Type 0 = λ m. Moves f 1 m in
-    let same : n + 1 ≡ suc n = omega arith in
-    subst P same (over_many f n 1 x)
+-- numbers that are told in another way
+moves_as : (f : Coded) (m n k l : ℕ) → m ≡ n → k ≡ l → Moves f m k → Moves f n l
+moves_as f m n k l e d x = let P : ℕ → Type 0 = λ i. Moves f i l in let Q : ℕ → Type 0 = λ i. Moves f m i in subst P e (subst Q d x)
 
--- arguments in turn
-in_turn_moves : (cs : List Core) → EachMoves cs → Moves (in_turn_code cs) 0 (length cs)
-in_turn_moves [] each = moves_nothing 0
-in_turn_moves (c ∷ cs) each = moves_then (flat no_ways c) (in_turn_code cs) 0 1 (suc (length cs)) each.0 (one_over (length cs) (in_turn_code cs) (in_turn_moves cs each.1))
+-- over so many values that are left as they are
+over_below : (f : Coded) (m k j : ℕ) → Moves f m k → Moves f (m + j) (k + j)
+over_below f m k j x code place s plain h =
+    let behind = place + length (f place) in
+    let P : Shape → Type 0 = λ t. Goes code place behind t (Some (given (k + j) s)) Free in
+    subst P (given_more m j s)
+    (goes_out_as code place behind (given m (given j s)) (given k (given j s)) (given (k + j) s) Free (given_more k j s) (x code place (given j s) plain h))
 
-named_moves : (ns : List (List ℕ × Core)) → NamedMove ns → Moves (named_code ns) 0 (length ns * 2)
-named_moves [] each = moves_nothing 0
-named_moves (n ∷ ns) each =
-    let more = named_code ns in
-    let later : Moves more 2 (suc (length ns) * 2) = (let P : ℕ → Type 0 = λ m. Moves more 2 m in subst P (two_more (length ns)) (over_many more (length ns * 2) 2 (named_moves ns each.1))) in
-    let value = flat no_ways n.1 in
-    moves_then (one (load_const (text n.0))) (then_code value more) 0 1 (suc (length ns) * 2) (moves_one (load_const (text n.0)) 0 1 (λ code place s plain. refl))
-    (moves_then value more 1 2 (suc (length ns) * 2) (over_more value 1 each.0) later)
+-- each argument leaves a value
+abbrev EachPassed : List (Passing Core Core) → Type 0
+EachPassed [] = Unit {0}
+EachPassed (alone c ∷ args) = Moves (flat no_ways c) 0 1 × EachPassed args
+EachPassed (spreads c ∷ args) = Moves (flat no_ways c) 0 1 × EachPassed args
 
-keywords_move : (ns : List (List ℕ × Core)) → NamedMove ns → Moves (keywords_code ns) 0 (keyword_count ns)
-keywords_move [] each = moves_nothing 0
-keywords_move (n ∷ ns) each =
-    let count = suc (length ns) in
-    moves_then (named_code (n ∷ ns)) (one (build_kwargs count)) 0 (count * 2) 1 (named_moves (n ∷ ns) each)
-    (moves_one (build_kwargs count) (count * 2) 1 (λ code place s plain. traded_plain (count * 2) 1 s plain.0))
+abbrev EachNamed : List (Passing (List ℕ × Core) Core) → Type 0
+EachNamed [] = Unit {0}
+EachNamed (alone c ∷ named) = Moves (flat no_ways c.1) 0 1 × EachNamed named
+EachNamed (spreads c ∷ named) = Moves (flat no_ways c) 0 1 × EachNamed named
 
-passed_moves : (cs : List Core) (ns : List (List ℕ × Core)) → EachMoves cs → NamedMove ns → Moves (flat no_ways (passed_core cs ns)) 0 (passed_count cs ns)
-passed_moves cs ns each named =
-    let more = keywords_code ns in
-    let later : Moves more (length cs) (length cs + keyword_count ns) = (let P : ℕ → Type 0 = λ m. Moves more (length cs) m in
-    let same : keyword_count ns + length cs ≡ length cs + keyword_count ns = omega arith in
-    subst P same (over_many more (keyword_count ns) (length cs) (keywords_move ns named))) in
-    moves_then (in_turn_code cs) more 0 (length cs) (length cs + keyword_count ns) (in_turn_moves cs each) later
+listed_moves : (n : ℕ) → Moves (flat no_ways (listed_core n)) n (at_most_one n)
+listed_moves zero = moves_nothing 0
+listed_moves (suc n) = moves_one (build_list (Some (suc n))) (suc n) 1 (λ code place s plain. traded_plain (suc n) 1 s plain.0)
 
--- a call of what the first piece gives, or of its method
-over_passed : (first : Coded) (cs : List Core) (ns : List (List ℕ × Core)) (c : Code) → Moves first 0 1 → EachMoves cs → NamedMove ns
-    → Moves (one c) (suc (passed_count cs ns)) 1 → Moves (then_code first (then_code (flat no_ways (passed_core cs ns)) (one c))) 0 1
-over_passed first cs ns c x each named calls =
-    let passed = flat no_ways (passed_core cs ns) in
-    let n = passed_count cs ns in
-    moves_then first (then_code passed (one c)) 0 1 1 x (moves_then passed (one c) 1 (suc n) 1 (one_over n passed (passed_moves cs ns each named)) calls)
+mapped_moves : (n : ℕ) → Moves (flat no_ways (mapped_core n)) (n * 2) (at_most_one n)
+mapped_moves zero = moves_as nothing 0 (0 * 2) 0 0 (omega arith) refl (moves_nothing 0)
+mapped_moves (suc n) = moves_one (build_kwargs (suc n)) (suc n * 2) 1 (λ code place s plain. traded_plain (suc n * 2) 1 s plain.0)
 
-called_moves : (callee : Callee) (whole object : Core) (cs : List Core) (ns : List (List ℕ × Core)) → Moves (flat no_ways whole) 0 1
-    → ((name : List ℕ) → callee ≡ by_method name → Moves (flat no_ways object) 0 1) → EachMoves cs → NamedMove ns
-    → Moves (flat no_ways (called_core callee whole object cs ns)) 0 1
-called_moves (by_name name) whole object cs ns f g each named =
-    let n = passed_count cs ns in
-    moves_then (flat no_ways (passed_core cs ns)) (one (call_function name (Some n))) 0 n 1 (passed_moves cs ns each named)
-    (moves_one (call_function name (Some n)) n 1 (λ code place s plain. traded_plain n 1 s plain.0))
-called_moves (by_method name) whole object cs ns f g each named =
-    let n = suc (passed_count cs ns) in
-    over_passed (flat no_ways object) cs ns (call_method name (Some n)) (g name refl) each named (moves_one (call_method name (Some n)) n 1 (λ code place s plain. traded_plain n 1 s plain.0))
-called_moves by_value whole object cs ns f g each named =
-    let n = suc (passed_count cs ns) in
-    over_passed (flat no_ways whole) cs ns (call_object (Some n)) f each named (moves_one (call_object (Some n)) n 1 (λ code place s plain. traded_plain n 1 s plain.0))
+-- stretches of arguments leave their lists and spreads, and the last stretch
+stretches_move : (n : ℕ) (args : List (Passing Core Core)) → EachPassed args → Moves (flat no_ways (stretches_core n args)) n (list_count n args + rest_count n args)
+stretches_move n [] each = moves_as nothing n n n (0 + n) refl (omega arith) (moves_nothing n)
+stretches_move n (alone c ∷ args) each =
+    moves_then (flat no_ways c) (flat no_ways (stretches_core (suc n) args)) n (suc n) (list_count (suc n) args + rest_count (suc n) args)
+    (over_more (flat no_ways c) n each.0) (stretches_move (suc n) args each.1)
+stretches_move n (spreads c ∷ args) each =
+    let one_list = at_most_one n in
+    let more = flat no_ways (stretches_core 0 args) in
+    let lists = list_count 0 args in
+    let rest = rest_count 0 args in
+    let last = (one_list + suc lists) + rest in
+    moves_then (flat no_ways (listed_core n)) (then_code (flat no_ways c) more) n one_list last (listed_moves n)
+    (moves_then (flat no_ways c) more one_list (suc one_list) last (over_more (flat no_ways c) one_list each.0)
+    (moves_as more (0 + suc one_list) (suc one_list) ((lists + rest) + suc one_list) last (omega arith) (omega arith)
+    (over_below more 0 (lists + rest) (suc one_list) (stretches_move 0 args each.1))))
+
+-- so it is of names with their values
+named_move : (n : ℕ) (named : List (Passing (List ℕ × Core) Core)) → EachNamed named → Moves (flat no_ways (entries_stretches_core n named)) (n * 2) (list_count n named + rest_count n named * 2)
+named_move n [] each = moves_as nothing (n * 2) (n * 2) (n * 2) (0 + n * 2) refl (omega arith) (moves_nothing (n * 2))
+named_move n (alone c ∷ named) each =
+    let value = flat no_ways c.1 in
+    let more = flat no_ways (entries_stretches_core (suc n) named) in
+    let last = list_count (suc n) named + rest_count (suc n) named * 2 in
+    let two : suc n * 2 ≡ suc (suc (n * 2)) = omega arith in
+    moves_then (one (load_const (text c.0))) (then_code value more) (n * 2) (suc (n * 2)) last
+    (over_more (one (load_const (text c.0))) (n * 2) (moves_one (load_const (text c.0)) 0 1 (λ code place s plain. refl)))
+    (moves_then value more (suc (n * 2)) (suc (suc (n * 2))) last (over_more value (suc (n * 2)) each.0)
+    (moves_as more (suc n * 2) (suc (suc (n * 2))) last last two refl (named_move (suc n) named each.1)))
+named_move n (spreads c ∷ named) each =
+    let one_map = at_most_one n in
+    let more = flat no_ways (entries_stretches_core 0 named) in
+    let maps = list_count 0 named in
+    let rest = rest_count 0 named * 2 in
+    let last = (one_map + suc maps) + rest in
+    moves_then (flat no_ways (mapped_core n)) (then_code (flat no_ways c) more) (n * 2) one_map last (mapped_moves n)
+    (moves_then (flat no_ways c) more one_map (suc one_map) last (over_more (flat no_ways c) one_map each.0)
+    (moves_as more (0 * 2 + suc one_map) (suc one_map) ((maps + rest) + suc one_map) last (omega arith) (omega arith)
+    (over_below more (0 * 2) (maps + rest) (suc one_map) (named_move 0 named each.1))))
+
+merged_moves : (several : Bool) (n : ℕ) → Moves (flat no_ways (merged_core several n)) n (merged_count several n)
+merged_moves false n = moves_nothing n
+merged_moves true n = moves_one (merge_kwargs n) n 1 (λ code place s plain. traded_plain n 1 s plain.0)
+
+keywords_move : (named : List (Passing (List ℕ × Core) Core)) → EachNamed named → Moves (flat no_ways (keywords_core named)) 0 (keyword_count named)
+keywords_move named each =
+    let maps = list_count 0 named in
+    let rest = rest_count 0 named in
+    let first = flat no_ways (entries_stretches_core 0 named) in
+    let mapped = flat no_ways (mapped_core rest) in
+    let merged = flat no_ways (merged_core (has_spread named) (map_count named)) in
+    moves_then first (then_code mapped merged) 0 (maps + rest * 2) (keyword_count named)
+    (moves_as first (0 * 2) 0 (maps + rest * 2) (maps + rest * 2) (omega arith) refl (named_move 0 named each))
+    (moves_then mapped merged (maps + rest * 2) (map_count named) (keyword_count named)
+    (moves_as mapped (rest * 2 + maps) (maps + rest * 2) (at_most_one rest + maps) (map_count named) (omega arith) (omega arith) (over_below mapped (rest * 2) (at_most_one rest) maps (mapped_moves rest)))
+    (merged_moves (has_spread named) (map_count named)))
+
+-- values as they are handed over: so many, or a counted run
+abbrev with_handed : Option ℕ → Shape → Shape
+with_handed None s = topped counted_form s
+with_handed (Some n) s = given n s
+
+handed_plain : (count : Option ℕ) (s : Shape) → floor_of s.frames ≡ ground → handed count (with_handed count s) ≡ Some s
+handed_plain None s plain = lowered_plain s (topped counted_form s).operands plain
+handed_plain (Some n) s plain = taken_plain n s plain
+
+-- code that takes so many values, and hands over
+abbrev HandsOver : Coded → ℕ → Option ℕ → Type 0
+HandsOver piece m count = (code : List Code) (place : ℕ) (s : Shape) → IsPlain code s → StandsAt code place (piece place) → Goes code place (place + length (piece place)) (given m s) (Some (with_handed count s)) Free
+
+hands_then : (f g : Coded) (m k : ℕ) (count : Option ℕ) → Moves f m k → HandsOver g k count → HandsOver (then_code f g) m count
+hands_then f g m k count x y code place s plain h =
+    goes_both code place f g (given m s) (given k s) (with_handed count s) (x code place s plain (stands_first code place f g h))
+    (y code (place + length (f place)) s plain (stands_second code place f g h))
+
+run_hands : (spread_one : Bool) (lists n : ℕ) → (spread_one ≡ false → lists ≡ 0) → HandsOver (flat no_ways (run_core spread_one lists n)) (lists + n) (if spread_one then None else Some n)
+run_hands false lists n unlisted =
+    let no_list : lists ≡ 0 = unlisted refl in
+    moves_as nothing n (lists + n) n n (omega (arith, no_list)) refl (moves_nothing n)
+run_hands true lists n unlisted =
+    let listed = flat no_ways (listed_core n) in
+    let count = lists + at_most_one n in
+    hands_then listed (one (unpack_lists count)) (lists + n) count None
+    (moves_as listed (n + lists) (lists + n) (at_most_one n + lists) count (omega arith) (omega arith) (over_below listed n (at_most_one n) lists (listed_moves n)))
+    (λ code place s plain h. goes_single code place (unpack_lists count) (given count s) (topped counted_form s) Free h (ap (made counted_form) (taken_plain count s plain.0)))
+
+passed_hands : (front : ℕ) (args : List (Passing Core Core)) (named : List (Passing (List ℕ × Core) Core)) → EachPassed args → EachNamed named
+    → HandsOver (flat no_ways (passed_core front args named)) front (passed_count front args named)
+passed_hands front args named each others =
+    let lists = list_count front args in
+    let rest = rest_count front args in
+    let keywords = flat no_ways (keywords_core named) in
+    let count = rest + keyword_count named in
+    let run = flat no_ways (run_core (has_spread args) lists count) in
+    hands_then (flat no_ways (stretches_core front args)) (then_code keywords run) front (lists + rest) (passed_count front args named) (stretches_move front args each)
+    (hands_then keywords run (lists + rest) (lists + count) (passed_count front args named)
+    (moves_as keywords (0 + (lists + rest)) (lists + rest) (keyword_count named + (lists + rest)) (lists + count) (omega arith) (omega arith)
+    (over_below keywords 0 (keyword_count named) (lists + rest) (keywords_move named others)))
+    (run_hands (has_spread args) lists count (no_lists front args)))
+
+-- arguments, and an instruction that takes them
+applied_moves : (front : ℕ) (args : List (Passing Core Core)) (named : List (Passing (List ℕ × Core) Core)) → EachPassed args → EachNamed named → (c : Code)
+    → ((code : List Code) (place : ℕ) (s : Shape) → effect_of code place c s ≡ made single_form (handed (passed_count front args named) s))
+    → Moves (then_code (flat no_ways (passed_core front args named)) (one c)) front 1
+applied_moves front args named each others c is code place s plain h =
+    let passed = flat no_ways (passed_core front args named) in
+    let count = passed_count front args named in
+    let mid = place + length (passed place) in
+    goes_both code place passed (one c) (given front s) (with_handed count s) (given 1 s)
+    (passed_hands front args named each others code place s plain (stands_first code place passed (one c) h))
+    (goes_single code mid c (with_handed count s) (given 1 s) Free (stands_second code place passed (one c) h)
+    (is code mid (with_handed count s) ∙ ap (made single_form) (handed_plain count s plain.0)))
+
+called_moves : (callee : Callee) (whole object : Core) (args : List (Passing Core Core)) (named : List (Passing (List ℕ × Core) Core)) → Moves (flat no_ways whole) 0 1
+    → ((name : List ℕ) → callee ≡ by_method name → Moves (flat no_ways object) 0 1) → EachPassed args → EachNamed named
+    → Moves (flat no_ways (called_core callee whole object args named)) 0 1
+called_moves (by_name name) whole object args named f g each others =
+    applied_moves 0 args named each others (call_function name (passed_count 0 args named)) (λ code place s. refl)
+called_moves (by_method name) whole object args named f g each others =
+    let c = call_method name (passed_count 1 args named) in
+    moves_then (flat no_ways object) (then_code (flat no_ways (passed_core 1 args named)) (one c)) 0 1 1 (g name refl) (applied_moves 1 args named each others c (λ code place s. refl))
+called_moves by_value whole object args named f g each others =
+    let c = call_object (passed_count 1 args named) in
+    moves_then (flat no_ways whole) (then_code (flat no_ways (passed_core 1 args named)) (one c)) 0 1 1 f (applied_moves 1 args named each others c (λ code place s. refl))
 
 mutual
   pub expression_moves : (e : Expression) → IsRunnable e → Moves (expression_code e) 0 1
@@ -297,6 +392,13 @@ mutual
   expression_moves (call callee args) r =
       called_moves (callee_of callee) (expression_core callee) (object_core callee) (positional_cores args) (keyword_cores args) (expression_moves callee r.0)
       (λ name is. object_moves callee r.0 name is) (positional_move args r.2) (keyword_move args r.2)
+  expression_moves (filtered name (is_given e) args) r =
+      moves_then (expression_code e) (filter_code name args) 0 1 1 (expression_moves e r.0)
+      (applied_moves 1 (positional_cores args) (keyword_cores args) (positional_move args r.1) (keyword_move args r.1) (apply_filter name (argument_count 1 args) no_number) (λ code place s. refl))
+  expression_moves (tested name e args) r =
+      let c = perform_test name (argument_count 1 args) no_number in
+      moves_then (expression_code e) (then_code (passed_code 1 args) (one c)) 0 1 1 (expression_moves e r.0)
+      (applied_moves 1 (positional_cores args) (keyword_cores args) (positional_move args r.1) (keyword_move args r.1) c (λ code place s. refl))
   expression_moves _ r = absurd r
 
   -- the object of a method
@@ -305,19 +407,19 @@ mutual
   object_moves (variable name) r other is = absurd cc
   object_moves _ r other is = absurd cc
 
-  positional_move : (args : Arguments) → AreRunnableArguments args → EachMoves (positional_cores args)
+  positional_move : (args : Arguments) → AreRunnableArguments args → EachPassed (positional_cores args)
   positional_move no_arguments r = tt
   positional_move (arguments_more (positional e) args) r = (expression_moves e r.0, positional_move args r.1)
   positional_move (arguments_more (keyword name e) args) r = positional_move args r.1
-  positional_move (arguments_more (positional_spread e) args) r = absurd r
-  positional_move (arguments_more (keyword_spread e) args) r = absurd r
+  positional_move (arguments_more (positional_spread e) args) r = (expression_moves e r.0, positional_move args r.1)
+  positional_move (arguments_more (keyword_spread e) args) r = positional_move args r.1
 
-  keyword_move : (args : Arguments) → AreRunnableArguments args → NamedMove (keyword_cores args)
+  keyword_move : (args : Arguments) → AreRunnableArguments args → EachNamed (keyword_cores args)
   keyword_move no_arguments r = tt
   keyword_move (arguments_more (positional e) args) r = keyword_move args r.1
   keyword_move (arguments_more (keyword name e) args) r = (expression_moves e r.0, keyword_move args r.1)
-  keyword_move (arguments_more (positional_spread e) args) r = absurd r
-  keyword_move (arguments_more (keyword_spread e) args) r = absurd r
+  keyword_move (arguments_more (positional_spread e) args) r = keyword_move args r.1
+  keyword_move (arguments_more (keyword_spread e) args) r = (expression_moves e r.0, keyword_move args r.1)
 
   optional_moves : (o : Optional) (missing : Val) → IsRunnableIfGiven o → Moves (optional_code missing o) 0 1
   optional_moves absent missing r = moves_one (load_const missing) 0 1 (λ code place s plain. refl)
@@ -357,6 +459,15 @@ mutual
       let first = then_code (expression_code e) (one (compare_and_preserve op)) in
       moves_skipped jump_if_false_or_pop (then_code first (linked_code links)) 1 leaps_false
       (moves_then first (linked_code links) 1 2 2 (compared_moves op (expression_code e) (expression_moves e r.0)) (linked_moves links r.1))
+
+-- the filters of a block take a value, and leave one
+pub filters_move : (e : Expression) → AreFilters e → Moves (filters_code e) 1 1
+filters_move (filtered name absent args) r =
+    applied_moves 1 (positional_cores args) (keyword_cores args) (positional_move args r) (keyword_move args r) (apply_filter name (argument_count 1 args) no_number) (λ code place s. refl)
+filters_move (filtered name (is_given e) args) r =
+    moves_then (filters_code e) (filter_code name args) 1 1 1 (filters_move e r.0)
+    (applied_moves 1 (positional_cores args) (keyword_cores args) (positional_move args r.1) (keyword_move args r.1) (apply_filter name (argument_count 1 args) no_number) (λ code place s. refl))
+filters_move _ r = absurd r
 
 -- a value is stored in a target
 mutual

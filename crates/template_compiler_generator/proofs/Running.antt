@@ -1,21 +1,21 @@
 -- The code of statements: it keeps the shape, or leaves a loop with what the loop began with.
 use Rattle.std.proofs.Common.{◌≡◌, ℕ, zero, suc, ◌+◌, ◌<◌, ◌≤◌, Bool, true, false, ◌||◌, List, [], ◌∷◌, ◌++◌, length, Option, None, Some, slice_get, refl, sym, ap, ◌∙◌, length-append, arith}
 use Rattle.std.specs.Prelude.{IsTrue, option_map, option_and_then, is_some}
-use Rattle.template_tree.specs.Tree.{Expression, Statement, Statements, Assignments, call, absent, raw, print, for_loop, if_condition, with_block, set, set_block, auto_escape, continue_loop, break_loop, do_call, no_statements, statements_more}
+use Rattle.template_tree.specs.Tree.{Expression, Statement, Statements, Assignments, call, absent, given as is_given, raw, print, for_loop, if_condition, with_block, set, set_block, auto_escape, filter_block, continue_loop, break_loop, do_call, no_statements, statements_more}
 use Rattle.template_tree.specs.Tree as tree
 use Rattle.template_walk.specs.Runnable.{IsRunnable, IsTarget, AreAssignments, IsRunnableStatement, AreRunnableStatements}
 use Rattle.template_code.specs.Code.{Code, emit_raw, emit, jump, jump_if_false, push_with, pop_frame, push_loop, iterate, push_did_not_iterate, pop_loop_frame, push_auto_escape, pop_auto_escape, begin_capture, end_capture, discard_top, include}
 use Rattle.template_code_shapes.specs.declared.outline.Opened.TheVariants.{With as with_frame, Loop as loop_frame}
 use Rattle.template_code_shapes.specs.Shapes.{Shape, floor_of, taken, given, opened, with_escape, with_capture, innermost_loop}
 use Rattle.template_code_shapes.specs.Effects.{Effect, falling, jumping, effect_of}
-use Rattle.template_compiler_codegen.specs.Expressions.{Coded, then_code, one, nothing, skipped, either_code, expression_code}
+use Rattle.template_compiler_codegen.specs.Expressions.{Coded, then_code, one, nothing, skipped, either_code, expression_code, filters_code}
 use Rattle.template_compiler_codegen.specs.Statements.{Ways, own_ways, closing_with, target_code, assignments_code, loop_flags, rounds_code, iterable_code, loop_end_code, branches_code, left_by, statement_code, statements_code}
 use Rattle.template_compiler_codegen.proofs.Standing.{StandsAt, behind_one, instruction_at, behind_then, stands_first, stands_second, first_part, last_part, stands_either, behind_either}
 use Rattle.template_compiler_codegen.proofs.Expressions.{behind_single, behind_skipped}
 use Rattle.template_compiler_codegen.proofs.Lengths.{long_statements}
 use Rattle.template_compiler_generator.proofs.Segments.{Flows, Free, Lands, Goes, goes_to, goes_out_as, goes_nowhere, goes_on, goes_then, goes_dead, goes_with, gate, gate_is, flows_any, lands_at}
 use Rattle.template_compiler_generator.proofs.Plain.{ground, IsPlain, taken_plain, traded_plain, escape_plain, capture_plain, jumps_forward, jumps_back}
-use Rattle.template_compiler_generator.proofs.Moving.{Moves, stands_within, goes_single, goes_both, moves_one, moves_nothing, tests_on, goes_either, expression_moves, target_moves, assignments_move}
+use Rattle.template_compiler_generator.proofs.Moving.{Moves, stands_within, goes_single, goes_both, moves_one, moves_nothing, tests_on, goes_either, moves_then, expression_moves, filters_move, target_moves, assignments_move}
 use Rattle.template_compiler_generator.proofs.Rounds.{Returns, goes_asked, pushes}
 use Rattle.template_compiler_generator.proofs.Keeping.{iterable_moves}
 
@@ -356,13 +356,13 @@ runs_escaped looping ways body x code place s base plain h inside =
           closed.1 (λ u e. some_is s1 u e) (λ table stands flows needs. (needs, needs))),
     )
 
--- a body whose text is captured, and stored in a target
-runs_captured : (looping : Bool) (ways : Ways) (target : Expression) (body : Coded) → IsTarget target → Runs looping (closing_with end_capture (closing_with discard_top ways)) 0 body
-    → Runs looping ways 0 (then_code (one (begin_capture true)) (then_code body (then_code (one end_capture) (target_code target))))
-runs_captured looping ways target body r x code place s base plain h inside =
+-- a body whose text is captured, and what takes it
+runs_captured : (looping : Bool) (ways : Ways) (body taking : Coded) → Moves taking 1 0 → Runs looping (closing_with end_capture (closing_with discard_top ways)) 0 body
+    → Runs looping ways 0 (then_code (one (begin_capture true)) (then_code body (then_code (one end_capture) taking)))
+runs_captured looping ways body taking takes x code place s base plain h inside =
     let N = Outs looping ways base in
     let s1 = with_capture s in
-    let tail = then_code (one end_capture) (target_code target) in
+    let tail = then_code (one end_capture) taking in
     let later = then_code body tail in
     let mid = place + length (one (begin_capture true) place) in
     let tail_at = mid + length (body mid) in
@@ -376,9 +376,9 @@ runs_captured looping ways target body r x code place s base plain h inside =
     let stands_tail = stands_second code mid body tail stands_later in
     let inner = x code mid s1 base plain (stands_first code mid body tail stands_later) (λ t. inside_more whole mid tail_at (omega arith) (omega arith) (inside t)) in
     let stored : Goes code tail_at behind s1 (Some s) Free =
-    goes_both code tail_at (one end_capture) (target_code target) s1 (given 1 s) s
-    (goes_single code tail_at end_capture s1 (given 1 s) Free (stands_first code tail_at (one end_capture) (target_code target) stands_tail) (ended code tail_at))
-    (target_moves target r code store_at s plain (stands_second code tail_at (one end_capture) (target_code target) stands_tail)) in
+    goes_both code tail_at (one end_capture) taking s1 (given 1 s) s
+    (goes_single code tail_at end_capture s1 (given 1 s) Free (stands_first code tail_at (one end_capture) taking stands_tail) (ended code tail_at))
+    (takes code store_at s plain (stands_second code tail_at (one end_capture) taking stands_tail)) in
     let closed = closes_then code mid tail_at behind behind s1 s N inner.0 refl (omega arith) inner.1
     (goes_with code tail_at behind s1 (Some s) (Some s) Free N stored (λ table flows. flows) (λ table stands flows needs. tt)) in (
       closed.0,
@@ -421,7 +421,16 @@ mutual
       runs_with looping ways 0 1 (expression_code e) (target_code target) (expression_moves e r.1) (runs_moves looping ways 1 (target_code target) (target_moves target r.0))
   statement_runs looping (set_block target absent body) r ways =
       let inner = closing_with end_capture (closing_with discard_top ways) in
-      runs_captured looping ways target (statements_code inner body) r.0 (statements_run looping body r.1 inner)
+      runs_captured looping ways (statements_code inner body) (target_code target) (target_moves target r.0) (statements_run looping body r.1 inner)
+  statement_runs looping (set_block target (is_given filters) body) r ways =
+      let inner = closing_with end_capture (closing_with discard_top ways) in
+      runs_captured looping ways (statements_code inner body) (then_code (filters_code filters) (target_code target))
+      (moves_then (filters_code filters) (target_code target) 1 1 0 (filters_move filters r.0) (target_moves target r.1)) (statements_run looping body r.2 inner)
+  statement_runs looping (filter_block filters body) r ways =
+      let inner = closing_with end_capture (closing_with discard_top ways) in
+      runs_captured looping ways (statements_code inner body) (then_code (filters_code filters) (one emit))
+      (moves_then (filters_code filters) (one emit) 1 1 0 (filters_move filters r.0) (moves_one emit 1 0 (λ code place s plain. traded_plain 1 0 s plain.0)))
+      (statements_run looping body r.1 inner)
   statement_runs looping (auto_escape e body) r ways =
       runs_with looping ways 0 1 (expression_code e) (then_code (one push_auto_escape) (then_code (statements_code (closing_with pop_auto_escape ways) body) (one pop_auto_escape))) (expression_moves e r.0)
       (runs_escaped looping ways (statements_code (closing_with pop_auto_escape ways) body) (statements_run looping body r.1 (closing_with pop_auto_escape ways)))

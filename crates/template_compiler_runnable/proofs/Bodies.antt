@@ -2,29 +2,25 @@
 use Rattle.std.proofs.Common.{◌≡◌, ℕ, ◌≤◌, ◌<◌, Bool, true, false, ◌&&◌, List, [], ◌∷◌, length, get_or, Option, None, Some, Box, Global, refl, sym, ap, subst, ◌∙◌, arith, rules}
 use Rattle.std.specs.Bool.{Decides}
 use Rattle.std.proofs.lemmas.Bool.Decides.{Decides-at}
-use Rattle.std.specs.Prelude.{is_some}
-use Rattle.template_tree.specs.Tree.{Statement, set_block}
+use Rattle.template_tree.specs.Tree.{Statement, set_block, filter_block}
 use Rattle.template_tree.specs.View.{expression_of, optional_in}
 use Rattle.template_tree_statements.specs.View.{assignments_in, statement_of}
 use Rattle.template_tree.specs.declared.span.Spanned.{Spanned}
 use Rattle.template_tree_statements.specs.declared.statements.AutoEscape.{AutoEscape as AutoEscapeNode}
 use Rattle.template_tree_statements.specs.declared.statements.CallBlock.{CallBlock, CallBlock' as called}
+use Rattle.template_tree_statements.specs.declared.statements.FilterBlock.{FilterBlock as FilterBlockNode}
 use Rattle.template_tree_statements.specs.declared.statements.ForLoop.{ForLoop as ForLoopNode}
 use Rattle.template_tree_statements.specs.declared.statements.IfCond.{IfCond as IfCondNode}
 use Rattle.template_tree_statements.specs.declared.statements.SetBlock.{SetBlock as SetBlockNode}
 use Rattle.template_tree_statements.specs.declared.statements.Template.{Template as TemplateNode}
 use Rattle.template_tree_statements.specs.declared.statements.WithBlock.{WithBlock as WithBlockNode}
-use Rattle.template_tree_statements.specs.declared.statements.Stmt.{Stmt, size-Stmt, Template, ForLoop, IfCond, WithBlock, SetBlock, AutoEscape, CallBlock as calls, the_lemmas}
+use Rattle.template_tree_statements.specs.declared.statements.Stmt.{Stmt, size-Stmt, Template, FilterBlock, ForLoop, IfCond, WithBlock, SetBlock, AutoEscape, CallBlock as calls, the_lemmas}
 use Rattle.template_tree_parts.specs.Listed.{statements_in}
 use Rattle.template_tree_parts.proofs.Trees.{for_tree, if_tree, with_tree, escape_tree, whole_tree}
-use Rattle.template_compiler_runnable.specs.Running.{runs, runs_if_given, is_target, assignments_run, statement_runs, statements_run}
+use Rattle.template_compiler_runnable.specs.Running.{runs, runs_if_given, filters_run, filters_run_if_given, is_target, assignments_run, statement_runs, statements_run}
 use Rattle.template_compiler_runnable.specs.Runs.{RunsWhole}
 use Rattle.template_compiler_runnable.proofs.Decided.{Decides-statements_run}
 use Rattle.template_tree_parts.proofs.Rows.{statements_row}
-
-none_of : {A : Type 0} (o : Option A) → is_some o ≡ false → o ≡ None
-none_of None h = refl
-none_of (Some x) h = cc
 
 pub for_runs : (looping : Bool) (s : Stmt) (n : Box (Spanned ForLoopNode) Global) → s ≡ ForLoop n →
     n.value.node.recursive ≡ false → statement_runs looping (statement_of s)
@@ -39,12 +35,20 @@ set_block_tree : (n : Box (Spanned SetBlockNode) Global) → statement_of (SetBl
     ≡ set_block (expression_of n.value.node.target) (optional_in n.value.node.filter) (statements_in n.value.node.body.items)
 set_block_tree n = search (rules, the_lemmas, statements_row)
 
-pub set_block_runs : (looping : Bool) (s : Stmt) (n : Box (Spanned SetBlockNode) Global) → s ≡ SetBlock n →
-    is_some n.value.node.filter ≡ false → statement_runs looping (statement_of s)
-    ≡ (is_target (expression_of n.value.node.target) && statements_run looping (statements_in n.value.node.body.items))
-set_block_runs looping s n node filter =
-    ap (λ (x : Stmt). statement_runs looping (statement_of x)) node ∙
-    ap (λ (t : Statement). statement_runs looping t) (set_block_tree n) ∙ rw (none_of n.value.node.filter filter) refl
+pub set_block_runs : (looping : Bool) (s : Stmt) (n : Box (Spanned SetBlockNode) Global) → s ≡ SetBlock n → statement_runs looping (statement_of s)
+    ≡ (filters_run_if_given (optional_in n.value.node.filter) &&
+    (is_target (expression_of n.value.node.target) && statements_run looping (statements_in n.value.node.body.items)))
+set_block_runs looping s n node =
+    ap (λ (x : Stmt). statement_runs looping (statement_of x)) node ∙ ap (λ (t : Statement). statement_runs looping t) (set_block_tree n)
+
+filter_block_tree : (n : Box (Spanned FilterBlockNode) Global) → statement_of (FilterBlock n)
+    ≡ filter_block (expression_of n.value.node.filter) (statements_in n.value.node.body.items)
+filter_block_tree n = search (rules, the_lemmas, statements_row)
+
+pub filter_block_runs : (looping : Bool) (s : Stmt) (n : Box (Spanned FilterBlockNode) Global) → s ≡ FilterBlock n → statement_runs looping (statement_of s)
+    ≡ (filters_run (expression_of n.value.node.filter) && statements_run looping (statements_in n.value.node.body.items))
+filter_block_runs looping s n node =
+    ap (λ (x : Stmt). statement_runs looping (statement_of x)) node ∙ ap (λ (t : Statement). statement_runs looping t) (filter_block_tree n)
 
 pub if_runs : (looping : Bool) (s : Stmt) (n : Box (Spanned IfCondNode) Global) → s ≡ IfCond n → statement_runs looping (statement_of s)
     ≡ (runs (expression_of n.value.node.expr) && (statements_run looping (statements_in n.value.node.true_body.items)

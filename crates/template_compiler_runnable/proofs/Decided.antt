@@ -4,8 +4,8 @@ use Rattle.std.specs.Prelude.{not}
 use Rattle.std.specs.Bool.{Decides}
 use Rattle.std.proofs.lemmas.Bool.Decides.{Decides-and}
 use Rattle.template_tree.specs.Tree.{Expression, Optional, Expressions, Links, Arguments, Argument, variable, constant, slice, unary, binary, chain, conditional, filtered, tested, attribute, item, call, list_literal, tuple_literal, map_literal, absent, given, no_expressions, expressions_more, no_links, links_more, no_arguments, arguments_more, positional, keyword, positional_spread, keyword_spread, Statement, Statements, Assignments, template, raw, print, for_loop, if_condition, with_block, set, set_block, auto_escape, filter_block, block, import, from_import, extends, include, macro, call_block, continue_loop, break_loop, do_call, no_statements, statements_more, no_assignments, assignments_more}
-use Rattle.template_walk.specs.Runnable.{is_kept_back, is_loop_called, IsRunnable, IsRunnableIfGiven, AreRunnable, AreRunnableArguments, IsRunnableChain, AreRunnableLinks, IsTarget, AreTargets, AreAssignments, IsRunnableStatement, AreRunnableStatements}
-use Rattle.template_compiler_runnable.specs.Running.{runs, runs_if_given, all_run, chain_runs, links_run, arguments_run, is_target, are_targets, assignments_run, statement_runs, statements_run}
+use Rattle.template_walk.specs.Runnable.{is_kept_back, is_loop_called, IsRunnable, IsRunnableIfGiven, AreRunnable, AreRunnableArguments, IsRunnableChain, AreRunnableLinks, AreFilters, IsTarget, AreTargets, AreAssignments, IsRunnableStatement, AreRunnableStatements}
+use Rattle.template_compiler_runnable.specs.Running.{runs, runs_if_given, all_run, chain_runs, links_run, arguments_run, filters_run, is_target, are_targets, assignments_run, statement_runs, statements_run}
 
 yes : Decides true (Unit {0})
 yes = (λ h. tt, λ h. refl)
@@ -57,8 +57,9 @@ mutual
   Decides-runs (list_literal es) = Decides-all_run es
   Decides-runs (tuple_literal es) = Decides-all_run es
   Decides-runs (map_literal ks vs) = both (all_run ks) (all_run vs) (Decides-all_run ks) (Decides-all_run vs)
-  Decides-runs (filtered name value args) = no
-  Decides-runs (tested name e args) = no
+  Decides-runs (filtered name absent args) = no
+  Decides-runs (filtered name (given e) args) = both (runs e) (arguments_run args) (Decides-runs e) (Decides-arguments_run args)
+  Decides-runs (tested name e args) = both (runs e) (arguments_run args) (Decides-runs e) (Decides-arguments_run args)
   Decides-runs (call callee args) =
       three (runs callee) (not (is_loop_called callee)) (arguments_run args) (Decides-runs callee) (other (is_loop_called callee)) (Decides-arguments_run args)
 
@@ -82,8 +83,26 @@ mutual
   Decides-arguments_run no_arguments = yes
   Decides-arguments_run (arguments_more (positional e) args) = both (runs e) (arguments_run args) (Decides-runs e) (Decides-arguments_run args)
   Decides-arguments_run (arguments_more (keyword name e) args) = both (runs e) (arguments_run args) (Decides-runs e) (Decides-arguments_run args)
-  Decides-arguments_run (arguments_more (positional_spread e) args) = no
-  Decides-arguments_run (arguments_more (keyword_spread e) args) = no
+  Decides-arguments_run (arguments_more (positional_spread e) args) = both (runs e) (arguments_run args) (Decides-runs e) (Decides-arguments_run args)
+  Decides-arguments_run (arguments_more (keyword_spread e) args) = both (runs e) (arguments_run args) (Decides-runs e) (Decides-arguments_run args)
+
+Decides-filters_run : (e : Expression) → Decides (filters_run e) (AreFilters e)
+Decides-filters_run (filtered name absent args) = Decides-arguments_run args
+Decides-filters_run (filtered name (given e) args) = both (filters_run e) (arguments_run args) (Decides-filters_run e) (Decides-arguments_run args)
+Decides-filters_run (variable name) = no
+Decides-filters_run (constant v) = no
+Decides-filters_run (slice e start stop by) = no
+Decides-filters_run (unary op e) = no
+Decides-filters_run (binary op left right) = no
+Decides-filters_run (chain first links) = no
+Decides-filters_run (conditional test branch otherwise) = no
+Decides-filters_run (tested name e args) = no
+Decides-filters_run (attribute e name) = no
+Decides-filters_run (item e key) = no
+Decides-filters_run (call callee args) = no
+Decides-filters_run (list_literal es) = no
+Decides-filters_run (tuple_literal es) = no
+Decides-filters_run (map_literal ks vs) = no
 
 mutual
   Decides-is_target : (e : Expression) → Decides (is_target e) (IsTarget e)
@@ -135,8 +154,11 @@ mutual
   Decides-statement_runs looping continue_loop = same looping
   Decides-statement_runs looping break_loop = same looping
   Decides-statement_runs looping (template body) = no
-  Decides-statement_runs looping (set_block target (given filters) body) = no
-  Decides-statement_runs looping (filter_block e body) = no
+  Decides-statement_runs looping (set_block target (given filters) body) =
+      three (filters_run filters) (is_target target) (statements_run looping body)
+      (Decides-filters_run filters) (Decides-is_target target) (Decides-statements_run looping body)
+  Decides-statement_runs looping (filter_block filters body) =
+      both (filters_run filters) (statements_run looping body) (Decides-filters_run filters) (Decides-statements_run looping body)
   Decides-statement_runs looping (block id required body) = no
   Decides-statement_runs looping (import e target) = no
   Decides-statement_runs looping (from_import e names) = no

@@ -1,6 +1,6 @@
 -- Whether a tree is runnable, as tests.
 use Rattle.std.specs.Prelude.{Bool, true, false, not, ◌&&◌}
-use Rattle.template_tree.specs.Tree.{Expression, Optional, Expressions, Links, Arguments, Argument, variable, constant, slice, unary, binary, chain, conditional, attribute, item, call, list_literal, tuple_literal, map_literal, absent, given, no_expressions, expressions_more, no_links, links_more, no_arguments, arguments_more, positional, keyword, Statement, Statements, Assignments, raw, print, for_loop, if_condition, with_block, set, set_block, auto_escape, include, continue_loop, break_loop, do_call, no_statements, statements_more, no_assignments, assignments_more}
+use Rattle.template_tree.specs.Tree.{Expression, Optional, Expressions, Links, Arguments, Argument, variable, constant, slice, unary, binary, chain, conditional, attribute, item, call, filtered, tested, list_literal, tuple_literal, map_literal, absent, given, no_expressions, expressions_more, no_links, links_more, no_arguments, arguments_more, positional, keyword, positional_spread, keyword_spread, Statement, Statements, Assignments, raw, print, for_loop, if_condition, with_block, set, set_block, auto_escape, filter_block, include, continue_loop, break_loop, do_call, no_statements, statements_more, no_assignments, assignments_more}
 use Rattle.template_walk.specs.Runnable.{is_kept_back, is_loop_called}
 
 abbrev mutual
@@ -15,10 +15,16 @@ abbrev mutual
   runs (attribute e name) = runs e
   runs (item e key) = runs e && runs key
   runs (call callee args) = runs callee && (not (is_loop_called callee) && arguments_run args)
+  runs (filtered name value args) = value_runs value && arguments_run args
+  runs (tested name e args) = runs e && arguments_run args
   runs (list_literal es) = all_run es
   runs (tuple_literal es) = all_run es
   runs (map_literal ks vs) = all_run ks && all_run vs
-  runs _ = false
+
+  -- a filter's value is given, and runs
+  pub value_runs : Optional → Bool
+  value_runs absent = false
+  value_runs (given e) = runs e
 
   pub runs_if_given : Optional → Bool
   runs_if_given absent = true
@@ -41,15 +47,25 @@ abbrev mutual
   arguments_run no_arguments = true
   arguments_run (arguments_more argument args) = argument_runs argument && arguments_run args
 
-  -- none is spread
   pub argument_runs : Argument → Bool
   argument_runs (positional e) = runs e
   argument_runs (keyword name e) = runs e
-  argument_runs _ = false
+  argument_runs (positional_spread e) = runs e
+  argument_runs (keyword_spread e) = runs e
 
 -- what is called is no loop, and the arguments run
 abbrev pub passing_runs : Expression → Arguments → Bool
 passing_runs callee args = not (is_loop_called callee) && arguments_run args
+
+-- the filters of a block
+abbrev pub filters_run : Expression → Bool
+filters_run (filtered name absent args) = arguments_run args
+filters_run (filtered name (given e) args) = filters_run e && arguments_run args
+filters_run _ = false
+
+abbrev pub filters_run_if_given : Optional → Bool
+filters_run_if_given absent = true
+filters_run_if_given (given filters) = filters_run filters
 
 abbrev mutual
   pub is_target : Expression → Bool
@@ -77,8 +93,10 @@ abbrev mutual
       runs e && (statements_run looping body && statements_run looping otherwise)
   statement_runs looping (with_block assignments body) = assignments_run assignments && statements_run looping body
   statement_runs looping (set target e) = is_target target && runs e
-  statement_runs looping (set_block target absent body) = is_target target && statements_run looping body
+  statement_runs looping (set_block target filters body) =
+      filters_run_if_given filters && (is_target target && statements_run looping body)
   statement_runs looping (auto_escape e body) = runs e && statements_run looping body
+  statement_runs looping (filter_block filters body) = filters_run filters && statements_run looping body
   statement_runs looping (include e ignore_missing) = runs e
   statement_runs looping (do_call callee args) = runs (call callee args)
   statement_runs looping continue_loop = looping

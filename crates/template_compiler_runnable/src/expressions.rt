@@ -6,7 +6,6 @@ ghost use Rattle.template_walk.specs.Runnable.{IsRunnable, is_kept_back, is_loop
 ghost use Rattle.template_compiler_runnable.specs.Running.{runs, runs_if_given, all_run, chain_runs, links_run, passing_runs, arguments_run, argument_runs};
 
 use template_tree::{Call, CallArg, CompareOp, Expr};
-use template_tree_nodes::has_walk;
 
 /// Whether an expression's tree is one whose constructs all have a walk. Takes linear time.
 pub fn is_runnable_expr(expr: &Expr<'_>) -> bool
@@ -108,8 +107,23 @@ pub(crate) fn expression_runs(expr: &Expr<'_>) -> bool
                 }
                 &node.expr
             }
-            Expr::Filter(_) => return has_walk(at),
-            Expr::Test(_) => return has_walk(at),
+            Expr::Filter(n) => {
+                let node = &n.node;
+                if !arguments_run(&node.args) {
+                    return false;
+                }
+                match &node.expr {
+                    Some(value) => value,
+                    None => return false,
+                }
+            }
+            Expr::Test(n) => {
+                let node = &n.node;
+                if !arguments_run(&node.args) {
+                    return false;
+                }
+                &node.expr
+            }
             Expr::Call(n) => {
                 let node = &n.node;
                 if !passing_runs(node) {
@@ -182,7 +196,7 @@ fn passing_runs(called: &Call<'_>) -> bool
 
 // Whether all arguments run.
 #[cycle(expression)]
-fn arguments_run(arguments: &[CallArg<'_>]) -> bool
+pub(crate) fn arguments_run(arguments: &[CallArg<'_>]) -> bool
     ensures { result ≡ arguments_run (arguments_in arguments.now) }
 {
     for argument in arguments {
@@ -193,7 +207,7 @@ fn arguments_run(arguments: &[CallArg<'_>]) -> bool
     true
 }
 
-// Whether an argument runs; none does that is spread.
+// Whether an argument runs.
 #[cycle(expression)]
 fn argument_runs(argument: &CallArg<'_>) -> bool
     ensures { result ≡ argument_runs (argument_of argument.now) }
@@ -201,7 +215,7 @@ fn argument_runs(argument: &CallArg<'_>) -> bool
     match argument {
         CallArg::Pos(expr) => operand_runs(expr),
         CallArg::Kwarg(_, expr) => operand_runs(expr),
-        CallArg::PosSplat(_) => false,
-        CallArg::KwargSplat(_) => false,
+        CallArg::PosSplat(expr) => operand_runs(expr),
+        CallArg::KwargSplat(expr) => operand_runs(expr),
     }
 }

@@ -2,6 +2,7 @@
 #![tactic(auto)]
 
 mod expressions;
+mod filters;
 mod statements;
 mod targets;
 

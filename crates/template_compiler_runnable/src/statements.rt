@@ -6,6 +6,7 @@ ghost use Rattle.template_compiler_runnable.specs.Running.{statement_runs, state
 ghost use Rattle.template_compiler_runnable.specs.Runs.{RunsWhole};
 
 use crate::expressions::{call_runs, operand_runs, optional_runs};
+use crate::filters::{filters_run, optional_filters_run};
 use crate::targets::{assignments_run, is_target};
 use template_tree_statements::Stmt;
 
@@ -133,7 +134,7 @@ fn parts_run(looping: bool, statement: &Stmt<'_>) -> bool
         Stmt::Set(n) => is_target(&n.node.target) && operand_runs(&n.node.expr),
         Stmt::SetBlock(n) => {
             let node = &n.node;
-            if node.filter.is_some() {
+            if !optional_filters_run(&node.filter) {
                 return false;
             }
             if !is_target(&node.target) {
@@ -147,11 +148,16 @@ fn parts_run(looping: bool, statement: &Stmt<'_>) -> bool
             }
             statements_run(looping, &n.node.body)
         }
+        Stmt::FilterBlock(n) => {
+            if !filters_run(&n.node.filter) {
+                return false;
+            }
+            statements_run(looping, &n.node.body)
+        }
         Stmt::Include(n) => operand_runs(&n.node.name),
         Stmt::Continue(_) => looping,
         Stmt::Break(_) => looping,
         Stmt::Template(_) => false,
-        Stmt::FilterBlock(_) => false,
         Stmt::Block(_) => false,
         Stmt::Import(_) => false,
         Stmt::FromImport(_) => false,

@@ -2,6 +2,7 @@ pub mod Assignments
 pub mod Bodies
 pub mod Closings
 pub mod Elifs
+pub mod Filtering
 pub mod Keeping
 pub mod Looping
 pub mod Lowering

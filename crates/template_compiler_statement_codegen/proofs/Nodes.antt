@@ -1,21 +1,23 @@
 -- The trees of nodes, from the parts that a node holds, and how deep those are.
-use Rattle.std.proofs.Common.{◌≡◌, ℕ, ◌<◌, Bool, true, false, List, length, get_or, Box, Global, rules, refl, sym, ap, subst, ◌∙◌, arith, [], ◌∷◌}
-use Rattle.template_tree.specs.Tree.{Expression, Optional, Statement, Statements, absent, given, for_loop, with_block, set_block, auto_escape, no_statements, statements_more}
+use Rattle.std.proofs.Common.{◌≡◌, ℕ, ◌<◌, Bool, true, false, Option, List, length, get_or, Box, Global, rules, refl, sym, ap, subst, ◌∙◌, arith, [], ◌∷◌}
+use Rattle.template_tree.specs.Tree.{Expression, Optional, Statement, Statements, absent, given, for_loop, with_block, set_block, auto_escape, filter_block, no_statements, statements_more}
 use Rattle.template_tree_statements.specs.View.{assignments_in, statement_of}
 use Rattle.template_tree.specs.View.{expression_of, optional_in}
 use Rattle.template_tree.specs.declared.expressions.Expr.{Expr}
 use Rattle.template_tree.specs.declared.span.Spanned.{Spanned}
 use Rattle.template_tree_statements.specs.declared.statements.AutoEscape.{AutoEscape as AutoEscapeNode}
 use Rattle.template_tree_statements.specs.declared.statements.CallBlock.{CallBlock as CallBlockNode, CallBlock' as called}
+use Rattle.template_tree_statements.specs.declared.statements.FilterBlock.{FilterBlock as FilterBlockNode}
 use Rattle.template_tree_statements.specs.declared.statements.ForLoop.{ForLoop as ForLoopNode}
 use Rattle.template_tree_statements.specs.declared.statements.IfCond.{IfCond as IfCondNode}
 use Rattle.template_tree_statements.specs.declared.statements.SetBlock.{SetBlock as SetBlockNode}
 use Rattle.template_tree_statements.specs.declared.statements.WithBlock.{WithBlock as WithBlockNode}
-use Rattle.template_tree_statements.specs.declared.statements.Stmt.{Stmt, AutoEscape, CallBlock, ForLoop, IfCond, SetBlock, WithBlock, size-Stmt, the_lemmas}
+use Rattle.template_tree_statements.specs.declared.statements.Stmt.{Stmt, AutoEscape, CallBlock, FilterBlock, ForLoop, IfCond, SetBlock, WithBlock, size-Stmt, the_lemmas}
 use Rattle.template_tree_parts.proofs.Rows.{statements_row}
 use Rattle.template_tree_parts.proofs.Trees.{escape_tree, for_tree, if_tree, with_tree}
-use Rattle.template_walk.specs.Runnable.{IsRunnableStatement}
+use Rattle.template_walk.specs.Runnable.{IsTarget, IsRunnableStatement, AreRunnableStatements}
 use Rattle.template_tree_parts.specs.Listed.{statements_in}
+use Rattle.template_compiler_statement_codegen.specs.Filtered.{AreFiltersIfGiven}
 use Rattle.template_compiler_statement_codegen.specs.Listed.{IsRunnableTree, body_deep, condition_deep, condition_of}
 use Rattle.template_compiler_statement_codegen.proofs.Bodies.{body_below}
 
@@ -102,6 +104,18 @@ pub set_block_deep : (s : Stmt) (n : Box (Spanned SetBlockNode) Global) (body : 
 set_block_deep s n body node read =
     rw (node, read) (body_below n.value.node.body.items (size-Stmt (SetBlock n)) (set_block_positive n) (set_block_smaller n))
 
+filter_block_smaller : (n : Box (Spanned FilterBlockNode) Global) (i : ℕ) (d : Stmt) → i < length n.value.node.body.items
+    → size-Stmt (get_or n.value.node.body.items i d) < size-Stmt (FilterBlock n)
+filter_block_smaller n i d h = search (rules, the_lemmas)
+
+filter_block_positive : (n : Box (Spanned FilterBlockNode) Global) → 0 < size-Stmt (FilterBlock n)
+filter_block_positive n = search (rules, the_lemmas)
+
+pub filter_block_deep : (s : Stmt) (n : Box (Spanned FilterBlockNode) Global) (body : List Stmt) → s ≡ FilterBlock n → body ≡ n.value.node.body.items
+    → body_deep body < size-Stmt s
+filter_block_deep s n body node read =
+    rw (node, read) (body_below n.value.node.body.items (size-Stmt (FilterBlock n)) (filter_block_positive n) (filter_block_smaller n))
+
 escape_body_smaller : (n : Box (Spanned AutoEscapeNode) Global) (i : ℕ) (d : Stmt) → i < length n.value.node.body.items
     → size-Stmt (get_or n.value.node.body.items i d) < size-Stmt (AutoEscape n)
 escape_body_smaller n i d h = search (rules, the_lemmas)
@@ -167,26 +181,28 @@ loop_is s n l h node read =
     (statements_in v.else_body.items) (subst (λ (x : Statement). IsRunnableStatement true x) tree h) ∙
     ap (λ (x : ForLoopNode). loop_of x) (sym read)
 
--- a block that runs has no filters
-block_plain : (target : Expression) (filters : Optional) (body : Statements) → IsRunnableStatement true (set_block target filters body)
-    → set_block target filters body ≡ set_block target absent body
-block_plain target absent body h = refl
-block_plain target (given f) body h = absurd h
+-- the parts of a block that runs are runnable
+pub set_block_runs : (target : Expression) (filters : Optional) (body : Statements) → IsRunnableStatement true (set_block target filters body)
+    → IsTarget target × AreFiltersIfGiven filters × AreRunnableStatements true body
+set_block_runs target absent body h = (h.0, tt, h.1)
+set_block_runs target (given filters) body h = (h.1, h.0, h.2)
 
 set_block_tree : (n : Box (Spanned SetBlockNode) Global) → statement_of (SetBlock n)
     ≡ set_block (expression_of n.value.node.target) (optional_in n.value.node.filter) (statements_in n.value.node.body.items)
 set_block_tree n = search (rules, the_lemmas, statements_row)
 
-pub set_block_is : (s : Stmt) (n : Box (Spanned SetBlockNode) Global) (target : Expr) (body : List Stmt) → IsRunnableStatement true (statement_of s)
-    → s ≡ SetBlock n → target ≡ n.value.node.target → body ≡ n.value.node.body.items
-    → statement_of s ≡ set_block (expression_of target) absent (statements_in body)
-set_block_is s n target body h node t b =
-    let v = n.value.node in
-    let tree : statement_of s ≡ set_block (expression_of v.target) (optional_in v.filter) (statements_in v.body.items) =
-    ap (λ (x : Stmt). statement_of x) node ∙ set_block_tree n in
-    tree ∙
-    block_plain (expression_of v.target) (optional_in v.filter) (statements_in v.body.items)
-    (subst (λ (x : Statement). IsRunnableStatement true x) tree h) ∙ rw (t, b) refl
+pub set_block_is : (s : Stmt) (n : Box (Spanned SetBlockNode) Global) (target : Expr) (filters : Option Expr) (body : List Stmt) → s ≡ SetBlock n
+    → target ≡ n.value.node.target → filters ≡ n.value.node.filter → body ≡ n.value.node.body.items
+    → statement_of s ≡ set_block (expression_of target) (optional_in filters) (statements_in body)
+set_block_is s n target filters body node t f b = ap (λ (x : Stmt). statement_of x) node ∙ set_block_tree n ∙ rw (t, f, b) refl
+
+filter_block_tree : (n : Box (Spanned FilterBlockNode) Global) → statement_of (FilterBlock n)
+    ≡ filter_block (expression_of n.value.node.filter) (statements_in n.value.node.body.items)
+filter_block_tree n = search (rules, the_lemmas, statements_row)
+
+pub filter_block_is : (s : Stmt) (n : Box (Spanned FilterBlockNode) Global) (filters : Expr) (body : List Stmt) → s ≡ FilterBlock n
+    → filters ≡ n.value.node.filter → body ≡ n.value.node.body.items → statement_of s ≡ filter_block (expression_of filters) (statements_in body)
+filter_block_is s n filters body node f b = ap (λ (x : Stmt). statement_of x) node ∙ filter_block_tree n ∙ rw (f, b) refl
 
 pub with_is : (s : Stmt) (n : Box (Spanned WithBlockNode) Global) (pairs : List (Expr × Expr)) (body : List Stmt) → s ≡ WithBlock n
     → pairs ≡ n.value.node.assignments.items → body ≡ n.value.node.body.items

@@ -1,6 +1,6 @@
 -- A whole template: what runs outside of loops runs inside of them too, and nothing is open at first.
 use Rattle.std.proofs.Common.{◌≡◌, ℕ, Bool, true, false, List, [], ap, subst, ◌∙◌, refl}
-use Rattle.template_tree.specs.Tree.{Statement, Statements, absent, template, raw, print, for_loop, if_condition, with_block, set, set_block, auto_escape, include, continue_loop, break_loop, do_call, no_statements, statements_more}
+use Rattle.template_tree.specs.Tree.{Statement, Statements, absent, given, template, raw, print, for_loop, if_condition, with_block, set, set_block, auto_escape, filter_block, include, continue_loop, break_loop, do_call, no_statements, statements_more}
 use Rattle.template_walk.specs.Runnable.{IsRunnableStatement, AreRunnableStatements}
 use Rattle.template_code.specs.declared.listing.Instructions.{Instructions}
 use Rattle.template_compiler_codegen.specs.Statements.{Ways, no_ways, statements_code}
@@ -20,6 +20,8 @@ mutual
   looser_statement looping (with_block pairs body) h = (h.0, looser_statements looping body h.1)
   looser_statement looping (set target e) h = h
   looser_statement looping (set_block target absent body) h = (h.0, looser_statements looping body h.1)
+  looser_statement looping (set_block target (given filters) body) h = (h.0, h.1, looser_statements looping body h.2)
+  looser_statement looping (filter_block filters body) h = (h.0, looser_statements looping body h.1)
   looser_statement looping (auto_escape e body) h = (h.0, looser_statements looping body h.1)
   looser_statement looping (include e ignore_missing) h = h
   looser_statement looping (do_call callee args) h = h

@@ -3,3 +3,4 @@ pub mod Rounds
 pub mod Breaks
 pub mod Laws
 pub mod Refusals
+pub mod Filtered

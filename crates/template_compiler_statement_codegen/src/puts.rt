@@ -1,10 +1,10 @@
 //! What is put behind the instructions. A refusal is told by its kind alone, which is small.
 ghost use Rattle.std.specs.Prelude.{◌≡◌, ◌++◌, ◌∷◌, [], OnOk, IfOk, IfErr, length};
 ghost use Rattle.template_tree.specs.View.{expression_of};
-ghost use Rattle.template_walk.specs.Runnable.{IsRunnable};
+ghost use Rattle.template_walk.specs.Runnable.{IsRunnable, AreFilters};
 ghost use Rattle.template_code.specs.View.{code_of};
 ghost use Rattle.template_code.specs.Listing.{code_in};
-ghost use Rattle.template_compiler_codegen.specs.Expressions.{one, expression_code};
+ghost use Rattle.template_compiler_codegen.specs.Expressions.{one, expression_code, filters_code};
 ghost use Rattle.template_compiler_emission.specs.Leaps.{leap_code};
 ghost use Rattle.template_compiler_emission.specs.Puts.{Puts};
 ghost use Rattle.template_compiler_expression_codegen.specs.Calls.{call_of};
@@ -73,6 +73,23 @@ pub(crate) fn compile_call<'source>(
     ensures refused { IfErr result (Refuses (code_in code.new)) }
 {
     match template_compiler_expression_codegen::compile_call(alloc, code, call) {
+        Ok(()) => Ok(()),
+        Err(error) => Err(kind_of(error)),
+    }
+}
+
+// Puts the code of the filters of a block.
+#[inline(always)]
+pub(crate) fn compile_filters<'source>(
+    alloc: Global,
+    code: &mut Instructions<'source>,
+    filters: &Expr<'source>,
+) -> Result<(), ErrorKind>
+    requires { AreFilters (expression_of filters.now) }
+    ensures put { OnOk result (Puts (filters_code (expression_of filters.now)) code.old code.new) }
+    ensures refused { IfErr result (Refuses (code_in code.new)) }
+{
+    match template_compiler_expression_codegen::compile_filters(alloc, code, filters) {
         Ok(()) => Ok(()),
         Err(error) => Err(kind_of(error)),
     }

@@ -1,24 +1,25 @@
 //! Statements. Bodies nest at most 150 deep; a chain of `elif`, which may be as long as the source, is gone
 //! along in a loop.
 ghost use Rattle.std.specs.Prelude.{◌≡◌, ◌++◌, [], true, false, length, OnOk, IfOk, IfErr};
-ghost use Rattle.template_tree.specs.Tree.{absent, auto_escape, for_loop, set_block, with_block};
+ghost use Rattle.template_tree.specs.Tree.{auto_escape, filter_block, for_loop, set_block, with_block};
 ghost use Rattle.template_tree_statements.specs.View.{statement_of, assignments_in};
 ghost use Rattle.template_tree.specs.View.{expression_of, optional_in};
-ghost use Rattle.template_walk.specs.Runnable.{IsRunnable, IsRunnableIfGiven, IsTarget, AreAssignments, IsRunnableStatement, AreRunnableStatements};
+ghost use Rattle.template_walk.specs.Runnable.{IsRunnable, IsRunnableIfGiven, AreFilters, IsTarget, AreAssignments, IsRunnableStatement, AreRunnableStatements};
 ghost use Rattle.template_code.specs.Code.{discard_top, emit, emit_raw, include};
 ghost use Rattle.template_code.specs.Listing.{code_in, TakesNoMore};
-ghost use Rattle.template_compiler_codegen.specs.Expressions.{then_code, one, expression_code};
+ghost use Rattle.template_compiler_codegen.specs.Expressions.{then_code, one, expression_code, filters_code};
 ghost use Rattle.template_compiler_codegen.specs.Statements.{loop_end_code, no_ways, own_ways, rounds_code, statements_code, target_code};
 ghost use Rattle.template_compiler_emission.specs.Puts.{Keeps, Puts};
 ghost use Rattle.template_compiler_expression_codegen.specs.Calls.{call_of};
 ghost use Rattle.template_compiler_statement_codegen.specs.Breaks.{breaks_in, led, loop_end_places};
 ghost use Rattle.template_tree_parts.specs.Listed.{statements_in};
+ghost use Rattle.template_compiler_statement_codegen.specs.Filtered.{AreFiltersIfGiven, filtered_store};
 ghost use Rattle.template_compiler_statement_codegen.specs.Listed.{IsRunnableTree, body_in, condition_of};
 ghost use Rattle.template_compiler_statement_codegen.specs.Refusals.{Refuses};
 ghost use Rattle.template_compiler_statement_codegen.specs.Rounds.{Lowers, LowersBody, LowersStatement, LowersBranch, LowersChain, capturing, closed_code, closed_places, closing_code, places_in, ways_of};
 
 use crate::iterables::compile_iterable;
-use crate::puts::{append, compile_call, compile_expr, put, reserve};
+use crate::puts::{append, compile_call, compile_expr, compile_filters, put, reserve};
 use crate::rounds::{Closing, Round, put_break, put_continue};
 use crate::targets::{store, store_all};
 use crate::tell_breaks;
@@ -150,7 +151,20 @@ fn compile_any<'source>(
             )
         }
         Stmt::SetBlock(n) => {
-            compile_set_block(alloc, code, round, &n.node.target, &n.node.body, &n.span)
+            let node = &n.node;
+            compile_set_block(
+                alloc,
+                code,
+                round,
+                &node.target,
+                &node.filter,
+                &node.body,
+                &n.span,
+            )
+        }
+        Stmt::FilterBlock(n) => {
+            let node = &n.node;
+            compile_filter_block(alloc, code, round, &node.filter, &node.body, &n.span)
         }
         Stmt::AutoEscape(n) => {
             compile_auto_escape(alloc, code, round, &n.node.enabled, &n.node.body, &n.span)
@@ -158,7 +172,6 @@ fn compile_any<'source>(
         Stmt::Continue(n) => put_continue(code, &*round, &n.span),
         Stmt::Break(n) => put_break(code, round, &n.span),
         Stmt::Template(_) => unreachable!(),
-        Stmt::FilterBlock(_) => unreachable!(),
         Stmt::Block(_) => unreachable!(),
         Stmt::Import(_) => unreachable!(),
         Stmt::FromImport(_) => unreachable!(),
@@ -309,7 +322,7 @@ fn compile_with<'source>(
     compile_closed(alloc, code, round, Closing::Frame, body, span)
 }
 
-// The text of a body, which is stored in a target.
+// The text of a body, which is stored in a target, behind the filters, if there are any.
 #[cycle(statement)]
 #[inline(never)]
 fn compile_set_block<'source>(
@@ -317,13 +330,16 @@ fn compile_set_block<'source>(
     code: &mut Instructions<'source>,
     round: &mut Round,
     target: &Expr<'source>,
+    filters: &Option<Expr<'source>>,
     body: &[Stmt<'source>],
     span: &Span,
 ) -> Result<(), ErrorKind>
     requires target { IsTarget (expression_of target.now) }
+    requires filters { AreFiltersIfGiven (optional_in filters.now) }
     requires body { AreRunnableStatements true (statements_in body.now) }
     ensures lowered { OnOk result
-        (LowersStatement (set_block (expression_of target.now) absent (statements_in body.now)) code.old code.new round.old round.new) }
+        (LowersStatement (set_block (expression_of target.now) (optional_in filters.now) (statements_in body.now))
+        code.old code.new round.old round.new) }
     ensures refused { IfErr result (Refuses (code_in code.new)) }
 {
     put(
@@ -333,7 +349,69 @@ fn compile_set_block<'source>(
     )?;
     compile_captured(alloc, code, round, body)?;
     put(code, Instruction::EndCapture, Some(*span))?;
-    store(alloc, code, target)
+    store_filtered(alloc, code, filters, target)
+}
+
+// What the filters make of the value on top, if there are any, is stored in a target.
+fn store_filtered<'source>(
+    alloc: Global,
+    code: &mut Instructions<'source>,
+    filters: &Option<Expr<'source>>,
+    target: &Expr<'source>,
+) -> Result<(), ErrorKind>
+    requires filters { AreFiltersIfGiven (optional_in filters.now) }
+    requires target { IsTarget (expression_of target.now) }
+    ensures put { OnOk result (Puts (filtered_store (optional_in filters.now) (expression_of target.now)) code.old code.new) }
+    ensures refused { IfErr result (Refuses (code_in code.new)) }
+{
+    match filters {
+        Some(filters) => {
+            compile_filters(alloc, code, filters)?;
+            store(alloc, code, target)
+        }
+        None => store(alloc, code, target),
+    }
+}
+
+// The text of a body, which is printed behind the filters.
+#[cycle(statement)]
+#[inline(never)]
+fn compile_filter_block<'source>(
+    alloc: Global,
+    code: &mut Instructions<'source>,
+    round: &mut Round,
+    filters: &Expr<'source>,
+    body: &[Stmt<'source>],
+    span: &Span,
+) -> Result<(), ErrorKind>
+    requires filters { AreFilters (expression_of filters.now) }
+    requires body { AreRunnableStatements true (statements_in body.now) }
+    ensures lowered { OnOk result
+        (LowersStatement (filter_block (expression_of filters.now) (statements_in body.now)) code.old code.new round.old round.new) }
+    ensures refused { IfErr result (Refuses (code_in code.new)) }
+{
+    put(
+        code,
+        Instruction::BeginCapture(CaptureMode::Capture),
+        Some(*span),
+    )?;
+    compile_captured(alloc, code, round, body)?;
+    put(code, Instruction::EndCapture, Some(*span))?;
+    print_filtered(alloc, code, filters)
+}
+
+// What the filters make of the value on top is printed.
+fn print_filtered<'source>(
+    alloc: Global,
+    code: &mut Instructions<'source>,
+    filters: &Expr<'source>,
+) -> Result<(), ErrorKind>
+    requires { AreFilters (expression_of filters.now) }
+    ensures put { OnOk result (Puts (then_code (filters_code (expression_of filters.now)) (one emit)) code.old code.new) }
+    ensures refused { IfErr result (Refuses (code_in code.new)) }
+{
+    compile_filters(alloc, code, filters)?;
+    put(code, Instruction::Emit, None)
 }
 
 // A body whose text is captured: what leaves it ends the capture, and drops the text.

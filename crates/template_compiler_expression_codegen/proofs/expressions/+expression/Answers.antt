@@ -1,17 +1,20 @@
-use Rattle.std.proofs.Common.{◌≡◌, ℕ, suc, ◌+◌, ◌<◌, ◌++◌, List, length, take, drop, false, Option, None, Some, ap, sym, subst, ◌∙◌, arith, refl}
+use Rattle.std.proofs.Common.{◌≡◌, ℕ, ◌+◌, ◌<◌, ◌++◌, List, length, take, drop, false, Option, None, Some, ap, sym, subst, ◌∙◌, arith, refl}
 use Rattle.std.proofs.lemmas.Result.{IfOk-at_ok, on_ok_weaker}
 use Rattle.std.specs.Prelude.{IfOk, OnOk, option_and_then}
 use Rattle.template_values_model.specs.Val.{Val}
-use Rattle.template_tree.specs.Tree.{Expression, Links, call, chain, links_more, list_literal, map_literal, tuple_literal}
+use Rattle.std.specs.Cow.{cow_str_bytes}
+use Rattle.template_tree.specs.Tree.{Expression, Links, call, chain, filtered, tested, links_more, list_literal, map_literal, tuple_literal}
 use Rattle.template_tree.specs.View.{arguments_in, expression_of, expressions_in, links_in, optional_in}
 use Rattle.template_tree.specs.declared.calls.Call.{Call as CallNode}
 use Rattle.template_tree.specs.declared.calls.CallArg.{CallArg}
 use Rattle.template_tree.specs.declared.expressions.Compare.{Compare, out-Compare}
 use Rattle.template_tree.specs.declared.expressions.CompareOp.{CompareOp}
 use Rattle.template_tree.specs.declared.expressions.Expr.{size-Expr}
+use Rattle.template_tree.specs.declared.expressions.Filter.{Filter as FilterNode}
 use Rattle.template_tree.specs.declared.expressions.GetAttr.{GetAttr as GetAttrNode}
 use Rattle.template_tree.specs.declared.expressions.List.{List as ListNode}
 use Rattle.template_tree.specs.declared.expressions.Map.{Map as MapNode}
+use Rattle.template_tree.specs.declared.expressions.Test.{Test as TestNode}
 use Rattle.template_tree.specs.declared.expressions.Tuple.{Tuple as TupleNode}
 use Rattle.template_tree.specs.declared.span.Spanned.{Spanned}
 use Rattle.template_compiler_expression_codegen.proofs.CodedWalks.{coded_walked}
@@ -19,24 +22,24 @@ use Rattle.template_walk.specs.Constants.{chain_constant, constant_of}
 use Rattle.template_walk.specs.Runnable.{IsRunnable, AreRunnableArguments}
 use Rattle.template_code.specs.Code.{build_list, build_tuple, call_method, compare_and_preserve, operate}
 use Rattle.template_code.specs.Listing.{code_in}
-use Rattle.template_compiler_codegen.specs.Expressions.{argument_count, chain_code, expression_code, keyword_cores, one, unary_code}
+use Rattle.template_compiler_codegen.specs.Expressions.{chain_code, expression_code, filter_code, merged_count, one, unary_code}
 use Rattle.template_compiler_folding.specs.Folding.{binary_folded, comparison_folded, unary_folded}
 use Rattle.template_compiler_emission.specs.declared.leaps.Leap.TheVariants.{Always, IfFalse}
-use Rattle.template_compiler_emission.specs.Puts.{Puts, unless}
+use Rattle.template_compiler_emission.specs.Puts.{Puts, behind, unless}
 use Rattle.template_compiler_emission.proofs.Putting.{same_then, puts_then, puts_either, puts_skipped}
 use Rattle.template_compiler_expression_codegen.specs.Chains.{constant_behind, is_false, leaps_in, left_behind, linked_to}
-use Rattle.template_compiler_expression_codegen.specs.Own.{call_code}
-use Rattle.template_compiler_expression_codegen.proofs.Along.{alone_put, part_put, nothing_there, runnable_at, depth_at, one_node, so_far}
-use Rattle.template_compiler_expression_codegen.proofs.Arguments.{keyword_counted, keyword_more, keyword_passed, keyword_runnable, none_put, one_map, positional_runnable, puts_keywords, puts_method, puts_value}
+use Rattle.template_compiler_expression_codegen.specs.Own.{call_code, test_code}
+use Rattle.template_compiler_expression_codegen.specs.declared.stretches.Stretches.{Stretches}
+use Rattle.template_compiler_expression_codegen.proofs.Along.{alone_put, left_runnable, part_put, nothing_there, runnable_at, depth_at, one_node, so_far}
+use Rattle.template_compiler_expression_codegen.proofs.Arguments.{argument_runnable, filter_arguments, keyword_runnable, keyword_spread_runnable, keywords_counted, none_put, one_by_name, one_by_place, passed_counted, passes_value, puts_filter, puts_function, puts_keywords, puts_method, puts_passed, puts_test, puts_value, spread_runnable, value_runnable}
 use Rattle.template_compiler_expression_codegen.proofs.Ends.{choice_behind_none, ends_choice, ends_operator, ends_unary, puts_over}
 use Rattle.template_compiler_expression_codegen.proofs.Items.{item_runnable, number_is, puts_item}
 use Rattle.template_compiler_expression_codegen.proofs.Linked.{behind_none, link_goes, link_known, link_more, link_runnable, links_at, place_more}
 use Rattle.template_compiler_expression_codegen.proofs.Own.{known, add_own, no_left, own_step}
 use Rattle.template_compiler_expression_codegen.proofs.Putting.{grows_back_at, grows_by, grows_itself, grows_then, landed_at, puts_as, puts_behind, puts_chain, puts_optional, puts_whole}
-use Rattle.template_compiler_expression_codegen.proofs.Sizes.{arguments_deep, item_deep, keyword_deep, link_deep, positional_deep}
-use Rattle.template_compiler_expression_codegen.proofs.Trees.{call_deep, call_is, chain_deep, chain_is, keys_deep, list_deep, list_is, map_is, tuple_deep, tuple_is, values_deep}
+use Rattle.template_compiler_expression_codegen.proofs.Sizes.{argument_deep, arguments_deep, item_deep, keyword_deep, keyword_spread_deep, link_deep, spread_deep, value_deep}
+use Rattle.template_compiler_expression_codegen.proofs.Trees.{call_deep, call_is, chain_deep, chain_is, filter_deep, filter_is, keys_deep, list_deep, list_is, map_is, test_deep, test_is, tuple_deep, tuple_is, values_deep}
 use Rattle.template_compiler_expression_codegen.proofs.expressions.+expression.Goals as goal
-use Rattle.template_compiler_expression_codegen.proofs.expressions.+expression.Goals.{compile_keywords-in-Kwarg+in_ok-put_keyword+in_ok-compile_expr, compile_keywords-in_default}
 
 pub fold_spine-loop-i-preserved : goal.fold_spine-loop-i-preserved
 fold_spine-loop-i-preserved t c =
@@ -50,6 +53,15 @@ fold_spine-loop-i-preserved t c =
 
 pub fold_left-returns-in-Var-clause-put : goal.fold_left-returns-in-Var-clause-put
 fold_left-returns-in-Var-clause-put t c = rw (c.in-Var.is, c.requires.none) c.put_name.ensures.put
+
+pub fold_tree-fold_left-requires : goal.fold_tree-fold_left-requires
+fold_tree-fold_left-requires t c = (
+  omega (arith, c.in-Some.ensures.smaller, c.decreases),
+  (
+    left_runnable (expression_of c.args.expr.now) (expression_of c.in-Some.part.now) c.requires.runs c.in-Some.ensures.left,
+    c.requires.none,
+  ),
+)
 
 pub fold_tree-returns-in-None-clause-put : goal.fold_tree-returns-in-None-clause-put
 fold_tree-returns-in-None-clause-put t c =
@@ -394,63 +406,170 @@ fold_node-returns-in-Call-clause-put t c =
     rw tree (none_put c.compile_call.new.left (call_code c.args.value.now (expression_of called.expr) (arguments_in called.args.items))
     c.compile_call.result c.args.code.now c.compile_call.new.code c.compile_call.ensures.taken c.compile_call.ensures.put)
 
-pub compile_positional-compile_expr-requires : goal.compile_positional-compile_expr-requires
-compile_positional-compile_expr-requires t c =
+pub fold_node-compile_filter-requires : goal.fold_node-compile_filter-requires
+fold_node-compile_filter-requires t c =
+    let e = c.args.expr.now in
+    let n = c.in-Filter.n in
+    let f = c.deref-in-Filter.result.now.node in
+    let read = ap (λ (x : Spanned FilterNode). x.node) c.deref-in-Filter.ensures in
+    let tree = filter_is e n f c.in-Filter.is read in
+    let runs : IsRunnable (filtered (cow_str_bytes f.name) (optional_in f.expr) (arguments_in f.args.items)) = subst (λ (x : Expression). IsRunnable x) tree c.requires in
+    (omega (arith, filter_deep e n f c.in-Filter.is read, c.decreases), filter_arguments (cow_str_bytes f.name) (optional_in f.expr) (arguments_in f.args.items) runs)
+
+pub fold_node-returns-in-Filter-clause-constant : goal.fold_node-returns-in-Filter-clause-constant
+fold_node-returns-in-Filter-clause-constant t c =
+    let f = c.deref-in-Filter.result.now.node in
+    let read = ap (λ (x : Spanned FilterNode). x.node) c.deref-in-Filter.ensures in
+    let tree = filter_is c.args.expr.now c.in-Filter.n f c.in-Filter.is read in
+    rw tree c.compile_filter.ensures.taken
+
+pub fold_node-returns-in-Filter-clause-put : goal.fold_node-returns-in-Filter-clause-put
+fold_node-returns-in-Filter-clause-put t c =
+    let f = c.deref-in-Filter.result.now.node in
+    let read = ap (λ (x : Spanned FilterNode). x.node) c.deref-in-Filter.ensures in
+    let tree = filter_is c.args.expr.now c.in-Filter.n f c.in-Filter.is read in
+    rw tree (none_put c.compile_filter.new.left (behind c.args.value.now (filter_code (cow_str_bytes f.name) (arguments_in f.args.items)))
+    c.compile_filter.result c.args.code.now c.compile_filter.new.code c.compile_filter.ensures.taken c.compile_filter.ensures.put)
+
+pub fold_node-compile_test-requires : goal.fold_node-compile_test-requires
+fold_node-compile_test-requires t c =
+    let e = c.args.expr.now in
+    let n = c.in-Test.n in
+    let f = c.deref-in-Test.result.now.node in
+    let read = ap (λ (x : Spanned TestNode). x.node) c.deref-in-Test.ensures in
+    let tree = test_is e n f c.in-Test.is read in
+    let runs : IsRunnable (tested (cow_str_bytes f.name) (expression_of f.expr) (arguments_in f.args.items)) = subst (λ (x : Expression). IsRunnable x) tree c.requires in
+    (omega (arith, test_deep e n f c.in-Test.is read, c.decreases), runs.1)
+
+pub fold_node-returns-in-Test-clause-constant : goal.fold_node-returns-in-Test-clause-constant
+fold_node-returns-in-Test-clause-constant t c =
+    let f = c.deref-in-Test.result.now.node in
+    let read = ap (λ (x : Spanned TestNode). x.node) c.deref-in-Test.ensures in
+    let tree = test_is c.args.expr.now c.in-Test.n f c.in-Test.is read in
+    rw tree c.compile_test.ensures.taken
+
+pub fold_node-returns-in-Test-clause-put : goal.fold_node-returns-in-Test-clause-put
+fold_node-returns-in-Test-clause-put t c =
+    let f = c.deref-in-Test.result.now.node in
+    let read = ap (λ (x : Spanned TestNode). x.node) c.deref-in-Test.ensures in
+    let tree = test_is c.args.expr.now c.in-Test.n f c.in-Test.is read in
+    rw tree (none_put c.compile_test.new.left (behind c.args.value.now (test_code (cow_str_bytes f.name) (arguments_in f.args.items)))
+    c.compile_test.result c.args.code.now c.compile_test.new.code c.compile_test.ensures.taken c.compile_test.ensures.put)
+
+pub compile_positional-compile_value-requires : goal.compile_positional-compile_value-requires
+compile_positional-compile_value-requires t c =
     let xs = c.args.arguments.now in
     let i = c.loop-argument.argument-index in
     let within : i < length xs = omega arith in (
-      omega (arith, positional_deep xs i c.argument-item.result c.in-Pos.expr within c.argument-item.is c.in-Pos.is, c.decreases),
-      positional_runnable xs i c.argument-item.result c.in-Pos.expr c.requires within c.argument-item.is c.in-Pos.is,
+      omega (arith, argument_deep xs i c.argument-item.result within c.argument-item.is, c.decreases),
+      argument_runnable xs i c.argument-item.result c.requires within c.argument-item.is,
     )
 
-pub compile_keywords-compile_expr-requires : goal.compile_keywords-compile_expr-requires
-compile_keywords-compile_expr-requires t c =
+pub compile_positional-loop-argument-preserved : goal.compile_positional-loop-argument-preserved
+compile_positional-loop-argument-preserved t c =
+    let xs = c.args.arguments.now in
+    let i = c.loop-argument.argument-index in
+    let within : i < length xs = omega arith in
+    one_by_place c.args.front xs i c.argument-item.result c.loop-argument.so_far c.in_ok-so_far.so_far within c.argument-item.is c.loop-argument.invariant c.in_ok-so_far.ensures.put
+
+pub compile_named-compile_entry-requires : goal.compile_named-compile_entry-requires
+compile_named-compile_entry-requires t c =
     let xs = c.args.arguments.now in
     let i = c.loop-argument.argument-index in
     let within : i < length xs = omega arith in (
-      omega (arith, keyword_deep xs i c.argument-item.result c.in-Kwarg.name c.in-Kwarg.expr within c.argument-item.is c.in-Kwarg.is, c.decreases),
-      keyword_runnable xs i c.argument-item.result c.in-Kwarg.name c.in-Kwarg.expr c.requires within c.argument-item.is c.in-Kwarg.is,
+      omega (arith, argument_deep xs i c.argument-item.result within c.argument-item.is, c.decreases),
+      argument_runnable xs i c.argument-item.result c.requires within c.argument-item.is,
     )
+
+pub compile_named-loop-argument-preserved : goal.compile_named-loop-argument-preserved
+compile_named-loop-argument-preserved t c =
+    let xs = c.args.arguments.now in
+    let i = c.loop-argument.argument-index in
+    let within : i < length xs = omega arith in
+    one_by_name xs i c.argument-item.result c.loop-argument.so_far c.in_ok-so_far.so_far within c.argument-item.is c.loop-argument.invariant c.in_ok-so_far.ensures.put
+
+pub compile_value-compile_expr-requires : goal.compile_value-compile_expr-requires
+compile_value-compile_expr-requires t c = (
+  omega (arith, value_deep c.args.argument.now c.in-Pos.expr c.in-Pos.is, c.decreases),
+  value_runnable c.args.argument.now c.in-Pos.expr c.requires c.in-Pos.is,
+)
+
+pub compile_value-compile_expr-requires-in-PosSplat : goal.compile_value-compile_expr-requires-in-PosSplat
+compile_value-compile_expr-requires-in-PosSplat t c = (
+  omega (arith, spread_deep c.args.argument.now c.in-PosSplat.expr c.in-PosSplat.is, c.decreases),
+  spread_runnable c.args.argument.now c.in-PosSplat.expr c.requires c.in-PosSplat.is,
+)
+
+pub compile_value-returns-in_ok-last-in-Pos-clause-put : goal.compile_value-returns-in_ok-last-in-Pos-clause-put
+compile_value-returns-in_ok-last-in-Pos-clause-put t c =
+    let so_far = c.args.so_far in
+    let now : Stretches = record { lists = so_far.lists; last = c.in_ok-last-in-Pos.last; spread = so_far.spread } in
+    passes_value c.args.argument.now c.in-Pos.expr so_far now c.in-Pos.is refl c.in_ok-last-in-Pos.ensures.counted refl c.in_ok-compile_expr-in-Pos.ensures.put
+
+pub compile_entry-compile_expr-requires : goal.compile_entry-compile_expr-requires
+compile_entry-compile_expr-requires t c = (
+  omega (arith, keyword_deep c.args.argument.now c.in-Kwarg.name c.in-Kwarg.expr c.in-Kwarg.is, c.decreases),
+  keyword_runnable c.args.argument.now c.in-Kwarg.name c.in-Kwarg.expr c.requires c.in-Kwarg.is,
+)
+
+pub compile_entry-compile_expr-requires-in-KwargSplat : goal.compile_entry-compile_expr-requires-in-KwargSplat
+compile_entry-compile_expr-requires-in-KwargSplat t c = (
+  omega (arith, keyword_spread_deep c.args.argument.now c.in-KwargSplat.expr c.in-KwargSplat.is, c.decreases),
+  keyword_spread_runnable c.args.argument.now c.in-KwargSplat.expr c.requires c.in-KwargSplat.is,
+)
 
 pub compile_arguments-returns-clause-count : goal.compile_arguments-returns-clause-count
 compile_arguments-returns-clause-count t c =
-    let ns = keyword_cores (arguments_in c.args.arguments.now) in
-    let one = one_map ns c.in_ok-named.named c.in_ok-named.ensures.count c.if-named-eq0.false in
-    omega (arith, c.in_ok-passed.ensures.count, c.in_ok-count.ensures.counted, one)
+    subst (λ (k : Option ℕ). IfOk c.put_run.result (λ count. count ≡ k))
+    (passed_counted c.args.front (arguments_in c.args.arguments.now) c.in_ok-passed.passed c.in_ok-named.named c.in_ok-count.count
+    c.in_ok-passed.ensures.put c.in_ok-named.ensures.count c.in_ok-count.ensures.counted) c.put_run.ensures.counted
 
 pub compile_arguments-returns-clause-put : goal.compile_arguments-returns-clause-put
-compile_arguments-returns-clause-put t c =
-    let ns = keyword_cores (arguments_in c.args.arguments.now) in
-    puts_then c.in_ok-passed.ensures.put
-    (puts_keywords ns c.in_ok-named.named c.in_ok-named.ensures.count c.if-named-eq0.false c.in_ok-named.ensures.put c.in_ok-push.ensures.put)
+compile_arguments-returns-clause-put t c = on_ok_weaker c.put_run.result (λ last.
+    puts_passed c.args.front (arguments_in c.args.arguments.now) c.in_ok-passed.passed c.in_ok-named.named c.in_ok-count.count
+    c.in_ok-passed.ensures.put c.in_ok-named.ensures.count c.in_ok-count.ensures.counted c.in_ok-named.ensures.put last) c.put_run.ensures.put
 
-pub compile_keywords-loop-argument-preserved : goal.compile_keywords-loop-argument-preserved
-compile_keywords-loop-argument-preserved t c =
-    let xs = c.args.arguments.now in
-    let i = c.loop-argument.argument-index in
-    let a = c.argument-item.result in
-    let inside : i < length xs = omega arith in
-    let so_far = c.loop-argument.invariant in
-    elim c.match-argument.branch [
-      | compile_keywords-in-Kwarg+in_ok-put_keyword+in_ok-compile_expr w ↦
-          let name = w.in-Kwarg.name in
-          let e = w.in-Kwarg.expr in
-          rw (w.count-is, w.code-is) (record {
-            within = omega (arith, so_far.within);
-            count = keyword_counted xs i a name e c.loop-argument.count inside c.argument-item.is w.in-Kwarg.is ∙ so_far.count;
-            code = keyword_more xs i a name e inside c.argument-item.is w.in-Kwarg.is w.in_ok-put_keyword.ensures.put w.in_ok-compile_expr.ensures.put ∙
-                so_far.code;
-            same = same_then so_far.same (same_then w.in_ok-put_keyword.ensures.put.same w.in_ok-compile_expr.ensures.put.same);
-          })
-      | compile_keywords-in_default w ↦
-          let passed = keyword_passed xs i a inside c.argument-item.is w.in_default.not-Kwarg in
-          rw (w.count-is, w.code-is, passed) (record {
-            within = omega (arith, so_far.within);
-            count = so_far.count;
-            code = so_far.code;
-            same = so_far.same;
-          })
-    ]
+pub compile_keywords-returns-clause-count : goal.compile_keywords-returns-clause-count
+compile_keywords-returns-clause-count t c =
+    let now = c.in_ok-named.named in
+    subst (λ (k : ℕ). IfOk c.put_merged.result (λ n. n ≡ k))
+    (keywords_counted (arguments_in c.args.arguments.now) now c.in_ok-maps.maps (merged_count now.spread c.in_ok-maps.maps)
+    c.in_ok-named.ensures.put c.in_ok-maps.ensures.counted refl) c.put_merged.ensures.counted
+
+pub compile_keywords-returns-clause-put : goal.compile_keywords-returns-clause-put
+compile_keywords-returns-clause-put t c = on_ok_weaker c.put_merged.result (λ last.
+    puts_keywords (arguments_in c.args.arguments.now) c.in_ok-named.named c.in_ok-maps.maps c.in_ok-named.ensures.put
+    c.in_ok-maps.ensures.counted c.in_ok-maps.ensures.put last) c.put_merged.ensures.put
+
+pub compile_filter-compile_arguments-requires : goal.compile_filter-compile_arguments-requires
+compile_filter-compile_arguments-requires t c =
+    let read = c.deref.ensures.value in
+    let same = ap (λ (xs : List CallArg). arguments_deep xs) read in
+    (omega (arith, same, c.decreases), subst (λ (xs : List CallArg). AreRunnableArguments (arguments_in xs)) (sym read) c.requires)
+
+pub compile_filter-returns-clause-put : goal.compile_filter-returns-clause-put
+compile_filter-returns-clause-put t c =
+    let v = c.args.left.now in
+    let name = cow_str_bytes c.args.filter.now.name in
+    subst (λ (xs : List CallArg). OnOk c.push.result (Puts (behind v (filter_code name (arguments_in xs))) c.args.code.now c.push.new.code)) c.deref.ensures.value
+    (on_ok_weaker c.push.result (λ last.
+    puts_filter v name (cow_str_bytes c.in_ok-name.name) (arguments_in c.deref.result.now) c.in_ok-count.count c.in_ok-name.ensures.copied c.in_ok-count.ensures.count
+    c.in_ok-load_held.ensures.put c.in_ok-count.ensures.put last) c.push.ensures.put)
+
+pub compile_test-compile_arguments-requires : goal.compile_test-compile_arguments-requires
+compile_test-compile_arguments-requires t c =
+    let read = c.deref.ensures.value in
+    let same = ap (λ (xs : List CallArg). arguments_deep xs) read in
+    (omega (arith, same, c.decreases), subst (λ (xs : List CallArg). AreRunnableArguments (arguments_in xs)) (sym read) c.requires)
+
+pub compile_test-returns-clause-put : goal.compile_test-returns-clause-put
+compile_test-returns-clause-put t c =
+    let v = c.args.left.now in
+    let name = cow_str_bytes c.args.test.now.name in
+    subst (λ (xs : List CallArg). OnOk c.push.result (Puts (behind v (test_code name (arguments_in xs))) c.args.code.now c.push.new.code)) c.deref.ensures.value
+    (on_ok_weaker c.push.result (λ last.
+    puts_test v name (cow_str_bytes c.in_ok-name.name) (arguments_in c.deref.result.now) c.in_ok-count.count c.in_ok-name.ensures.copied c.in_ok-count.ensures.count
+    c.in_ok-load_held.ensures.put c.in_ok-count.ensures.put last) c.push.ensures.put)
 
 pub compile_call-compile_arguments-requires : goal.compile_call-compile_arguments-requires
 compile_call-compile_arguments-requires t c =
@@ -470,34 +589,39 @@ compile_call-compile_arguments-requires-in_default t c =
     let same = ap (λ (xs : List CallArg). arguments_deep xs) read in
     (omega (arith, same, c.decreases), subst (λ (xs : List CallArg). AreRunnableArguments (arguments_in xs)) (sym read) c.requires)
 
-pub compile_call-returns-in_ok-count-in-GetAttr-2-clause-put : goal.compile_call-returns-in_ok-count-in-GetAttr-2-clause-put
-compile_call-returns-in_ok-count-in-GetAttr-2-clause-put t c =
+pub compile_call-returns-in_ok-count-in-Var-clause-put : goal.compile_call-returns-in_ok-count-in-Var-clause-put
+compile_call-returns-in_ok-count-in-Var-clause-put t c =
+    let v = c.args.left.now in
+    let e = c.args.call.now.expr in
+    let args = arguments_in c.deref.result.now in
+    subst (λ (xs : List CallArg). OnOk c.push.result (Puts (call_code v (expression_of e) (arguments_in xs)) c.args.code.now c.push.new.code))
+    c.deref.ensures.value
+    (on_ok_weaker c.push.result (λ last.
+    puts_function v e c.in-Var.n args c.in_ok-count-in-Var.count c.in-Var.is c.in_ok-count-in-Var.ensures.count
+    c.in_ok-count-in-Var.ensures.put last) c.push.ensures.put)
+
+pub compile_call-returns-in_ok-count-in-GetAttr-clause-put : goal.compile_call-returns-in_ok-count-in-GetAttr-clause-put
+compile_call-returns-in_ok-count-in-GetAttr-clause-put t c =
     let v = c.args.left.now in
     let e = c.args.call.now.expr in
     let n = c.in-GetAttr.n in
-    let count = c.in_ok-count-in-GetAttr-2.count in
+    let count = c.in_ok-count-in-GetAttr.count in
     let args = arguments_in c.deref-in-GetAttr.result.now in
-    let counted : count ≡ suc (argument_count args) = omega (arith, c.in_ok-count-in-GetAttr-2.ensures.counted, c.in_ok-count-in-GetAttr.ensures.count) in
-    let named = ap (λ (g : Spanned GetAttrNode). call_method g.node.name.now (Some count)) c.deref-in-GetAttr-2.ensures in
+    let named = ap (λ (g : Spanned GetAttrNode). call_method g.node.name.now count) c.deref-in-GetAttr-2.ensures in
     subst (λ (xs : List CallArg). OnOk c.push-in-GetAttr.result (Puts (call_code v (expression_of e) (arguments_in xs)) c.args.code.now c.push-in-GetAttr.new.code))
     c.deref-in-GetAttr.ensures.value
     (on_ok_weaker c.push-in-GetAttr.result (λ last.
-    puts_method v e n args count c.in-GetAttr.is counted c.in_ok-load_held-in-GetAttr.ensures.put c.in_ok-count-in-GetAttr.ensures.put (puts_as named last))
-    c.push-in-GetAttr.ensures.put)
+    puts_method v e n args count c.in-GetAttr.is c.in_ok-count-in-GetAttr.ensures.count c.in_ok-load_held-in-GetAttr.ensures.put
+    c.in_ok-count-in-GetAttr.ensures.put (puts_as named last)) c.push-in-GetAttr.ensures.put)
 
-pub compile_call-returns-in_ok-count-in_default-2 : goal.compile_call-returns-in_ok-count-in_default-2
-compile_call-returns-in_ok-count-in_default-2 t c =
+pub compile_call-returns-in_ok-count-in_default-clause-put : goal.compile_call-returns-in_ok-count-in_default-clause-put
+compile_call-returns-in_ok-count-in_default-clause-put t c =
     let v = c.args.left.now in
     let e = c.args.call.now.expr in
-    let count = c.in_ok-count-in_default-2.count in
+    let count = c.in_ok-count-in_default.count in
     let args = arguments_in c.deref-in_default.result.now in
-    let counted : count ≡ suc (argument_count args) = omega (arith, c.in_ok-count-in_default-2.ensures.counted, c.in_ok-count-in_default.ensures.count) in
-    record {
-      taken = on_ok_weaker c.push-in_default.result (λ last. c.in_ok-load_held-in_default.ensures.taken) c.push-in_default.ensures.put;
-      put = subst (λ (xs : List CallArg). OnOk c.push-in_default.result (Puts (call_code v (expression_of e) (arguments_in xs)) c.args.code.now c.push-in_default.new.code))
-          c.deref-in_default.ensures.value
-          (on_ok_weaker c.push-in_default.result (λ last.
-          puts_value v e args count c.in_default.not-Var c.in_default.not-GetAttr counted c.in_ok-load_held-in_default.ensures.put c.in_ok-count-in_default.ensures.put last)
-          c.push-in_default.ensures.put);
-      refused = c.push-in_default.ensures.refused;
-    }
+    subst (λ (xs : List CallArg). OnOk c.push-in_default.result (Puts (call_code v (expression_of e) (arguments_in xs)) c.args.code.now c.push-in_default.new.code))
+    c.deref-in_default.ensures.value
+    (on_ok_weaker c.push-in_default.result (λ last.
+    puts_value v e args count c.in_default.not-Var c.in_default.not-GetAttr c.in_ok-count-in_default.ensures.count c.in_ok-load_held-in_default.ensures.put
+    c.in_ok-count-in_default.ensures.put last) c.push-in_default.ensures.put)

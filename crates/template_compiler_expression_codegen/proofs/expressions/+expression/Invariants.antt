@@ -1,13 +1,14 @@
 -- A node is gone to once it is reached along the left chain; other parts are smaller than the node.
 use Rattle.std.proofs.Common.{◌≡◌, ◌+◌, ◌-◌, ◌*◌, ◌≤◌, ◌++◌, None, length, max, take, drop}
-use Rattle.template_tree.specs.View.{arguments_in, expressions_in, links_in}
+use Rattle.template_tree.specs.View.{expressions_in, links_in}
+use Rattle.template_tree.specs.declared.calls.CallArg.{size-CallArg}
 use Rattle.template_tree.specs.declared.expressions.Expr.{size-Expr}
 use Rattle.template_code.specs.Listing.{code_in}
-use Rattle.template_compiler_codegen.specs.Expressions.{codes_of, entry_count, expressions_code, in_turn_code, keyword_cores, named_code, positional_cores}
+use Rattle.template_compiler_codegen.specs.Expressions.{codes_of, entry_count, expressions_code}
 use Rattle.template_compiler_emission.specs.Puts.{Keeps, Puts}
 use Rattle.template_compiler_expression_codegen.specs.Chains.{Grows, constant_behind, leaps_in, linked_to}
 use Rattle.template_compiler_expression_codegen.proofs.Along.{so_far}
-use Rattle.template_compiler_expression_codegen.proofs.Arguments.{keywords_from, positional_from}
+use Rattle.template_compiler_expression_codegen.proofs.Arguments.{PassedByName, PassedByPlace}
 use Rattle.template_compiler_expression_codegen.proofs.Entries.{count_from, entries_from}
 use Rattle.template_compiler_expression_codegen.proofs.Sizes.{arguments_deep, items_deep, links_deep, optional_deep}
 use Rattle.template_compiler_expression_codegen.proofs.expressions.+expression.Given as goal
@@ -61,16 +62,31 @@ abbrev pub decreases-compile_slice : goal.decreases-compile_slice
 decreases-compile_slice l = 16 * max (optional_deep l.start.now) (max (optional_deep l.stop.now) (optional_deep l.step.now)) + 7
 
 abbrev pub decreases-compile_call : goal.decreases-compile_call
-decreases-compile_call l = 16 * arguments_deep l.call.now.args.items + 8
+decreases-compile_call l = 16 * arguments_deep l.call.now.args.items + 10
+
+abbrev pub decreases-compile_filter : goal.decreases-compile_filter
+decreases-compile_filter l = 16 * arguments_deep l.filter.now.args.items + 10
+
+abbrev pub decreases-compile_test : goal.decreases-compile_test
+decreases-compile_test l = 16 * arguments_deep l.test.now.args.items + 10
 
 abbrev pub decreases-compile_arguments : goal.decreases-compile_arguments
-decreases-compile_arguments l = 16 * arguments_deep l.arguments.now + 7
+decreases-compile_arguments l = 16 * arguments_deep l.arguments.now + 9
 
 abbrev pub decreases-compile_positional : goal.decreases-compile_positional
-decreases-compile_positional l = 16 * arguments_deep l.arguments.now + 6
+decreases-compile_positional l = 16 * arguments_deep l.arguments.now + 7
+
+abbrev pub decreases-compile_value : goal.decreases-compile_value
+decreases-compile_value l = 16 * size-CallArg l.argument.now + 6
 
 abbrev pub decreases-compile_keywords : goal.decreases-compile_keywords
-decreases-compile_keywords l = 16 * arguments_deep l.arguments.now + 6
+decreases-compile_keywords l = 16 * arguments_deep l.arguments.now + 8
+
+abbrev pub decreases-compile_named : goal.decreases-compile_named
+decreases-compile_named l = 16 * arguments_deep l.arguments.now + 7
+
+abbrev pub decreases-compile_entry : goal.decreases-compile_entry
+decreases-compile_entry l = 16 * size-CallArg l.argument.now + 6
 
 abbrev pub decreases-compile_items : goal.decreases-compile_items
 decreases-compile_items l = 16 * items_deep l.items.now + 7
@@ -139,18 +155,7 @@ invariant-compile_links-loop-next l = record {
 
 -- the arguments that are left make the code of all
 abbrev pub invariant-compile_positional-loop-argument : goal.invariant-compile_positional-loop-argument
-invariant-compile_positional-loop-argument l = record {
-  count : l.count + length (positional_from l.arguments l.argument-index) ≡ length (positional_cores (arguments_in l.arguments));
-  code : code_in l.code ++ in_turn_code (positional_from l.arguments l.argument-index) (length (code_in l.code))
-      ≡ code_in l.initial.code ++ in_turn_code (positional_cores (arguments_in l.arguments)) (length (code_in l.initial.code));
-  same : Keeps l.initial.code l.code;
-}
+invariant-compile_positional-loop-argument l = PassedByPlace l.front l.arguments l.argument-index l.so_far l.initial.code l.code
 
-abbrev pub invariant-compile_keywords-loop-argument : goal.invariant-compile_keywords-loop-argument
-invariant-compile_keywords-loop-argument l = record {
-  within : l.count ≤ l.argument-index;
-  count : l.count + length (keywords_from l.arguments l.argument-index) ≡ length (keyword_cores (arguments_in l.arguments));
-  code : code_in l.code ++ named_code (keywords_from l.arguments l.argument-index) (length (code_in l.code))
-      ≡ code_in l.initial.code ++ named_code (keyword_cores (arguments_in l.arguments)) (length (code_in l.initial.code));
-  same : Keeps l.initial.code l.code;
-}
+abbrev pub invariant-compile_named-loop-argument : goal.invariant-compile_named-loop-argument
+invariant-compile_named-loop-argument l = PassedByName l.arguments l.argument-index l.so_far l.initial.code l.code

@@ -1,28 +1,59 @@
-use Rattle.std.proofs.Common.{◌≡◌, rules, sym, ap, ◌∙◌, List as Items}
+use Rattle.std.proofs.Common.{◌≡◌, Option, rules, sym, ap, ◌∙◌, List as Items}
 use Rattle.template_tree.specs.View.{arguments_in, expression_of, expressions_in, links_in, optional_in}
 use Rattle.template_tree.specs.declared.calls.Call.{Call as CallNode}
+use Rattle.template_tree.specs.declared.calls.CallArg.{CallArg}
 use Rattle.template_tree.specs.declared.expressions.BinOp.{BinOp as BinOpNode}
 use Rattle.template_tree.specs.declared.expressions.CompareOp.{CompareOp}
 use Rattle.template_tree.specs.declared.expressions.Compare.{Compare, out-Compare}
+use Rattle.template_tree.specs.declared.expressions.Filter.{Filter as FilterNode}
 use Rattle.template_tree.specs.declared.expressions.GetItem.{GetItem as GetItemNode}
 use Rattle.template_tree.specs.declared.expressions.List.{List as ListNode}
 use Rattle.template_tree.specs.declared.expressions.Map.{Map as MapNode}
 use Rattle.template_tree.specs.declared.expressions.Slice.{Slice as SliceNode}
+use Rattle.template_tree.specs.declared.expressions.Test.{Test as TestNode}
 use Rattle.template_tree.specs.declared.expressions.Tuple.{Tuple as TupleNode}
 use Rattle.template_tree.specs.declared.expressions.Expr.{Expr, the_lemmas}
 use Rattle.template_tree.specs.declared.span.Spanned.{Spanned}
-use Rattle.template_tree_nodes.specs.Constructs.{has_walk}
-use Rattle.template_compiler_runnable.specs.Running.{all_run, chain_runs, passing_runs, runs, runs_if_given}
-use Rattle.template_compiler_runnable.proofs.Parts.{all_bounds, beside_fails, binary_runs, call_parts_run, chain_all_runs, first_fails, goes_left, item_runs, list_runs, map_runs, no_start, no_stop, no_step, slice_runs, then, tuple_runs}
+use Rattle.template_compiler_runnable.specs.Running.{all_run, arguments_run, chain_runs, passing_runs, runs, runs_if_given, value_runs}
+use Rattle.template_compiler_runnable.proofs.Parts.{all_bounds, beside_fails, binary_runs, call_parts_run, chain_all_runs, filter_runs, first_fails, goes_left, item_runs, list_runs, map_runs, no_start, no_stop, no_step, slice_runs, test_runs, then, tuple_runs}
 use Rattle.template_compiler_runnable.proofs.expressions.+expression.Goals as goal
 
-pub expression_runs-returns-in-Filter : goal.expression_runs-returns-in-Filter
-expression_runs-returns-in-Filter t c =
-    c.has_walk.ensures ∙ ap (λ (x : Expr). has_walk (expression_of x)) c.in-Filter.is ∙ ap (λ (x : Expr). runs (expression_of x)) (sym c.in-Filter.is) ∙ sym c.loop-at.invariant.decides
+pub expression_runs-returns-then-not-arguments_run : goal.expression_runs-returns-then-not-arguments_run
+expression_runs-returns-then-not-arguments_run t c =
+    let beside = c.arguments_run.ensures ∙ ap (λ (xs : Items CallArg). arguments_run (arguments_in xs))
+    (c.deref-in-Filter-2.ensures.value ∙ ap (λ (s : Spanned FilterNode). s.node.args.items) c.deref-in-Filter.ensures) in
+    beside_fails _ (c.loop-at.invariant.decides ∙ filter_runs c.loop-at.at.now c.in-Filter.n c.in-Filter.is) (sym beside ∙ c.if-not-arguments_run.true)
 
-pub expression_runs-returns-in-Test : goal.expression_runs-returns-in-Test
-expression_runs-returns-in-Test t c =
-    c.has_walk-in-Test.ensures ∙ ap (λ (x : Expr). has_walk (expression_of x)) c.in-Test.is ∙ ap (λ (x : Expr). runs (expression_of x)) (sym c.in-Test.is) ∙ sym c.loop-at.invariant.decides
+pub expression_runs-returns-in-None : goal.expression_runs-returns-in-None
+expression_runs-returns-in-None t c =
+    let none = ap (λ (s : Spanned FilterNode). value_runs (optional_in s.node.expr)) (sym c.deref-in-Filter.ensures) ∙ ap (λ (o : Option Expr). value_runs (optional_in o)) c.in-None.is in
+    first_fails _ (c.loop-at.invariant.decides ∙ filter_runs c.loop-at.at.now c.in-Filter.n c.in-Filter.is) none
+
+pub expression_runs-loop-at-preserved-in-Some : goal.expression_runs-loop-at-preserved-in-Some
+expression_runs-loop-at-preserved-in-Some t c =
+    let beside = c.arguments_run.ensures ∙ ap (λ (xs : Items CallArg). arguments_run (arguments_in xs))
+    (c.deref-in-Filter-2.ensures.value ∙ ap (λ (s : Spanned FilterNode). s.node.args.items) c.deref-in-Filter.ensures) in
+    record {
+      decides = goes_left _ (c.loop-at.invariant.decides ∙ filter_runs c.loop-at.at.now c.in-Filter.n c.in-Filter.is) (sym beside ∙ c.if-not-arguments_run.false) ∙
+          ap (λ (s : Spanned FilterNode). value_runs (optional_in s.node.expr)) (sym c.deref-in-Filter.ensures) ∙ ap (λ (o : Option Expr). value_runs (optional_in o)) c.in-Some.is;
+      deep = search (rules, the_lemmas);
+    }
+
+pub expression_runs-returns-then-not-arguments_run-2 : goal.expression_runs-returns-then-not-arguments_run-2
+expression_runs-returns-then-not-arguments_run-2 t c =
+    let beside = c.arguments_run-in-Test.ensures ∙ ap (λ (xs : Items CallArg). arguments_run (arguments_in xs))
+    (c.deref-in-Test-2.ensures.value ∙ ap (λ (s : Spanned TestNode). s.node.args.items) c.deref-in-Test.ensures) in
+    beside_fails _ (c.loop-at.invariant.decides ∙ test_runs c.loop-at.at.now c.in-Test.n c.in-Test.is) (sym beside ∙ c.if-not-arguments_run-2.true)
+
+pub expression_runs-loop-at-preserved-else-not-arguments_run-2 : goal.expression_runs-loop-at-preserved-else-not-arguments_run-2
+expression_runs-loop-at-preserved-else-not-arguments_run-2 t c =
+    let beside = c.arguments_run-in-Test.ensures ∙ ap (λ (xs : Items CallArg). arguments_run (arguments_in xs))
+    (c.deref-in-Test-2.ensures.value ∙ ap (λ (s : Spanned TestNode). s.node.args.items) c.deref-in-Test.ensures) in
+    record {
+      decides = goes_left _ (c.loop-at.invariant.decides ∙ test_runs c.loop-at.at.now c.in-Test.n c.in-Test.is) (sym beside ∙ c.if-not-arguments_run-2.false) ∙
+          ap (λ (s : Spanned TestNode). runs (expression_of s.node.expr)) (sym c.deref-in-Test.ensures);
+      deep = search (rules, the_lemmas);
+    }
 
 pub expression_runs-returns-then-not-passing_runs : goal.expression_runs-returns-then-not-passing_runs
 expression_runs-returns-then-not-passing_runs t c =

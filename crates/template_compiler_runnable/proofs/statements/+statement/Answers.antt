@@ -2,6 +2,7 @@ use Rattle.std.proofs.Common.{◌≡◌, ◌≤◌, length, get_or, vec_len, tru
 use Rattle.template_tree.specs.View.{expression_of, optional_in}
 use Rattle.template_tree_statements.specs.View.{assignments_in, statement_of}
 use Rattle.template_tree_statements.specs.declared.statements.AutoEscape.{AutoEscape as AutoEscapeNode}
+use Rattle.template_tree_statements.specs.declared.statements.FilterBlock.{FilterBlock as FilterBlockNode}
 use Rattle.template_tree_statements.specs.declared.statements.ForLoop.{ForLoop as ForLoopNode}
 use Rattle.template_tree_statements.specs.declared.statements.IfCond.{IfCond as IfCondNode}
 use Rattle.template_tree_statements.specs.declared.statements.WithBlock.{WithBlock as WithBlockNode}
@@ -9,10 +10,9 @@ use Rattle.template_tree_statements.specs.declared.statements.SetBlock.{SetBlock
 use Rattle.template_tree_statements.specs.declared.statements.Stmt.{Stmt, size-Stmt}
 use Rattle.template_tree.specs.declared.span.Spanned.{Spanned}
 use Rattle.template_tree_parts.specs.Listed.{statements_in}
-use Rattle.std.specs.Prelude.{is_some}
-use Rattle.template_compiler_runnable.specs.Running.{runs, runs_if_given, is_target, assignments_run, statement_runs, statements_run}
+use Rattle.template_compiler_runnable.specs.Running.{runs, runs_if_given, filters_run, filters_run_if_given, is_target, assignments_run, statement_runs, statements_run}
 use Rattle.template_compiler_runnable.proofs.Parts.{first_fails, then}
-use Rattle.template_compiler_runnable.proofs.Bodies.{for_runs, if_runs, with_runs, set_block_runs, escape_runs, no_call, only_runs, else_smaller}
+use Rattle.template_compiler_runnable.proofs.Bodies.{for_runs, if_runs, with_runs, set_block_runs, filter_block_runs, escape_runs, no_call, only_runs, else_smaller}
 use Rattle.template_compiler_runnable.proofs.statements.+statement.Goals as goal
 
 pub parts_run-returns-then-not-operand_runs : goal.parts_run-returns-then-not-operand_runs
@@ -86,15 +86,29 @@ parts_run-returns-else-not-assignments_run t c =
     let whole = with_runs c.args.looping c.args.statement.now c.in-WithBlock.n c.in-WithBlock.is in
     body ∙ sym (then _ whole (sym pairs ∙ c.if-not-assignments_run.false))
 
+pub parts_run-returns-then-not-is_target-2 : goal.parts_run-returns-then-not-is_target-2
+parts_run-returns-then-not-is_target-2 t c =
+    let filters = c.optional_filters_run.ensures ∙ ap (λ (b : Spanned SetBlockNode). filters_run_if_given (optional_in b.node.filter)) c.deref-in-SetBlock.ensures in
+    let target = c.is_target-in-SetBlock.ensures ∙ ap (λ (b : Spanned SetBlockNode). is_target (expression_of b.node.target)) c.deref-in-SetBlock.ensures in
+    let whole = set_block_runs c.args.looping c.args.statement.now c.in-SetBlock.n c.in-SetBlock.is in
+    first_fails _ (then _ whole (sym filters ∙ c.if-not-optional_filters_run.false)) (sym target ∙ c.if-not-is_target-2.true)
+
 pub parts_run-returns-else-not-is_target-2 : goal.parts_run-returns-else-not-is_target-2
 parts_run-returns-else-not-is_target-2 t c =
-    let filter = ap (λ (b : Spanned SetBlockNode). is_some b.node.filter) (sym c.deref-in-SetBlock.ensures) ∙ sym c.is_some.ensures ∙ c.if-is_some.false in
-    let target = c.is_target-in-SetBlock.ensures ∙
-    ap (λ (b : Spanned SetBlockNode). is_target (expression_of b.node.target)) c.deref-in-SetBlock.ensures in
+    let filters = c.optional_filters_run.ensures ∙ ap (λ (b : Spanned SetBlockNode). filters_run_if_given (optional_in b.node.filter)) c.deref-in-SetBlock.ensures in
+    let target = c.is_target-in-SetBlock.ensures ∙ ap (λ (b : Spanned SetBlockNode). is_target (expression_of b.node.target)) c.deref-in-SetBlock.ensures in
     let body = c.statements_run-in-SetBlock.ensures ∙ ap (λ (ss : List Stmt). statements_run c.args.looping (statements_in ss))
     (c.deref-in-SetBlock-2.ensures.value ∙ ap (λ (b : Spanned SetBlockNode). b.node.body.items) c.deref-in-SetBlock.ensures) in
-    let whole = set_block_runs c.args.looping c.args.statement.now c.in-SetBlock.n c.in-SetBlock.is filter in
-    body ∙ sym (then _ whole (sym target ∙ c.if-not-is_target-2.false))
+    let whole = set_block_runs c.args.looping c.args.statement.now c.in-SetBlock.n c.in-SetBlock.is in
+    body ∙ sym (then _ (then _ whole (sym filters ∙ c.if-not-optional_filters_run.false)) (sym target ∙ c.if-not-is_target-2.false))
+
+pub parts_run-returns-else-not-filters_run : goal.parts_run-returns-else-not-filters_run
+parts_run-returns-else-not-filters_run t c =
+    let filters = c.filters_run.ensures ∙ ap (λ (b : Spanned FilterBlockNode). filters_run (expression_of b.node.filter)) c.deref-in-FilterBlock.ensures in
+    let body = c.statements_run-in-FilterBlock.ensures ∙ ap (λ (ss : List Stmt). statements_run c.args.looping (statements_in ss))
+    (c.deref-in-FilterBlock-3.ensures.value ∙ ap (λ (b : Spanned FilterBlockNode). b.node.body.items) c.deref-in-FilterBlock-2.ensures) in
+    let whole = filter_block_runs c.args.looping c.args.statement.now c.in-FilterBlock.n c.in-FilterBlock.is in
+    body ∙ sym (then _ whole (sym filters ∙ c.if-not-filters_run.false))
 
 pub parts_run-returns-else-not-operand_runs-3 : goal.parts_run-returns-else-not-operand_runs-3
 parts_run-returns-else-not-operand_runs-3 t c =
@@ -140,9 +154,6 @@ bodies_run-loop-at-preserved t c =
 
 pub parts_run-returns-in-Template : goal.parts_run-returns-in-Template
 parts_run-returns-in-Template t c = ap (λ (x : Stmt). statement_runs c.args.looping (statement_of x)) (sym c.in-Template.is)
-
-pub parts_run-returns-in-FilterBlock : goal.parts_run-returns-in-FilterBlock
-parts_run-returns-in-FilterBlock t c = ap (λ (x : Stmt). statement_runs c.args.looping (statement_of x)) (sym c.in-FilterBlock.is)
 
 pub parts_run-returns-in-Block : goal.parts_run-returns-in-Block
 parts_run-returns-in-Block t c = ap (λ (x : Stmt). statement_runs c.args.looping (statement_of x)) (sym c.in-Block.is)

@@ -1,14 +1,15 @@
 use Rattle.std.proofs.Common.{◌≡◌, ℕ, ◌<◌, List, [], ◌∷◌, ◌++◌, length, get_or, vec_len, true, false, ap, sym, subst, ◌∙◌, arith, refl}
 use Rattle.std.proofs.lemmas.Result.{on_ok_weaker}
 use Rattle.template_tree_statements.specs.View.{assignments_in, statement_of}
-use Rattle.template_tree.specs.Tree.{Statement, absent, auto_escape, set_block, with_block}
+use Rattle.template_tree.specs.Tree.{Statement, auto_escape, filter_block, with_block}
 use Rattle.template_tree_statements.specs.declared.statements.AutoEscape.{AutoEscape as AutoEscapeNode}
+use Rattle.template_tree_statements.specs.declared.statements.FilterBlock.{FilterBlock as FilterBlockNode}
 use Rattle.template_tree_statements.specs.declared.statements.ForLoop.{ForLoop as ForLoopNode}
 use Rattle.template_tree_statements.specs.declared.statements.IfCond.{IfCond as IfCondNode}
 use Rattle.template_tree_statements.specs.declared.statements.SetBlock.{SetBlock as SetBlockNode}
 use Rattle.template_tree_statements.specs.declared.statements.Stmt.{Stmt}
 use Rattle.template_tree_statements.specs.declared.statements.WithBlock.{WithBlock as WithBlockNode}
-use Rattle.template_tree.specs.View.{expression_of}
+use Rattle.template_tree.specs.View.{expression_of, optional_in}
 use Rattle.template_walk.specs.Runnable.{AreRunnableStatements, IsRunnableStatement}
 use Rattle.template_code.specs.Listing.{code_in}
 use Rattle.template_compiler_codegen.specs.Statements.{statements_code, target_code}
@@ -25,9 +26,10 @@ use Rattle.template_compiler_statement_codegen.specs.declared.rounds.Round.{Roun
 use Rattle.template_compiler_statement_codegen.proofs.Bodies.{no_items, some_items, statement_deep, statement_runnable}
 use Rattle.template_compiler_statement_codegen.proofs.Closings.{lowers_captured, lowers_closed}
 use Rattle.template_compiler_statement_codegen.proofs.Elifs.{RemainsAt, alone, before_other, chain_begins, chain_ends, chain_next, later_runs}
+use Rattle.template_compiler_statement_codegen.proofs.Filtering.{lowers_filter_block, lowers_set_block}
 use Rattle.template_compiler_statement_codegen.proofs.Looping.{ends_alone, ends_otherwise, puts_rounds}
-use Rattle.template_compiler_statement_codegen.proofs.Lowering.{lowers_behind, lowers_put, lowers_then, remains_told}
-use Rattle.template_compiler_statement_codegen.proofs.Nodes.{call_no_statement, condition_is, condition_within, elif_smaller, elif_tree, escape_deep, escape_is, loop_deep, loop_is, loop_of, loop_other_deep, set_block_deep, set_block_is, with_deep, with_is}
+use Rattle.template_compiler_statement_codegen.proofs.Lowering.{lowers_behind, remains_told}
+use Rattle.template_compiler_statement_codegen.proofs.Nodes.{call_no_statement, condition_is, condition_within, elif_smaller, elif_tree, escape_deep, escape_is, filter_block_deep, filter_block_is, loop_deep, loop_is, loop_of, loop_other_deep, set_block_deep, set_block_is, set_block_runs, with_deep, with_is}
 use Rattle.template_compiler_statement_codegen.proofs.statements.+statement.Goals as goal
 
 pub compile_body-compile_statement-requires : goal.compile_body-compile_statement-requires
@@ -82,10 +84,14 @@ compile_captured-returns-clause-lowered t c =
     c.truncate.ensures.items refl refl
 
 pub compile_set_block-returns-clause-lowered : goal.compile_set_block-returns-clause-lowered
-compile_set_block-returns-clause-lowered t c = on_ok_weaker c.store.result (λ stored.
-    lowers_behind c.in_ok-put.ensures.put
-    (lowers_then c.in_ok-compile_captured.ensures.lowered
-    (lowers_behind c.in_ok-put-2.ensures.put (lowers_put c.compile_captured.new.round stored)))) c.store.ensures.put
+compile_set_block-returns-clause-lowered t c = on_ok_weaker c.store_filtered.result (λ stored.
+    lowers_set_block (expression_of c.args.target.now) (optional_in c.args.filters.now) (statements_in c.args.body.now) {s = c.compile_captured.new.round}
+    c.in_ok-put.ensures.put c.in_ok-compile_captured.ensures.lowered c.in_ok-put-2.ensures.put stored) c.store_filtered.ensures.put
+
+pub compile_filter_block-returns-clause-lowered : goal.compile_filter_block-returns-clause-lowered
+compile_filter_block-returns-clause-lowered t c = on_ok_weaker c.print_filtered.result (λ printed.
+    lowers_filter_block (expression_of c.args.filters.now) (statements_in c.args.body.now) {s = c.compile_captured.new.round}
+    c.in_ok-put.ensures.put c.in_ok-compile_captured.ensures.lowered c.in_ok-put-2.ensures.put printed) c.print_filtered.ensures.put
 
 pub compile_elifs-returns-clause-lowered : goal.compile_elifs-returns-clause-lowered
 compile_elifs-returns-clause-lowered t c = remains_told c.in_ok-compile_chain.ensures.lowered c.tell_breaks.ensures.told c.tell_breaks.ensures.same
@@ -241,21 +247,44 @@ compile_any-compile_set_block-requires t c =
     let s = c.args.statement.now in
     let n = c.in-SetBlock.n in
     let target = c.deref-in-SetBlock.result.now.node.target in
-    let body = c.deref-in-SetBlock-3.result.now in
-    let body_is = c.deref-in-SetBlock-3.ensures.value ∙ ap (λ (b : Spanned SetBlockNode). b.node.body.items) c.deref-in-SetBlock-2.ensures in
-    let runs : IsRunnableStatement true (set_block (expression_of target) absent (statements_in body)) =
-    subst (λ (x : Statement). IsRunnableStatement true x)
-    (set_block_is s n target body c.requires c.in-SetBlock.is (ap (λ (b : Spanned SetBlockNode). b.node.target) c.deref-in-SetBlock.ensures) body_is) c.requires in (
+    let filters = c.deref-in-SetBlock.result.now.node.filter in
+    let body = c.deref-in-SetBlock-2.result.now in
+    let body_is = c.deref-in-SetBlock-2.ensures.value ∙ ap (λ (b : Spanned SetBlockNode). b.node.body.items) c.deref-in-SetBlock.ensures in
+    let tree = set_block_is s n target filters body c.in-SetBlock.is (ap (λ (b : Spanned SetBlockNode). b.node.target) c.deref-in-SetBlock.ensures)
+    (ap (λ (b : Spanned SetBlockNode). b.node.filter) c.deref-in-SetBlock.ensures) body_is in
+    let runs = set_block_runs (expression_of target) (optional_in filters) (statements_in body) (subst (λ (x : Statement). IsRunnableStatement true x) tree c.requires) in (
       omega (arith, set_block_deep s n body c.in-SetBlock.is body_is, c.decreases),
-      (runs.0, runs.1),
+      (runs.0, (runs.1, runs.2)),
     )
 
 pub compile_any-returns-in-SetBlock-clause-lowered : goal.compile_any-returns-in-SetBlock-clause-lowered
 compile_any-returns-in-SetBlock-clause-lowered t c =
-    let tree = set_block_is c.args.statement.now c.in-SetBlock.n c.deref-in-SetBlock.result.now.node.target c.deref-in-SetBlock-3.result.now c.requires
-    c.in-SetBlock.is (ap (λ (b : Spanned SetBlockNode). b.node.target) c.deref-in-SetBlock.ensures)
-    (c.deref-in-SetBlock-3.ensures.value ∙ ap (λ (b : Spanned SetBlockNode). b.node.body.items) c.deref-in-SetBlock-2.ensures) in
+    let v = c.deref-in-SetBlock.result.now.node in
+    let tree = set_block_is c.args.statement.now c.in-SetBlock.n v.target v.filter c.deref-in-SetBlock-2.result.now c.in-SetBlock.is
+    (ap (λ (b : Spanned SetBlockNode). b.node.target) c.deref-in-SetBlock.ensures) (ap (λ (b : Spanned SetBlockNode). b.node.filter) c.deref-in-SetBlock.ensures)
+    (c.deref-in-SetBlock-2.ensures.value ∙ ap (λ (b : Spanned SetBlockNode). b.node.body.items) c.deref-in-SetBlock.ensures) in
     rw tree c.compile_set_block.ensures.lowered
+
+pub compile_any-compile_filter_block-requires : goal.compile_any-compile_filter_block-requires
+compile_any-compile_filter_block-requires t c =
+    let s = c.args.statement.now in
+    let n = c.in-FilterBlock.n in
+    let filters = c.deref-in-FilterBlock.result.now.node.filter in
+    let body = c.deref-in-FilterBlock-2.result.now in
+    let body_is = c.deref-in-FilterBlock-2.ensures.value ∙ ap (λ (b : Spanned FilterBlockNode). b.node.body.items) c.deref-in-FilterBlock.ensures in
+    let tree = filter_block_is s n filters body c.in-FilterBlock.is (ap (λ (b : Spanned FilterBlockNode). b.node.filter) c.deref-in-FilterBlock.ensures) body_is in
+    let runs : IsRunnableStatement true (filter_block (expression_of filters) (statements_in body)) =
+    subst (λ (x : Statement). IsRunnableStatement true x) tree c.requires in (
+      omega (arith, filter_block_deep s n body c.in-FilterBlock.is body_is, c.decreases),
+      (runs.0, runs.1),
+    )
+
+pub compile_any-returns-in-FilterBlock-clause-lowered : goal.compile_any-returns-in-FilterBlock-clause-lowered
+compile_any-returns-in-FilterBlock-clause-lowered t c =
+    let tree = filter_block_is c.args.statement.now c.in-FilterBlock.n c.deref-in-FilterBlock.result.now.node.filter c.deref-in-FilterBlock-2.result.now
+    c.in-FilterBlock.is (ap (λ (b : Spanned FilterBlockNode). b.node.filter) c.deref-in-FilterBlock.ensures)
+    (c.deref-in-FilterBlock-2.ensures.value ∙ ap (λ (b : Spanned FilterBlockNode). b.node.body.items) c.deref-in-FilterBlock.ensures) in
+    rw tree c.compile_filter_block.ensures.lowered
 
 pub compile_any-compile_with-requires : goal.compile_any-compile_with-requires
 compile_any-compile_with-requires t c =
@@ -306,9 +335,6 @@ compile_loop-returns-clause-lowered t c = rw (sym c.deref.ensures.value, sym c.d
 
 pub compile_any-unreachable-requires : goal.compile_any-unreachable-requires
 compile_any-unreachable-requires t c = subst (λ (s : Stmt). IsRunnableStatement true (statement_of s)) c.in-Template.is c.requires
-
-pub compile_any-unreachable-requires-in-FilterBlock : goal.compile_any-unreachable-requires-in-FilterBlock
-compile_any-unreachable-requires-in-FilterBlock t c = subst (λ (s : Stmt). IsRunnableStatement true (statement_of s)) c.in-FilterBlock.is c.requires
 
 pub compile_any-unreachable-requires-in-Block : goal.compile_any-unreachable-requires-in-Block
 compile_any-unreachable-requires-in-Block t c = subst (λ (s : Stmt). IsRunnableStatement true (statement_of s)) c.in-Block.is c.requires

@@ -22,6 +22,9 @@ decreases-compile_with l = 8 * body_deep l.body.now + 4
 abbrev pub decreases-compile_set_block : goal.decreases-compile_set_block
 decreases-compile_set_block l = 8 * body_deep l.body.now + 4
 
+abbrev pub decreases-compile_filter_block : goal.decreases-compile_filter_block
+decreases-compile_filter_block l = 8 * body_deep l.body.now + 4
+
 abbrev pub decreases-compile_captured : goal.decreases-compile_captured
 decreases-compile_captured l = 8 * body_deep l.body.now + 3
 
