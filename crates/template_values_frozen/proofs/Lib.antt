@@ -1,0 +1,4 @@
+mod Rows
+pub mod Levels
+pub mod Staying
+pub mod Gathering
