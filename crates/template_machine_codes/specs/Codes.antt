@@ -1,5 +1,5 @@
 -- What code means under the surroundings of a machine.
-use Rattle.std.specs.Prelude.{ℕ, suc, [], List, Option, None, Some, option_map}
+use Rattle.std.specs.Prelude.{ℕ, [], List, Option, option_map}
 use Rattle.template_tree.specs.Tree.{Statements}
 use Rattle.template_process.specs.Process.{Process}
 use Rattle.template_process.specs.Trace.{Run, run}

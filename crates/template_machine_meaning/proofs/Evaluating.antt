@@ -1,15 +1,15 @@
 -- An expression does the same under every bound, and comes to its value or to a fault.
-use Rattle.std.proofs.Common.{◌≡◌, ℕ, inl, inr, true, false, List, [], ◌∷◌, ◌++◌, Option, None, Some, refl, sym, ap, subst, ◌∙◌, arith}
+use Rattle.std.proofs.Common.{◌≡◌, ℕ, inl, inr, Bool, true, false, List, [], ◌∷◌, ◌++◌, Option, None, Some, refl, sym, ap, subst, ◌∙◌, arith}
 use Rattle.template_values_model.specs.Val.{Val, text}
 use Rattle.template_tree.specs.declared.operators.UnaryOpKind.{UnaryOpKind}
 use Rattle.template_tree.specs.declared.operators.UnaryOpKind.TheVariants.{Not, Neg}
 use Rattle.template_tree.specs.declared.operators.BinOpKind.{BinOpKind}
 use Rattle.template_tree.specs.declared.operators.BinOpKind.TheVariants.{ScAnd, ScOr}
-use Rattle.template_tree.specs.Tree.{Expression, Optional, Expressions, Links, Arguments, variable, constant, slice, unary, binary, chain, conditional, attribute, item, call, list_literal, tuple_literal, map_literal, absent, given, no_expressions, expressions_more, no_links, links_more, no_arguments, arguments_more, positional, keyword}
-use Rattle.template_process.specs.Process.{Ask, Answer, value, truth, look_up, operate, compare, get_attribute, get_item, get_slice, build_list, build_tuple, build_map, build_kwargs, call_function, call_method, call_value, truth_of, Process, over, step, asks, on_value, on_truth}
+use Rattle.template_tree.specs.Tree.{Expression, Optional, Expressions, Links, Arguments, variable, constant, slice, unary, binary, chain, conditional, attribute, item, call, filtered, tested, list_literal, tuple_literal, map_literal, absent, given, no_expressions, expressions_more, no_links, links_more, no_arguments, arguments_more, positional, keyword, positional_spread, keyword_spread}
+use Rattle.template_process.specs.Process.{Ask, Answer, value, truth, items, look_up, operate, compare, get_attribute, get_item, get_slice, build_list, build_tuple, build_map, build_kwargs, merge_kwargs, spread, call_function, call_method, call_value, apply_filter, perform_test, truth_of, Process, over, step, asks, on_value, on_truth, on_all}
 use Rattle.template_process.specs.Trace.{Run, paid, run, behind, replied}
 use Rattle.template_walk.specs.Constants.{constant_of}
-use Rattle.template_walk.specs.Expressions.{folded, unary_ask, binary_walk, Giving, in_turn, named_in_turn, keywords_walk, passed_walk, Callee, by_name, by_method, by_value, callee_of, called_walk, expression_walk, object_walk, positional_walks, keyword_walks, optional_walk, expressions_walk, walks_of, entries_walk, chain_walk, linked_walk}
+use Rattle.template_walk.specs.Expressions.{folded, unary_ask, binary_walk, Giving, Passing, alone, spreads, listed, stretches_walk, mapped, entries_stretches, has_spread, merged_if, keywords_walk, run_if, passed_walk, Callee, by_name, by_method, by_value, callee_of, called_walk, expression_walk, object_walk, positional_walks, keyword_walks, optional_walk, expressions_walk, walks_of, entries_walk, chain_walk, linked_walk}
 use Rattle.template_machine_meaning.specs.World.{World}
 use Rattle.template_machine_meaning.specs.Keys.{Around}
 use Rattle.template_machine_meaning.specs.Plans.{Runners}
@@ -19,7 +19,7 @@ use Rattle.template_machine_meaning.specs.Meaning as meanings
 use Rattle.template_machine_meaning.specs.Laws.{GivesOne, EveryEvaluationGives, EvaluationsNeedNoBound}
 use Rattle.template_machine_meaning.proofs.Settling.{Settles}
 use Rattle.template_machine_meaning.proofs.Keeping.{keeps_itself}
-use Rattle.template_machine_meaning.proofs.Expressions.{Kept, settles_expression}
+use Rattle.template_machine_meaning.proofs.Expressions.{itself, value_walk, Kept, settles_expression}
 
 -- whoever runs the templates that stand
 module _ (around : Around) (r q : Runners) where
@@ -34,9 +34,10 @@ module _ (around : Around) (r q : Runners) where
     none_left : Each []
     each_more : {walk : (Val → Process) → Process} {walks : List ((Val → Process) → Process)} → Stays walk → Each walks → Each (walk ∷ walks)
 
-  data EachNamed : List (List ℕ × Giving) → Type 0 where
-    no_names : EachNamed []
-    more_names : {named : List ℕ × Giving} {others : List (List ℕ × Giving)} → Stays named.1 → EachNamed others → EachNamed (named ∷ others)
+  data EachPassed {X : Type 0} (walk_in : X → Giving) : List (Passing X Giving) → Type 0 where
+    none_passed : EachPassed walk_in []
+    alone_more : {x : X} {args : List (Passing X Giving)} → Stays (walk_in x) → EachPassed walk_in args → EachPassed walk_in (alone x ∷ args)
+    spread_more : {walk : Giving} {args : List (Passing X Giving)} → Stays walk → EachPassed walk_in args → EachPassed walk_in (spreads walk ∷ args)
 
   stepped : (p : Process) → Same p → Same (step p)
   stepped p same w = ap (behind (paid [] ∷ [])) (same w)
@@ -79,31 +80,58 @@ module _ (around : Around) (r q : Runners) where
   abbrev StaysAll : ((List Val → Process) → Process) → Type 0
   StaysAll walk = (go : List Val → Process) → ((vs : List Val) → Same (go vs)) → Same (walk go)
 
-  turn_same : (walks : List Giving) → Each walks → StaysAll (in_turn walks)
-  turn_same [] each go same = same []
-  turn_same (walk ∷ walks) (each_more f each) go same = f _ (λ v. turn_same walks each _ (λ vs. same (v ∷ vs)))
+  at_all : (go : List Val → Process) → ((vs : List Val) → Same (go vs)) → (a : Answer) → Same (on_all go a)
+  at_all go same (items vs) = same vs
+  at_all go same _ = λ w. refl
 
-  named_same : (named : List (List ℕ × Giving)) → EachNamed named → (go : List (Val × Val) → Process) → ((entries : List (Val × Val)) → Same (go entries)) → Same (named_in_turn named go)
-  named_same [] each go same = same []
-  named_same (n ∷ ns) (more_names f each) go same = f _ (λ v. named_same ns each _ (λ entries. same ((text n.0, v) ∷ entries)))
+  listed_same : (vs : List Val) → StaysAll (listed vs)
+  listed_same [] go same = same []
+  listed_same (v ∷ vs) go same = value_same (build_list (v ∷ vs)) (λ w. refl) (λ list. go (list ∷ [])) (λ list. same (list ∷ []))
 
-  keywords_same : (named : List (List ℕ × Giving)) → EachNamed named → StaysAll (keywords_walk named)
-  keywords_same [] each go same = same []
-  keywords_same (n ∷ ns) each go same =
-      named_same (n ∷ ns) each (λ entries. step (asks (build_kwargs entries) (on_value (λ map. go (map ∷ [])))))
-      (λ entries. value_same (build_kwargs entries) (λ w. refl) (λ map. go (map ∷ [])) (λ map. same (map ∷ [])))
+  stretches_same : (vs : List Val) (args : List (Passing Giving Giving)) → EachPassed itself args → (go : List Val → List Val → Process)
+      → ((lists rest : List Val) → Same (go lists rest)) → Same (stretches_walk vs args go)
+  stretches_same vs [] each go same = same [] vs
+  stretches_same vs (alone walk ∷ args) (alone_more f each) go same = f _ (λ v. stretches_same (vs ++ v ∷ []) args each _ same)
+  stretches_same vs (spreads walk ∷ args) (spread_more f each) go same =
+      listed_same vs _ (λ before. f _ (λ v. stretches_same [] args each _ (λ later rest. same (before ++ v ∷ later) rest)))
 
-  passed_same : (walks : List Giving) → Each walks → (named : List (List ℕ × Giving)) → EachNamed named → StaysAll (passed_walk walks named)
-  passed_same walks each named others go same = turn_same walks each _ (λ vs. keywords_same named others _ (λ last. same (vs ++ last)))
+  mapped_same : (es : List (Val × Val)) → StaysAll (mapped es)
+  mapped_same [] go same = same []
+  mapped_same (e ∷ es) go same = value_same (build_kwargs (e ∷ es)) (λ w. refl) (λ map. go (map ∷ [])) (λ map. same (map ∷ []))
 
-  called_same : (callee : Callee) (whole object : Giving) → Stays whole → Stays object → (walks : List Giving) → Each walks → (named : List (List ℕ × Giving)) → EachNamed named
-      → Stays (called_walk callee whole object (passed_walk walks named))
-  called_same (by_name name) whole object f g walks each named others go same =
-      passed_same walks each named others (λ vs. step (asks (call_function name vs) (on_value go))) (λ vs. value_same (call_function name vs) (λ w. refl) go same)
-  called_same (by_method name) whole object f g walks each named others go same =
-      g _ (λ v. passed_same walks each named others (λ vs. step (asks (call_method name (v ∷ vs)) (on_value go))) (λ vs. value_same (call_method name (v ∷ vs)) (λ w. refl) go same))
-  called_same by_value whole object f g walks each named others go same =
-      f _ (λ v. passed_same walks each named others (λ vs. step (asks (call_value (v ∷ vs)) (on_value go))) (λ vs. value_same (call_value (v ∷ vs)) (λ w. refl) go same))
+  named_same : (es : List (Val × Val)) (args : List (Passing (List ℕ × Giving) Giving)) → EachPassed value_walk args → (go : List Val → List (Val × Val) → Process)
+      → ((maps : List Val) (rest : List (Val × Val)) → Same (go maps rest)) → Same (entries_stretches es args go)
+  named_same es [] each go same = same [] es
+  named_same es (alone n ∷ args) (alone_more f each) go same = f _ (λ v. named_same (es ++ (text n.0, v) ∷ []) args each _ same)
+  named_same es (spreads walk ∷ args) (spread_more f each) go same =
+      mapped_same es _ (λ before. f _ (λ v. named_same [] args each _ (λ later rest. same (before ++ v ∷ later) rest)))
+
+  merged_same : (several : Bool) (maps : List Val) → StaysAll (merged_if several maps)
+  merged_same false maps go same = same maps
+  merged_same true maps go same = value_same (merge_kwargs maps) (λ w. refl) (λ map. go (map ∷ [])) (λ map. same (map ∷ []))
+
+  keywords_same : (named : List (Passing (List ℕ × Giving) Giving)) → EachPassed value_walk named → StaysAll (keywords_walk named)
+  keywords_same named each go same =
+      named_same [] named each _ (λ maps rest. mapped_same rest _ (λ more. merged_same (has_spread named) (maps ++ more) go same))
+
+  run_same : (spread_one : Bool) (lists vs : List Val) → StaysAll (run_if spread_one lists vs)
+  run_same false lists vs go same = same vs
+  run_same true lists vs go same =
+      listed_same vs _ (λ more. stepped (asks (spread (lists ++ more)) (on_all go)) (asked (spread (lists ++ more)) (on_all go) (λ w. refl) (at_all go same)))
+
+  passed_same : (front : List Val) (args : List (Passing Giving Giving)) → EachPassed itself args → (named : List (Passing (List ℕ × Giving) Giving)) → EachPassed value_walk named
+      → StaysAll (passed_walk front args named)
+  passed_same front args each named others go same =
+      stretches_same front args each _ (λ lists vs. keywords_same named others _ (λ last. run_same (has_spread args) lists (vs ++ last) go same))
+
+  called_same : (callee : Callee) (whole object : Giving) → Stays whole → Stays object → (args : List (Passing Giving Giving)) → EachPassed itself args
+      → (named : List (Passing (List ℕ × Giving) Giving)) → EachPassed value_walk named → Stays (called_walk callee whole object (λ front. passed_walk front args named))
+  called_same (by_name name) whole object f g args each named others go same =
+      passed_same [] args each named others (λ vs. step (asks (call_function name vs) (on_value go))) (λ vs. value_same (call_function name vs) (λ w. refl) go same)
+  called_same (by_method name) whole object f g args each named others go same =
+      g _ (λ v. passed_same (v ∷ []) args each named others (λ vs. step (asks (call_method name vs) (on_value go))) (λ vs. value_same (call_method name vs) (λ w. refl) go same))
+  called_same by_value whole object f g args each named others go same =
+      f _ (λ v. passed_same (v ∷ []) args each named others (λ vs. step (asks (call_value vs) (on_value go))) (λ vs. value_same (call_value vs) (λ w. refl) go same))
 
   mutual
     stays : (e : Expression) → Stays (expression_walk e)
@@ -131,20 +159,28 @@ module _ (around : Around) (r q : Runners) where
     stays (call callee args) go same =
         called_same (callee_of callee) (expression_walk callee) (object_walk callee) (stays callee) (stays_object callee)
         (positional_walks args) (stays_positional args) (keyword_walks args) (stays_keyword args) go same
+    stays (filtered name (given e) args) go same =
+        stays e _ (λ v. passed_same (v ∷ []) (positional_walks args) (stays_positional args) (keyword_walks args) (stays_keyword args)
+        (λ vs. step (asks (apply_filter name vs) (on_value go))) (λ vs. value_same (apply_filter name vs) (λ w. refl) go same))
+    stays (tested name e args) go same =
+        stays e _ (λ v. passed_same (v ∷ []) (positional_walks args) (stays_positional args) (keyword_walks args) (stays_keyword args)
+        (λ vs. step (asks (perform_test name vs) (on_value go))) (λ vs. value_same (perform_test name vs) (λ w. refl) go same))
     stays _ go same = λ w. refl
 
     stays_object : (e : Expression) → Stays (object_walk e)
     stays_object (attribute e name) go same = stays e go same
     stays_object _ go same = λ w. refl
 
-    stays_positional : (args : Arguments) → Each (positional_walks args)
-    stays_positional no_arguments = none_left
-    stays_positional (arguments_more (positional e) args) = each_more (stays e) (stays_positional args)
+    stays_positional : (args : Arguments) → EachPassed itself (positional_walks args)
+    stays_positional no_arguments = none_passed
+    stays_positional (arguments_more (positional e) args) = alone_more (stays e) (stays_positional args)
+    stays_positional (arguments_more (positional_spread e) args) = spread_more (stays e) (stays_positional args)
     stays_positional (arguments_more _ args) = stays_positional args
 
-    stays_keyword : (args : Arguments) → EachNamed (keyword_walks args)
-    stays_keyword no_arguments = no_names
-    stays_keyword (arguments_more (keyword name e) args) = more_names (stays e) (stays_keyword args)
+    stays_keyword : (args : Arguments) → EachPassed value_walk (keyword_walks args)
+    stays_keyword no_arguments = none_passed
+    stays_keyword (arguments_more (keyword name e) args) = alone_more (stays e) (stays_keyword args)
+    stays_keyword (arguments_more (keyword_spread e) args) = spread_more (stays e) (stays_keyword args)
     stays_keyword (arguments_more _ args) = stays_keyword args
 
     stays_optional : (o : Optional) (missing : Val) → Stays (optional_walk missing o)

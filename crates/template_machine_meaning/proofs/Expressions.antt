@@ -1,6 +1,7 @@
 -- Each runnable expression settles.
 use Rattle.std.proofs.Common.{◌≡◌, ℕ, inl, inr, Bool, true, false, List, [], ◌∷◌, ◌++◌, length, Option, None, Some, Result, Ok, Err, if◌then◌else◌, refl, ap, ◌∙◌}
 use Rattle.template_values_errors.specs.declared.ErrorKind.{ErrorKind}
+use Rattle.template_values_errors.specs.declared.ErrorKind.TheVariants.{UnknownFilter, UnknownTest}
 use Rattle.template_values_model.specs.Val as values
 use Rattle.template_values_model.specs.Val.{Val, silent_undefined, none, text}
 use Rattle.template_values_forms.specs.Truth as truths
@@ -10,22 +11,30 @@ use Rattle.template_tree.specs.declared.operators.UnaryOpKind.{UnaryOpKind}
 use Rattle.template_tree.specs.declared.operators.UnaryOpKind.TheVariants.{Not, Neg}
 use Rattle.template_tree.specs.declared.operators.BinOpKind.{BinOpKind}
 use Rattle.template_tree.specs.declared.operators.BinOpKind.TheVariants.{ScAnd, ScOr}
-use Rattle.template_tree.specs.Tree.{Expression, Optional, Expressions, Links, Arguments, variable, constant, slice, unary, binary, chain, conditional, attribute, item, call, list_literal, tuple_literal, map_literal, absent, given, no_expressions, expressions_more, no_links, links_more, no_arguments, arguments_more, positional, keyword}
-use Rattle.template_process.specs.Process.{Ask, look_up, operate, compare, get_attribute, get_item, get_slice, build_list, build_tuple, build_map, build_kwargs, call_function, call_method, call_value, truth_of, value, truth, tells, Process, step, asks, on_value, on_truth}
+use Rattle.template_tree.specs.Tree.{Expression, Optional, Expressions, Links, Arguments, variable, constant, slice, unary, binary, chain, conditional, attribute, item, call, filtered, tested, list_literal, tuple_literal, map_literal, absent, given, no_expressions, expressions_more, no_links, links_more, no_arguments, arguments_more, positional, keyword, positional_spread, keyword_spread}
+use Rattle.template_process.specs.Process.{Ask, look_up, operate, compare, get_attribute, get_item, get_slice, build_list, build_tuple, build_map, build_kwargs, merge_kwargs, spread, call_function, call_method, call_value, apply_filter, perform_test, truth_of, value, truth, tells, Process, step, asks, on_value, on_truth, on_all}
 use Rattle.template_process.specs.Trace.{Reply, run, replied}
 use Rattle.template_walk.specs.Constants.{constant_of}
 use Rattle.template_walk.specs.Containers.{tuple_made, map_made, kwargs_made}
-use Rattle.template_walk.specs.Expressions.{folded, unary_ask, binary_walk, Giving, in_turn, named_in_turn, keywords_walk, passed_walk, Callee, by_name, by_method, by_value, callee_of, called_walk, expression_walk, object_walk, positional_walks, keyword_walks, optional_walk, expressions_walk, walks_of, entries_walk, chain_walk, linked_walk}
+use Rattle.template_walk.specs.Expressions.{folded, unary_ask, binary_walk, Giving, Passing, alone, spreads, listed, stretches_walk, mapped, entries_stretches, has_spread, merged_if, keywords_walk, run_if, passed_walk, Callee, by_name, by_method, by_value, callee_of, called_walk, expression_walk, object_walk, positional_walks, keyword_walks, optional_walk, expressions_walk, walks_of, entries_walk, chain_walk, linked_walk, filter_walk, filters_walk}
 use Rattle.template_walk.specs.Operators.{operated, compared, inverted, negated}
-use Rattle.template_walk.specs.Runnable.{IsRunnable, IsRunnableIfGiven, AreRunnableArguments, AreRunnable, IsRunnableChain, AreRunnableLinks}
+use Rattle.template_walk.specs.Runnable.{IsRunnable, IsRunnableIfGiven, AreRunnableArguments, AreRunnable, IsRunnableChain, AreRunnableLinks, AreFilters}
 use Rattle.template_machine_meaning.specs.World.{World, looked_up, value_named, given_at, put_given}
 use Rattle.template_machine_meaning.specs.Records.{known_of}
 use Rattle.template_machine_meaning.specs.Undefined.{forbids_truth, forbids_operator, forbids_link, forbids_slicing}
 use Rattle.template_machine_meaning.specs.Replies.{told, changed, guarded, replied_with, kinded}
 use Rattle.template_machine_meaning.specs.Functions.{Called, gives, makes, compares, name_called, first_method, first_called}
+use Rattle.template_machine_meaning.specs.Spreads.{items_of_each, merged_keywords}
 use Rattle.template_machine_meaning.specs.Surroundings.{Programs, attribute_given, item_given, are_as_before, made_namespace, called_reply, answer}
-use Rattle.template_machine_meaning.proofs.Settling.{Walk, Settles, settles_then, settles_now, settles_step, settles_value, settles_given}
+use Rattle.template_machine_meaning.proofs.Settling.{Walk, Settles, settles_then, settles_now, settles_step, settles_value, settles_items, settles_given}
 use Rattle.template_machine_meaning.proofs.Keeping.{Keeps}
+
+-- what gives the walk of an argument: the argument itself, or it stands behind a name
+abbrev pub itself : Giving → Giving
+itself walk = walk
+
+abbrev pub value_walk : List ℕ × Giving → Giving
+value_walk named = named.1
 
 -- what is given leaves a world that keeps what the base has
 abbrev pub Kept : {O : Type 0} → World → O → World → Type 0
@@ -120,60 +129,110 @@ module _ (s : Programs) (base : World) where
     none_left : EachGives []
     each_more : {walk : (Val → Process) → Process} {walks : List ((Val → Process) → Process)} → Always (λ m go. walk go) → EachGives walks → EachGives (walk ∷ walks)
 
-  data NamedGive : List (List ℕ × Giving) → Type 0 where
-    no_names : NamedGive []
-    more_names : {named : List ℕ × Giving} {others : List (List ℕ × Giving)} → Always (λ m go. named.1 go) → NamedGive others → NamedGive (named ∷ others)
+  data EachPassed {X : Type 0} (walk_in : X → Giving) : List (Passing X Giving) → Type 0 where
+    none_passed : EachPassed walk_in []
+    alone_more : {x : X} {args : List (Passing X Giving)} → Always (λ m go. walk_in x go) → EachPassed walk_in args → EachPassed walk_in (alone x ∷ args)
+    spread_more : {walk : Giving} {args : List (Passing X Giving)} → Always (λ m go. walk go) → EachPassed walk_in args → EachPassed walk_in (spreads walk ∷ args)
 
   -- values in turn
   abbrev GivesAll : World → Walk (List Val) → Type 0
   GivesAll w P = Settles {O = List Val} s w (Kept base) P
 
-  settles_in_turn : (walks : List Giving) → EachGives walks → (w : World) → Keeps base w → GivesAll w (λ m go. in_turn walks go)
-  settles_in_turn [] each w kept = settles_now s w (Kept base) [] kept
-  settles_in_turn (walk ∷ walks) (each_more f each) w kept =
-      settles_then s w (Kept base) (Kept base) (λ m go. walk go) (λ v m go. in_turn walks (λ vs. go (v ∷ vs))) (f w kept)
-      (λ v x k. settles_then s x (Kept base) (Kept base) (λ m go. in_turn walks go) (λ vs m go. go (v ∷ vs)) (settles_in_turn walks each x k)
-      (λ vs y l. settles_now s y (Kept base) (v ∷ vs) l))
+  settles_listed : (vs : List Val) (w : World) → Keeps base w → GivesAll w (λ m go. listed vs go)
+  settles_listed [] w kept = settles_now s w (Kept base) [] kept
+  settles_listed (v ∷ vs) w kept =
+      settles_then s w (Kept base) (Kept base) (λ m go. step (asks (build_list (v ∷ vs)) (on_value go))) (λ list m go. go (list ∷ []))
+      (given_by w kept (build_list (v ∷ vs)) (kinded (list_made (v ∷ vs))) (λ n. refl))
+      (λ list x k. settles_now s x (Kept base) (list ∷ []) k)
 
-  settles_named : (named : List (List ℕ × Giving)) → NamedGive named → (w : World) → Keeps base w → Settles {O = List (Val × Val)} s w (Kept base) (λ m go. named_in_turn named go)
-  settles_named [] each w kept = settles_now s w (Kept base) [] kept
-  settles_named (n ∷ ns) (more_names f each) w kept =
-      settles_then s w (Kept base) (Kept base) (λ m go. n.1 go) (λ v m go. named_in_turn ns (λ entries. go ((text n.0, v) ∷ entries))) (f w kept)
-      (λ v x k. settles_then s x (Kept base) (Kept base) (λ m go. named_in_turn ns go) (λ entries m go. go ((text n.0, v) ∷ entries)) (settles_named ns each x k)
-      (λ entries y l. settles_now s y (Kept base) ((text n.0, v) ∷ entries) l))
+  -- the lists and spreads, and the last stretch
+  settles_stretches : (vs : List Val) (args : List (Passing Giving Giving)) → EachPassed itself args → (w : World) → Keeps base w
+      → Settles {O = List Val × List Val} s w (Kept base) (λ m go. stretches_walk vs args (λ lists rest. go (lists, rest)))
+  settles_stretches vs [] each w kept = settles_now s w (Kept base) ([], vs) kept
+  settles_stretches vs (alone walk ∷ args) (alone_more f each) w kept =
+      settles_then s w (Kept base) (Kept base) (λ m go. walk go) (λ v m go. stretches_walk (vs ++ v ∷ []) args (λ lists rest. go (lists, rest))) (f w kept)
+      (λ v x k. settles_stretches (vs ++ v ∷ []) args each x k)
+  settles_stretches vs (spreads walk ∷ args) (spread_more f each) w kept =
+      settles_then s w (Kept base) (Kept base) (λ m go. listed vs go) (λ before m go. walk (λ v. stretches_walk [] args (λ later rest. go (before ++ v ∷ later, rest)))) (settles_listed vs w kept)
+      (λ before x k. settles_then s x (Kept base) (Kept base) (λ m go. walk go) (λ v m go. stretches_walk [] args (λ later rest. go (before ++ v ∷ later, rest))) (f x k)
+      (λ v y l. settles_then s y (Kept base) (Kept base) (λ m go. stretches_walk [] args (λ later rest. go (later, rest))) (λ o m go. go (before ++ v ∷ o.0, o.1)) (settles_stretches [] args each y l)
+      (λ o z i. settles_now s z (Kept base) (before ++ v ∷ o.0, o.1) i)))
 
-  settles_keywords : (named : List (List ℕ × Giving)) → NamedGive named → (w : World) → Keeps base w → GivesAll w (λ m go. keywords_walk named go)
-  settles_keywords [] each w kept = settles_now s w (Kept base) [] kept
-  settles_keywords (n ∷ ns) each w kept =
-      settles_then s w (Kept base) (Kept base) (λ m go. named_in_turn (n ∷ ns) go) (λ entries m go. step (asks (build_kwargs entries) (on_value (λ map. go (map ∷ []))))) (settles_named (n ∷ ns) each w kept)
-      (λ entries x k. settles_then s x (Kept base) (Kept base) (λ m go. step (asks (build_kwargs entries) (on_value go))) (λ map m go. go (map ∷ []))
-      (given_by x k (build_kwargs entries) (kinded (kwargs_made entries)) (λ n. refl))
-      (λ map y l. settles_now s y (Kept base) (map ∷ []) l))
+  settles_mapped : (es : List (Val × Val)) (w : World) → Keeps base w → GivesAll w (λ m go. mapped es go)
+  settles_mapped [] w kept = settles_now s w (Kept base) [] kept
+  settles_mapped (e ∷ es) w kept =
+      settles_then s w (Kept base) (Kept base) (λ m go. step (asks (build_kwargs (e ∷ es)) (on_value go))) (λ map m go. go (map ∷ []))
+      (given_by w kept (build_kwargs (e ∷ es)) (kinded (kwargs_made (e ∷ es))) (λ n. refl))
+      (λ map x k. settles_now s x (Kept base) (map ∷ []) k)
 
-  settles_passed : (walks : List Giving) → EachGives walks → (named : List (List ℕ × Giving)) → NamedGive named → (w : World) → Keeps base w → GivesAll w (λ m go. passed_walk walks named go)
-  settles_passed walks each named others w kept =
-      settles_then s w (Kept base) (Kept base) (λ m go. in_turn walks go) (λ vs m go. keywords_walk named (λ last. go (vs ++ last))) (settles_in_turn walks each w kept)
-      (λ vs x k. settles_then s x (Kept base) (Kept base) (λ m go. keywords_walk named go) (λ last m go. go (vs ++ last)) (settles_keywords named others x k)
-      (λ last y l. settles_now s y (Kept base) (vs ++ last) l))
+  -- so it is of names with their values
+  settles_named : (es : List (Val × Val)) (args : List (Passing (List ℕ × Giving) Giving)) → EachPassed value_walk args → (w : World) → Keeps base w
+      → Settles {O = List Val × List (Val × Val)} s w (Kept base) (λ m go. entries_stretches es args (λ maps rest. go (maps, rest)))
+  settles_named es [] each w kept = settles_now s w (Kept base) ([], es) kept
+  settles_named es (alone n ∷ args) (alone_more f each) w kept =
+      settles_then s w (Kept base) (Kept base) (λ m go. n.1 go) (λ v m go. entries_stretches (es ++ (text n.0, v) ∷ []) args (λ maps rest. go (maps, rest))) (f w kept)
+      (λ v x k. settles_named (es ++ (text n.0, v) ∷ []) args each x k)
+  settles_named es (spreads walk ∷ args) (spread_more f each) w kept =
+      settles_then s w (Kept base) (Kept base) (λ m go. mapped es go) (λ before m go. walk (λ v. entries_stretches [] args (λ later rest. go (before ++ v ∷ later, rest)))) (settles_mapped es w kept)
+      (λ before x k. settles_then s x (Kept base) (Kept base) (λ m go. walk go) (λ v m go. entries_stretches [] args (λ later rest. go (before ++ v ∷ later, rest))) (f x k)
+      (λ v y l. settles_then s y (Kept base) (Kept base) (λ m go. entries_stretches [] args (λ later rest. go (later, rest))) (λ o m go. go (before ++ v ∷ o.0, o.1)) (settles_named [] args each y l)
+      (λ o z i. settles_now s z (Kept base) (before ++ v ∷ o.0, o.1) i)))
+
+  settles_merged : (several : Bool) (maps : List Val) (w : World) → Keeps base w → GivesAll w (λ m go. merged_if several maps go)
+  settles_merged false maps w kept = settles_now s w (Kept base) maps kept
+  settles_merged true maps w kept =
+      settles_then s w (Kept base) (Kept base) (λ m go. step (asks (merge_kwargs maps) (on_value go))) (λ map m go. go (map ∷ []))
+      (given_by w kept (merge_kwargs maps) (merged_keywords s.around.undefined (known_of w) maps) (λ n. refl))
+      (λ map x k. settles_now s x (Kept base) (map ∷ []) k)
+
+  settles_keywords : (named : List (Passing (List ℕ × Giving) Giving)) → EachPassed value_walk named → (w : World) → Keeps base w → GivesAll w (λ m go. keywords_walk named go)
+  settles_keywords named each w kept =
+      settles_then s w (Kept base) (Kept base) (λ m go. entries_stretches [] named (λ maps rest. go (maps, rest))) (λ o m go. mapped o.1 (λ more. merged_if (has_spread named) (o.0 ++ more) go))
+      (settles_named [] named each w kept)
+      (λ o x k. settles_then s x (Kept base) (Kept base) (λ m go. mapped o.1 go) (λ more m go. merged_if (has_spread named) (o.0 ++ more) go) (settles_mapped o.1 x k)
+      (λ more y l. settles_merged (has_spread named) (o.0 ++ more) y l))
+
+  settles_run : (spread_one : Bool) (lists vs : List Val) (w : World) → Keeps base w → GivesAll w (λ m go. run_if spread_one lists vs go)
+  settles_run false lists vs w kept = settles_now s w (Kept base) vs kept
+  settles_run true lists vs w kept =
+      settles_then s w (Kept base) (Kept base) (λ m go. listed vs go) (λ more m go. step (asks (spread (lists ++ more)) (on_all go))) (settles_listed vs w kept)
+      (λ more x k. settles_step s x (Kept base) (λ m go. asks (spread (lists ++ more)) (on_all go))
+      (settles_items s x (Kept base) (spread (lists ++ more)) (items_of_each (known_of x) (lists ++ more)) (λ vs. k) (λ n. refl)))
+
+  settles_passed : (front : List Val) (args : List (Passing Giving Giving)) → EachPassed itself args → (named : List (Passing (List ℕ × Giving) Giving)) → EachPassed value_walk named
+      → (w : World) → Keeps base w → GivesAll w (λ m go. passed_walk front args named go)
+  settles_passed front args each named others w kept =
+      settles_then s w (Kept base) (Kept base) (λ m go. stretches_walk front args (λ lists vs. go (lists, vs))) (λ o m go. keywords_walk named (λ last. run_if (has_spread args) o.0 (o.1 ++ last) go))
+      (settles_stretches front args each w kept)
+      (λ o x k. settles_then s x (Kept base) (Kept base) (λ m go. keywords_walk named go) (λ last m go. run_if (has_spread args) o.0 (o.1 ++ last) go) (settles_keywords named others x k)
+      (λ last y l. settles_run (has_spread args) o.0 (o.1 ++ last) y l))
 
   -- a method has an object
   abbrev ObjectGives : Callee → Giving → Type 0
   ObjectGives (by_method name) object = Always (λ m go. object go)
   ObjectGives _ object = Unit {0}
 
-  settles_called : (callee : Callee) (whole object : Giving) → Always (λ m go. whole go) → ObjectGives callee object → (walks : List Giving) → EachGives walks
-      → (named : List (List ℕ × Giving)) → NamedGive named → Always (λ m go. called_walk callee whole object (passed_walk walks named) go)
-  settles_called (by_name name) whole object f g walks each named others w kept =
-      settles_then s w (Kept base) (Kept base) (λ m go. passed_walk walks named go) (λ vs m go. step (asks (call_function name vs) (on_value go))) (settles_passed walks each named others w kept)
-      (λ vs x k. called_by x k (call_function name vs) (name_called x.functions (looked_up name x) vs) (λ n. refl))
-  settles_called (by_method name) whole object f g walks each named others w kept =
-      given_then w (λ m go. object go) (λ v m go. passed_walk walks named (λ vs. step (asks (call_method name (v ∷ vs)) (on_value go)))) (g w kept)
-      (λ v x k. settles_then s x (Kept base) (Kept base) (λ m go. passed_walk walks named go) (λ vs m go. step (asks (call_method name (v ∷ vs)) (on_value go))) (settles_passed walks each named others x k)
-      (λ vs y l. called_by y l (call_method name (v ∷ vs)) (first_method y.functions (known_of y) name (v ∷ vs)) (λ n. refl)))
-  settles_called by_value whole object f g walks each named others w kept =
-      given_then w (λ m go. whole go) (λ v m go. passed_walk walks named (λ vs. step (asks (call_value (v ∷ vs)) (on_value go)))) (f w kept)
-      (λ v x k. settles_then s x (Kept base) (Kept base) (λ m go. passed_walk walks named go) (λ vs m go. step (asks (call_value (v ∷ vs)) (on_value go))) (settles_passed walks each named others x k)
-      (λ vs y l. called_by y l (call_value (v ∷ vs)) (first_called y.functions (v ∷ vs)) (λ n. refl)))
+  settles_called : (callee : Callee) (whole object : Giving) → Always (λ m go. whole go) → ObjectGives callee object → (args : List (Passing Giving Giving)) → EachPassed itself args
+      → (named : List (Passing (List ℕ × Giving) Giving)) → EachPassed value_walk named → Always (λ m go. called_walk callee whole object (λ front. passed_walk front args named) go)
+  settles_called (by_name name) whole object f g args each named others w kept =
+      settles_then s w (Kept base) (Kept base) (λ m go. passed_walk [] args named go) (λ vs m go. step (asks (call_function name vs) (on_value go))) (settles_passed [] args each named others w kept)
+      (λ vs x k. called_by x k (call_function name vs) (name_called x.globals.functions (looked_up name x) vs) (λ n. refl))
+  settles_called (by_method name) whole object f g args each named others w kept =
+      given_then w (λ m go. object go) (λ v m go. passed_walk (v ∷ []) args named (λ vs. step (asks (call_method name vs) (on_value go)))) (g w kept)
+      (λ v x k. settles_then s x (Kept base) (Kept base) (λ m go. passed_walk (v ∷ []) args named go) (λ vs m go. step (asks (call_method name vs) (on_value go))) (settles_passed (v ∷ []) args each named others x k)
+      (λ vs y l. called_by y l (call_method name vs) (first_method y.globals.functions (known_of y) name vs) (λ n. refl)))
+  settles_called by_value whole object f g args each named others w kept =
+      given_then w (λ m go. whole go) (λ v m go. passed_walk (v ∷ []) args named (λ vs. step (asks (call_value vs) (on_value go)))) (f w kept)
+      (λ v x k. settles_then s x (Kept base) (Kept base) (λ m go. passed_walk (v ∷ []) args named go) (λ vs m go. step (asks (call_value vs) (on_value go))) (settles_passed (v ∷ []) args each named others x k)
+      (λ vs y l. called_by y l (call_value vs) (first_called y.globals.functions vs) (λ n. refl)))
+
+  -- a filter or a test, over a value and arguments
+  settles_handed : (e : List Val → Ask) (r : Result Val ErrorKind) → ((w : World) (vs : List Val) (n : ℕ) → answer s n w (e vs) ≡ replied_with w value r) → (v : Val)
+      → (args : List (Passing Giving Giving)) → EachPassed itself args → (named : List (Passing (List ℕ × Giving) Giving)) → EachPassed value_walk named
+      → Always (λ m go. passed_walk (v ∷ []) args named (λ vs. step (asks (e vs) (on_value go))))
+  settles_handed e r is v args each named others w kept =
+      settles_then s w (Kept base) (Kept base) (λ m go. passed_walk (v ∷ []) args named go) (λ vs m go. step (asks (e vs) (on_value go))) (settles_passed (v ∷ []) args each named others w kept)
+      (λ vs x k. given_by x k (e vs) r (λ n. is x vs n))
 
   mutual
     pub settles_expression : (e : Expression) → IsRunnable e → Always (walk_of e)
@@ -221,23 +280,31 @@ module _ (s : Programs) (base : World) where
     settles_expression (call callee args) h w kept =
         settles_called (callee_of callee) (expression_walk callee) (object_walk callee) (settles_expression callee h.0) (settles_object callee h.0)
         (positional_walks args) (settles_positional args h.2) (keyword_walks args) (settles_keyword args h.2) w kept
+    settles_expression (filtered name (given e) args) h w kept =
+        given_then w (walk_of e) (λ v m go. filter_walk name args v go) (settles_expression e h.0 w kept)
+        (λ v. settles_handed (apply_filter name) (Err UnknownFilter) (λ x vs n. refl) v (positional_walks args) (settles_positional args h.1) (keyword_walks args) (settles_keyword args h.1))
+    settles_expression (tested name e args) h w kept =
+        given_then w (walk_of e) (λ v m go. passed_walk (v ∷ []) (positional_walks args) (keyword_walks args) (λ vs. step (asks (perform_test name vs) (on_value go)))) (settles_expression e h.0 w kept)
+        (λ v. settles_handed (perform_test name) (Err UnknownTest) (λ x vs n. refl) v (positional_walks args) (settles_positional args h.1) (keyword_walks args) (settles_keyword args h.1))
     settles_expression _ h w kept = absurd h
 
     settles_object : (callee : Expression) → IsRunnable callee → ObjectGives (callee_of callee) (object_walk callee)
     settles_object (attribute e name) h = settles_expression e h
     settles_object _ h = tt
 
-    settles_positional : (args : Arguments) → AreRunnableArguments args → EachGives (positional_walks args)
-    settles_positional no_arguments h = none_left
-    settles_positional (arguments_more (positional e) args) h = each_more (settles_expression e h.0) (settles_positional args h.1)
+    settles_positional : (args : Arguments) → AreRunnableArguments args → EachPassed itself (positional_walks args)
+    settles_positional no_arguments h = none_passed
+    settles_positional (arguments_more (positional e) args) h = alone_more (settles_expression e h.0) (settles_positional args h.1)
+    settles_positional (arguments_more (positional_spread e) args) h = spread_more (settles_expression e h.0) (settles_positional args h.1)
     settles_positional (arguments_more (keyword name e) args) h = settles_positional args h.1
-    settles_positional (arguments_more _ args) h = absurd h
+    settles_positional (arguments_more (keyword_spread e) args) h = settles_positional args h.1
 
-    settles_keyword : (args : Arguments) → AreRunnableArguments args → NamedGive (keyword_walks args)
-    settles_keyword no_arguments h = no_names
+    settles_keyword : (args : Arguments) → AreRunnableArguments args → EachPassed value_walk (keyword_walks args)
+    settles_keyword no_arguments h = none_passed
+    settles_keyword (arguments_more (keyword name e) args) h = alone_more (settles_expression e h.0) (settles_keyword args h.1)
+    settles_keyword (arguments_more (keyword_spread e) args) h = spread_more (settles_expression e h.0) (settles_keyword args h.1)
     settles_keyword (arguments_more (positional e) args) h = settles_keyword args h.1
-    settles_keyword (arguments_more (keyword name e) args) h = more_names (settles_expression e h.0) (settles_keyword args h.1)
-    settles_keyword (arguments_more _ args) h = absurd h
+    settles_keyword (arguments_more (positional_spread e) args) h = settles_keyword args h.1
 
     settles_optional : (o : Optional) → IsRunnableIfGiven o → (missing : Val) → Always (λ m go. optional_walk missing o go)
     settles_optional absent h missing w kept = settles_now s w (Kept base) missing kept
@@ -281,3 +348,15 @@ module _ (s : Programs) (base : World) where
         (given_by x k (compare op v u) (guarded (forbids_link s.around.undefined op v u) (kinded (compared (known_of x) op v u))) (λ n. refl))
         (λ later. settles_linked links h.1 u later)))
         (given_now w kept holds)
+
+  -- a filter of a block, over a value
+  settles_filter : (name : List ℕ) (args : Arguments) → AreRunnableArguments args → (v : Val) → Always (λ m go. filter_walk name args v go)
+  settles_filter name args h v =
+      settles_handed (apply_filter name) (Err UnknownFilter) (λ x vs n. refl) v (positional_walks args) (settles_positional args h) (keyword_walks args) (settles_keyword args h)
+
+  -- all of them
+  pub settles_filters : (filters : Expression) → AreFilters filters → (v : Val) → Always (λ m go. filters_walk filters v go)
+  settles_filters (filtered name absent args) h v w kept = settles_filter name args h v w kept
+  settles_filters (filtered name (given e) args) h v w kept =
+      given_then w (λ m go. filters_walk e v go) (λ u m go. filter_walk name args u go) (settles_filters e h.0 v w kept) (settles_filter name args h.1)
+  settles_filters _ h v w kept = absurd h

@@ -77,7 +77,7 @@ module _ (names : List ℕ → Type 0) (given : (name : List ℕ) → IsTrue (is
 
     same_render : (id : ℕ) (c : Val) → ((name : List ℕ) → names name → AgreesAt d c name) → (n : ℕ) → IsSameRun (rendered setting id n root c) (rendered setting id n root d)
     same_render id c agrees n =
-        let at = runs_so names d s.around (runners s n) (runners_so n) (base []) (template_walk n root.tree) (base []) (first_world id setting.functions root.escape c)
+        let at = runs_so names d s.around (runners s n) (runners_so n) (base []) (template_walk n root.tree) (base []) (first_world id setting.globals root.escape c)
         (λ name i. absurd i, agrees) (template_within names is_loop n root.tree (used_in root.tree first) (base [])) in
         (sym (ap (λ (r : Run World). r.items) at.same), sym (ap (λ (r : Run World). r.end) at.same))
 

@@ -17,4 +17,5 @@ pub mod Walks
 pub mod Turned
 pub mod Replies
 pub mod Isolated
+pub mod Handed
 pub mod Evaluated

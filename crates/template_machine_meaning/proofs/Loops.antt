@@ -1,5 +1,5 @@
 -- A loop's rounds settle: there are as many as it has items, at most.
-use Rattle.std.proofs.Common.{◌≡◌, ℕ, ◌+◌, ◌-◌, ◌≤◌, zero, suc, [], ◌∷◌, length, slice_get, Option, None, Some, refl, ap, ◌∙◌, arith}
+use Rattle.std.proofs.Common.{◌≡◌, ℕ, ◌+◌, ◌-◌, ◌≤◌, zero, suc, Bool, true, false, [], ◌∷◌, ◌++◌, length, slice_get, Option, None, Some, if◌then◌else◌, refl, ap, ◌∙◌, arith}
 use Rattle.std.proofs.lemmas.Option.{slice_get_within}
 use Rattle.template_values_model.specs.Val as values
 use Rattle.template_values_model.specs.Val.{Val}
@@ -8,7 +8,7 @@ use Rattle.template_process.specs.Trace.{paid, run, behind, replied}
 use Rattle.template_walk.specs.Statements.{Exits, rounds}
 use Rattle.template_machine_meaning.specs.World.{Loop, Frame, World, drop_given}
 use Rattle.template_machine_meaning.specs.Replies.{changed}
-use Rattle.template_machine_meaning.specs.Surroundings.{Programs, next_reply, answer}
+use Rattle.template_machine_meaning.specs.Surroundings.{Programs, next_reply, is_held, after_loop, answer}
 use Rattle.template_machine_meaning.proofs.Settling.{Walk, Settles, settles_then, settles_now, settles_step, settles_before, settles_to}
 use Rattle.template_machine_meaning.proofs.Keeping.{Keeps, loops_of, Top, top, on_loop_is}
 use Rattle.template_machine_meaning.proofs.Expressions.{Kept}
@@ -40,15 +40,20 @@ InRound base l asked w = Keeps (behind_frame base (frame_at l asked)) w
 abbrev pub AtEnd : {O : Type 0} → World → Loop → O → World → Type 0
 AtEnd base l o w = (asked : ℕ) × InRound base l asked w
 
--- its frame is closed
+-- its frame is closed, whether it stays known or not
+left_keeps : (base w : World) (own : Loop) (asked : ℕ) → InRound base own asked w → (t : Top w (Some (loop_at own asked)) (loops_of base.frames)) → (l : Loop) (kept : Bool)
+    → Keeps base (if kept then record w { frames = t.rest; closed = w.closed ++ l ∷ [] } else record w { frames = t.rest; given = drop_given l.number w.given })
+left_keeps base w own asked inside t l true = record { loops = t.others; outer = inside.outer; saved = inside.saved; captures = inside.captures }
+left_keeps base w own asked inside t l false = record { loops = t.others; outer = inside.outer; saved = inside.saved; captures = inside.captures }
+
 pub loop_closed : {O : Type 0} (s : Programs) (base w : World) (own : Loop) (asked : ℕ) → InRound base own asked w → (shape : O → World → Type 0) (Q : Walk O)
     → ((z : World) → Keeps base z → Settles {O = O} s z shape Q) → Settles {O = O} s w shape (λ m go. asks close_loop (on_done (Q m go)))
 loop_closed s base w own asked inside shape Q next =
     let t = top w (Some (loop_at own asked)) (loops_of base.frames) inside.loops in
-    let z : World = record w { frames = t.rest; given = drop_given own.number w.given } in
-    settles_to s w z shape close_loop Q
-    (λ n. on_loop_is w t.frame t.rest (loop_at own asked) t.frames t.own (λ f l fs. changed (record w { frames = fs; given = drop_given l.number w.given }) done))
-    (next z (record { loops = t.others; outer = inside.outer; saved = inside.saved; captures = inside.captures }))
+    let l : Loop = loop_at own asked in
+    settles_to s w (after_loop w l t.rest) shape close_loop Q
+    (λ n. on_loop_is w t.frame t.rest l t.frames t.own (λ f k fs. changed (after_loop w k fs) done))
+    (next (after_loop w l t.rest) (left_keeps base w own asked inside t l (is_held w l)))
 
 -- a round under a bound, over an item
 abbrev pub Round : Type 0

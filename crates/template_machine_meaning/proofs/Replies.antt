@@ -1,9 +1,9 @@
 -- The answers over one context are those over the other, where both agree on the names.
-use Rattle.std.proofs.Common.{◌≡◌, ℕ, ◌+◌, Bool, true, false, nat_le, List, [], ◌∷◌, Option, None, Some, Result, Ok, Err, map, refl, sym, ap, subst, ◌∙◌}
+use Rattle.std.proofs.Common.{◌≡◌, ℕ, ◌+◌, Bool, true, false, nat_le, List, [], ◌∷◌, ◌++◌, Option, None, Some, Result, Ok, Err, map, refl, sym, ap, subst, ◌∙◌}
 use Rattle.std.specs.Option.{option_or}
 use Rattle.std.specs.Prelude.{if◌then◌else◌, is_some, slice_get, unwrap_or}
 use Rattle.template_values_errors.specs.declared.ErrorKind.{ErrorKind}
-use Rattle.template_values_errors.specs.declared.ErrorKind.TheVariants.{InvalidOperation}
+use Rattle.template_values_errors.specs.declared.ErrorKind.TheVariants.{InvalidOperation, UnknownFilter, UnknownTest}
 use Rattle.template_values_errors.specs.declared.modes.AutoEscape.{AutoEscape}
 use Rattle.template_values_model.specs.Val as values
 use Rattle.template_values_model.specs.Val.{Val, undefined}
@@ -14,21 +14,22 @@ use Rattle.template_values_forms.specs.Truth as truths
 use Rattle.template_values_operators.specs.Iterated.{iterated}
 use Rattle.template_values_operators.specs.Kinds.{list_made}
 use Rattle.template_values_operators.specs.Slices.{slice_of}
-use Rattle.template_process.specs.Process.{Looping, Ask, look_up, store, negate, invert, operate, compare, get_attribute, get_item, get_slice, set_attribute, build_list, build_tuple, build_map, build_kwargs, call_function, call_method, call_value, truth_of, unpack, spread, write_raw, write_value, open_frame, close_frame, open_loop, next_item, did_not_iterate, close_loop, open_escape, close_escape, begin_capture, end_capture, include, Answer, done, value, truth, items, Told, tells, fails, breaks_off, leaves, Process, over, step, asks, amiss, cut_short, stuck}
+use Rattle.template_process.specs.Process.{Looping, Ask, look_up, store, negate, invert, operate, compare, get_attribute, get_item, get_slice, set_attribute, build_list, build_tuple, build_map, build_kwargs, merge_kwargs, call_function, call_method, call_value, apply_filter, perform_test, truth_of, unpack, spread, write_raw, write_value, open_frame, close_frame, open_loop, next_item, did_not_iterate, close_loop, open_escape, close_escape, begin_capture, end_capture, include, Answer, done, value, truth, items, Told, tells, fails, breaks_off, leaves, Process, over, step, asks, amiss, cut_short, stuck}
 use Rattle.template_process.specs.Drive.{End, ends, faults}
 use Rattle.template_process.specs.Trace.{paid, written, Reply, Run, run, behind, go_on, replied}
 use Rattle.template_walk.specs.Containers.{tuple_made, map_made, kwargs_made}
 use Rattle.template_walk.specs.Operators.{operated, compared, inverted, negated}
-use Rattle.template_machine_meaning.specs.World.{Loop, Frame, Capture, World, function_named, looked_up, value_named, given_at, put_given, has_room, loop_over}
+use Rattle.template_machine_meaning.specs.World.{Loop, Frame, Capture, World, local_at, looked_up, value_named, given_at, put_given, drop_given, has_room, loop_over}
 use Rattle.template_machine_meaning.specs.Records.{known_of}
 use Rattle.template_machine_meaning.specs.Undefined.{forbids_printing, forbids_iterating, forbids_truth, forbids_slicing, forbids_operator, forbids_link}
 use Rattle.template_machine_meaning.specs.Replies.{told, changed, refused, kinded, guarded, replied_with, changed_with}
 use Rattle.template_machine_meaning.specs.Functions.{Called, gives, makes, compares, name_called, first_method, first_called}
+use Rattle.template_machine_meaning.specs.Spreads.{items_of_each, merged_keywords}
 use Rattle.template_machine_meaning.specs.Keys.{Key, Around}
 use Rattle.template_machine_meaning.specs.Plans as plans
 use Rattle.template_machine_meaning.specs.Plans.{Purpose, includes, Plan, replies, enters, room_for, caller_of, after_by, given, wrapped_by, told_by, came, Runners, came_from, settled}
 use Rattle.template_machine_meaning.specs.Includes.{Found, choices_in, first_standing, include_levels, include_within, not_found, included_by, included_from}
-use Rattle.template_machine_meaning.specs.Surroundings.{with_text, printed_reply, attribute_given, item_given, unpacked, unpacked_into, empty_frame, loop_frame, opened_loop, asked_once, next_reply, escape_named, escape_put_back, captured, are_as_before, called_reply, put_attribute, with_attribute, plan, respond}
+use Rattle.template_machine_meaning.specs.Surroundings.{with_text, printed_reply, attribute_given, item_given, unpacked, unpacked_into, empty_frame, loop_frame, opened_loop, asked_once, next_reply, is_held, escape_named, escape_put_back, captured, are_as_before, called_reply, put_attribute, with_attribute, plan, respond}
 use Rattle.template_machine_meaning.proofs.Known.{Known, inner, stored, closed, cleared, learnt, IsSafe, May, Within}
 use Rattle.template_machine_meaning.proofs.Turned.{context_before, over_frames, over_context, Fits, fits_less, finds, same_known, same_depth, pushes, many, fits_stored, fits_cleared, fits_closed}
 
@@ -92,9 +93,9 @@ module _ (names : List ℕ → Type 0) (d : Val) where
     replied_so answer (Ok x) = record { same = refl; stays = tt; fits = λ t. fits }
     replied_so answer (Err kind) = record { same = refl; stays = tt; fits = λ t. fits }
 
-    -- what a safe name stands for; under all frames the functions are the same
+    -- what a safe name stands for; under all frames the globals are the same
     stands_so : (name : List ℕ) → IsSafe names k name → looked_up name other ≡ looked_up name w
-    stands_so name safe = ap (λ o. option_or o (function_named w.functions name)) (finds names d name k w.frames fits safe)
+    stands_so name safe = ap (λ o. option_or o (local_at name w.globals.named)) (finds names d name k w.frames fits safe)
 
     look_up_so : (name : List ℕ) → IsSafe names k name → Replies k (told w (tells (value (value_named name w)))) (told other (tells (value (value_named name other))))
     look_up_so name safe = record {
@@ -116,10 +117,10 @@ module _ (names : List ℕ → Type 0) (d : Val) where
     called_so (compares number vs) = compared_so number vs (are_as_before vs (given_at number w.given))
 
     call_so : (name : List ℕ) (vs : List Val) → IsSafe names k name
-        → Replies k (called_reply w (name_called w.functions (looked_up name w) vs)) (called_reply other (name_called w.functions (looked_up name other) vs))
+        → Replies k (called_reply w (name_called w.globals.functions (looked_up name w) vs)) (called_reply other (name_called w.globals.functions (looked_up name other) vs))
     call_so name vs safe =
-        subst (λ o. Replies k (called_reply w (name_called w.functions (looked_up name w) vs)) (called_reply other (name_called w.functions o vs)))
-        (sym (stands_so name safe)) (called_so (name_called w.functions (looked_up name w) vs))
+        subst (λ o. Replies k (called_reply w (name_called w.globals.functions (looked_up name w) vs)) (called_reply other (name_called w.globals.functions o vs)))
+        (sym (stands_so name safe)) (called_so (name_called w.globals.functions (looked_up name w) vs))
 
     -- a namespace takes an attribute
     put_so : (number : ℕ) (name : List ℕ) (v : Val) (o : Option (List (Val × Val)))
@@ -166,6 +167,13 @@ module _ (names : List ℕ → Type 0) (d : Val) where
         → Replies (cleared k) (next_reply w f x gs o) (next_reply other (record f { context = context_before d gs f.context }) x (over_frames d gs) o)
     next_so f gs h x (Some v) = record { same = refl; stays = tt; fits = λ t. fits_cleared names d k f gs [] (Some (asked_once x)) h }
     next_so f gs h x None = record { same = refl; stays = tt; fits = λ t. fits_cleared names d k f gs f.locals (Some (asked_once x)) h }
+
+    -- a loop's frame is closed
+    left_so : (x : Loop) (gs : List Frame) → Fits names d (closed k) gs → (b : Bool)
+        → Replies (closed k) (changed (if b then record w { frames = gs; closed = w.closed ++ x ∷ [] } else record w { frames = gs; given = drop_given x.number w.given }) done)
+        (changed (if b then record other { frames = over_frames d gs; closed = w.closed ++ x ∷ [] } else record other { frames = over_frames d gs; given = drop_given x.number w.given }) done)
+    left_so x gs h true = record { same = refl; stays = tt; fits = λ t. h }
+    left_so x gs h false = record { same = refl; stays = tt; fits = λ t. h }
 
     -- what opens a frame, in a state of which so many loops were opened
     abbrev opens : World → ℕ → Frame → Bool → Reply World
@@ -322,15 +330,18 @@ module _ (names : List ℕ → Type 0) (d : Val) where
     plans_so a (build_tuple vs) may = replied_so value (kinded (tuple_made vs))
     plans_so a (build_map entries) may = replied_so value (kinded (map_made entries))
     plans_so a (build_kwargs entries) may = replied_so value (kinded (kwargs_made entries))
+    plans_so a (merge_kwargs vs) may = known_so value (λ known. merged_keywords a.undefined known vs)
+    plans_so a (apply_filter name vs) may = nothing_so k UnknownFilter
+    plans_so a (perform_test name vs) may = nothing_so k UnknownTest
     plans_so a (call_function name vs) may = call_so name vs may
     plans_so a (set_attribute name v holder) may = attribute_so name v holder
     plans_so a (call_method name vs) may =
-        at_known k (replies (called_reply w (first_method w.functions (known_of w) name vs))) (λ known. replies (called_reply other (first_method w.functions known name vs)))
-        (called_so (first_method w.functions (known_of w) name vs))
-    plans_so a (call_value vs) may = called_so (first_called w.functions vs)
+        at_known k (replies (called_reply w (first_method w.globals.functions (known_of w) name vs))) (λ known. replies (called_reply other (first_method w.globals.functions known name vs)))
+        (called_so (first_method w.globals.functions (known_of w) name vs))
+    plans_so a (call_value vs) may = called_so (first_called w.globals.functions vs)
     plans_so a (truth_of v) may = known_so truth (λ known. guarded (forbids_truth a.undefined v) (kinded (truths.truth_of known v)))
     plans_so a (unpack n v) may = replied_so items (unpacked_into n (unpacked v))
-    plans_so a (spread []) may = record { same = refl; stays = tt; fits = λ t. fits }
+    plans_so a (spread vs) may = known_so items (λ known. items_of_each known vs)
     plans_so a (write_raw text) may = text_so text w.captures
     plans_so a (write_value v) may =
         let r : forms.Known → Result (List ℕ) ErrorKind = λ known. guarded (forbids_printing a.undefined v) (kinded (escaped w.escape known v)) in
@@ -347,7 +358,7 @@ module _ (names : List ℕ → Type 0) (d : Val) where
     plans_so a did_not_iterate may =
         framed_so k _ _ w.frames fits (λ f gs h. looped_so k _ _ f.loop (λ x. record { same = refl; stays = tt; fits = λ t. fits }))
     plans_so a close_loop may =
-        framed_so (closed k) _ _ w.frames fits (λ f gs h. looped_so (closed k) _ _ f.loop (λ x. record { same = refl; stays = tt; fits = λ t. fits_closed names d k f gs may h }))
+        framed_so (closed k) _ _ w.frames fits (λ f gs h. looped_so (closed k) _ _ f.loop (λ x. left_so x gs (fits_closed names d k f gs may h) (is_held w x)))
     plans_so a (open_escape v) may = escape_so (escape_named w.first v (text_in v))
     plans_so a close_escape may = put_back_so w.saved
     plans_so a (begin_capture keep) may = record { same = refl; stays = tt; fits = λ t. fits }

@@ -1,22 +1,22 @@
 -- Worked rows, computed: texts, prices and ends.
 use Rattle.std.proofs.Common.{◌≡◌, ℕ, pos, false, List, [], ◌∷◌, None, Some, Option, codes, bytes_eq, refl}
 use Rattle.std.specs.Prelude.{if◌then◌else◌}
-use Rattle.template_values_errors.specs.declared.ErrorKind.TheVariants.{InvalidOperation, TooManyArguments, UnknownFunction, BadInclude, OutOfFuel}
+use Rattle.template_values_errors.specs.declared.ErrorKind.TheVariants.{InvalidOperation, UndefinedError, TooManyArguments, UnknownFilter, UnknownTest, UnknownFunction, BadInclude, OutOfFuel}
 use Rattle.template_values_errors.specs.declared.modes.AutoEscape.TheVariants as escapes
 use Rattle.template_values_errors.specs.declared.modes.UndefinedBehavior.{UndefinedBehavior}
 use Rattle.template_values_errors.specs.declared.modes.UndefinedBehavior.TheVariants.{Lenient, Strict}
-use Rattle.template_values_model.specs.Val.{Val, int, text, map, no_pairs, pairs_more}
+use Rattle.template_values_model.specs.Val.{Val, int, text, map, function, namespace, no_pairs, pairs_more}
 use Rattle.template_tree.specs.declared.operators.BinOpKind.TheVariants as operators
 use Rattle.template_tree.specs.declared.operators.CompareOpKind.TheVariants.{Lt, Gt}
 use Rattle.std.specs.Fmt as fmt
 use Rattle.template_values_forms.specs.Printed as printed_forms
 use Rattle.template_tree.specs.Tree as tree
-use Rattle.template_tree.specs.Tree.{Expression, Expressions, Arguments, Statement, Statements, variable, constant, binary, chain, attribute, call, list_literal, absent, given, no_expressions, expressions_more, no_arguments, arguments_more, positional, keyword, no_links, links_more, raw, print, for_loop, set, set_block, no_statements, statements_more}
-use Rattle.template_process.specs.Drive.{faults}
+use Rattle.template_tree.specs.Tree.{Expression, Expressions, Arguments, Statement, Statements, variable, constant, binary, chain, filtered, tested, attribute, call, list_literal, absent, given, no_expressions, expressions_more, no_arguments, arguments_more, positional, keyword, positional_spread, keyword_spread, no_links, links_more, raw, print, for_loop, set, set_block, filter_block, no_statements, statements_more}
+use Rattle.template_process.specs.Drive.{End, ends, faults}
 use Rattle.template_process.specs.Trace.{Run, text_of, price_of}
 use Rattle.template_process.specs.Fuel.{under}
-use Rattle.template_machine_meaning.specs.World.{World}
-use Rattle.template_machine_meaning.specs.Meaning.{Standing, Setting, rendered}
+use Rattle.template_machine_meaning.specs.World.{Globals, World, range_number, dict_number, namespace_number}
+use Rattle.template_machine_meaning.specs.Meaning.{Standing, Setting, rendered, evaluated}
 
 abbrev number : ℕ → Expression
 number n = constant (int (pos n))
@@ -36,12 +36,22 @@ abbrev passing : List Expression → Arguments
 passing [] = no_arguments
 passing (e ∷ es) = arguments_more (positional e) (passing es)
 
+-- the functions that an environment has by itself, and what stands behind them in order of names
+abbrev globals : List (List ℕ × Val) → Globals
+globals more = record {
+  functions = Some 0;
+  named = (codes "dict", function 0 dict_number) ∷ (codes "namespace", function 0 namespace_number) ∷ (codes "range", function 0 range_number) ∷ more;
+}
+
 -- one template, named `b`, stands
-abbrev setting : UndefinedBehavior → Statements → Setting
-setting mode b = record { templates = λ name. named (codes "b") name b; functions = Some 0; limit = 500; undefined = mode }
+abbrev setting : UndefinedBehavior → List (List ℕ × Val) → Statements → Setting
+setting mode more b = record { templates = λ name. named (codes "b") name b; globals = globals more; limit = 500; undefined = mode }
+
+abbrev run_under : Setting → List Statement → Val → Run World
+run_under within ss context = rendered within 0 5 (record { tree = statements ss; escape = escapes.None }) context
 
 abbrev run_of : UndefinedBehavior → Statements → List Statement → Val → Run World
-run_of mode b ss context = rendered (setting mode b) 0 5 (record { tree = statements ss; escape = escapes.None }) context
+run_of mode b ss context = run_under (setting mode [] b) ss context
 
 abbrev only : List ℕ → Val → Val
 only name v = map (pairs_more (text name) v no_pairs)
@@ -160,10 +170,144 @@ changed_text : text_of changed_row.items ≡ codes "true,false,true,"
 unfolding printed_forms.level_limit fmt.digits
 changed_text = refl
 
+-- `{% set n = namespace() %}{% for i in [1, 2] %}{% set n.l = loop %}{% endfor %}{{ n.l.index }}{{ n.l.last }}{{ n.l.cycle(1, 2, 3) }}`
+abbrev n_l : Expression
+n_l = attribute (variable (codes "n")) (codes "l")
+
+abbrev of_n_l : List ℕ → Expression
+of_n_l name = attribute n_l name
+
+abbrev made_n : Statement
+made_n = set (variable (codes "n")) (call (variable (codes "namespace")) no_arguments)
+
+abbrev kept_loop_row : Run World
+kept_loop_row = run_of Lenient no_statements (made_n ∷ for_loop (variable (codes "i")) (list_literal (expressions (number 1 ∷ number 2 ∷ []))) absent false (statements (set n_l (variable (codes "loop")) ∷ [])) no_statements
+    ∷ print (of_n_l (codes "index")) ∷ print (of_n_l (codes "last")) ∷ print (call (of_n_l (codes "cycle")) (passing (number 1 ∷ number 2 ∷ number 3 ∷ []))) ∷ []) (map no_pairs)
+
+kept_loop_text : text_of kept_loop_row.items ≡ codes "3false3"
+unfolding printed_forms.level_limit fmt.digits
+kept_loop_text = refl
+
+-- `{% set n = namespace() %}{% for i in [1] %}{% set n.l = [loop] %}{{ loop.changed(1) }}{% endfor %}{{ n.l[0].changed(1) }}{{ n.l[0].changed(2) }}`
+abbrev changed_by : Expression → ℕ → Statement
+changed_by e n = print (call (attribute e (codes "changed")) (passing (number n ∷ [])))
+
+abbrev kept_changed_row : Run World
+kept_changed_row = run_of Lenient no_statements (made_n ∷ for_loop (variable (codes "i")) (list_literal (expressions (number 1 ∷ []))) absent false
+    (statements (set n_l (list_literal (expressions (variable (codes "loop") ∷ []))) ∷ changed_by (variable (codes "loop")) 1 ∷ [])) no_statements
+    ∷ changed_by (tree.item n_l (number 0)) 1 ∷ changed_by (tree.item n_l (number 0)) 2 ∷ []) (map no_pairs)
+
+kept_changed_text : text_of kept_changed_row.items ≡ codes "truefalsetrue"
+unfolding printed_forms.level_limit fmt.digits
+kept_changed_text = refl
+
+-- `{{ dict(**{"a": 1}, a=2).a }}`
+abbrev merged_row : Run World
+merged_row = run_of Lenient no_statements (print (attribute (call (variable (codes "dict"))
+    (arguments_more (keyword_spread (constant (only (codes "a") (int (pos 1))))) (arguments_more (keyword (codes "a") (number 2)) no_arguments))) (codes "a")) ∷ []) (map no_pairs)
+
+merged_text : text_of merged_row.items ≡ codes "2"
+unfolding printed_forms.level_limit fmt.digits
+merged_text = refl
+
+merged_price : price_of merged_row.items ≡ 5
+unfolding printed_forms.level_limit fmt.digits
+merged_price = refl
+
+-- `{% for i in range(*[1], 3) %}{{ i }}{% endfor %}`
+abbrev spread_row : Run World
+spread_row = run_of Lenient no_statements (for_loop (variable (codes "i")) (call (variable (codes "range"))
+    (arguments_more (positional_spread (list_literal (expressions (number 1 ∷ [])))) (passing (number 3 ∷ [])))) absent false
+    (statements (print (variable (codes "i")) ∷ [])) no_statements ∷ []) (map no_pairs)
+
+spread_text : text_of spread_row.items ≡ codes "12"
+unfolding printed_forms.level_limit fmt.digits
+spread_text = refl
+
+spread_price : price_of spread_row.items ≡ 14
+unfolding printed_forms.level_limit fmt.digits
+spread_price = refl
+
+-- `{{ dict(*x, a=1).a }}`, where x is undefined
+abbrev nothing_spread : Run World
+nothing_spread = run_of Strict no_statements (print (attribute (call (variable (codes "dict"))
+    (arguments_more (positional_spread (variable (codes "x"))) (arguments_more (keyword (codes "a") (number 1)) no_arguments))) (codes "a")) ∷ []) (map no_pairs)
+
+nothing_spread_text : text_of nothing_spread.items ≡ codes "1"
+unfolding printed_forms.level_limit fmt.digits
+nothing_spread_text = refl
+
+-- `{{ dict(**x) }}`, where x is undefined
+abbrev nothing_merged : UndefinedBehavior → Run World
+nothing_merged mode = run_of mode no_statements (print (call (variable (codes "dict")) (arguments_more (keyword_spread (variable (codes "x"))) no_arguments)) ∷ []) (map no_pairs)
+
+lenient_merged_end : (nothing_merged Lenient).end ≡ faults (InvalidOperation ∷ [])
+unfolding printed_forms.level_limit fmt.digits
+lenient_merged_end = refl
+
+strict_merged_end : (nothing_merged Strict).end ≡ faults (UndefinedError ∷ [])
+unfolding printed_forms.level_limit fmt.digits
+strict_merged_end = refl
+
+-- `{{ 1|f }}`, `{% filter f %}a{% endfilter %}` and `{{ 1 is f }}`
+unknown_filter_end : (run_of Lenient no_statements (print (filtered (codes "f") (given (number 1)) no_arguments) ∷ []) (map no_pairs)).end ≡ faults (UnknownFilter ∷ [])
+unfolding printed_forms.level_limit fmt.digits
+unknown_filter_end = refl
+
+unknown_block_end : (run_of Lenient no_statements (filter_block (filtered (codes "f") absent no_arguments) (statements (raw (codes "a") ∷ [])) ∷ []) (map no_pairs)).end ≡ faults (UnknownFilter ∷ [])
+unfolding printed_forms.level_limit fmt.digits
+unknown_block_end = refl
+
+unknown_test_end : (run_of Lenient no_statements (print (tested (codes "f") (number 1) no_arguments) ∷ []) (map no_pairs)).end ≡ faults (UnknownTest ∷ [])
+unfolding printed_forms.level_limit fmt.digits
+unknown_test_end = refl
+
 -- `{{ f() }}`
 unknown_end : (run_of Lenient no_statements (print (call (variable (codes "f")) no_arguments) ∷ []) (map no_pairs)).end ≡ faults (UnknownFunction ∷ [])
 unfolding printed_forms.level_limit fmt.digits
 unknown_end = refl
+
+-- `{{ x }}`, where 7 stands under x among the globals
+abbrev with_global : List Statement → Val → Run World
+with_global ss context = run_under (setting Lenient ((codes "x", int (pos 7)) ∷ []) no_statements) ss context
+
+global_text : text_of (with_global (print (variable (codes "x")) ∷ []) (map no_pairs)).items ≡ codes "7"
+unfolding printed_forms.level_limit fmt.digits
+global_text = refl
+
+-- and what the context has under x goes before it
+context_text : text_of (with_global (print (variable (codes "x")) ∷ []) (only (codes "x") (int (pos 8)))).items ≡ codes "8"
+unfolding printed_forms.level_limit fmt.digits
+context_text = refl
+
+-- as a local value does: `{{ x }}{% set x = 1 %}{{ x }}`
+local_text : text_of (with_global (print (variable (codes "x")) ∷ set (variable (codes "x")) (number 1) ∷ print (variable (codes "x")) ∷ []) (map no_pairs)).items ≡ codes "71"
+unfolding printed_forms.level_limit fmt.digits
+local_text = refl
+
+-- `{{ x() }}`
+number_called_end : (with_global (print (call (variable (codes "x")) no_arguments) ∷ []) (map no_pairs)).end ≡ faults (InvalidOperation ∷ [])
+unfolding printed_forms.level_limit fmt.digits
+number_called_end = refl
+
+-- an expression over a context that has x, in the state of number 0
+abbrev value_over : Val → Expression → End
+value_over x e = (evaluated (setting Lenient [] no_statements) 0 e (only (codes "x") x)).end
+
+-- `x`
+number_end : value_over (int (pos 7)) (variable (codes "x")) ≡ ends (int (pos 7) ∷ [])
+unfolding printed_forms.level_limit fmt.digits
+number_end = refl
+
+-- `namespace(a=x)` leaves its state as a map
+namespace_end : value_over (int (pos 7)) (call (variable (codes "namespace")) (arguments_more (keyword (codes "a") (variable (codes "x"))) no_arguments)) ≡ ends (only (codes "a") (int (pos 7)) ∷ [])
+unfolding printed_forms.level_limit fmt.digits
+namespace_end = refl
+
+-- `x`, where it is a namespace of another state
+foreign_end : value_over (namespace 1 0) (variable (codes "x")) ≡ faults (InvalidOperation ∷ [])
+unfolding printed_forms.level_limit fmt.digits
+foreign_end = refl
 
 -- `{{ 1 < x < 3 }}`
 abbrev chain_row : ℕ → Run World

@@ -1,5 +1,5 @@
 -- Stores, attributes, frames, loops and escapes settle, and keep what the world around them has.
-use Rattle.std.proofs.Common.{◌≡◌, ℕ, Bool, true, false, List, [], ◌∷◌, ◌==◌, length, Option, None, Some, Ok, Err, refl, sym, ap, ◌∙◌}
+use Rattle.std.proofs.Common.{◌≡◌, ℕ, Bool, true, false, List, [], ◌∷◌, ◌==◌, length, slice_set, Option, None, Some, Ok, Err, refl, sym, ap, ◌∙◌}
 use Rattle.std.specs.BTreeMap.{insert_entry}
 use Rattle.std.specs.Prelude.{if◌then◌else◌}
 use Rattle.template_values_errors.specs.declared.ErrorKind.TheVariants.{InvalidOperation, CannotUnpack}
@@ -15,7 +15,7 @@ use Rattle.template_walk.specs.Runnable.{IsTarget, AreTargets, AreAssignments}
 use Rattle.template_machine_meaning.specs.World.{Loop, Frame, World, put_local, has_room}
 use Rattle.template_machine_meaning.specs.Records.{known_of}
 use Rattle.template_machine_meaning.specs.Replies.{changed, replied_with, changed_with}
-use Rattle.template_machine_meaning.specs.Surroundings.{Programs, unpacked, unpacked_into, pushed, put_attribute, replaced, answer}
+use Rattle.template_machine_meaning.specs.Surroundings.{Programs, unpacked, unpacked_into, pushed, may_hold_loop, put_attribute, answer}
 use Rattle.template_machine_meaning.proofs.Settling.{Walk, Settles, settles_then, settles_now, settles_step, settles_refused, settles_before, settles_to}
 use Rattle.template_machine_meaning.proofs.Keeping.{Keeps, loops_of, Top, top, on_frames_is}
 use Rattle.template_machine_meaning.proofs.Expressions.{Kept, settles_expression}
@@ -70,7 +70,7 @@ module _ (s : Programs) (base : World) (framed : IsFramed base) where
       → Settles {O = Unit {0}} s w (Kept base) (λ m go. asks (set_attribute name v holder) (on_done (go tt)))
   put_by name v holder number w kept None is = settles_refused s w (Kept base) (set_attribute name v holder) InvalidOperation (λ m go. on_done (go tt)) is
   put_by name v holder number w kept (Some entries) is =
-      let z : World = record w { namespaces = replaced number (insert_entry val_cmp entries (values.text name) v) w.namespaces } in
+      let z : World = record w { namespaces = slice_set w.namespaces number (insert_entry val_cmp entries (values.text name) v); held = if may_hold_loop v then w.opened else w.held } in
       let kept_there : Keeps base z = record { loops = kept.loops; outer = kept.outer; saved = kept.saved; captures = kept.captures } in
       settles_to s w z (Kept base) (set_attribute name v holder) (λ m go. go tt) is (settles_now s z (Kept base) tt kept_there)
 

@@ -3,7 +3,8 @@
 use Rattle.std.proofs.Common.{◌≡◌, ℕ, ◌+◌, ◌≤◌, ◌⊎◌, inl, inr, List, [], ◌∷◌, ◌++◌, Result, Ok, Err, refl, sym, ap, ◌∙◌, append_assoc, arith}
 use Rattle.template_values_errors.specs.declared.ErrorKind.{ErrorKind}
 use Rattle.template_values_model.specs.Val.{Val}
-use Rattle.template_process.specs.Process.{Ask, Answer, done, value, tells, Process, step, asks, on_done, on_value}
+use Rattle.template_process.specs.Process as events
+use Rattle.template_process.specs.Process.{Ask, Answer, done, value, tells, Process, step, asks, on_done, on_value, on_all}
 use Rattle.template_process.specs.Drive.{faults}
 use Rattle.template_process.specs.Trace.{Item, paid, Reply, Run, run, behind, ended, replied}
 use Rattle.template_machine_meaning.specs.World.{World}
@@ -110,6 +111,25 @@ settles_value s w shape e (Err kind) shaped is = inr (record {
   kinds = kind ∷ [];
   after = w;
   is = λ n m le ge go. answered s w e (refused w kind) on_value is n go;
+})
+
+-- an event that gives items, or is refused, and changes nothing
+pub settles_items : (s : Programs) (w : World) (shape : List Val → World → Type 0) (e : Ask) (r : Result (List Val) ErrorKind)
+    → ((vs : List Val) → shape vs w) → ((n : ℕ) → answer s n w e ≡ replied_with w events.items r) → Settles {O = List Val} s w shape (λ m go. asks e (on_all go))
+settles_items s w shape e (Ok vs) shaped is = inl (record {
+  items = [];
+  least = 0;
+  out = vs;
+  after = w;
+  shaped = shaped vs;
+  is = λ n m le ge go. answered s w e (told w (tells (events.items vs))) on_all is n go;
+})
+settles_items s w shape e (Err kind) shaped is = inr (record {
+  items = [];
+  least = 0;
+  kinds = kind ∷ [];
+  after = w;
+  is = λ n m le ge go. answered s w e (refused w kind) on_all is n go;
 })
 
 -- an event that gives a value, and leaves another world

@@ -7,13 +7,13 @@ use Rattle.template_values_model.specs.Val.{Val}
 use Rattle.template_values_core.specs.Answers.{text_in}
 use Rattle.template_values_forms.specs.Escaped.{escaped}
 use Rattle.template_values_operators.specs.Iterated.{iterated}
-use Rattle.template_tree.specs.Tree.{Expression, Statement, Statements, call, absent, raw, print, for_loop, if_condition, with_block, set, set_block, auto_escape, include, continue_loop, break_loop, do_call, no_statements, statements_more}
+use Rattle.template_tree.specs.Tree.{Expression, Statement, Statements, call, absent, given, raw, print, for_loop, if_condition, with_block, set, set_block, auto_escape, filter_block, include, continue_loop, break_loop, do_call, no_statements, statements_more}
 use Rattle.template_process.specs.Process as events
 use Rattle.template_process.specs.Process.{Ask, truth_of, write_raw, write_value, open_frame, close_frame, plain_loop, open_loop, did_not_iterate, close_loop, open_escape, close_escape, begin_capture, end_capture, done, value, tells, breaks_off, Process, step, asks, on_done, on_value, on_truth}
 use Rattle.template_process.specs.Trace.{written, Reply, run, replied}
-use Rattle.template_walk.specs.Expressions.{expression_walk}
+use Rattle.template_walk.specs.Expressions.{expression_walk, filters_walk}
 use Rattle.template_walk.specs.Statements.{closing, capturing, target_walk, assignments_walk, rounds, iterable_walk, loop_end, past, statement_walk, statements_walk}
-use Rattle.template_walk.specs.Runnable.{IsRunnable, IsTarget, IsRunnableStatement, AreRunnableStatements}
+use Rattle.template_walk.specs.Runnable.{IsRunnable, AreFilters, IsTarget, IsRunnableStatement, AreRunnableStatements}
 use Rattle.template_machine_meaning.specs.World.{Loop, Capture, keeps, World, has_room, loop_over}
 use Rattle.template_machine_meaning.specs.Records.{known_of}
 use Rattle.template_machine_meaning.specs.Undefined.{forbids_printing, forbids_iterating}
@@ -22,7 +22,7 @@ use Rattle.template_machine_meaning.specs.Includes.{include_levels}
 use Rattle.template_machine_meaning.specs.Surroundings.{Programs, with_text, text_reply, printed_reply, empty_frame, counted_loop, opened_loop, gave_none, escape_named, escape_put_back, captured, answer}
 use Rattle.template_machine_meaning.proofs.Settling.{Walk, Settles, settles_then, settles_now, settles_step, settles_value, settles_refused, settles_before, settles_to, settles_weaker}
 use Rattle.template_machine_meaning.proofs.Keeping.{Keeps, keeps_itself, keeps_on, loops_of, top, on_loop_is}
-use Rattle.template_machine_meaning.proofs.Expressions.{Kept, settles_tested, settles_expression}
+use Rattle.template_machine_meaning.proofs.Expressions.{Kept, settles_tested, settles_expression, settles_filters}
 use Rattle.template_machine_meaning.proofs.Scopes.{IsFramed, framed_on, settles_target, settles_assignments, behind_frame, settles_pushed, settles_closed}
 use Rattle.template_machine_meaning.proofs.Loops.{Leave, goes, breaks_out, continues, exits_of, loop_at, frame_at, InRound, AtEnd, loop_closed, Round, settles_rounds}
 use Rattle.template_machine_meaning.proofs.Sifting.{settles_iterable}
@@ -124,21 +124,21 @@ module _ (s : Programs) (outer : ℕ) (deeper : (outer + include_levels ≤ s.ar
       settles_to s w z (LeavesTo looping base) close_escape (λ m go. go o) (λ n. ap (escape_put_back w) e)
       (settles_now s z (LeavesTo looping base) o (record { loops = loops; outer = same; saved = omega arith; captures = captures }, may))
 
-  -- a captured text is stored, or dropped on the way out
-  abbrev stored_out : Expression → Leave → Val → Walk Leave
-  stored_out target goes v m go = target_walk target v (go goes)
-  stored_out target breaks_out v m go = go breaks_out
-  stored_out target continues v m go = go continues
+  -- a captured text is taken, or dropped on the way out
+  abbrev taken_out : (Val → Walk Leave) → Leave → Val → Walk Leave
+  taken_out takes goes v m go = takes v m go
+  taken_out takes breaks_out v m go = go breaks_out
+  taken_out takes continues v m go = go continues
 
-  out_settles : (looping : Bool) (base w : World) → Keeps base w → IsFramed base → (target : Expression) → IsTarget target → (o : Leave) → MayLeave looping o
-      → (v : Val) → Settles {O = Leave} s w (LeavesTo looping base) (stored_out target o v)
-  out_settles looping base w kept framed target h goes may v = targeted looping base w kept framed target h v
-  out_settles looping base w kept framed target h breaks_out may v = settles_now s w (LeavesTo looping base) breaks_out (kept, may)
-  out_settles looping base w kept framed target h continues may v = settles_now s w (LeavesTo looping base) continues (kept, may)
+  out_settles : (looping : Bool) (base w : World) → Keeps base w → (takes : Val → Walk Leave) → ((v : Val) → Leads looping base (takes v)) → (o : Leave) → MayLeave looping o
+      → (v : Val) → Settles {O = Leave} s w (LeavesTo looping base) (taken_out takes o v)
+  out_settles looping base w kept takes lead goes may v = lead v w kept
+  out_settles looping base w kept takes lead breaks_out may v = settles_now s w (LeavesTo looping base) breaks_out (kept, may)
+  out_settles looping base w kept takes lead continues may v = settles_now s w (LeavesTo looping base) continues (kept, may)
 
   -- behind a captured body
-  abbrev capture_out : Expression → Leave → Walk Leave
-  capture_out target o m go = step (asks end_capture (on_value (λ text. stored_out target o text m go)))
+  abbrev capture_out : (Val → Walk Leave) → Leave → Walk Leave
+  capture_out takes o m go = step (asks end_capture (on_value (λ text. taken_out takes o text m go)))
 
   -- the innermost of these captures ends
   abbrev ended_among : World → List Capture → Reply World
@@ -148,15 +148,15 @@ module _ (s : Programs) (outer : ℕ) (deeper : (outer + include_levels ≤ s.ar
   ]
 
   capture_closed : (base w : World) (captures : List Capture) → w.captures ≡ captures → length captures ≡ suc (length base.captures)
-      → loops_of w.frames ≡ loops_of base.frames → w.outer ≡ base.outer → length w.saved ≡ length base.saved → IsFramed base → (target : Expression) → IsTarget target
-      → (looping : Bool) (o : Leave) → MayLeave looping o → Settles {O = Leave} s w (LeavesTo looping base) (capture_out target o)
-  capture_closed base w [] e many loops same saved framed target h looping o may = absurd (cc)
-  capture_closed base w (c ∷ cs) e many loops same saved framed target h looping o may =
+      → loops_of w.frames ≡ loops_of base.frames → w.outer ≡ base.outer → length w.saved ≡ length base.saved → (looping : Bool) (takes : Val → Walk Leave) → ((v : Val) → Leads looping base (takes v))
+      → (o : Leave) → MayLeave looping o → Settles {O = Leave} s w (LeavesTo looping base) (capture_out takes o)
+  capture_closed base w [] e many loops same saved looping takes lead o may = absurd (cc)
+  capture_closed base w (c ∷ cs) e many loops same saved looping takes lead o may =
       let z : World = record w { captures = cs } in
-      settles_step s w (LeavesTo looping base) (λ m go. asks end_capture (on_value (λ text. stored_out target o text m go)))
-      (settles_before s w z (LeavesTo looping base) [] 0 (λ m go. asks end_capture (on_value (λ text. stored_out target o text m go))) (stored_out target o (captured w.escape c))
-      (λ n m le ge go. ap (λ r. replied (λ a t. run (answer s n) (on_value (λ text. stored_out target o text m go) a) t) r) (ap (ended_among w) e))
-      (out_settles looping base z (record { loops = loops; outer = same; saved = saved; captures = omega arith }) framed target h o may (captured w.escape c)))
+      settles_step s w (LeavesTo looping base) (λ m go. asks end_capture (on_value (λ text. taken_out takes o text m go)))
+      (settles_before s w z (LeavesTo looping base) [] 0 (λ m go. asks end_capture (on_value (λ text. taken_out takes o text m go))) (taken_out takes o (captured w.escape c))
+      (λ n m le ge go. ap (λ r. replied (λ a t. run (answer s n) (on_value (λ text. taken_out takes o text m go) a) t) r) (ap (ended_among w) e))
+      (out_settles looping base z (record { loops = loops; outer = same; saved = saved; captures = omega arith }) takes lead o may (captured w.escape c)))
 
   -- a round of a loop: the target, then the body
   abbrev round_of : Expression → Statements → Round
@@ -241,15 +241,22 @@ module _ (s : Programs) (outer : ℕ) (deeper : (outer + include_levels ≤ s.ar
       (settles_then s inside (LeavesTo looping inside) (LeavesTo looping base) (body_walk body) (λ o m go. asks close_escape (on_done (go o))) (bodies inside framed_inside inside (keeps_itself inside))
       (λ o y l. escape_closed base y y.saved refl (omega (arith, l.0.saved, kept.saved)) (l.0.loops ∙ kept.loops) (l.0.outer ∙ kept.outer) (l.0.captures ∙ kept.captures) looping o l.1))
 
-  -- a capture for a body, whose text is stored
-  captured_body : (looping : Bool) (target : Expression) (body : Statements) → IsTarget target → BodySettles looping body → (base : World) → Frames base → (w : World) → Keeps base w
-      → Settles {O = Leave} s w (LeavesTo looping base) (λ m go. asks (begin_capture true) (on_done (statements_walk m body (capturing (exits_of go)) (capture_out target goes m go))))
-  captured_body looping target body h bodies base framed w kept =
+  -- a capture for a body, whose text is taken
+  captured_body : (looping : Bool) (body : Statements) → BodySettles looping body → (base : World) → Frames base → (w : World) → Keeps base w
+      → (takes : Val → Walk Leave) → ((v : Val) → Leads looping base (takes v))
+      → Settles {O = Leave} s w (LeavesTo looping base) (λ m go. asks (begin_capture true) (on_done (statements_walk m body (capturing (exits_of go)) (capture_out takes goes m go))))
+  captured_body looping body bodies base framed w kept takes lead =
       let inside : World = record w { captures = keeps [] ∷ w.captures } in
       let framed_inside : Frames inside = (record { loop = framed.0.loop; others = framed.0.others; loops = kept.loops ∙ framed.0.loops }, kept.outer ∙ framed.1) in
-      settles_to s w inside (LeavesTo looping base) (begin_capture true) (λ m go. statements_walk m body (capturing (exits_of go)) (capture_out target goes m go)) (λ n. refl)
-      (settles_then s inside (LeavesTo looping inside) (LeavesTo looping base) (body_walk body) (capture_out target) (bodies inside framed_inside inside (keeps_itself inside))
-      (λ o y l. capture_closed base y y.captures refl (omega (arith, l.0.captures, kept.captures)) (l.0.loops ∙ kept.loops) (l.0.outer ∙ kept.outer) (l.0.saved ∙ kept.saved) framed.0 target h looping o l.1))
+      settles_to s w inside (LeavesTo looping base) (begin_capture true) (λ m go. statements_walk m body (capturing (exits_of go)) (capture_out takes goes m go)) (λ n. refl)
+      (settles_then s inside (LeavesTo looping inside) (LeavesTo looping base) (body_walk body) (capture_out takes) (bodies inside framed_inside inside (keeps_itself inside))
+      (λ o y l. capture_closed base y y.captures refl (omega (arith, l.0.captures, kept.captures)) (l.0.loops ∙ kept.loops) (l.0.outer ∙ kept.outer) (l.0.saved ∙ kept.saved) looping takes lead o l.1))
+
+  -- filters first, over a text
+  filtered_text : (looping : Bool) (base w : World) → Keeps base w → (filters : Expression) → AreFilters filters → (v : Val) → (Q : Val → Walk Leave) → ((u : Val) → Leads looping base (Q u))
+      → Settles {O = Leave} s w (LeavesTo looping base) (λ m go. filters_walk filters v (λ u. Q u m go))
+  filtered_text looping base w kept filters h v Q next =
+      settles_then s w (Kept base) (LeavesTo looping base) (λ m go. filters_walk filters v go) Q (settles_filters s base filters h v w kept) (λ u x k. next u x k)
 
   mutual
     pub settles_statement : (looping : Bool) (st : Statement) → IsRunnableStatement looping st → (base : World) → Frames base → Leads looping base (λ m go. statement_walk m st (exits_of go) (go goes))
@@ -277,7 +284,15 @@ module _ (s : Programs) (outer : ℕ) (deeper : (outer + include_levels ≤ s.ar
         (λ o y l. settles_closed s w y empty_frame l.0 (LeavesTo looping base) o (λ z i. (keeps_on base w z kept i, l.1)))))
     settles_statement looping (set target e) h base framed w kept =
         valued looping base w kept e h.1 (λ v m go. target_walk target v (go goes)) (λ v x k. targeted looping base x k framed.0 target h.0 v)
-    settles_statement looping (set_block target absent body) h base framed w kept = captured_body looping target body h.0 (settles_statements looping body h.1) base framed w kept
+    settles_statement looping (set_block target absent body) h base framed w kept =
+        captured_body looping body (settles_statements looping body h.1) base framed w kept (λ v m go. target_walk target v (go goes)) (λ v x k. targeted looping base x k framed.0 target h.0 v)
+    settles_statement looping (set_block target (given filters) body) h base framed w kept =
+        captured_body looping body (settles_statements looping body h.2) base framed w kept (λ text m go. filters_walk filters text (λ v. target_walk target v (go goes)))
+        (λ text x k. filtered_text looping base x k filters h.0 text (λ v m go. target_walk target v (go goes)) (λ v y l. targeted looping base y l framed.0 target h.1 v))
+    settles_statement looping (filter_block filters body) h base framed w kept =
+        captured_body looping body (settles_statements looping body h.1) base framed w kept (λ text m go. filters_walk filters text (λ v. step (asks (write_value v) (on_done (go goes)))))
+        (λ text x k. filtered_text looping base x k filters h.0 text (λ v m go. step (asks (write_value v) (on_done (go goes))))
+        (λ v y l. printed_out looping base y l v (guarded (forbids_printing s.around.undefined v) (kinded (escaped y.escape (known_of y) v))) refl))
     settles_statement looping (auto_escape e body) h base framed w kept =
         valued looping base w kept e h.0 (λ v m go. asks (open_escape v) (on_done (statements_walk m body (closing close_escape (exits_of go)) (asks close_escape (on_done (go goes))))))
         (λ v x k. escaping looping body (settles_statements looping body h.1) base framed x k v (escape_named x.first v (text_in v)) refl)

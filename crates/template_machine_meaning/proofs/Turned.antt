@@ -1,5 +1,5 @@
 -- Another context in the outermost frame changes no answer to what may be asked.
-use Rattle.std.proofs.Common.{◌≡◌, ℕ, suc, inl, inr, Bool, true, false, List, [], ◌∷◌, length, Option, None, Some, refl, ap, subst}
+use Rattle.std.proofs.Common.{◌≡◌, ℕ, suc, inl, inr, Bool, true, false, List, [], ◌∷◌, ◌++◌, map, length, Option, None, Some, refl, ap, subst}
 use Rattle.std.specs.Prelude.{IsTrue, IsSome, if◌then◌else◌}
 use Rattle.std.specs.Option.{option_or}
 use Rattle.std.specs.Str.{bytes_eq}
@@ -79,7 +79,7 @@ module _ (names : List ℕ → Type 0) (d : Val) where
   same_loops (f ∷ fs) = ap (λ (loops : List (Option Loop)). f.loop ∷ loops) (same_loops fs)
 
   pub same_known : (w : World) → known_of (over_context d w) ≡ known_of w
-  same_known w = ap (known_by w.id w.namespaces) (same_loops w.frames)
+  same_known w = ap (λ (loops : List (Option Loop)). known_by w.id w.namespaces (loops ++ map Some w.closed)) (same_loops w.frames)
 
   pub same_depth : (fs : List Frame) → depth_within (over_frames d fs) ≡ depth_within fs
   same_depth [] = refl

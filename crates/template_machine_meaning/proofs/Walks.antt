@@ -11,14 +11,15 @@ use Rattle.template_tree.specs.declared.operators.UnaryOpKind.{UnaryOpKind}
 use Rattle.template_tree.specs.declared.operators.UnaryOpKind.TheVariants.{Not, Neg}
 use Rattle.template_tree.specs.declared.operators.BinOpKind.{BinOpKind}
 use Rattle.template_tree.specs.declared.operators.BinOpKind.TheVariants.{ScAnd, ScOr}
-use Rattle.template_tree.specs.Tree.{Expression, Optional, Expressions, Links, Arguments, variable, constant, slice, unary, binary, chain, conditional, attribute, item, call, list_literal, tuple_literal, map_literal, absent, given, no_expressions, expressions_more, no_links, links_more, no_arguments, arguments_more, positional, keyword, Statement, Statements, Assignments, raw, print, for_loop, if_condition, with_block, set, set_block, auto_escape, include, continue_loop, break_loop, do_call, no_statements, statements_more, no_assignments, assignments_more}
+use Rattle.template_tree.specs.Tree.{Expression, Optional, Expressions, Links, Arguments, variable, constant, slice, unary, binary, chain, conditional, attribute, item, call, filtered, tested, list_literal, tuple_literal, map_literal, absent, given, no_expressions, expressions_more, no_links, links_more, no_arguments, arguments_more, positional, keyword, positional_spread, keyword_spread, Statement, Statements, Assignments, raw, print, for_loop, if_condition, with_block, set, set_block, auto_escape, filter_block, include, continue_loop, break_loop, do_call, no_statements, statements_more, no_assignments, assignments_more}
 use Rattle.template_names.proofs.Plain.{in_attribute}
 use Rattle.template_names.specs.Names.{anywhere, place_in_argument, place_in_arguments, place_in_targets, stands_in, stands_if_given, stands_in_one, stands_in_links, is_stored_in, is_stored_in_one, is_used_by_target, is_used_from, is_stored_by, is_used_by, is_used_in}
 use Rattle.template_process.specs.Process as events
-use Rattle.template_process.specs.Process.{build_kwargs, call_function, call_method, call_value, close_frame, Looping, plain_loop, open_loop, close_loop, close_escape, Answer, done, value, truth, items, no_item, Process, over, step, asks, amiss, on_done, on_value, on_truth, on_item, on_items, on_all}
+use Rattle.template_process.specs.Process.{call_function, call_method, call_value, apply_filter, perform_test, close_frame, Looping, plain_loop, open_loop, close_loop, close_escape, Answer, done, value, truth, items, no_item, Process, over, step, asks, amiss, on_done, on_value, on_truth, on_item, on_items, on_all}
 use Rattle.template_walk.specs.Constants.{constant_of}
-use Rattle.template_walk.specs.Expressions.{folded, unary_ask, binary_walk, Giving, in_turn, named_in_turn, keywords_walk, passed_walk, Callee, by_name, by_method, by_value, callee_of, called_walk, expression_walk, object_walk, positional_walks, keyword_walks, optional_walk, expressions_walk, walks_of, entries_walk, chain_walk, linked_walk}
+use Rattle.template_walk.specs.Expressions.{folded, unary_ask, binary_walk, Giving, Passing, alone, spreads, listed, stretches_walk, mapped, entries_stretches, has_spread, merged_if, keywords_walk, run_if, passed_walk, Callee, by_name, by_method, by_value, callee_of, called_walk, expression_walk, object_walk, positional_walks, keyword_walks, optional_walk, expressions_walk, walks_of, entries_walk, chain_walk, linked_walk, filter_walk, filters_walk}
 use Rattle.template_walk.specs.Statements.{Exits, outside, closing, capture_left, capturing, number_of, target_walk, targets_walk, assignments_walk, rounds, kept_rounds, sifting, iterable_walk, loop_end, past, statement_walk, statements_walk, template_walk}
+use Rattle.template_machine_meaning.proofs.Expressions.{itself, value_walk}
 use Rattle.template_machine_meaning.proofs.Known.{Known, base, inner, IsKnown, Grows, grows_itself, grows_on, known_on, stored, cleared, grows_stored, knows_stored, IsSafe, Within}
 
 -- one of two, behind what holds
@@ -90,9 +91,10 @@ module _ (names : List ℕ → Type 0) (start : Known) where
       none_left : Each []
       each_more : {walk : (Val → Process) → Process} {walks : List ((Val → Process) → Process)} → Keeps walk → Each walks → Each (walk ∷ walks)
 
-    data EachNamed : List (List ℕ × Giving) → Type 0 where
-      no_names : EachNamed []
-      more_names : {named : List ℕ × Giving} {others : List (List ℕ × Giving)} → Keeps named.1 → EachNamed others → EachNamed (named ∷ others)
+    data EachPassed {X : Type 0} (walk_in : X → Giving) : List (Passing X Giving) → Type 0 where
+      none_passed : EachPassed walk_in []
+      alone_more : {x : X} {args : List (Passing X Giving)} → Keeps (walk_in x) → EachPassed walk_in args → EachPassed walk_in (alone x ∷ args)
+      spread_more : {walk : Giving} {args : List (Passing X Giving)} → Keeps walk → EachPassed walk_in args → EachPassed walk_in (spreads walk ∷ args)
 
     in_folded : (o : Option Val) (go : Val → Process) (p : Process) → ((v : Val) → In k (go v)) → In k p → In k (folded o go p)
     in_folded None go p h i = i
@@ -111,35 +113,57 @@ module _ (names : List ℕ → Type 0) (start : Known) where
     abbrev KeepsAll : ((List Val → Process) → Process) → Type 0
     KeepsAll walk = (go : List Val → Process) → ((vs : List Val) → In k (go vs)) → In k (walk go)
 
-    in_order : (walks : List Giving) → Each walks → KeepsAll (in_turn walks)
-    in_order [] each go h = h []
-    in_order (walk ∷ walks) (each_more f each) go h = f _ (λ v. in_order walks each _ (λ vs. h (v ∷ vs)))
+    in_listed : (vs : List Val) → KeepsAll (listed vs)
+    in_listed [] go h = h []
+    in_listed (v ∷ vs) go h = (tt, at_value k (λ list. go (list ∷ [])) (λ list. h (list ∷ [])))
 
-    in_named : (named : List (List ℕ × Giving)) → EachNamed named → (go : List (Val × Val) → Process) → ((entries : List (Val × Val)) → In k (go entries)) → In k (named_in_turn named go)
-    in_named [] each go h = h []
-    in_named (n ∷ ns) (more_names f each) go h = f _ (λ v. in_named ns each _ (λ entries. h ((values.text n.0, v) ∷ entries)))
+    in_stretches : (vs : List Val) (args : List (Passing Giving Giving)) → EachPassed itself args → (go : List Val → List Val → Process)
+        → ((lists rest : List Val) → In k (go lists rest)) → In k (stretches_walk vs args go)
+    in_stretches vs [] each go h = h [] vs
+    in_stretches vs (alone walk ∷ args) (alone_more f each) go h = f _ (λ v. in_stretches (vs ++ v ∷ []) args each _ h)
+    in_stretches vs (spreads walk ∷ args) (spread_more f each) go h =
+        in_listed vs _ (λ before. f _ (λ v. in_stretches [] args each _ (λ later rest. h (before ++ v ∷ later) rest)))
 
-    in_keywords : (named : List (List ℕ × Giving)) → EachNamed named → KeepsAll (keywords_walk named)
-    in_keywords [] each go h = h []
-    in_keywords (n ∷ ns) each go h =
-        in_named (n ∷ ns) each (λ entries. step (asks (build_kwargs entries) (on_value (λ map. go (map ∷ []))))) (λ entries. (tt, at_value k (λ map. go (map ∷ [])) (λ map. h (map ∷ []))))
+    in_mapped : (es : List (Val × Val)) → KeepsAll (mapped es)
+    in_mapped [] go h = h []
+    in_mapped (e ∷ es) go h = (tt, at_value k (λ map. go (map ∷ [])) (λ map. h (map ∷ [])))
 
-    in_passed : (walks : List Giving) → Each walks → (named : List (List ℕ × Giving)) → EachNamed named → KeepsAll (passed_walk walks named)
-    in_passed walks each named others go h = in_order walks each _ (λ vs. in_keywords named others _ (λ last. h (vs ++ last)))
+    in_named : (es : List (Val × Val)) (args : List (Passing (List ℕ × Giving) Giving)) → EachPassed value_walk args → (go : List Val → List (Val × Val) → Process)
+        → ((maps : List Val) (rest : List (Val × Val)) → In k (go maps rest)) → In k (entries_stretches es args go)
+    in_named es [] each go h = h [] es
+    in_named es (alone n ∷ args) (alone_more f each) go h = f _ (λ v. in_named (es ++ (values.text n.0, v) ∷ []) args each _ h)
+    in_named es (spreads walk ∷ args) (spread_more f each) go h =
+        in_mapped es _ (λ before. f _ (λ v. in_named [] args each _ (λ later rest. h (before ++ v ∷ later) rest)))
+
+    in_merged : (several : Bool) (maps : List Val) → KeepsAll (merged_if several maps)
+    in_merged false maps go h = h maps
+    in_merged true maps go h = (tt, at_value k (λ map. go (map ∷ [])) (λ map. h (map ∷ [])))
+
+    in_keywords : (named : List (Passing (List ℕ × Giving) Giving)) → EachPassed value_walk named → KeepsAll (keywords_walk named)
+    in_keywords named each go h = in_named [] named each _ (λ maps rest. in_mapped rest _ (λ more. in_merged (has_spread named) (maps ++ more) go h))
+
+    in_run : (spread_one : Bool) (lists vs : List Val) → KeepsAll (run_if spread_one lists vs)
+    in_run false lists vs go h = h vs
+    in_run true lists vs go h = in_listed vs _ (λ more. (tt, at_all k go h))
+
+    in_passed : (front : List Val) (args : List (Passing Giving Giving)) → EachPassed itself args → (named : List (Passing (List ℕ × Giving) Giving)) → EachPassed value_walk named
+        → KeepsAll (passed_walk front args named)
+    in_passed front args each named others go h =
+        in_stretches front args each _ (λ lists vs. in_keywords named others _ (λ last. in_run (has_spread args) lists (vs ++ last) go h))
 
     -- a name that is called is safe
     abbrev MayCall : Callee → Type 0
     MayCall (by_name name) = IsSafe names k name
     MayCall _ = Unit {0}
 
-    in_called : (callee : Callee) → MayCall callee → (whole object : Giving) → Keeps whole → Keeps object → (walks : List Giving) → Each walks → (named : List (List ℕ × Giving)) → EachNamed named
-        → Keeps (called_walk callee whole object (passed_walk walks named))
-    in_called (by_name name) may whole object f g walks each named others go h =
-        in_passed walks each named others (λ vs. step (asks (call_function name vs) (on_value go))) (λ vs. (may, at_value k go h))
-    in_called (by_method name) may whole object f g walks each named others go h =
-        g _ (λ v. in_passed walks each named others (λ vs. step (asks (call_method name (v ∷ vs)) (on_value go))) (λ vs. (tt, at_value k go h)))
-    in_called by_value may whole object f g walks each named others go h =
-        f _ (λ v. in_passed walks each named others (λ vs. step (asks (call_value (v ∷ vs)) (on_value go))) (λ vs. (tt, at_value k go h)))
+    in_called : (callee : Callee) → MayCall callee → (whole object : Giving) → Keeps whole → Keeps object → (args : List (Passing Giving Giving)) → EachPassed itself args
+        → (named : List (Passing (List ℕ × Giving) Giving)) → EachPassed value_walk named → Keeps (called_walk callee whole object (λ front. passed_walk front args named))
+    in_called (by_name name) may whole object f g args each named others go h =
+        in_passed [] args each named others (λ vs. step (asks (call_function name vs) (on_value go))) (λ vs. (may, at_value k go h))
+    in_called (by_method name) may whole object f g args each named others go h =
+        g _ (λ v. in_passed (v ∷ []) args each named others (λ vs. step (asks (call_method name vs) (on_value go))) (λ vs. (tt, at_value k go h)))
+    in_called by_value may whole object f g args each named others go h =
+        f _ (λ v. in_passed (v ∷ []) args each named others (λ vs. step (asks (call_value vs) (on_value go))) (λ vs. (tt, at_value k go h)))
 
     may_call : (callee : Expression) → Sees k (λ name. stands_in name callee) → MayCall (callee_of callee)
     may_call (variable name) sees = sees name ((bytes_eq-Decides name name).1 refl)
@@ -191,24 +215,40 @@ module _ (names : List ℕ → Type 0) (start : Known) where
           let in_args = sees_right k (λ name. stands_in name callee) (λ name. place_in_arguments (anywhere name) args) sees in
           in_called (callee_of callee) (may_call callee in_callee) (expression_walk callee) (object_walk callee) (in_expression callee in_callee) (in_object callee in_callee)
           (positional_walks args) (in_positional args in_args) (keyword_walks args) (in_keyword args in_args) go h
+      in_expression (filtered name (given e) args) sees go h =
+          let in_args = sees_right k (λ id. stands_in id e) (λ id. place_in_arguments (anywhere id) args) sees in
+          in_expression e (sees_left k (λ id. stands_in id e) (λ id. place_in_arguments (anywhere id) args) sees) _
+          (λ v. in_passed (v ∷ []) (positional_walks args) (in_positional args in_args) (keyword_walks args) (in_keyword args in_args)
+          (λ vs. step (asks (apply_filter name vs) (on_value go))) (λ vs. (tt, at_value k go h)))
+      in_expression (tested name e args) sees go h =
+          let in_args = sees_right k (λ id. stands_in id e) (λ id. place_in_arguments (anywhere id) args) sees in
+          in_expression e (sees_left k (λ id. stands_in id e) (λ id. place_in_arguments (anywhere id) args) sees) _
+          (λ v. in_passed (v ∷ []) (positional_walks args) (in_positional args in_args) (keyword_walks args) (in_keyword args in_args)
+          (λ vs. step (asks (perform_test name vs) (on_value go))) (λ vs. (tt, at_value k go h)))
       in_expression _ sees go h = tt
 
       in_object : (e : Expression) → Sees k (λ name. stands_in name e) → Keeps (object_walk e)
       in_object (attribute e field) sees go h = in_expression e (λ name used. sees name (in_attribute name e field ∙ used)) go h
       in_object _ sees go h = tt
 
-      in_positional : (args : Arguments) → Sees k (λ name. place_in_arguments (anywhere name) args) → Each (positional_walks args)
-      in_positional no_arguments sees = none_left
+      in_positional : (args : Arguments) → Sees k (λ name. place_in_arguments (anywhere name) args) → EachPassed itself (positional_walks args)
+      in_positional no_arguments sees = none_passed
       in_positional (arguments_more (positional e) args) sees =
-          each_more (in_expression e (sees_left k (λ name. stands_in name e) (λ name. place_in_arguments (anywhere name) args) sees))
+          alone_more (in_expression e (sees_left k (λ name. stands_in name e) (λ name. place_in_arguments (anywhere name) args) sees))
+          (in_positional args (sees_right k (λ name. stands_in name e) (λ name. place_in_arguments (anywhere name) args) sees))
+      in_positional (arguments_more (positional_spread e) args) sees =
+          spread_more (in_expression e (sees_left k (λ name. stands_in name e) (λ name. place_in_arguments (anywhere name) args) sees))
           (in_positional args (sees_right k (λ name. stands_in name e) (λ name. place_in_arguments (anywhere name) args) sees))
       in_positional (arguments_more argument args) sees =
           in_positional args (sees_right k (λ name. place_in_argument (anywhere name) argument) (λ name. place_in_arguments (anywhere name) args) sees)
 
-      in_keyword : (args : Arguments) → Sees k (λ name. place_in_arguments (anywhere name) args) → EachNamed (keyword_walks args)
-      in_keyword no_arguments sees = no_names
+      in_keyword : (args : Arguments) → Sees k (λ name. place_in_arguments (anywhere name) args) → EachPassed value_walk (keyword_walks args)
+      in_keyword no_arguments sees = none_passed
       in_keyword (arguments_more (keyword key e) args) sees =
-          more_names (in_expression e (sees_left k (λ name. stands_in name e) (λ name. place_in_arguments (anywhere name) args) sees))
+          alone_more (in_expression e (sees_left k (λ name. stands_in name e) (λ name. place_in_arguments (anywhere name) args) sees))
+          (in_keyword args (sees_right k (λ name. stands_in name e) (λ name. place_in_arguments (anywhere name) args) sees))
+      in_keyword (arguments_more (keyword_spread e) args) sees =
+          spread_more (in_expression e (sees_left k (λ name. stands_in name e) (λ name. place_in_arguments (anywhere name) args) sees))
           (in_keyword args (sees_right k (λ name. stands_in name e) (λ name. place_in_arguments (anywhere name) args) sees))
       in_keyword (arguments_more argument args) sees =
           in_keyword args (sees_right k (λ name. place_in_argument (anywhere name) argument) (λ name. place_in_arguments (anywhere name) args) sees)
@@ -252,6 +292,19 @@ module _ (names : List ℕ → Type 0) (start : Known) where
             (λ w. (tt, at_value k _ (λ later. in_linked links w later (sees_right k (λ name. stands_in name e) (λ name. stands_in_links name links) sees) go h))))
             (h holds),
       )
+
+    -- a filter of a block, and all of them
+    in_filter : (name : List ℕ) (args : Arguments) (v : Val) → Sees k (λ id. place_in_arguments (anywhere id) args) → Keeps (filter_walk name args v)
+    in_filter name args v sees go h =
+        in_passed (v ∷ []) (positional_walks args) (in_positional args sees) (keyword_walks args) (in_keyword args sees)
+        (λ vs. step (asks (apply_filter name vs) (on_value go))) (λ vs. (tt, at_value k go h))
+
+    in_filters : (filters : Expression) → Sees k (λ name. stands_in name filters) → (v : Val) → Keeps (filters_walk filters v)
+    in_filters (filtered name absent args) sees v go h = in_filter name args v sees go h
+    in_filters (filtered name (given e) args) sees v go h =
+        in_filters e (sees_left k (λ id. stands_in id e) (λ id. place_in_arguments (anywhere id) args) sees) v _
+        (λ w. in_filter name args w (sees_right k (λ id. stands_in id e) (λ id. place_in_arguments (anywhere id) args) sees) go h)
+    in_filters _ sees v go h = tt
 
   -- what stays within, whatever more is known
   abbrev Stays : Known → Process → Type 0
@@ -484,6 +537,34 @@ module _ (names : List ℕ → Type 0) (start : Known) where
             at_done k _
                 (in_statements n body k (capturing x) _ sees_body (capturing_body k x leads)
                 (λ l grows. (tt, at_value l _ (λ text. in_target target text l go (sees_on k l holds grows sees_holders) (λ m more knows. h m (grows_on k l m grows more) knows))))),
+          )
+      in_statement n (set_block target (given filters) body) k x go sees leads h =
+          let passed : List ℕ → Bool = λ name. stands_in name filters in
+          let holds : List ℕ → Bool = λ name. is_used_by_target name target in
+          let sees_most = sees_left k (λ name. is_used_in name body || passed name) holds sees in
+          let sees_filters = sees_right k (λ name. is_used_in name body) passed sees_most in
+          let sees_holders = sees_right k (λ name. is_used_in name body || passed name) holds sees in (
+            tt,
+            at_done k _
+                (in_statements n body k (capturing x) _ (sees_left k (λ name. is_used_in name body) passed sees_most) (capturing_body k x leads)
+                (λ l grows. (
+                  tt,
+                  at_value l _
+                      (λ text. in_filters l filters (sees_on k l passed grows sees_filters) text _
+                      (λ v. in_target target v l go (sees_on k l holds grows sees_holders) (λ m more knows. h m (grows_on k l m grows more) knows))),
+                ))),
+          )
+      in_statement n (filter_block filters body) k x go sees leads h =
+          let passed : List ℕ → Bool = λ name. stands_in name filters in (
+            tt,
+            at_done k _
+                (in_statements n body k (capturing x) _ (sees_left k (λ name. is_used_in name body) passed sees) (capturing_body k x leads)
+                (λ l grows. (
+                  tt,
+                  at_value l _
+                      (λ text. in_filters l filters (sees_on k l passed grows (sees_right k (λ name. is_used_in name body) passed sees)) text _
+                      (λ v. (tt, at_done l go (nothing_stored k go h l grows)))),
+                ))),
           )
       in_statement n (auto_escape e body) k x go sees leads h =
           in_expression k e (sees_left k (λ name. stands_in name e) (λ name. is_used_in name body) sees) _

@@ -32,8 +32,8 @@ IsolatesNames = (setting : Setting) (id : ℕ) (t : Standing) (c d : Val)
     → (n : ℕ) (fuel : Option ℕ) → IsSameRun (under fuel (rendered setting id n t c)) (under fuel (rendered setting id n t d))
 
 -- Over contexts that agree at the names that stand in an expression its evaluation leaves the same items and comes to the
--- same end, under every fuel.
+-- same end, with its value handed out, under every fuel.
 abbrev pub IsolatesExpressions : Type 0
-IsolatesExpressions = (setting : Setting) (e : Expression) (c d : Val)
+IsolatesExpressions = (setting : Setting) (id : ℕ) (e : Expression) (c d : Val)
     → ((name : List ℕ) → IsTrue (stands_in name e) → AgreesAt c d name)
-    → (fuel : Option ℕ) → IsSameRun (under fuel (evaluated setting e c)) (under fuel (evaluated setting e d))
+    → (fuel : Option ℕ) → IsSameRun (under fuel (evaluated setting id e c)) (under fuel (evaluated setting id e d))

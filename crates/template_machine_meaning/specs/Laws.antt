@@ -1,5 +1,6 @@
 -- The laws of meanings under bounds.
 use Rattle.std.specs.Prelude.{◌≡◌, ℕ, ◌≤◌, List, [], ◌∷◌, Option, None, Some, IsSome}
+use Rattle.template_values_model.specs.Val.{Val}
 use Rattle.template_tree.specs.Tree.{Expression}
 use Rattle.template_process.specs.Process.{Process, Below}
 use Rattle.template_process.specs.Drive.{End, ends, faults}
@@ -10,7 +11,7 @@ use Rattle.template_walk.specs.Statements.{standalone_walk}
 use Rattle.template_machine_meaning.specs.World.{Frame, World}
 use Rattle.template_machine_meaning.specs.Keys.{Key}
 use Rattle.template_machine_meaning.specs.Surroundings.{Programs, runners, answer, ran}
-use Rattle.template_machine_meaning.specs.Meaning.{Standing, Setting, tree_at, walks_of, meaning, evaluation}
+use Rattle.template_machine_meaning.specs.Meaning.{Standing, Setting, tree_at, walks_of, meaning, evaluation, evaluated}
 
 -- the second goes further
 abbrev pub ProcessGoesFurther : Option Process → Option Process → Type 0
@@ -67,6 +68,11 @@ GivesOne _ = ⊥
 -- Every expression comes to its value, or to a fault.
 abbrev pub EveryEvaluationGives : Type 0
 EveryEvaluationGives = (setting : Setting) (e : Expression) → IsRunnable e → (w : World) → GivesOne (evaluation setting e w).end
+
+-- So it does over a context, where its value is handed out.
+abbrev pub EveryExpressionGives : Type 0
+EveryExpressionGives = (setting : Setting) (id : ℕ) (e : Expression) → IsRunnable e → (context : Val)
+    → GivesOne (evaluated setting id e context).end
 
 -- Under every bound an expression does the same.
 abbrev pub EvaluationsNeedNoBound : Type 0

@@ -6,6 +6,7 @@ pub mod Keys
 pub mod Plans
 pub mod Includes
 pub mod Functions
+pub mod Spreads
 pub mod Surroundings
 pub mod Meaning
 pub mod Laws

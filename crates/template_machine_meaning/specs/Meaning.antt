@@ -1,13 +1,18 @@
 -- What a template means for a context, under a bound; and what an expression does, without one.
-use Rattle.std.specs.Prelude.{ℕ, suc, ◌-◌, ◌^◌, List, Option, None, Some, option_map}
+use Rattle.std.specs.Prelude.{ℕ, suc, List, [], ◌∷◌, Option, None, Some, option_map, Result, Ok, Err}
+use Rattle.template_values_errors.specs.declared.ErrorKind.{ErrorKind}
 use Rattle.template_values_errors.specs.declared.modes.AutoEscape.{AutoEscape}
 use Rattle.template_values_errors.specs.declared.modes.AutoEscape.TheVariants as escapes
 use Rattle.template_values_errors.specs.declared.modes.UndefinedBehavior.{UndefinedBehavior}
 use Rattle.template_values_model.specs.Val.{Val}
+use Rattle.template_values_frozen.specs.Frozen.{frozen}
 use Rattle.template_tree.specs.Tree.{Expression, Statements}
+use Rattle.template_process.specs.Drive.{End, ends, faults}
 use Rattle.template_process.specs.Trace.{Run, run}
 use Rattle.template_walk.specs.Statements.{standalone_walk, template_walk}
-use Rattle.template_machine_meaning.specs.World.{World, first_world}
+use Rattle.template_machine_meaning.specs.World.{Globals, World, first_world}
+use Rattle.template_machine_meaning.specs.Records.{known_of}
+use Rattle.template_machine_meaning.specs.Replies.{kinded}
 use Rattle.template_machine_meaning.specs.Keys as keys
 use Rattle.template_machine_meaning.specs.Keys.{Home, standing, kept, Stream, own, Part, whole, Key, whole_of, Head, Around}
 use Rattle.template_machine_meaning.specs.Surroundings.{Programs, runners, answer, ran}
@@ -17,11 +22,11 @@ pub record Standing : Type 0 where
   pub tree : Statements
   pub escape : AutoEscape
 
--- what no render changes: the templates that stand; the number of the environment, if it has functions by itself; the limit of
--- the depth; and what may be done with undefined values
+-- what no render changes: the templates that stand; what stands under all frames; the limit of the depth; and what may be done
+-- with undefined values
 pub record Setting : Type 0 where
   pub templates : List ℕ → Option Standing
-  pub functions : Option ℕ
+  pub globals : Globals
   pub limit : ℕ
   pub undefined : UndefinedBehavior
 
@@ -67,16 +72,26 @@ meaning setting root n w = ran (runners (walks_of setting (Some root)) (suc n) t
 
 -- a template that stands, over a context, in the state of a number
 abbrev pub rendered : Setting → ℕ → ℕ → Standing → Val → Run World
-rendered setting id n t context = meaning setting t n (first_world id setting.functions t.escape context)
+rendered setting id n t context = meaning setting t n (first_world id setting.globals t.escape context)
 
 -- an expression from a world on, to its value; it has no rounds and starts no run within, so the least bound will do
 abbrev pub evaluation : Setting → Expression → World → Run World
 evaluation setting e w = run (answer (walks_of setting None) 0) (standalone_walk e) w
 
--- the number that no state is given
-abbrev pub no_state : ℕ
-no_state = 2 ^ 64 - 1
+-- one value, or a fault
+abbrev pub alone : Result Val ErrorKind → End
+alone (Ok v) = ends (v ∷ [])
+alone (Err kind) = faults (kind ∷ [])
 
--- an expression over a context, under no escape; it opens no loop, so that no state's number need be known
-abbrev pub evaluated : Setting → Expression → Val → Run World
-evaluated setting e context = evaluation setting e (first_world no_state setting.functions escapes.None context)
+-- a value as it leaves its state: a map stands for each namespace in it; every other end stays
+abbrev pub handed : World → End → End
+handed w (ends (v ∷ [])) = alone (kinded (frozen (known_of w) v))
+handed w e = e
+
+-- a run that hands out its value, by what is known at its end
+abbrev pub handed_out : Run World → Run World
+handed_out r = record r { end = handed r.after r.end }
+
+-- an expression over a context, under no escape, in the state of a number: its value is handed out
+abbrev pub evaluated : Setting → ℕ → Expression → Val → Run World
+evaluated setting id e context = handed_out (evaluation setting e (first_world id setting.globals escapes.None context))

@@ -1,5 +1,6 @@
--- What a run knows of records: of its own namespaces, and of its own loops, as long as their frames are open.
-use Rattle.std.specs.Prelude.{ℕ, ◌-◌, ◌==◌, nat_le, List, [], ◌∷◌, length, map, slice_get, Option, None, Some, option_map, if◌then◌else◌}
+-- What a run knows of records: of its own namespaces, and of its own loops, as long as their frames are open, or where they
+-- were closed and a namespace may hold their values.
+use Rattle.std.specs.Prelude.{ℕ, ◌-◌, ◌==◌, nat_le, List, [], ◌∷◌, ◌++◌, length, map, slice_get, Option, None, Some, option_map, if◌then◌else◌}
 use Rattle.template_values_model.specs.Val.{Val}
 use Rattle.template_values_forms.specs.Known.{LoopSeen, Known}
 use Rattle.template_machine_meaning.specs.World.{Loop, Frame, World}
@@ -31,4 +32,4 @@ known_by id namespaces loops = record {
 }
 
 abbrev pub known_of : World → Known
-known_of w = known_by w.id w.namespaces (loops_of w.frames)
+known_of w = known_by w.id w.namespaces (loops_of w.frames ++ map Some w.closed)

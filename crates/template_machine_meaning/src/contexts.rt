@@ -9,7 +9,7 @@ pub fn isolation()
 {}
 
 /// Over two contexts that agree on the names that stand in an expression, its evaluation leaves the same
-/// trace and comes to the same end.
+/// trace and comes to the same end, with its value handed out.
 pub fn expression_isolation()
     ensures { IsolatesExpressions }
 {}

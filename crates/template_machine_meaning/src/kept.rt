@@ -1,6 +1,6 @@
 //! Laws: what every run of a template keeps, whatever it does.
 
-ghost use Rattle.template_machine_meaning.specs.Keeps.{FaultsAreMeant, RunsKeep};
+ghost use Rattle.template_machine_meaning.specs.Keeps.{ExpressionFaultsAreMeant, FaultsAreMeant, RunsKeep};
 
 /// A run counts as much depth around its frames at its end as at its start. A machine has faults of its own, for want of
 /// memory, for a sink that fails, or for code that is lost: none of these stands among the kinds that the run ends with, nor
@@ -13,4 +13,9 @@ pub fn runs_keep()
 /// depth.
 pub fn faults_are_meant()
     ensures { FaultsAreMeant }
+{}
+
+/// The same of what an expression ends with over a context, where its value is handed out.
+pub fn expression_faults_are_meant()
+    ensures { ExpressionFaultsAreMeant }
 {}

@@ -3,13 +3,13 @@
 #![tactic(auto)]
 
 ghost use Rattle.template_machine_meaning.specs.Laws.{BoundsExtend, EveryKeyEnds, EveryRunEnds, KeysExtend, MeaningsExtend, OneMeaning};
-ghost use Rattle.template_machine_meaning.specs.Laws.{EvaluationsNeedNoBound, EveryEvaluationGives};
+ghost use Rattle.template_machine_meaning.specs.Laws.{EvaluationsNeedNoBound, EveryEvaluationGives, EveryExpressionGives};
 
 mod contexts;
 mod kept;
 
 pub use contexts::{expression_isolation, isolation};
-pub use kept::{faults_are_meant, runs_keep};
+pub use kept::{expression_faults_are_meant, faults_are_meant, runs_keep};
 
 /// Under a greater bound a process that goes further gives a run that extends.
 pub fn bounds_extend()
@@ -45,6 +45,11 @@ pub fn one_meaning()
 /// Every expression whose constructs have a walk comes to its value, or to a fault.
 pub fn every_evaluation_gives()
     ensures { EveryEvaluationGives }
+{}
+
+/// So it does over a context, where its value is handed out.
+pub fn every_expression_gives()
+    ensures { EveryExpressionGives }
 {}
 
 /// An expression does the same under every bound.
