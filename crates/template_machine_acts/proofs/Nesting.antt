@@ -1,5 +1,5 @@
 -- Runs within a run.
-use Rattle.std.proofs.Common.{◌≡◌, ℕ, ◌+◌, ◌≤◌, List, [], ◌∷◌, ◌++◌, map, Option, Some, refl, sym, ap, subst, ◌∙◌, append_assoc, arith}
+use Rattle.std.proofs.Common.{◌≡◌, ℕ, ◌+◌, ◌≤◌, List, [], ◌∷◌, ◌++◌, map, refl, sym, ap, subst, ◌∙◌, append_assoc, arith}
 use Rattle.std.proofs.lemmas.List.{map-append}
 use Rattle.std.specs.Io.KnownBytes.{Appends}
 use Rattle.template_values_errors.specs.declared.ErrorKind.{ErrorKind}
@@ -10,8 +10,8 @@ use Rattle.template_process.specs.Trace.{Item, paid, written, Run, run, replied,
 use Rattle.template_code.specs.Code.{Code}
 use Rattle.template_machine_output.specs.Writes.{AppendsBeginning}
 use Rattle.template_machine_meaning.specs.World.{World}
-use Rattle.template_machine_meaning.specs.Plans.{Within, caller_of, after_by, given, wrapped_by, told_by, came, came_from, settled}
-use Rattle.template_machine_meaning.specs.Surroundings.{plan, Programs, runners, answer}
+use Rattle.template_machine_meaning.specs.Plans.{Within, caller_of, after_by, given, wrapped_by, told_by, came_from, settled}
+use Rattle.template_machine_meaning.specs.Surroundings.{Programs, runners, answer}
 use Rattle.template_machine_going.specs.Spots.{Spot}
 use Rattle.template_machine_going.specs.Paying.{Paid}
 use Rattle.template_machine_going.specs.Acts.{Next, deed_at}

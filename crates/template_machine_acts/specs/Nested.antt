@@ -1,8 +1,7 @@
 -- What an instruction comes to whose event enters a run within that is known under every bound from a least one on.
-use Rattle.std.specs.Prelude.{◌≡◌, ℕ, ◌≤◌, ◌++◌, List, None, Option, Some}
+use Rattle.std.specs.Prelude.{◌≡◌, ℕ, ◌≤◌, ◌++◌, List, Option, Some}
 use Rattle.std.specs.Io.KnownBytes.{Appends}
 use Rattle.template_values_errors.specs.declared.ErrorKind.{ErrorKind}
-use Rattle.template_values_errors.specs.declared.ErrorKind.TheVariants.{InvalidOperation}
 use Rattle.template_values_model.specs.Val.{Val}
 use Rattle.template_process.specs.Process.{Counts, Ask, Answer, Process}
 use Rattle.template_process.specs.Drive.{ends}

@@ -2,7 +2,7 @@
 #![tactic(auto)]
 
 ghost use Rattle.template_machine_acts.specs.Answers.{AddCountedActs, ConstantActs, DiscardActs, DoubleActs, JumpActs, LookupActs, SwapActs, SwapCountedActs, UndefinedActs};
-ghost use Rattle.template_machine_acts.specs.Calls.{BuildKwargsActs, CallFunctionActs, CallMethodActs, CallObjectActs};
+ghost use Rattle.template_machine_acts.specs.Calls.{ApplyFilterActs, BuildKwargsActs, CallFunctionActs, CallMethodActs, CallObjectActs, MergeKwargsActs, PerformTestActs};
 ghost use Rattle.template_machine_acts.specs.Captures.{BeginCaptureActs, EndCaptureActs, PrintCaptures, WriteCaptures};
 ghost use Rattle.template_machine_acts.specs.Events.{BreaksAstray, EventsAct, EventsFault, PassesActs, StuckAstray};
 ghost use Rattle.template_machine_acts.specs.Includes.{IncludeActs, IncludeFaults, IncludeRunsOut, IncludeStrays, IncludeWants};
@@ -50,7 +50,7 @@ pub fn operators_act()
     ensures slice { SliceActs }
 {}
 
-/// Containers are built and unpacked, or that faults; and a counted run begins.
+/// Containers are built and unpacked, and the items of several become a counted run, or that faults.
 pub fn containers_act()
     ensures list { BuildListActs }
     ensures tuple { BuildTupleActs }
@@ -59,13 +59,20 @@ pub fn containers_act()
     ensures counted { UnpackListsActs }
 {}
 
-/// Keyword arguments are built; and names, methods and values are called, which gives a value, makes a namespace or compares
-/// arguments with those of the call before; or that faults.
+/// Keyword arguments are built and merged; and names, methods and values are called, which gives a value, makes a namespace or
+/// compares arguments with those of the call before; or that faults.
 pub fn calls_act()
     ensures kwargs { BuildKwargsActs }
+    ensures merged { MergeKwargsActs }
     ensures function { CallFunctionActs }
     ensures method { CallMethodActs }
     ensures object { CallObjectActs }
+{}
+
+/// No filter and no test is known.
+pub fn unknown_act()
+    ensures filter { ApplyFilterActs }
+    ensures test { PerformTestActs }
 {}
 
 /// Jumps on a value's truth lead on or to their targets, or fault.

@@ -58,13 +58,13 @@ impl Run {
 }
 
 impl Operands {
-    /// An empty counted run goes on top.
+    /// A counted run of the values goes on top.
     ///
     /// # Errors
     ///
     /// [`ErrorKind::OutOfMemory`]; the operands are then as they were.
-    pub fn push_run(&mut self, alloc: Global) -> Result<(), Error>
-        ensures pushed { OnOk result (operands_in self.new ≡ counted [] ∷ operands_in self.old) }
+    pub fn push_run(&mut self, alloc: Global, values: Vec<Value>) -> Result<(), Error>
+        ensures pushed { OnOk result (operands_in self.new ≡ counted values.items ∷ operands_in self.old) }
         ensures refused { IfErr result NoMemory }
         ensures unchanged { OnErr result (operands_in self.new ≡ operands_in self.old) }
     {
@@ -72,7 +72,7 @@ impl Operands {
             return Err(Error::new(ErrorKind::OutOfMemory));
         }
         let run = Run {
-            values: Vec::new(alloc),
+            values,
             next: None,
             below: mem::replace(&mut self.values, Vec::new(alloc)),
         };

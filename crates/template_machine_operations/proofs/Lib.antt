@@ -4,3 +4,4 @@ mod Unpacked
 mod Mapping
 mod Ranging
 mod Naming
+mod Spreading

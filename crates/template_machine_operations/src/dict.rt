@@ -109,7 +109,7 @@ fn copies(alloc: Global, entries: &[Entry]) -> Result<Vec<Entry>, Error>
 }
 
 /// Puts copies of entries behind the others.
-fn push_copies(entries: &mut Vec<Entry>, more: &[Entry]) -> Result<(), Error>
+pub(crate) fn push_copies(entries: &mut Vec<Entry>, more: &[Entry]) -> Result<(), Error>
     ensures put { OnOk result (pairs_in entries.new.items ≡ pairs_in entries.old.items ++ pairs_in more.now) }
     ensures refused { IfErr result NoMemory }
 {

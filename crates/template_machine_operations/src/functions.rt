@@ -7,16 +7,10 @@ use crate::dict::dict;
 use crate::namespaces::namespace;
 use crate::range::range;
 use std::alloc::Global;
+use template_machine_globals::{DICT, NAMESPACE, RANGE};
 use template_values_core::Value;
 use template_values_errors::Error;
 use template_values_operators::refusal;
-
-// Their numbers.
-const RANGE: usize = 0;
-
-const DICT: usize = 1;
-
-const NAMESPACE: usize = 2;
 
 /// Calls the function of a number among those that an environment has by itself.
 ///

@@ -1,4 +1,4 @@
-//! How the values' events of a running template are answered: operators, parts of values, containers, calls,
+//! How the values' events of a running template are answered: operators, parts of values, containers, calls, spreads,
 //! truth, loops' items, printed texts and escapes, under what may be done with undefined values.
 #![tactic(auto)]
 
@@ -15,6 +15,7 @@ mod parts;
 mod printing;
 mod range;
 mod sequence;
+mod spreads;
 
 pub use called::Called;
 pub use calls::{call_named, call_value};
@@ -25,3 +26,4 @@ pub use operators::{compare, invert, negate, operate, truth_of};
 pub use parts::{get_attribute, get_item, get_slice};
 pub use printing::{print, write};
 pub use sequence::{choices_in, iterate, unpack};
+pub use spreads::{merge_kwargs, spread};

@@ -95,7 +95,7 @@ pub fn call_object(
 }
 
 // The count of an instruction, as it is taken.
-fn widened(count: Option<u16>) -> Option<usize>
+pub(crate) fn widened(count: Option<u16>) -> Option<usize>
     ensures { result ≡ count }
 {
     match count {

@@ -7,6 +7,7 @@ mod attributes;
 mod calls;
 mod captures;
 mod escapes;
+mod filters;
 mod frames;
 mod loops;
 mod names;
@@ -25,7 +26,8 @@ pub use escapes::{pop_auto_escape, push_auto_escape};
 pub use frames::{pop_frame, push_with};
 pub use loops::{iterate, iterate_at_once, pop_loop_frame, push_did_not_iterate, push_loop};
 pub use names::{
-    lookup, lookup_at_once, number_named, store_local, store_local_at_once, store_number,
+    lookup, lookup_at_once, lookup_global, number_named, store_local, store_local_at_once,
+    store_number,
 };
 pub use plain::{perform, perform_at_length};
 pub use rules::Rules;

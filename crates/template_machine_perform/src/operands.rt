@@ -6,6 +6,7 @@ ghost use Rattle.template_machine_operands.specs.Operands.{operands_in};
 ghost use Rattle.template_machine_steps.specs.Performs.{Leads, ruled};
 ghost use Rattle.template_machine_perform.specs.Performs.{straight, operator_in, IsOfOperands};
 
+use crate::filters::{apply_filter, perform_test};
 use std::alloc::Global;
 use template_code::{CompareOp, Instruction};
 use template_machine_operands::Operands;
@@ -13,7 +14,8 @@ use template_machine_state::State;
 use template_machine_steps::{
     Way, build_kwargs, build_list, build_map, build_tuple, compare_and_preserve, discard_top,
     dup_top, get_attr, get_item, invert, is_undefined, jump, jump_if_false, jump_if_false_or_pop,
-    jump_if_true_or_pop, load_const, negate, operate, slice, swap, unpack_list, unpack_lists,
+    jump_if_true_or_pop, load_const, merge_kwargs, negate, operate, slice, swap, unpack_list,
+    unpack_lists,
 };
 use template_tree::{BinOpKind, CompareOpKind};
 use template_values_errors::{Error, ErrorKind, UndefinedBehavior};
@@ -117,8 +119,15 @@ fn perform_without_operator(
         Instruction::BuildTuple(count) => straight(build_tuple(alloc, *count, operands)),
         Instruction::BuildMap(count) => straight(build_map(alloc, *count, operands)),
         Instruction::BuildKwargs(count) => straight(build_kwargs(alloc, *count, operands)),
+        Instruction::MergeKwargs(count) => {
+            straight(merge_kwargs(alloc, mode, *count, operands, state))
+        }
         Instruction::UnpackList(count) => straight(unpack_list(alloc, *count, operands)),
-        Instruction::UnpackLists(count) => straight(unpack_lists(alloc, *count, operands)),
+        Instruction::UnpackLists(count) => {
+            straight(unpack_lists(alloc, *count, operands, state))
+        }
+        Instruction::ApplyFilter(_, count, _) => straight(apply_filter(*count, operands)),
+        Instruction::PerformTest(_, count, _) => straight(perform_test(*count, operands)),
         Instruction::Neg => straight(negate(operands)),
         Instruction::Not => straight(invert(mode, operands, state)),
         Instruction::IsUndefined => straight(is_undefined(operands)),

@@ -1,11 +1,10 @@
 //! The namespaces of a run.
-ghost use Rattle.std.specs.Prelude.{◌≡◌, ◌++◌, ◌∷◌, [], IsSome, IfSome, IfOk, IfErr, OnErr, OnOk, is_some, length, option_map, slice_get};
+ghost use Rattle.std.specs.Prelude.{◌≡◌, ◌++◌, ◌∷◌, [], IsSome, IfSome, IfOk, IfErr, OnErr, OnOk, is_some, length, option_map, slice_get, slice_set};
 ghost use Rattle.std.specs.BTreeMap.{insert_entry};
 ghost use Rattle.template_values_errors.specs.Memory.{NoMemory};
 ghost use Rattle.template_values_model.specs.Val.{text};
 ghost use Rattle.template_values_core.specs.Order.{val_cmp};
 ghost use Rattle.template_values_core.specs.Shape.{pairs_in};
-ghost use Rattle.template_machine_meaning.specs.Surroundings.{replaced};
 
 use crate::namespace::Namespace;
 use std::alloc::Global;
@@ -95,7 +94,7 @@ impl Namespaces {
     ) -> Result<(), Error>
         requires { IsSome (slice_get self.old number) }
         ensures put { OnOk result (IfSome (slice_get self.old number)
-            (λ entries. self.new ≡ replaced number (insert_entry val_cmp entries (text name.now) value) self.old)) }
+            (λ entries. self.new ≡ slice_set self.old number (insert_entry val_cmp entries (text name.now) value))) }
         ensures refused { IfErr result NoMemory }
         ensures unchanged { OnErr result (self.new ≡ self.old) }
     {

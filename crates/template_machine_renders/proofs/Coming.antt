@@ -141,27 +141,30 @@ expression_means setting e runs w =
 -- where its code is at its end
 evaluation_over : (setting : Setting) (e : Expression) → IsRunnable e → (w after : World) (fuel left : Option ℕ) (before taken : Option (List ℕ))
     (operands : List Operand) → EndsOver (answer (codes_of setting None)) (standalone_code e) (at_start w fuel before) operands after left taken
-    → ((under fuel (evaluation setting e w)).end ≡ ends (values_in operands)) × GivesOne (ends (values_in operands))
+    → ((under fuel (evaluation setting e w)).end ≡ ends (values_in operands)) × ((under fuel (evaluation setting e w)).after ≡ after) × GivesOne (ends (values_in operands))
 evaluation_over setting e runs w after fuel left before taken operands h =
     let r : Run World = record { items = h.items; end = ends (values_in operands); after = after } in
     let is = ended_means setting None (standalone_code e) (evaluation setting e w) (at_start w fuel before) h.least h.bound r refl refl (expression_means setting e runs w) tt
-    (λ m le. h.is m le ∙ ended_there h.items (ends (values_in operands)) after) in (
-      ap (λ (q : Run World). q.end) (ap (under fuel) is ∙ lasts fuel left r h.pays),
+    (λ m le. h.is m le ∙ ended_there h.items (ends (values_in operands)) after) in
+    let same = ap (under fuel) is ∙ lasts fuel left r h.pays in (
+      ap (λ (q : Run World). q.end) same,
+      ap (λ (q : Run World). q.after) same,
       subst (λ (q : Run World). GivesOne q.end) is (every_evaluation_gives setting e runs w),
     )
 
-gives_fault : (kinds : List ErrorKind) (before taken : Option (List ℕ)) (r : Run World) → Renders {X = Val} (Err kinds) before taken r → GivesValue (Err kinds) r
-gives_fault kinds before taken r (whole ends_so text) = inl ends_so
-gives_fault kinds before taken r (broken why text) = inr why
+gives_fault : (kinds : List ErrorKind) (before taken : Option (List ℕ)) (after : World) (r : Run World) → Renders {X = Val} (Err kinds) before taken r
+    → GivesValue (Err kinds) after r
+gives_fault kinds before taken after r (whole ends_so text) = inl ends_so
+gives_fault kinds before taken after r (broken why text) = inr why
 
 pub expressions_evaluate : ExpressionsEvaluate
 expressions_evaluate setting e runs w after fuel left before taken (Ok v) (below, h) =
     let over = evaluation_over setting e runs w after fuel left before taken (single v ∷ below) h in
-    over.0 ∙ only_one v (values_in below) over.1
+    (over.0 ∙ only_one v (values_in below) over.2, over.1)
 expressions_evaluate setting e runs w after fuel left before taken (Err kinds) (inl stops) =
-    gives_fault kinds before taken (under fuel (evaluation setting e w))
+    gives_fault kinds before taken after (under fuel (evaluation setting e w))
     (stops_there Val setting None (standalone_code e) (evaluation setting e w) w fuel before (at_start after left taken) kinds
     (faults_are_meant (walks_of setting None) 0 (standalone_walk e) w fuel) (expression_means setting e runs w)
     (one_finished (evaluation setting e w).end (every_evaluation_gives setting e runs w)) stops)
 expressions_evaluate setting e runs w after fuel left before taken (Err kinds) (inr (bad, h)) =
-    absurd (evaluation_over setting e runs w after fuel left before taken [] h).1
+    absurd (evaluation_over setting e runs w after fuel left before taken [] h).2

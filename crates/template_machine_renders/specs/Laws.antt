@@ -29,9 +29,9 @@ StopsRender X = (setting : Setting) (root : Standing) (w : World) (fuel : Option
     → (n : ℕ) → IsFinished (meaning setting root n w).end
     → Renders {X = X} (Err kinds) before y.taken (under fuel (meaning setting root n w))
 
--- What a run of an expression's code tells is what its tree means, cut by the fuel.
+-- What a run of an expression's code tells is what its tree means, cut by the fuel, and so is the world that it leaves with a value.
 abbrev pub ExpressionsEvaluate : Type 0
 ExpressionsEvaluate = (setting : Setting) (e : Expression) → IsRunnable e → (w after : World) (fuel left : Option ℕ)
     (before taken : Option (List ℕ)) (result : Result Val (List ErrorKind))
     → Evaluates (codes_of setting None) (standalone_code e) w fuel before result after left taken
-    → GivesValue result (under fuel (evaluation setting e w))
+    → GivesValue result after (under fuel (evaluation setting e w))

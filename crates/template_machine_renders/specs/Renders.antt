@@ -49,7 +49,8 @@ pub record IsDone (fuel : Option ℕ) (r : Run World) (after : World) (left : Op
   pub world : (under fuel r).after ≡ after
   pub left_is : left ≡ leaves fuel r
 
--- The call tells the one value that the run leaves, or answers with the run's fault. Or a growth was refused, or the sink failed.
-abbrev pub GivesValue : {S : Type 0} → Result Val (List ErrorKind) → Run S → Type 0
-GivesValue (Ok v) r = r.end ≡ ends (v ∷ [])
-GivesValue (Err kinds) r = FaultsAs r kinds ⊎ IsWanting kinds
+-- The call tells the one value that the run leaves, in the world that it leaves; or it answers with the run's fault. Or a growth
+-- was refused, or the sink failed.
+abbrev pub GivesValue : {S : Type 0} → Result Val (List ErrorKind) → S → Run S → Type 0
+GivesValue (Ok v) after r = (r.end ≡ ends (v ∷ [])) × (r.after ≡ after)
+GivesValue (Err kinds) after r = FaultsAs r kinds ⊎ IsWanting kinds

@@ -1,2 +1,3 @@
 mod Innermost
 mod Named
+mod Closing

@@ -3,7 +3,6 @@
 
 mod caller;
 mod capture;
-mod functions;
 mod records;
 mod state;
 

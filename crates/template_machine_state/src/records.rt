@@ -1,17 +1,19 @@
 //! The records of a running template: what is known of them, and what becomes of them.
-ghost use Rattle.std.specs.Prelude.{◌≡◌, IfOk, IfErr, OnOk, OnErr, length};
+ghost use Rattle.std.specs.Prelude.{◌≡◌, ◌++◌, Some, IfOk, IfErr, OnOk, OnErr, if◌then◌else◌, length, map, option_map};
 ghost use Rattle.template_values_errors.specs.Memory.{NoMemory};
+ghost use Rattle.template_values_forms.specs.Views.{loop_seen};
 ghost use Rattle.template_values_model.specs.Val as values;
 ghost use Rattle.template_values_core.specs.Shape.{pairs_in};
 ghost use Rattle.template_process.specs.Process as process;
 ghost use Rattle.template_machine_meaning.specs.Functions.{compares};
-ghost use Rattle.template_machine_meaning.specs.Records.{known_of};
+ghost use Rattle.template_machine_meaning.specs.Records.{known_of, loop_numbered, loops_of, seen_of};
 ghost use Rattle.template_machine_meaning.specs.Replies as replies;
-ghost use Rattle.template_machine_meaning.specs.Surroundings.{called_reply, made_namespace, put_attribute, with_attribute};
+ghost use Rattle.template_machine_meaning.specs.Surroundings.{called_reply, made_namespace, may_hold_loop, may_hold_loops, put_attribute, with_attribute};
 ghost use Rattle.template_machine_frames.specs.Frames.{Becomes};
 
 use crate::state::State;
 use std::alloc::Global;
+use template_machine_frames::LoopState;
 use template_values_core::{Content, Entry, Value};
 use template_values_errors::{Error, ErrorKind};
 use template_values_forms::{LoopView, MacroView, Records};
@@ -28,8 +30,19 @@ impl<'env> State<'env> {
         ensures refused { IfErr result NoMemory }
         ensures unchanged { OnErr result (self.new ≡ self.old) }
     {
+        let holds = may_hold_loops(entries.as_slice());
         let number = self.namespaces.make(entries)?;
+        self.hold_loops_if(holds);
         Ok(Value::namespace(self.id, number))
+    }
+
+    // From now on a namespace may hold the value of a loop that was opened so far, if it may.
+    fn hold_loops_if(&mut self, holds: bool)
+        ensures { self.new ≡ record self.old { held = if holds then self.old.opened else self.old.held } }
+    {
+        if holds {
+            self.hold_loops();
+        }
     }
 
     /// From now on the namespace that the holder is has the value under the name. Linear in the number of its entries.
@@ -68,7 +81,10 @@ impl<'env> State<'env> {
         if id != self.id || !self.namespaces.has(number) {
             return Err(Error::new(ErrorKind::InvalidOperation));
         }
-        self.namespaces.put(alloc, number, name, value)
+        let holds = may_hold_loop(&value);
+        self.namespaces.put(alloc, number, name, value)?;
+        self.hold_loops_if(holds);
+        Ok(())
     }
 
     /// Whether the arguments are others than those that `changed` was called with last for the loop of a number; they are kept
@@ -91,8 +107,60 @@ impl<'env> State<'env> {
     }
 }
 
-// A look into a namespace of this state finds it, and one into a loop of this state as long as its frame is open. There are no
-// macros yet.
+impl<'env> State<'env> {
+    // What a look into the loop of that number shows, if a frame has one, or one was closed whose value a namespace may hold.
+    fn loop_numbered(&self, number: usize) -> Option<LoopView<'_>>
+        ensures { let loops = loops_of self.now.frames ++ map Some self.now.closed in
+            option_map loop_seen result ≡ option_map seen_of (loop_numbered number loops) }
+    {
+        match self.ctx.loop_view(number) {
+            Some(view) => Some(view),
+            None => loop_numbered(self.closed.as_slice(), number),
+        }
+    }
+}
+
+// Whether a value is a loop's, or may hold one.
+fn may_hold_loop(value: &Value) -> bool
+    ensures { result ≡ may_hold_loop value.now }
+{
+    matches!(
+        value.content(),
+        Content::Loop(_, _)
+            | Content::List(_)
+            | Content::Tuple(_)
+            | Content::Map(_)
+            | Content::KeywordMap(_)
+            | Content::Module(_, _)
+    )
+}
+
+// Whether one of the entries has such a value.
+fn may_hold_loops(entries: &[Entry]) -> bool
+    ensures { result ≡ may_hold_loops (pairs_in entries.now) }
+{
+    for entry in entries {
+        if may_hold_loop(&entry.value) {
+            return true;
+        }
+    }
+    false
+}
+
+// What a look into the first of the loops shows that has that number.
+fn loop_numbered(closed: &[LoopState], number: usize) -> Option<LoopView<'_>>
+    ensures { option_map loop_seen result ≡ option_map seen_of (loop_numbered number (map Some closed.now)) }
+{
+    for current in closed {
+        if current.number() == number {
+            return Some(current.view());
+        }
+    }
+    None
+}
+
+// A look into a namespace of this state finds it, and one into a loop of this state where its frame is open, or a namespace may
+// hold its value. There are no macros yet.
 impl<'env> Records for State<'env> {
     ghost known = { known_of };
 
@@ -106,7 +174,7 @@ impl<'env> Records for State<'env> {
 
     fn loop_view(&self, id: u64, number: usize) -> Option<LoopView<'_>> {
         if id == self.id {
-            self.ctx.loop_view(number)
+            self.loop_numbered(number)
         } else {
             None
         }

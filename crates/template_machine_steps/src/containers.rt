@@ -1,8 +1,9 @@
-//! Containers and keyword arguments that are built of operands, and items that are unpacked.
+//! Containers and keyword arguments that are built of operands, and items that are unpacked or spread.
 ghost use Rattle.std.specs.Prelude.{◌≡◌, ◌++◌, ℕ, List, Option, map, OnOk, IfErr};
 ghost use Rattle.template_values_errors.specs.Memory.{NoMemory};
 ghost use Rattle.template_values_errors.specs.declared.modes.UndefinedBehavior.{UndefinedBehavior};
-ghost use Rattle.template_code.specs.Code.{single, build_list, build_tuple, build_map, build_kwargs, unpack_list, unpack_lists};
+ghost use Rattle.template_code.specs.Code.{single, build_list, build_tuple, build_map, build_kwargs, merge_kwargs, unpack_list, unpack_lists};
+ghost use Rattle.template_machine_meaning.specs.Records.{known_of};
 ghost use Rattle.template_machine_meaning.specs.Surroundings.{Programs};
 ghost use Rattle.template_machine_meaning.specs.World.{World};
 ghost use Rattle.template_machine_operands.specs.Operands.{operands_in};
@@ -12,7 +13,8 @@ use std::alloc::Global;
 use template_machine_items::Items;
 use template_machine_operands::Operands;
 use template_machine_operations as values;
-use template_values_errors::{Error, ErrorKind};
+use template_values_errors::{Error, ErrorKind, UndefinedBehavior};
+use template_values_forms::Records;
 
 /// Takes so many values, or a counted run where the count is left out, and gives their list. Linear in their number.
 ///
@@ -89,19 +91,44 @@ pub fn unpack_list(alloc: Global, count: usize, operands: &mut Operands) -> Resu
     push_items(&items, operands)
 }
 
-/// Takes so many lists, and gives a counted run of their items: an empty one of no list. Of other lists nothing gives the items.
+/// Takes so many maps, and gives one keyword map of their entries. As dear as [`values::merge_kwargs`].
 ///
 /// # Errors
 ///
-/// [`ErrorKind::OutOfMemory`], and [`ErrorKind::BadStream`] where there is a list.
-pub fn unpack_lists(alloc: Global, count: usize, operands: &mut Operands) -> Result<(), Error>
-    ensures { (program : Programs) (limit : ℕ) (mode : UndefinedBehavior) (w : World) →
+/// Those of [`values::merge_kwargs`], and as [`build_list`].
+pub fn merge_kwargs<R: Records>(
+    alloc: Global,
+    mode: UndefinedBehavior,
+    count: usize,
+    operands: &mut Operands,
+    records: &R,
+) -> Result<(), Error>
+    ensures { (program : Programs) (limit : ℕ) (w : World) → known_of w ≡ R.known records.now →
+        Performs (ruled program limit mode) (merge_kwargs count) (operands_in operands.old) w result (operands_in operands.new) w }
+{
+    let maps = operands.take_many(count)?;
+    let merged = values::merge_kwargs(alloc, mode, maps.as_slice(), records)?;
+    operands.push(merged)
+}
+
+/// Takes so many values, and gives a counted run of their items, one behind the other: an empty one of no value. Linear in the
+/// number of items.
+///
+/// # Errors
+///
+/// Those of [`values::spread`], and as [`build_list`].
+pub fn unpack_lists<R: Records>(
+    alloc: Global,
+    count: usize,
+    operands: &mut Operands,
+    records: &R,
+) -> Result<(), Error>
+    ensures { (program : Programs) (limit : ℕ) (mode : UndefinedBehavior) (w : World) → known_of w ≡ R.known records.now →
         Performs (ruled program limit mode) (unpack_lists count) (operands_in operands.old) w result (operands_in operands.new) w }
 {
-    if count > 0 {
-        return Err(Error::new(ErrorKind::BadStream));
-    }
-    operands.push_run(alloc)
+    let lists = operands.take_many(count)?;
+    let items = values::spread(alloc, lists.as_slice(), records)?;
+    operands.push_run(alloc, items)
 }
 
 // Items go on top, the first one uppermost.

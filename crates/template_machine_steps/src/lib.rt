@@ -10,7 +10,9 @@ mod truths;
 mod ways;
 
 pub use asides::{Aside, Tested, operate_aside, test_aside};
-pub use containers::{build_kwargs, build_list, build_map, build_tuple, unpack_list, unpack_lists};
+pub use containers::{
+    build_kwargs, build_list, build_map, build_tuple, merge_kwargs, unpack_list, unpack_lists,
+};
 pub use operands::{discard_top, dup_top, load_const, load_const_at_once, swap};
 pub use operators::{compare_and_preserve, invert, is_undefined, negate, operate, operate_at_once};
 pub use parts::{get_attr, get_attr_at_once, get_item, slice};

@@ -26,10 +26,10 @@ returns-in_err-named c s =
 pub returns-in_err-called : goal.returns-in_err-called
 returns-in_err-called c s =
     call_refused s (codes.call_function c.args.name.now c.args.count) _ c.args.state.now _ _ _ _ (operands_in c.take_handed.new.self)
-    (name_called c.args.state.now.functions (looked_up c.args.name.now c.args.state.now) c.in_ok-args.args.items)
+    (name_called c.args.state.now.globals.functions (looked_up c.args.name.now c.args.state.now) c.in_ok-args.args.items)
     (λ before place left taken. function_acts s before (spot place (operands_in c.args.operands.now) c.args.state.now left taken) c.args.name.now c.args.count _ _
     (handed_as _ _ _ _ c.widened.ensures c.in_ok-args.ensures.taken))
-    (name_spares c.args.state.now.functions (looked_up c.args.name.now c.args.state.now) c.in_ok-args.args.items)
+    (name_spares c.args.state.now.globals.functions (looked_up c.args.name.now c.args.state.now) c.in_ok-args.args.items)
     (named_comes (Err _) _ _ _ _ _ _ c.functions.ensures c.in_ok-named.ensures.found c.as_slice.ensures.value c.in_err-called.ensures)
     c.from_residual-in_err-called.ensures.1
 
@@ -40,7 +40,7 @@ returns-in_err-value c s =
 pub returns : goal.returns
 returns c s =
     called_out s (codes.call_function c.args.name.now c.args.count) _ c.args.state.now _ _ _ (operands_in c.take_handed.new.self)
-    (name_called c.args.state.now.functions (looked_up c.args.name.now c.args.state.now) c.in_ok-args.args.items) c.in_ok-value.value
+    (name_called c.args.state.now.globals.functions (looked_up c.args.name.now c.args.state.now) c.in_ok-args.args.items) c.in_ok-value.value
     (λ before place left taken. function_acts s before (spot place (operands_in c.args.operands.now) c.args.state.now left taken) c.args.name.now c.args.count _ _
     (handed_as _ _ _ _ c.widened.ensures c.in_ok-args.ensures.taken))
     (c.in_ok-value.ensures.given _

@@ -22,10 +22,10 @@ returns-in_err-taken c s =
 pub returns-in_err-called : goal.returns-in_err-called
 returns-in_err-called c s =
     call_refused s (codes.call_method c.args.name.now c.args.count) _ c.args.state.now _ _ _ _ (operands_in c.take_handed.new.self)
-    (first_method c.args.state.now.functions (known_of c.args.state.now) c.args.name.now c.in_ok-taken.taken.items)
+    (first_method c.args.state.now.globals.functions (known_of c.args.state.now) c.args.name.now c.in_ok-taken.taken.items)
     (λ before place left taken. method_acts s before (spot place (operands_in c.args.operands.now) c.args.state.now left taken) c.args.name.now c.args.count _ _
     (handed_as _ _ _ _ c.widened.ensures c.in_ok-taken.ensures.taken))
-    (first_method_spares c.args.state.now.functions (known_of c.args.state.now) c.args.name.now c.in_ok-taken.taken.items)
+    (first_method_spares c.args.state.now.globals.functions (known_of c.args.state.now) c.args.name.now c.in_ok-taken.taken.items)
     (method_comes (Err _) _ _ (known_of c.args.state.now) c.args.name.now _ _ c.functions.ensures c.as_slice.ensures.value c.in_err-called.ensures)
     c.from_residual-in_err-called.ensures.1
 
@@ -36,7 +36,7 @@ returns-in_err-value c s =
 pub returns : goal.returns
 returns c s =
     called_out s (codes.call_method c.args.name.now c.args.count) _ c.args.state.now _ _ _ (operands_in c.take_handed.new.self)
-    (first_method c.args.state.now.functions (known_of c.args.state.now) c.args.name.now c.in_ok-taken.taken.items) c.in_ok-value.value
+    (first_method c.args.state.now.globals.functions (known_of c.args.state.now) c.args.name.now c.in_ok-taken.taken.items) c.in_ok-value.value
     (λ before place left taken. method_acts s before (spot place (operands_in c.args.operands.now) c.args.state.now left taken) c.args.name.now c.args.count _ _
     (handed_as _ _ _ _ c.widened.ensures c.in_ok-taken.ensures.taken))
     (c.in_ok-value.ensures.given _

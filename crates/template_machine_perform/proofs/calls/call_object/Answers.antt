@@ -21,10 +21,10 @@ returns-in_err-taken c s =
 pub returns-in_err-called : goal.returns-in_err-called
 returns-in_err-called c s =
     call_refused s (codes.call_object c.args.count) _ c.args.state.now _ _ _ _ (operands_in c.take_handed.new.self)
-    (first_called c.args.state.now.functions c.in_ok-taken.taken.items)
+    (first_called c.args.state.now.globals.functions c.in_ok-taken.taken.items)
     (λ before place left taken. object_acts s before (spot place (operands_in c.args.operands.now) c.args.state.now left taken) c.args.count _ _
     (handed_as _ _ _ _ c.widened.ensures c.in_ok-taken.ensures.taken))
-    (first_spares c.args.state.now.functions c.in_ok-taken.taken.items)
+    (first_spares c.args.state.now.globals.functions c.in_ok-taken.taken.items)
     (first_comes (Err _) _ _ _ _ c.functions.ensures c.as_slice.ensures.value c.in_err-called.ensures)
     c.from_residual-in_err-called.ensures.1
 
@@ -35,7 +35,7 @@ returns-in_err-value c s =
 pub returns : goal.returns
 returns c s =
     called_out s (codes.call_object c.args.count) _ c.args.state.now _ _ _ (operands_in c.take_handed.new.self)
-    (first_called c.args.state.now.functions c.in_ok-taken.taken.items) c.in_ok-value.value
+    (first_called c.args.state.now.globals.functions c.in_ok-taken.taken.items) c.in_ok-value.value
     (λ before place left taken. object_acts s before (spot place (operands_in c.args.operands.now) c.args.state.now left taken) c.args.count _ _
     (handed_as _ _ _ _ c.widened.ensures c.in_ok-taken.ensures.taken))
     (c.in_ok-value.ensures.given _

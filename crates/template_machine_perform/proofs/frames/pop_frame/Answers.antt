@@ -1,6 +1,5 @@
 use Rattle.std.proofs.Common.{suc, sym, subst}
 use Rattle.template_code.specs.Code as codes
-use Rattle.template_code.specs.Code.{single}
 use Rattle.template_machine_meaning.specs.Surroundings.{answer}
 use Rattle.template_machine_going.specs.Acts.{Acts}
 use Rattle.template_machine_steps.specs.Performs.{spot}

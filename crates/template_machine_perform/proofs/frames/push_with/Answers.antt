@@ -1,5 +1,4 @@
 use Rattle.template_code.specs.Code as codes
-use Rattle.template_code.specs.Code.{single}
 use Rattle.template_machine_meaning.specs.Surroundings.{pushed, empty_frame}
 use Rattle.template_machine_acts.proofs.Framing.{open_frame_acts}
 use Rattle.template_machine_steps.specs.Performs.{spot, ruled}

@@ -1,8 +1,5 @@
 use Rattle.std.proofs.Common.{rules}
 use Rattle.template_code.specs.Listing.{code_in}
-use Rattle.template_machine_loop.specs.Operands.{operands_in}
-use Rattle.template_machine_loop.specs.Programs.{programs_of}
-use Rattle.template_code.specs.Listing.{code_in}
 use Rattle.template_machine_loop.specs.Programs.{programs_of}
 use Rattle.template_machine_renders.proofs.Uppermost.{evaluates_uppermost}
 use Rattle.template_machine_renders.proofs.running.run_expression.Goals as goal

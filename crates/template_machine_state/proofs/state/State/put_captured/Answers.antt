@@ -8,7 +8,7 @@ use Rattle.template_machine_state.proofs.state.State.put_captured.Goals as goal
 pub returns : goal.returns
 returns c =
     let i = c.self.inside in
-    let world : List Capture → World = λ cs. record { frames = i.ctx.frames; outer = i.ctx.outer; escape = i.escape; saved = reverse i.saved.items; first = i.first; captures = cs; id = i.id; opened = i.opened; functions = i.functions; namespaces = i.namespaces; given = i.given } in
+    let world : List Capture → World = λ cs. record { frames = i.ctx.frames; outer = i.ctx.outer; escape = i.escape; saved = reverse i.saved.items; first = i.first; captures = cs; id = i.id; opened = i.opened; globals = i.globals.now; namespaces = i.namespaces; given = i.given; held = i.held; closed = i.closed.items } in
     rw (← c.self.view_is)
     (ap world
     (last_changed (λ d. keeps (string_bytes c.args.text)) i.captures.items c.last_place-last.result c.index_mut.result.now c.of.result

@@ -14,7 +14,7 @@ returns-clause-taken c =
 pub returns-clause-emptied : goal.returns-clause-emptied
 returns-clause-emptied c =
     let i = c.self.inside in
-    let world : List Capture → World = λ cs. record { frames = i.ctx.frames; outer = i.ctx.outer; escape = i.escape; saved = reverse i.saved.items; first = i.first; captures = cs; id = i.id; opened = i.opened; functions = i.functions; namespaces = i.namespaces; given = i.given } in
+    let world : List Capture → World = λ cs. record { frames = i.ctx.frames; outer = i.ctx.outer; escape = i.escape; saved = reverse i.saved.items; first = i.first; captures = cs; id = i.id; opened = i.opened; globals = i.globals.now; namespaces = i.namespaces; given = i.given; held = i.held; closed = i.closed.items } in
     rw (← c.self.view_is)
     (world_some c.take.result world _ _
     (last_changed_some c.take.result (λ d. keeps []) i.captures.items c.last_place-last.result c.index_mut.result.now c.take.new.self

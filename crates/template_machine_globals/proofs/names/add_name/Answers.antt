@@ -1,8 +1,7 @@
 use Rattle.std.proofs.Common.{◌≡◌, ◌∙◌, ap, Bool, true, false, cond, ◌||◌, refl, string_bytes, bytes_eq}
 use Rattle.std.specs.BTreeSet.{contains_text}
 use Rattle.std.proofs.lemmas.Map.Text.{btree_set_updates_text}
-use Rattle.template_machine_state.proofs.Named.{bytes_eq-turned}
-use Rattle.template_machine_state.proofs.functions.add_name.Goals as goal
+use Rattle.template_machine_globals.proofs.names.add_name.Goals as goal
 
 cond_or : (test before : Bool) → cond test true before ≡ (before || test)
 cond_or true true = refl
@@ -17,4 +16,3 @@ returns-clause-added c = λ q.
     let same : string_bytes key ≡ c.args.name.now = c.in_ok-from_str.ensures.ok in
     updated ∙ cond_or (bytes_eq (string_bytes key) q) (contains_text c.args.names.now q)
     ∙ ap (λ bs. contains_text c.args.names.now q || bytes_eq bs q) same
-    ∙ ap (λ b. contains_text c.args.names.now q || b) (bytes_eq-turned c.args.name.now q)

@@ -1,0 +1,10 @@
+//! The functions that an environment has by itself.
+
+/// The number of the function `range`.
+pub const RANGE: usize = 0;
+
+/// The number of the function `dict`.
+pub const DICT: usize = 1;
+
+/// The number of the function `namespace`.
+pub const NAMESPACE: usize = 2;
