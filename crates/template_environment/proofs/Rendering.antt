@@ -76,14 +76,14 @@ module _ (e : Registry) (root : Option Compiled) where
 pub record IsRunOf (e : Registry) (id : ℕ) (c : Compiled) (context : Val) (s : Programs) (code : List Code) (w : World) : Type 0 where
   pub programs : s ≡ codes_of (setting_of e) (Some (standing_of c))
   pub is_code : code ≡ code_for c
-  pub start : w ≡ first_world id e.functions c.escape context
+  pub start : w ≡ first_world id e.globals c.escape context
 
 pub render_done : {X : Type 0} (v : X) (e : Registry) (id : ℕ) (c : Compiled) (context : Val) (s : Programs) (code : List Code) (w after : World) (set fuel left : Option ℕ)
     (before taken : Option (List ℕ)) → fuel ≡ set → IsRunOf e id c context s code w → Runs s code w fuel before (Ok v) after left taken
     → (n : ℕ) → IsFinished (rendering e id c n context).end → IsDone set (rendering e id c n context) after left before taken
 render_done v e id c context s code w after set fuel left before taken same of runs n finished =
     subst (λ (f : Option ℕ). IsDone f (rendering e id c n context) after left before taken) same
-    (ends_render (setting_of e) (standing_of c) (first_world id e.functions c.escape context) after fuel left before taken
+    (ends_render (setting_of e) (standing_of c) (first_world id e.globals c.escape context) after fuel left before taken
     (subst (λ (x : World). EndsWith (answer (codes_of (setting_of e) (Some (standing_of c)))) (code_for c) (at_start x fuel before) after left taken) of.start
     (subst (λ (k : List Code). EndsWith (answer (codes_of (setting_of e) (Some (standing_of c)))) k (at_start w fuel before) after left taken) of.is_code
     (subst (λ (p : Programs). EndsWith (answer p) code (at_start w fuel before) after left taken) of.programs runs)))
@@ -94,7 +94,7 @@ pub render_stopped : (X : Type 0) (e : Registry) (id : ℕ) (c : Compiled) (cont
     → (n : ℕ) → IsFinished (rendering e id c n context).end → Renders {X = X} (Err kinds) before taken (under set (rendering e id c n context))
 render_stopped X e id c context s code w after set fuel left before taken kinds same of runs n finished =
     subst (λ (f : Option ℕ). Renders {X = X} (Err kinds) before taken (under f (rendering e id c n context))) same
-    (stops_render X (setting_of e) (standing_of c) (first_world id e.functions c.escape context) fuel before (at_start after left taken) kinds
+    (stops_render X (setting_of e) (standing_of c) (first_world id e.globals c.escape context) fuel before (at_start after left taken) kinds
     (subst (λ (x : World). Stops (answer (codes_of (setting_of e) (Some (standing_of c)))) (code_for c) (at_start x fuel before) (at_start after left taken) kinds) of.start
     (subst (λ (k : List Code). Stops (answer (codes_of (setting_of e) (Some (standing_of c)))) k (at_start w fuel before) (at_start after left taken) kinds) of.is_code
     (subst (λ (p : Programs). Stops (answer p) code (at_start w fuel before) (at_start after left taken) kinds) of.programs runs)))
@@ -123,4 +123,4 @@ all_run e running name t at = runs_there (compiled_at e.templates name) (running
 pub render_ends : (e : Registry) (id : ℕ) (c : Compiled) (context : Val) → AllRun e → IsRunnableTemplate (sources.tree_in c.source)
     → (n : ℕ) × IsFinished (rendering e id c n context).end
 render_ends e id c context running runs =
-    every_run_ends (setting_of e) (all_run e running) (standing_of c) runs (first_world id e.functions c.escape context) _ _ refl
+    every_run_ends (setting_of e) (all_run e running) (standing_of c) runs (first_world id e.globals c.escape context) _ _ refl

@@ -30,9 +30,9 @@ module _ {R : Type 0} where
   abbrev pub fuel_under : Expression R → Option ℕ
   fuel_under e = (registry_of (environment_under e)).fuel
 
-  -- what it means over a context
-  abbrev pub evaluation_of : Expression R → Val → Run World
-  evaluation_of e context = evaluated (setting_of (registry_of (environment_under e))) (expression_in (text_of e)) context
+  -- what it means over a context, in the state of a number: its value is handed out
+  abbrev pub evaluation_of : Expression R → ℕ → Val → Run World
+  evaluation_of e id context = evaluated (setting_of (registry_of (environment_under e))) id (expression_in (text_of e)) context
 
 -- The call gives the one value that the run leaves; else it answers with the run's fault. Or a growth was refused.
 abbrev pub Gives : {S : Type 0} → Result Val (List ErrorKind) → Run S → Type 0
@@ -44,6 +44,7 @@ module _ {R : Type 0} where
   abbrev pub AgreeAlong : Expression R → Val → Val → Type 0
   AgreeAlong e c d = (name : List ℕ) → IsTrue (stands_in name (expression_in (text_of e))) → AgreesAt c d name
 
-  -- over the two contexts it takes the same steps at the same price, and comes to the same end, under every fuel
+  -- over the two contexts it takes the same steps at the same price, and comes to the same end, in the state of each number and
+  -- under every fuel
   abbrev pub IsSameEvaluation : Expression R → Val → Val → Type 0
-  IsSameEvaluation e c d = (fuel : Option ℕ) → IsSameRun (under fuel (evaluation_of e c)) (under fuel (evaluation_of e d))
+  IsSameEvaluation e c d = (id : ℕ) (fuel : Option ℕ) → IsSameRun (under fuel (evaluation_of e id c)) (under fuel (evaluation_of e id d))

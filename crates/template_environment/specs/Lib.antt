@@ -8,6 +8,7 @@ pub mod Isolated
 pub mod Evaluations
 pub mod Plain
 -- what contracts here cite of the crates below
+pub use Rattle.template_machine_globals.specs.Globals
 pub use Rattle.template_compiled.specs.Sources
 pub use Rattle.template_compiled.specs.Compiled
 pub use Rattle.template_machine_meaning.specs.Isolation

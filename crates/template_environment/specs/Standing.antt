@@ -1,11 +1,13 @@
 -- What stands in an environment, and what it means.
-use Rattle.std.specs.Prelude.{ℕ, Bool, List, Option, None, Some, codes, if◌then◌else◌}
+use Rattle.std.specs.Prelude.{ℕ, List, [], Option, None, codes}
 use Rattle.std.specs.Option.{option_map}
 use Rattle.template_values_errors.specs.declared.modes.UndefinedBehavior.{UndefinedBehavior}
 use Rattle.template_values_errors.specs.declared.modes.UndefinedBehavior.TheVariants.{Lenient}
+use Rattle.template_values_model.specs.Val.{Val}
 use Rattle.template_compiler_syntax.specs.Syntax.{Syntax}
 use Rattle.template_machine_surroundings.specs.declared.escape.EscapeRule.{EscapeRule}
 use Rattle.template_machine_meaning.specs.Meaning.{Setting}
+use Rattle.template_machine_meaning.specs.World.{Globals, local_at}
 use Rattle.template_machine_renders.specs.Programs as units
 use Rattle.template_compiled.specs.Compiled.{Compiled, code_for, standing_of}
 use Rattle.template_compiled.specs.Sources.{Source}
@@ -16,6 +18,10 @@ use Rattle.template_environment.specs.declared.registry.Registry.{Registry}
 abbrev pub source_at : Registry → List ℕ → Option Source
 source_at e name = option_map (λ c. c.source) (compiled_at e.templates name)
 
+-- the value that stands under a name, under the frames of each run
+abbrev pub global_at : Registry → List ℕ → Option Val
+global_at e name = local_at name e.globals.named
+
 -- the name of a template from a source without a name
 abbrev pub unnamed : List ℕ
 unnamed = codes "<string>"
@@ -24,26 +30,26 @@ unnamed = codes "<string>"
 abbrev pub greatest_limit : ℕ
 greatest_limit = 500
 
--- the number of an environment, if it has functions by itself
-abbrev pub functions_under : Bool → ℕ → Option ℕ
-functions_under has_functions id = if has_functions then Some id else None
-
--- what an environment is set to beside its templates and a rule of escapes of its own: its number, also as the one of its own
--- functions, if it has any; how templates are read; and what renders keep to
+-- what an environment is set to beside its templates and a rule of escapes of its own: its number; what it gives to each run, its
+-- number among that where its own functions can be called; how templates are read; and what renders keep to
 pub record Settings : Type 0 where
   pub id : ℕ
-  pub functions : Option ℕ
+  pub globals : Globals
   pub syntax : Syntax
   pub escapes : EscapeRule
   pub fuel : Option ℕ
   pub limit : ℕ
   pub undefined : UndefinedBehavior
 
+-- no names, and no functions that can be called
+abbrev pub no_globals : Globals
+no_globals = record { functions = None; named = [] }
+
 -- those of a new one: without fuel, with the greatest limit, where undefined values are lenient
-abbrev pub new_settings : ℕ → Option ℕ → Syntax → EscapeRule → Settings
-new_settings id functions syntax escapes = record {
+abbrev pub new_settings : ℕ → Globals → Syntax → EscapeRule → Settings
+new_settings id globals syntax escapes = record {
   id = id;
-  functions = functions;
+  globals = globals;
   syntax = syntax;
   escapes = escapes;
   fuel = None;
@@ -54,7 +60,7 @@ new_settings id functions syntax escapes = record {
 abbrev pub settings_of : Registry → Settings
 settings_of e = record {
   id = e.id;
-  functions = e.functions;
+  globals = e.globals;
   syntax = e.config.syntax_config;
   escapes = e.config.default_auto_escape;
   fuel = e.fuel;
@@ -66,7 +72,7 @@ settings_of e = record {
 abbrev pub setting_of : Registry → Setting
 setting_of e = record {
   templates = λ name. option_map standing_of (compiled_at e.templates name);
-  functions = e.functions;
+  globals = e.globals;
   limit = e.recursion_limit;
   undefined = e.undefined_behavior;
 }

@@ -1,7 +1,7 @@
 -- What contracts see of a state.
 use Rattle.std.specs.Prelude.{ℕ, List, [], Option, codes}
 use Rattle.template_values_errors.specs.declared.modes.AutoEscape.{AutoEscape}
-use Rattle.template_machine_meaning.specs.World.{World}
+use Rattle.template_machine_meaning.specs.World.{Globals, World}
 use Rattle.template_environment.specs.Renderings.{left_of, set_of}
 use Rattle.template_environment.specs.declared.environment.Environment.{Environment}
 use Rattle.template_environment.specs.declared.state.State.{State}
@@ -14,7 +14,8 @@ module _ {R : Type 0} where
   abbrev pub name_in : State R → List ℕ
   name_in s = s.name.now
 
-  -- its frames, the escape in force, the captures that are open, its number, and what its namespaces hold
+  -- its frames, the escape in force, the captures that are open, its number, what its environment gives, and what its namespaces
+  -- hold
   abbrev pub world_in : State R → World
   world_in s = s.machine
 
@@ -29,9 +30,9 @@ module _ {R : Type 0} where
   abbrev pub id_in : State R → ℕ
   id_in s = s.id
 
--- no frame, no capture and no namespace, under an escape, in the state of a number, with the functions of an environment
-abbrev pub frameless : ℕ → Option ℕ → AutoEscape → World
-frameless id functions escape = record {
+-- no frame, no capture and no namespace, under an escape, in the state of a number, with what an environment gives
+abbrev pub frameless : ℕ → Globals → AutoEscape → World
+frameless id globals escape = record {
   frames = [];
   outer = 0;
   escape = escape;
@@ -40,9 +41,11 @@ frameless id functions escape = record {
   captures = [];
   id = id;
   opened = 0;
-  functions = functions;
+  globals = globals;
   namespaces = [];
   given = [];
+  held = 0;
+  closed = [];
 }
 
 -- the name of a state without a template

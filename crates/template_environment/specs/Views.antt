@@ -3,7 +3,7 @@ use Rattle.std.specs.Prelude.{ℕ, List, Option, string_bytes}
 use Rattle.template_values_errors.specs.declared.modes.AutoEscape.{AutoEscape}
 use Rattle.template_values_model.specs.Val.{Val}
 use Rattle.template_process.specs.Trace.{Run}
-use Rattle.template_machine_meaning.specs.World.{World}
+use Rattle.template_machine_meaning.specs.World.{Globals, World}
 use Rattle.template_compiled.specs.Compiled.{Compiled}
 use Rattle.template_compiled.specs.Sources.{Source}
 use Rattle.template_environment.specs.Renderings.{rendering}
@@ -39,9 +39,9 @@ module _ {R : Type 0} where
   abbrev pub fuel_of : Template R → Option ℕ
   fuel_of t = t.environment.now.registry.fuel
 
-  -- the number of its environment, if that has functions by itself, which each of its renders knows
-  abbrev pub functions_of : Template R → Option ℕ
-  functions_of t = t.environment.now.registry.functions
+  -- what its environment gives to each of its renders
+  abbrev pub globals_of : Template R → Globals
+  globals_of t = t.environment.now.registry.globals
 
   -- what its render over a context means, in the state of a number, under a bound
   abbrev pub render_of : Template R → ℕ → ℕ → Val → Run World

@@ -1,19 +1,21 @@
 //! Environments.
-ghost use Rattle.std.specs.Prelude.{◌≡◌, ◌+◌, ◌≢◌, ◌≤◌, ◌^◌, ◌∷◌, [], ℕ, List, length, None, Some, Option, Err, IfOk, IfErr, OnOk, OnErr, bytes_eq, min, map, option_map, All, string_bytes};
+ghost use Rattle.std.specs.Prelude.{◌≡◌, ◌+◌, ◌≢◌, ◌≤◌, ◌^◌, ◌∷◌, [], ℕ, List, length, None, Some, Option, Err, IfOk, IfErr, OnOk, OnErr, bytes_eq, min, map, option_map, All, string_bytes, if◌then◌else◌};
 ghost use Rattle.std.specs.Cmp.Lexicographic.{slice_cmp};
 ghost use Rattle.std.specs.Cow.{cow_str_bytes};
 ghost use Rattle.std.specs.List.{find};
 ghost use Rattle.std.specs.List.Sorted.{IsStrictlySortedBy};
+ghost use Rattle.std.specs.Map.Iter.{deref_pair};
 ghost use Rattle.std.specs.Ordering.{nat_cmp};
 ghost use Rattle.template_values_errors.specs.Memory.{NoMemory};
 ghost use Rattle.template_compiler_syntax.specs.Syntax.{default_syntax};
 ghost use Rattle.template_machine_surroundings.specs.Rule.{IsEscapeOf};
+ghost use Rattle.template_machine_globals.specs.Globals.{own_globals, with_global, without_global};
 ghost use Rattle.template_compiled.specs.Compiled.{IsFaithful};
 ghost use Rattle.template_compiled.specs.Sources.{IsAccepted, IsRefusedWith};
 ghost use Rattle.template_compiled.specs.Plain.{IsPlain, text_kept};
 ghost use Rattle.template_environment_histories.specs.Histories as changes;
 ghost use Rattle.template_environment.specs.Plain.{IsRefusedForRoom, ReadGivesItself};
-ghost use Rattle.template_environment.specs.Standing.{functions_under, greatest_limit, new_settings};
+ghost use Rattle.template_environment.specs.Standing.{greatest_limit, new_settings, no_globals};
 
 use crate::laws::every_render_ends;
 use crate::registry::Registry;
@@ -23,6 +25,7 @@ use std::alloc::Global;
 use std::borrow::CowStr;
 use template_compiled::{CompiledTemplate, CompiledTemplates, TemplateConfig};
 use template_compiler_syntax::SyntaxConfig;
+use template_machine_globals::Globals;
 use template_machine_meaning::isolation;
 use template_machine_surroundings::{AutoEscapeRule, EscapeRule, NoRule, StateIds};
 use template_values_core::Value;
@@ -37,14 +40,7 @@ const UNNAMED: &str = "<string>";
 // The name of a state without a template.
 const UNKNOWN: &str = "<unknown>";
 
-// The number of an environment, if it has functions by itself.
-fn functions_under(has_functions: bool, id: u64) -> Option<u64>
-    ensures { result ≡ functions_under has_functions id }
-{
-    if has_functions { Some(id) } else { None }
-}
-
-/// The templates that stand, by name, and what each render keeps to.
+/// The templates that stand, by name, the globals, and what each render keeps to.
 pub struct Environment<'source, R: AutoEscapeRule = NoRule> {
     pub(crate) registry: Registry<'source>,
     callback: Option<R>,
@@ -66,33 +62,33 @@ impl<'source> Environment<'source> {
     ghost use Rattle.template_environment.specs.Reading.{callback_of, registry_of};
 
     /// An environment without templates, under the default syntax and escapes by name, without fuel, with the greatest
-    /// recursion limit, where undefined values are lenient. It has the functions `range`, `dict` and `namespace`. It takes a
-    /// state id as its own.
+    /// recursion limit, where undefined values are lenient. Its globals are its functions `range`, `dict` and `namespace`. It
+    /// takes a state id as its own.
+    ///
+    /// # Errors
+    ///
+    /// [`ErrorKind::InvalidOperation`] where no state id is left; [`ErrorKind::OutOfMemory`], with the id taken.
+    pub fn new(alloc: Global, ids: &mut StateIds) -> Result<Environment<'source>, Error>
+        ensures empty { IfOk result (λ e. (name : List ℕ) → source_at (registry_of e) name ≡ None) }
+        ensures settings { IfOk result (λ e. settings_of (registry_of e)
+            ≡ new_settings ids.old (own_globals ids.old) default_syntax EscapeRule.ByName) }
+        ensures callback { IfOk result (λ e. callback_of e ≡ None) }
+        ensures refused { ids.old ≢ u64.MAX → IfErr result NoMemory }
+        ensures counted { ids.old ≢ u64.MAX → ids.new ≡ ids.old + 1 }
+        ensures exhausted { ids.old ≡ u64.MAX → (result ≡ Err (ErrorKind.InvalidOperation ∷ [])) × (ids.new ≡ ids.old) }
+    {
+        Environment::with_functions(alloc, None, ids)
+    }
+
+    /// The same without globals, where no function can be called, and with no escape, whatever a template's name is.
     ///
     /// # Errors
     ///
     /// [`ErrorKind::InvalidOperation`] where no state id is left.
-    pub fn new(alloc: Global, ids: &mut StateIds) -> Result<Environment<'source>, Error>
-        ensures empty { IfOk result (λ e. (name : List ℕ) → source_at (registry_of e) name ≡ None) }
-        ensures settings { IfOk result (λ e. settings_of (registry_of e)
-            ≡ new_settings ids.old (Some ids.old) default_syntax EscapeRule.ByName) }
-        ensures callback { IfOk result (λ e. callback_of e ≡ None) }
-        ensures had_one { OnOk result (ids.old ≢ u64.MAX) }
-        ensures counted { OnOk result (ids.new ≡ ids.old + 1) }
-        ensures refused { IfErr result (λ kinds. (kinds ≡ ErrorKind.InvalidOperation ∷ []) × (ids.old ≡ u64.MAX) × (ids.new ≡ ids.old)) }
-    {
-        Environment::under(alloc, true, TemplateConfig::new(), None, ids)
-    }
-
-    /// The same with no functions, and no escape, whatever a template's name is.
-    ///
-    /// # Errors
-    ///
-    /// As [`Environment::new`].
     pub fn empty(alloc: Global, ids: &mut StateIds) -> Result<Environment<'source>, Error>
         ensures empty { IfOk result (λ e. (name : List ℕ) → source_at (registry_of e) name ≡ None) }
         ensures settings { IfOk result (λ e. settings_of (registry_of e)
-            ≡ new_settings ids.old None default_syntax EscapeRule.Never) }
+            ≡ new_settings ids.old no_globals default_syntax EscapeRule.Never) }
         ensures callback { IfOk result (λ e. callback_of e ≡ None) }
         ensures had_one { OnOk result (ids.old ≢ u64.MAX) }
         ensures counted { OnOk result (ids.new ≡ ids.old + 1) }
@@ -102,12 +98,13 @@ impl<'source> Environment<'source> {
             default_auto_escape: EscapeRule::Never,
             ..TemplateConfig::new()
         };
-        Environment::under(alloc, false, config, None, ids)
+        let id = ids.next()?;
+        Ok(Environment::under(alloc, id, Globals::empty(alloc), config, None))
     }
 }
 
 impl<'source, R: AutoEscapeRule> Environment<'source, R> {
-    ghost use Rattle.template_environment.specs.Standing.{settings_of, source_at, unnamed};
+    ghost use Rattle.template_environment.specs.Standing.{global_at, settings_of, source_at, unnamed};
     ghost use Rattle.template_environment.specs.Changes.{Changes};
     ghost use Rattle.template_environment.specs.Reading.{IsUnchanged, callback_of, read_under, registry_of, rule_for};
     ghost use Rattle.template_values_model.specs.Val.{Val};
@@ -129,37 +126,52 @@ impl<'source, R: AutoEscapeRule> Environment<'source, R> {
     ) -> Result<Environment<'source, R>, Error>
         ensures empty { IfOk result (λ e. (name : List ℕ) → source_at (registry_of e) name ≡ None) }
         ensures settings { IfOk result (λ e. settings_of (registry_of e)
-            ≡ new_settings ids.old (Some ids.old) default_syntax EscapeRule.ByName) }
+            ≡ new_settings ids.old (own_globals ids.old) default_syntax EscapeRule.ByName) }
         ensures callback { IfOk result (λ e. callback_of e ≡ Some rule) }
-        ensures had_one { OnOk result (ids.old ≢ u64.MAX) }
-        ensures counted { OnOk result (ids.new ≡ ids.old + 1) }
-        ensures refused { IfErr result (λ kinds. (kinds ≡ ErrorKind.InvalidOperation ∷ []) × (ids.old ≡ u64.MAX) × (ids.new ≡ ids.old)) }
+        ensures refused { ids.old ≢ u64.MAX → IfErr result NoMemory }
+        ensures counted { ids.old ≢ u64.MAX → ids.new ≡ ids.old + 1 }
+        ensures exhausted { ids.old ≡ u64.MAX → (result ≡ Err (ErrorKind.InvalidOperation ∷ [])) × (ids.new ≡ ids.old) }
     {
-        Environment::under(alloc, true, TemplateConfig::new(), Some(rule), ids)
+        Environment::with_functions(alloc, Some(rule), ids)
     }
 
-    // An environment without templates, as new but for whether it has functions by itself, for what its
-    // templates are compiled under and for a rule of its own.
-    fn under(
+    // An environment as new, but for a rule of its own.
+    fn with_functions(
         alloc: Global,
-        has_functions: bool,
-        config: TemplateConfig,
         callback: Option<R>,
         ids: &mut StateIds,
     ) -> Result<Environment<'source, R>, Error>
         ensures empty { IfOk result (λ e. (name : List ℕ) → source_at (registry_of e) name ≡ None) }
         ensures settings { IfOk result (λ e. settings_of (registry_of e)
-            ≡ new_settings ids.old (functions_under has_functions ids.old) config.syntax_config config.default_auto_escape) }
+            ≡ new_settings ids.old (own_globals ids.old) default_syntax EscapeRule.ByName) }
         ensures callback { IfOk result (λ e. callback_of e ≡ callback) }
-        ensures had_one { OnOk result (ids.old ≢ u64.MAX) }
-        ensures counted { OnOk result (ids.new ≡ ids.old + 1) }
-        ensures refused { IfErr result (λ kinds. (kinds ≡ ErrorKind.InvalidOperation ∷ []) × (ids.old ≡ u64.MAX) × (ids.new ≡ ids.old)) }
+        ensures refused { ids.old ≢ u64.MAX → IfErr result NoMemory }
+        ensures counted { ids.old ≢ u64.MAX → ids.new ≡ ids.old + 1 }
+        ensures exhausted { ids.old ≡ u64.MAX → (result ≡ Err (ErrorKind.InvalidOperation ∷ [])) × (ids.new ≡ ids.old) }
     {
         let id = ids.next()?;
-        Ok(Environment {
+        let globals = Globals::with_functions(alloc, id)?;
+        let config = TemplateConfig::new();
+        Ok(Environment::under(alloc, id, globals, config, callback))
+    }
+
+    // An environment of a number without templates, with what it gives to each run, what its templates are compiled
+    // under, and a rule of its own.
+    fn under(
+        alloc: Global,
+        id: u64,
+        globals: Globals,
+        config: TemplateConfig,
+        callback: Option<R>,
+    ) -> Environment<'source, R>
+        ensures empty { (name : List ℕ) → source_at (registry_of result) name ≡ None }
+        ensures settings { settings_of (registry_of result) ≡ new_settings id globals config.syntax_config config.default_auto_escape }
+        ensures callback { callback_of result ≡ callback }
+    {
+        Environment {
             registry: Registry {
                 id,
-                functions: functions_under(has_functions, id),
+                globals,
                 alloc,
                 templates: CompiledTemplates::new(alloc),
                 config,
@@ -168,7 +180,7 @@ impl<'source, R: AutoEscapeRule> Environment<'source, R> {
                 undefined_behavior: UndefinedBehavior::Lenient,
             },
             callback,
-        })
+        }
     }
 
     /// Adds a template, in the place of one that stands under that name. Takes time linear in the source, besides
@@ -273,6 +285,54 @@ impl<'source, R: AutoEscapeRule> Environment<'source, R> {
         ensures callback { callback_of self.new ≡ callback_of self.old }
     {
         self.registry.clear();
+    }
+
+    /// Puts a value under a name, in the place of one that stands there: from now on each render, state and expression
+    /// finds it where no frame and no context knows the name. So another value under the name of `range`, `dict` or
+    /// `namespace` replaces that function. A function that another environment has by itself cannot be called here, and
+    /// a namespace, a loop or a macro of a state is foreign to each other one. Keeps a copy of the name, and takes a
+    /// look-up among the names.
+    ///
+    /// # Errors
+    ///
+    /// [`ErrorKind::OutOfMemory`]; all is then as before.
+    pub fn add_global(&mut self, name: &str, value: Value) -> Result<(), Error>
+        ensures stands { OnOk result ((other : List ℕ) → global_at (registry_of self.new) other
+            ≡ (if bytes_eq name.now other then Some value else global_at (registry_of self.old) other)) }
+        ensures settings { OnOk result (settings_of (registry_of self.new) ≡ record (settings_of (registry_of self.old))
+            { globals = with_global name.now value (settings_of (registry_of self.old)).globals }) }
+        ensures sources { (name : List ℕ) → source_at (registry_of self.new) name ≡ source_at (registry_of self.old) name }
+        ensures callback { callback_of self.new ≡ callback_of self.old }
+        ensures refused { IfErr result NoMemory }
+        ensures unchanged { OnErr result (IsUnchanged self.old self.new) }
+    {
+        self.registry.put_global(name, value)
+    }
+
+    /// No value stands under the name any more, be it a function that the environment has by itself. Takes a look-up
+    /// among the names, and no memory.
+    pub fn remove_global(&mut self, name: &str)
+        ensures removed { (other : List ℕ) → global_at (registry_of self.new) other
+            ≡ (if bytes_eq name.now other then None else global_at (registry_of self.old) other) }
+        ensures settings { settings_of (registry_of self.new) ≡ record (settings_of (registry_of self.old))
+            { globals = without_global name.now (settings_of (registry_of self.old)).globals } }
+        ensures sources { (name : List ℕ) → source_at (registry_of self.new) name ≡ source_at (registry_of self.old) name }
+        ensures callback { callback_of self.new ≡ callback_of self.old }
+    {
+        self.registry.remove_global(name);
+    }
+
+    /// The names that values stand under, with these, by order of the names by bytes, each once. Linear in their number.
+    ///
+    /// # Errors
+    ///
+    /// [`ErrorKind::OutOfMemory`]
+    pub fn globals(&self) -> Result<Vec<(&str, &Value)>, Error>
+        ensures listed { IfOk result (λ list. map deref_pair list.items ≡ (settings_of (registry_of self.now)).globals.named) }
+        ensures ordered { IfOk result (λ list. IsStrictlySortedBy (slice_cmp nat_cmp) (map (λ global. global.0.now) list.items)) }
+        ensures refused { IfErr result NoMemory }
+    {
+        self.registry.globals.entries(self.registry.alloc)
     }
 
     /// Sets the syntax that templates are read under from now on.
@@ -449,7 +509,7 @@ impl<'source, R: AutoEscapeRule> Environment<'source, R> {
         ensures here { IfOk result (λ s. environment_in s ≡ self.now) }
         ensures named { IfOk result (λ s. name_in s ≡ unknown) }
         ensures world { IfOk result (λ s. world_in s
-            ≡ frameless ids.old (settings_of (registry_of self.now)).functions AutoEscape.None) }
+            ≡ frameless ids.old (settings_of (registry_of self.now)).globals AutoEscape.None) }
         ensures given { IfOk result (λ s. fuel_set_in s ≡ (settings_of (registry_of self.now)).fuel) }
         ensures remains { IfOk result (λ s. fuel_left_in s ≡ (settings_of (registry_of self.now)).fuel) }
         ensures id { IfOk result (λ s. id_in s ≡ ids.old) }

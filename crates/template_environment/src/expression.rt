@@ -23,9 +23,7 @@ use template_machine_state::State as MachineState;
 use template_machine_surroundings::{AutoEscapeRule, NoRule, StateIds};
 use template_values_core::Value;
 use template_values_errors::{AutoEscape, Error, ErrorKind};
-
-// The number that no state is given.
-const NO_STATE: u64 = u64::MAX;
+use template_values_frozen::freeze;
 
 /// An expression that an environment compiled.
 pub struct Expression<'env, 'source, R: AutoEscapeRule = NoRule> {
@@ -94,26 +92,28 @@ impl<'source, R: AutoEscapeRule> Environment<'source, R> {
 impl<'env, 'source, R: AutoEscapeRule> Expression<'env, 'source, R> {
     ghost use Rattle.template_environment.specs.Evaluations.{AgreeAlong, IsSameEvaluation, evaluation_of, fuel_under, text_of};
 
-    /// The value of the expression over a context, under no escape and the fuel of its environment. The templates that
-    /// stand there do so here. Contexts that agree at the names that stand in the expression give the same. A namespace
-    /// is given as it is, and no render knows it. Linear in the instructions that it runs, besides what operators and
-    /// functions cost.
+    /// The value of the expression over a context, under no escape and the fuel of its environment, in a state of its
+    /// own. The templates and the globals that stand there do so here. Contexts that agree at the names that stand in
+    /// the expression give the same. A namespace is given as a map of what it holds, and so is each that stands in the
+    /// value, since no other state knows it. Linear in the instructions that it runs, besides what operators and
+    /// functions cost, and in the value that it gives.
     ///
     /// # Errors
     ///
-    /// The fault that the expression ends with, as [`ErrorKind::OutOfFuel`]; [`ErrorKind::OutOfMemory`] where a growth
-    /// was refused; [`ErrorKind::InvalidOperation`] where no state id is left. Never [`ErrorKind::WriteFailure`], since
-    /// it writes nothing.
+    /// The fault that the expression ends with, as [`ErrorKind::OutOfFuel`]; [`ErrorKind::InvalidOperation`] where a
+    /// namespace in the value is foreign, as one that the context or a global has from another state, or where it holds
+    /// itself, and where no state id is left; [`ErrorKind::OutOfMemory`] where a growth was refused. Never
+    /// [`ErrorKind::WriteFailure`], since it writes nothing.
     pub fn eval(&self, ids: &mut StateIds, context: Value) -> Result<Value, Error>
-        ensures value { ids.old ≢ u64.MAX → Gives result (under (fuel_under self.now) (evaluation_of self.now context)) }
+        ensures value { ids.old ≢ u64.MAX → Gives result (under (fuel_under self.now) (evaluation_of self.now ids.old context)) }
         ensures no_write_failure { IfErr result (λ kinds. kinds ≢ ErrorKind.WriteFailure ∷ []) }
         ensures counted { ids.old ≢ u64.MAX → ids.new ≡ ids.old + 1 }
         ensures exhausted { ids.old ≡ u64.MAX → (result ≡ Err (ErrorKind.InvalidOperation ∷ [])) × (ids.new ≡ ids.old) }
         ensures isolated { (other : Val) → AgreeAlong self.now context other → IsSameEvaluation self.now context other }
     {
         expression_isolation();
-        let _id = ids.next()?;
-        evaluate(&self.environment.registry, &self.compiled, context)
+        let id = ids.next()?;
+        evaluate(&self.environment.registry, id, &self.compiled, context)
     }
 
     /// The names that the expression uses, each once, by order of their bytes; where `nested`, each with the dotted
@@ -133,27 +133,28 @@ impl<'env, 'source, R: AutoEscapeRule> Expression<'env, 'source, R> {
     }
 }
 
-// Runs the code of an expression over a context. It writes nothing and opens no loop. It has the number that no state is
-// given, and so have the namespaces that it makes.
+// Runs the code of an expression over a context, in the state of a number, and hands its value out. It writes nothing and opens
+// no loop.
 fn evaluate<'env, 'source>(
     registry: &'env Registry<'source>,
+    id: u64,
     compiled: &'env CompiledExpression<'source>,
     context: Value,
 ) -> Result<Value, Error>
-    ensures value { Gives result (under registry.now.fuel (evaluated (setting_of registry.now) (expression_in compiled.now) context)) }
+    ensures value { Gives result (under registry.now.fuel (evaluated (setting_of registry.now) id (expression_in compiled.now) context)) }
     ensures no_write_failure { IfErr result (λ kinds. kinds ≢ ErrorKind.WriteFailure ∷ []) }
 {
     let alloc = registry.alloc;
     let mut state: MachineState<'env> = MachineState::new(
         alloc,
-        NO_STATE,
-        registry.functions,
+        id,
+        &registry.globals,
         AutoEscape::None,
         context,
     )?;
     let mut left = registry.fuel;
     let mut scratch = String::new(alloc);
-    run_expression(
+    let value = run_expression(
         alloc,
         registry.rules(),
         registry,
@@ -162,5 +163,6 @@ fn evaluate<'env, 'source>(
         &mut left,
         &mut scratch,
         &mut NullWriter,
-    )
+    )?;
+    freeze(alloc, value, &state)
 }

@@ -9,7 +9,7 @@ ghost use Rattle.template_compiled.specs.Sources.{HasTree};
 ghost use Rattle.template_environment.specs.Evaluations.{text_of};
 ghost use Rattle.template_environment.specs.Isolated.{AgreeFor, IsSameRender, tree_of};
 ghost use Rattle.template_environment.specs.Plain.{text_run};
-ghost use Rattle.template_environment.specs.Views.{escape_of, functions_of, render_of, source_of};
+ghost use Rattle.template_environment.specs.Views.{escape_of, globals_of, render_of, source_of};
 
 use crate::expression::Expression;
 use crate::template::Template;
@@ -44,7 +44,7 @@ pub fn every_render_ends<R: AutoEscapeRule>(template: &Template<'_, '_, R>)
 pub fn plain_renders<R: AutoEscapeRule>(template: &Template<'_, '_, R>)
     ensures { IsPlain (source_of template.now) → (id n : ℕ) (context : Val) → render_of template.now id n context
         ≡ text_run (text_kept (source_of template.now))
-        (first_world id (functions_of template.now) (escape_of template.now) context) }
+        (first_world id (globals_of template.now) (escape_of template.now) context) }
 {
     plain_text();
     let _code = template.compiled.get().instructions();

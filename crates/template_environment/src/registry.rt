@@ -6,15 +6,17 @@ ghost use Rattle.template_compiled.specs.Standing.{compiled_at};
 
 use std::alloc::Global;
 use template_compiled::{CompiledTemplate, CompiledTemplates, TemplateConfig};
+use template_machine_globals::Globals;
 use template_machine_renders::{Compiled, Rules, Templates};
+use template_values_core::Value;
 use template_values_errors::{Error, UndefinedBehavior};
 
 /// The templates that stand, by name, and what each render keeps to: all of an environment but its own rule of escapes.
 #[derive(Drop)]
 pub struct Registry<'source> {
     pub(crate) id: u64,
-    // The number of the environment, where it has functions by itself.
-    pub(crate) functions: Option<u64>,
+    // What stands under the frames of each run.
+    pub(crate) globals: Globals,
     pub(crate) alloc: Global,
     pub(crate) templates: CompiledTemplates<'source>,
     pub(crate) config: TemplateConfig,
@@ -45,7 +47,8 @@ impl<'source> Registry<'source> {
     ghost use Rattle.std.specs.Prelude.{◌≡◌, None, Some, OnOk, OnErr, IfErr, bytes_eq, if◌then◌else◌};
     ghost use Rattle.template_values_errors.specs.Memory.{NoMemory};
     ghost use Rattle.template_compiled.specs.Compiled.{IsFaithful};
-    ghost use Rattle.template_environment.specs.Standing.{settings_of};
+    ghost use Rattle.template_machine_globals.specs.Globals.{with_global, without_global};
+    ghost use Rattle.template_environment.specs.Standing.{global_at, settings_of, source_at};
 
     // The template goes in the place of one that stands under its name.
     pub(crate) fn insert(&mut self, template: CompiledTemplate<'source>) -> Result<(), Error>
@@ -74,6 +77,30 @@ impl<'source> Registry<'source> {
         ensures settings { settings_of self.new ≡ settings_of self.old }
     {
         self.templates.clear();
+    }
+
+    // The value stands under the name from now on, in the place of one that stands there.
+    pub(crate) fn put_global(&mut self, name: &str, value: Value) -> Result<(), Error>
+        ensures stands { OnOk result ((other : List ℕ) → global_at self.new other
+            ≡ (if bytes_eq name.now other then Some value else global_at self.old other)) }
+        ensures settings { OnOk result (settings_of self.new ≡ record (settings_of self.old)
+            { globals = with_global name.now value (settings_of self.old).globals }) }
+        ensures sources { (name : List ℕ) → source_at self.new name ≡ source_at self.old name }
+        ensures refused { IfErr result NoMemory }
+        ensures unchanged { OnErr result (settings_of self.new ≡ settings_of self.old) }
+    {
+        self.globals.insert(self.alloc, name, value)
+    }
+
+    // No value stands under the name any more.
+    pub(crate) fn remove_global(&mut self, name: &str)
+        ensures removed { (other : List ℕ) → global_at self.new other
+            ≡ (if bytes_eq name.now other then None else global_at self.old other) }
+        ensures settings { settings_of self.new ≡ record (settings_of self.old)
+            { globals = without_global name.now (settings_of self.old).globals } }
+        ensures sources { (name : List ℕ) → source_at self.new name ≡ source_at self.old name }
+    {
+        self.globals.remove(name);
     }
 
     // What its renders keep to.

@@ -49,7 +49,7 @@ impl<'env, 'source, R: AutoEscapeRule> State<'env, 'source, R> {
         ensures here { IfOk result (λ s. environment_in s ≡ environment.now) }
         ensures named { IfOk result (λ s. name_in s ≡ name.now) }
         ensures world { IfOk result (λ s. world_in s
-            ≡ frameless ids.old (settings_of (registry_of environment.now)).functions escape) }
+            ≡ frameless ids.old (settings_of (registry_of environment.now)).globals escape) }
         ensures given { IfOk result (λ s. fuel_set_in s ≡ (registry_of environment.now).fuel) }
         ensures remains { IfOk result (λ s. fuel_left_in s ≡ (registry_of environment.now).fuel) }
         ensures id { IfOk result (λ s. id_in s ≡ ids.old) }
@@ -61,7 +61,7 @@ impl<'env, 'source, R: AutoEscapeRule> State<'env, 'source, R> {
         let mut machine: MachineState<'env> = MachineState::new(
             environment.allocator(),
             id,
-            environment.registry.functions,
+            &environment.registry.globals,
             escape,
             Value::undefined(),
         )?;
@@ -111,9 +111,9 @@ impl<'env, 'source, R: AutoEscapeRule> State<'env, 'source, R> {
     }
 
     /// What a name stands for: what the innermost frame that knows it has under it, a local value first, then its loop,
-    /// which `loop` is the name of, then what its context has; else the environment's own function of this name. Linear
-    /// in the number of frames and of their names, and logarithmic in the size of each context. The value shares its
-    /// contents.
+    /// which `loop` is the name of, then what its context has; else the environment's global of this name. Linear in the
+    /// number of frames and of their names, and logarithmic in the size of each context and in the number of globals. The
+    /// value shares its contents.
     ///
     /// # Errors
     ///
@@ -138,8 +138,8 @@ impl<'env, 'source, R: AutoEscapeRule> State<'env, 'source, R> {
     }
 
     /// The names that [`State::lookup`] finds: each frame's locals, `loop` where a frame's loop has its variable, the
-    /// text keys of a context that is a map, and the environment's own functions. Takes n log n comparisons for n names
-    /// in all frames and their contexts.
+    /// text keys of a context that is a map, and the environment's globals. Takes n log n comparisons for n names in all
+    /// frames, their contexts and the globals.
     ///
     /// # Errors
     ///

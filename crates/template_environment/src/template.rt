@@ -77,7 +77,7 @@ impl<'env, 'source, R: AutoEscapeRule> Drop for Captured<'env, 'source, R> {
 
 impl<'env, 'source, R: AutoEscapeRule> Template<'env, 'source, R> {
     ghost use Rattle.template_environment.specs.Isolated.{AgreeFor, IsSameRender};
-    ghost use Rattle.template_environment.specs.Views.{environment_of, escape_of, fuel_left, fuel_of, fuel_set, functions_of, id_of, name_of, output_of, render_of, source_of, state_of, world_of};
+    ghost use Rattle.template_environment.specs.Views.{environment_of, escape_of, fuel_left, fuel_of, fuel_set, globals_of, id_of, name_of, output_of, render_of, source_of, state_of, world_of};
     ghost use Rattle.template_environment.specs.States.{environment_in, frameless, fuel_left_in, fuel_set_in, id_in, name_in, world_in};
 
     /// The template's name.
@@ -110,7 +110,7 @@ impl<'env, 'source, R: AutoEscapeRule> Template<'env, 'source, R> {
     pub fn new_state(&self, ids: &mut StateIds) -> Result<State<'_, 'source, R>, Error>
         ensures here { IfOk result (λ s. environment_in s ≡ environment_of self.now) }
         ensures named { IfOk result (λ s. name_in s ≡ name_of self.now) }
-        ensures world { IfOk result (λ s. world_in s ≡ frameless ids.old (functions_of self.now) (escape_of self.now)) }
+        ensures world { IfOk result (λ s. world_in s ≡ frameless ids.old (globals_of self.now) (escape_of self.now)) }
         ensures given { IfOk result (λ s. fuel_set_in s ≡ fuel_of self.now) }
         ensures remains { IfOk result (λ s. fuel_left_in s ≡ fuel_of self.now) }
         ensures id { IfOk result (λ s. id_in s ≡ ids.old) }
@@ -286,7 +286,7 @@ fn run<'env, 'source, S: Sink>(
     let mut state: MachineState<'env> = MachineState::new(
         alloc,
         id,
-        registry.functions,
+        &registry.globals,
         compiled.initial_auto_escape(),
         context,
     )?;

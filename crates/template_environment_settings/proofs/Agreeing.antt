@@ -13,7 +13,7 @@ come_to_the_same : (R : Type 0) (old new other_old other_new : Environment R) â†
 come_to_the_same R old new other_old other_new h = record {
   sources = agreeing_come_to_the_same (Environment R) Source (Î» e. source_at (registry_of e)) h.changes h.others old new other_old other_new
       h.lead h.others_lead h.agree;
-  functions = h.functions;
+  globals = h.globals;
   limit = h.limit;
   undefined = h.undefined;
 }

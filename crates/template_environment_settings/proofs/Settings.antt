@@ -70,7 +70,7 @@ pub one_setting : AlikeHaveOneSetting
 one_setting e other alike = λ i. record {
   templates = λ name. one_standing name (compiled_at e.templates name) (compiled_at other.templates name) (alike.sources name)
       (e.escaped name) (other.escaped name) i;
-  functions = alike.functions i;
+  globals = alike.globals i;
   limit = alike.limit i;
   undefined = alike.undefined i;
 }

@@ -7,11 +7,12 @@ use Rattle.template_environment.specs.Renderings.{rendering}
 use Rattle.template_environment.specs.Standing.{setting_of, settings_of, source_at}
 use Rattle.template_environment.specs.declared.registry.Registry.{Registry}
 
--- The same source stands under each name, and renders know the same functions, keep to the same limit and let undefined values
--- do the same. Functions are known by the number of their environment: so the two have one number there, or none has functions.
+-- The same source stands under each name, and renders know the same globals, keep to the same limit and let undefined values do
+-- the same. Functions are known by the number of their environment, and can be called there: so the two have one number there, or
+-- in none a function can be called.
 pub record AreAlike (e other : Registry) : Type 0 where
   pub sources : (name : List ℕ) → source_at e name ≡ source_at other name
-  pub functions : (settings_of e).functions ≡ (settings_of other).functions
+  pub globals : (settings_of e).globals ≡ (settings_of other).globals
   pub limit : (settings_of e).limit ≡ (settings_of other).limit
   pub undefined : (settings_of e).undefined ≡ (settings_of other).undefined
 

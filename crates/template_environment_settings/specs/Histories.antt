@@ -13,7 +13,7 @@ abbrev pub ChangesLead : {R : Type 0} → List (Change Source) → Environment R
 ChangesLead changes old new = LeadsThrough (λ e. source_at (registry_of e)) changes old new
 
 -- Two histories, from one environment to another each, that agree on each name: the last change that touches it says the same in
--- both; or none touches it in either, and the same stood there before. Behind them both environments have the same functions, keep
+-- both; or none touches it in either, and the same stood there before. Behind them both environments have the same globals, keep
 -- to the same limit and let undefined values do the same.
 pub record AgreeingHistories {R : Type 0} (old new other_old other_new : Environment R) : Type 0 where
   pub changes : List (Change Source)
@@ -22,7 +22,7 @@ pub record AgreeingHistories {R : Type 0} (old new other_old other_new : Environ
   pub others_lead : ChangesLead others other_old other_new
   pub agree : (name : List ℕ)
       → AgreeOn name changes others (source_at (registry_of old) name) (source_at (registry_of other_old) name)
-  pub functions : (settings_of (registry_of new)).functions ≡ (settings_of (registry_of other_new)).functions
+  pub globals : (settings_of (registry_of new)).globals ≡ (settings_of (registry_of other_new)).globals
   pub limit : (settings_of (registry_of new)).limit ≡ (settings_of (registry_of other_new)).limit
   pub undefined : (settings_of (registry_of new)).undefined ≡ (settings_of (registry_of other_new)).undefined
 

@@ -1,8 +1,8 @@
-//! The laws of what an environment is for its renders: the sources that stand under names, the functions that it has by
-//! itself, the limit and what undefined values may do are all that they see of it. So histories of changes that agree on
-//! each name come to environments where each template renders to the same. The functions of this crate do nothing: each
-//! stands for the law in its contract; save the one that sets what renders keep to. Environments, templates and the law that
-//! renders end are passed on, so that programs name this crate alone.
+//! The laws of what an environment is for its renders: the sources that stand under names, the globals, the limit and what
+//! undefined values may do are all that they see of it. So histories of changes that agree on each name come to environments
+//! where each template renders to the same. The functions of this crate do nothing: each stands for the law in its contract;
+//! save the one that sets what renders keep to. Environments, templates and the law that renders end are passed on, so that
+//! programs name this crate alone.
 #![tactic(auto)]
 
 ghost use Rattle.template_environment_settings.specs.Alike.{AlikeHaveOneSetting, AlikeRenderTheSame};
@@ -13,10 +13,10 @@ mod bounds;
 pub use bounds::set_bounds;
 pub use template_environment::{Environment, Template, every_render_ends};
 
-/// Environments where the same sources stand under the names, and that have the same functions, keep to the same limit and
-/// let undefined values do the same, give their renders one setting. An environment's functions are known by its number: two
-/// have the same where both have none, or under one number. So a template of one name and one source renders to the same in
-/// both, in states of one number, under every bound and over every context.
+/// Environments where the same sources stand under the names, and that have the same globals, keep to the same limit and let
+/// undefined values do the same, give their renders one setting. An environment's functions are known by its number, and can be
+/// called there alone: two have the same where they have one number, or where no function can be called. So a template of one
+/// name and one source renders to the same in both, in states of one number, under every bound and over every context.
 pub fn one_setting()
     ensures setting { AlikeHaveOneSetting }
     ensures renders { AlikeRenderTheSame }

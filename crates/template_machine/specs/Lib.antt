@@ -3,6 +3,7 @@ pub use Rattle.template_values_errors.specs.Memory
 pub use Rattle.template_values_errors.specs.Names as ErrorNames
 pub use Rattle.template_values_model.specs.Val
 pub use Rattle.template_values_model.specs.Lookup
+pub use Rattle.template_values_frozen.specs.Frozen
 pub use Rattle.template_machine_surroundings.specs.Rule
 pub use Rattle.template_machine_surroundings.specs.Failures
 pub use Rattle.template_machine_output.specs.Wrapper
@@ -39,6 +40,7 @@ pub use Rattle.template_machine_meaning.specs.Surroundings
 pub use Rattle.template_machine_meaning.specs.Meaning
 pub use Rattle.template_machine_meaning.specs.Laws
 pub use Rattle.template_machine_meaning.specs.Keeps
+pub use Rattle.template_machine_globals.specs.Globals
 pub use Rattle.template_machine_loops.specs.Loops
 pub use Rattle.template_machine_frames.specs.Frames
 pub use Rattle.template_machine_frames.specs.Names as ExportedNames

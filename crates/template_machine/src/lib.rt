@@ -19,8 +19,8 @@
 //! # The main calls
 //!
 //! - [`context_from_json`] gives the context that a JSON object says, and [`Value`] has makers for every other one.
-//! - [`Environment::new`] makes an environment that has the functions `range`, `dict` and `namespace`, and
-//!   [`Environment::empty`] one without functions.
+//! - [`Environment::new`] makes an environment whose globals are the functions `range`, `dict` and `namespace`, and
+//!   [`Environment::empty`] one without globals.
 //! - [`Environment::add_template`] adds a template in the place of one of that name, or refuses it and
 //!   changes nothing; [`Environment::add_template_owned`] keeps copies of its texts. [`Environment::get_template`]
 //!   finds it, and [`Environment::remove_template`] takes it away.
@@ -29,7 +29,9 @@
 //!   leaves, with its [`State`], which knows the names that were stored.
 //! - [`Environment::render_str`] renders a source that does not stand.
 //! - [`Environment::compile_expression`] compiles an expression that stands alone, and [`Expression::eval`] gives its
-//!   value over a context.
+//!   value over a context, with a map for each namespace in it.
+//! - [`Environment::add_global`] puts a value under a name, which each render finds where nothing else has the name;
+//!   [`Environment::remove_global`] takes it away, and [`Environment::globals`] lists them.
 //! - [`Environment::set_fuel`] bounds each render by its steps, and [`State::fuel_levels`] tells what one
 //!   consumed; [`Environment::set_recursion_limit`] bounds how deep it may be.
 //! - [`Environment::set_undefined_behavior`] says what may be done with undefined values, and
@@ -49,7 +51,8 @@
 //! [`enough_is_enough`], [`fuel_adds_up`] and [`writes_beginning`] are the laws of fuel, and
 //! [`good_ends_well`] that of verified instructions. By [`faults_are_meant`] no fault of a template is told as want of
 //! memory, however many includes it happened in. An expression gives the value that its tree means under the fuel,
-//! or its fault, unless it wants memory; [`every_evaluation_gives`] says that it is one of the two.
+//! or its fault, unless it wants memory; [`every_evaluation_gives`] says that it is one of the two, and
+//! [`every_expression_gives`] that it stays so where the value is handed out.
 #![tactic(auto)]
 
 pub use template_code_checked::{Checked, verify};
@@ -58,10 +61,11 @@ pub use template_compiler_syntax::{StartMarker, SyntaxConfig, SyntaxConfigBuilde
 pub use template_environment::{Captured, Environment, Expression, State, Template};
 pub use template_machine_frames::{Context, Frame, LoopState};
 pub use template_machine_fuel::FuelTracker;
+pub use template_machine_globals::Globals;
 pub use template_machine_items::Items;
 pub use template_machine_meaning::{
-    every_evaluation_gives, every_run_ends, expression_isolation, faults_are_meant, isolation,
-    one_meaning,
+    every_evaluation_gives, every_expression_gives, every_run_ends, expression_faults_are_meant,
+    expression_isolation, faults_are_meant, isolation, one_meaning,
 };
 pub use template_machine_operands::Operands as Stack;
 pub use template_machine_output::{NullWriter, Sink, SinkFault, WriteWrapper, Writer, write_text};

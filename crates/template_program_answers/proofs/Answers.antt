@@ -13,6 +13,7 @@ use Rattle.template_process.specs.Trace.{Item, Run, text_of}
 use Rattle.template_machine_meaning.specs.Meaning.{Standing, rendered}
 use Rattle.template_machine_meaning.specs.World.{World}
 use Rattle.template_environment_settings.specs.Isolation.{AgreesAt, IsolatesNames}
+use Rattle.template_environment_settings.specs.Plain.{IsRefusedForRoom}
 use Rattle.template_environment_settings.specs.Renders.{Renders}
 use Rattle.template_environment_settings.specs.Standing.{setting_of}
 use Rattle.template_environment_settings.specs.Registry.{Registry}
@@ -62,9 +63,10 @@ unwanted a u outcome is want = u.unwanted (subst TellsWant (sym is) want)
 
 -- the additions are refused by one of them
 refuses : (additions : List (List ℕ × List ℕ)) (next : ℕ) (kinds : List ErrorKind) → IsRefusedAddition additions next kinds → ¬ IsLastId next
-    → RefusesOne additions kinds
-refuses additions next kinds (inl last) more = absurd (more last.0)
-refuses additions next kinds (inr refused) more = refused.1
+    → ¬ IsRefusedForRoom kinds → RefusesOne additions kinds
+refuses additions next kinds (inl (inl last)) more room = absurd (more last.0)
+refuses additions next kinds (inl (inr want)) more room = absurd (room (inr want.1))
+refuses additions next kinds (inr refused) more room = refused.1
 
 -- two renders of one run
 rendered_alike : (a b : Answer) (r q : Run World) → IsSameRun r q
@@ -180,13 +182,16 @@ one_answer isolates request additions json a b (inl p) (inr (had, q)) same_id ua
 one_answer isolates request additions json a b (inr (had, p)) (inl q) same_id ua ub =
     absurd (refused_or_had request.command json (definitions_of request) q.0 had.0 q.2 (unwanted b ub (Context q.0) q.1) had.1)
 one_answer isolates request additions json a b (inr (had, inl p)) (inr (has, inl q)) same_id ua ub =
-    let same = same_refused additions p.0 q.0 (refuses additions a.next p.0 p.2 ua.first_id) (refuses additions b.next q.0 q.2 ub.first_id)
-    (unwanted a ua (Template p.0) p.1) (unwanted b ub (Template q.0) q.1) in
+    let room = unwanted a ua (Template p.0) p.1 in
+    let more = unwanted b ub (Template q.0) q.1 in
+    let same = same_refused additions p.0 q.0 (refuses additions a.next p.0 p.2 ua.first_id room) (refuses additions b.next q.0 q.2 ub.first_id more) room more in
     nothing_written a b (p.1 ∙ ap (λ (ks : List ErrorKind). Template ks) same ∙ sym q.1) p.3 q.3
 one_answer isolates request additions json a b (inr (had, inl p)) (inr (has, inr q)) same_id ua ub =
-    absurd (all_or_refused additions p.0 (refuses additions a.next p.0 p.2 ua.first_id) (unwanted a ua (Template p.0) p.1) q.1)
+    let room = unwanted a ua (Template p.0) p.1 in
+    absurd (all_or_refused additions p.0 (refuses additions a.next p.0 p.2 ua.first_id room) room q.1)
 one_answer isolates request additions json a b (inr (had, inr p)) (inr (has, inl q)) same_id ua ub =
-    absurd (all_or_refused additions q.0 (refuses additions b.next q.0 q.2 ub.first_id) (unwanted b ub (Template q.0) q.1) p.1)
+    let room = unwanted b ub (Template q.0) q.1 in
+    absurd (all_or_refused additions q.0 (refuses additions b.next q.0 q.2 ub.first_id room) room p.1)
 one_answer isolates request additions json a b (inr (had, inr (first, all, inl p))) (inr (has, inr (next, each, inl q))) same_id ua ub =
     nothing_written a b (p.0 ∙ sym q.0) p.2 q.2
 one_answer isolates request additions json a b (inr (had, inr (first, all, inl p))) (inr (has, inr (next, each, inr q))) same_id ua ub =

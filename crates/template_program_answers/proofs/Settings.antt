@@ -19,7 +19,7 @@ pub one_setting : (request : Request) (additions : List (List ℕ × List ℕ)) 
     → IsMade request additions id other → setting_of e ≡ setting_of other
 one_setting request additions id e other made more = settings.one_setting e other (record {
   sources = λ name. made.sources name ∙ sym (more.sources name);
-  functions = made.settings.functions ∙ sym more.settings.functions;
+  globals = made.settings.globals ∙ sym more.settings.globals;
   limit = made.settings.limit ∙ sym more.settings.limit;
   undefined = made.settings.undefined ∙ sym more.settings.undefined;
 })

@@ -1,9 +1,13 @@
 -- The state ids that a request has taken.
-use Rattle.std.proofs.Common.{◌≡◌, ◌∙◌, ap, sym, refl, ℕ, ◌+◌, ◌⊎◌, inl, inr, List, Option, if◌then◌else◌}
+use Rattle.std.proofs.Common.{◌≡◌, ◌∙◌, ap, sym, refl, ℕ, ◌+◌, ◌⊎◌, inl, inr, List, [], ◌∷◌, Option, Result, Err, if◌then◌else◌}
 use Rattle.std.proofs.lemmas.Bool.Decides.{eqb_tells}
+use Rattle.template_values_errors.specs.declared.ErrorKind.{ErrorKind}
+use Rattle.template_values_errors.specs.declared.ErrorKind.TheVariants.{InvalidOperation}
+use Rattle.template_values_errors.specs.Memory.{NoMemory}
 use Rattle.template_values_model.specs.Val.{Val}
 use Rattle.template_environment_settings.specs.Meaning.{Standing}
 use Rattle.template_environment_settings.specs.Registry.{Registry}
+use Rattle.template_program_run.specs.Additions.{IsRefusedEnvironment}
 use Rattle.template_program_run.specs.Answers.{Rendered, TellsNames}
 use Rattle.template_program_run.specs.Ids.{IsLastId, behind_one, behind_request, last_id}
 use Rattle.template_program_parts.specs.declared.outcome.Outcome.{Outcome}
@@ -18,6 +22,24 @@ pub one_more : (next : ℕ) → ¬ IsLastId next → behind_one next ≡ next + 
 one_more next more = elim (eqb_tells next last_id) [
   | inl same ↦ absurd (more same.1)
   | inr other ↦ ap (λ b. if b then next else next + 1) other.0
+]
+
+kinds_are : {X : Type 0} {kinds others : List ErrorKind} → ◌≡◌ {A = Result X (List ErrorKind)} (Err kinds) (Err others) → kinds ≡ others
+kinds_are same = cc
+
+-- an environment is refused where no id is left, or for want of memory
+pub environment_refused : {X : Type 0} (next end : ℕ) (kinds : List ErrorKind) → (¬ IsLastId next → NoMemory kinds)
+    → (IsLastId next → (◌≡◌ {A = Result X (List ErrorKind)} (Err kinds) (Err (InvalidOperation ∷ []))) × (end ≡ next)) → IsRefusedEnvironment next kinds
+environment_refused next end kinds want exhausted = elim (last_or_not next) [
+  | inl last ↦ inl (last, kinds_are (exhausted last).0)
+  | inr more ↦ inr (more, want more)
+]
+
+-- and takes one id, where one is left
+pub environment_counts : {A : Type 0} (next end : ℕ) → (¬ IsLastId next → end ≡ next + 1) → (IsLastId next → A × (end ≡ next)) → end ≡ behind_one next
+environment_counts next end counted exhausted = elim (eqb_tells next last_id) [
+  | inl same ↦ (exhausted same.1).1 ∙ sym (ap (λ b. if b then next else next + 1) same.0)
+  | inr other ↦ counted other.1 ∙ sym (ap (λ b. if b then next else next + 1) other.0)
 ]
 
 -- a render ends done or with an error of the render

@@ -2,6 +2,7 @@
 use Rattle.std.specs.Prelude.{◌≡◌, ℕ, ◌⊎◌, List, [], ◌∷◌}
 use Rattle.template_values_errors.specs.declared.ErrorKind.{ErrorKind}
 use Rattle.template_values_errors.specs.declared.ErrorKind.TheVariants.{InvalidOperation}
+use Rattle.template_values_errors.specs.Memory.{NoMemory}
 use Rattle.template_environment_settings.specs.Sources.{IsAccepted, IsRefusedWith}
 use Rattle.template_program_run.specs.History.{source_for}
 use Rattle.template_program_run.specs.Ids.{IsLastId}
@@ -17,6 +18,10 @@ RefusesOne [] kinds = ⊥
 RefusesOne (addition ∷ later) kinds =
     IsRefusedWith (source_for addition.1) kinds ⊎ (IsAccepted (source_for addition.1) × RefusesOne later kinds)
 
--- the kinds that the additions are refused with: there is no state id, or else the first refused one's
+-- the kinds that an environment is refused with: there is no state id, or else a growth was refused
+abbrev pub IsRefusedEnvironment : ℕ → List ErrorKind → Type 0
+IsRefusedEnvironment next kinds = (IsLastId next × (kinds ≡ InvalidOperation ∷ [])) ⊎ (¬ IsLastId next × NoMemory kinds)
+
+-- the kinds that the additions are refused with: the environment's, or else the first refused one's
 abbrev pub IsRefusedAddition : List (List ℕ × List ℕ) → ℕ → List ErrorKind → Type 0
-IsRefusedAddition additions next kinds = (IsLastId next × (kinds ≡ InvalidOperation ∷ [])) ⊎ (¬ IsLastId next × RefusesOne additions kinds)
+IsRefusedAddition additions next kinds = IsRefusedEnvironment next kinds ⊎ (¬ IsLastId next × RefusesOne additions kinds)

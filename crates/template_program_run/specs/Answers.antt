@@ -108,7 +108,7 @@ Performed command request additions json next outcome before after failed fails 
     × Does command e t request json next outcome before after failed fails))
 
 -- The context of a render is refused; or else the additions are, or the main template does not stand; or else
--- what is asked is done. With no state id left the additions are refused.
+-- what is asked is done. With no state id left, or no memory for the environment, the additions are refused.
 abbrev pub AnswersRequest : Request → List (List ℕ × List ℕ) → Option (List ℕ) → ℕ → Outcome
     → Option (List ℕ) → Option (List ℕ) → ℕ → ℕ → Type 0
 AnswersRequest request additions json next outcome before after failed fails =

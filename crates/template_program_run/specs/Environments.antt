@@ -1,15 +1,16 @@
 -- The environment that a request is answered in.
-use Rattle.std.specs.Prelude.{◌≡◌, ℕ, List, Some, min}
+use Rattle.std.specs.Prelude.{◌≡◌, ℕ, List, min}
 use Rattle.template_compiler_syntax.specs.Syntax.{default_syntax}
 use Rattle.template_machine_surroundings.specs.declared.escape.EscapeRule.TheVariants.{ByName}
+use Rattle.template_environment_settings.specs.Globals.{own_globals}
 use Rattle.template_environment_settings.specs.Standing.{Settings, greatest_limit, settings_of, source_at}
 use Rattle.template_environment_settings.specs.Registry.{Registry}
 use Rattle.template_program_run.specs.History.{source_standing}
 use Rattle.template_program_run.specs.declared.request.Request.{Request}
 
--- it is set to what the request asks for, and has functions by itself, under its number
+-- it is set to what the request asks for, and its globals are its own functions, under its number
 pub record IsSetFor (request : Request) (id : ℕ) (s : Settings) : Type 0 where
-  pub functions : s.functions ≡ Some id
+  pub globals : s.globals ≡ own_globals id
   pub syntax : s.syntax ≡ default_syntax
   pub escapes : s.escapes ≡ ByName
   pub fuel : s.fuel ≡ request.fuel

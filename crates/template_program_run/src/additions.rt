@@ -1,9 +1,9 @@
 //! The templates, added in order.
-ghost use Rattle.std.specs.Prelude.{◌≡◌, ◌+◌, ℕ, List, [], ◌∷◌, None, IfOk, IfErr, OnOk};
+ghost use Rattle.std.specs.Prelude.{◌≡◌, ℕ, List, None, IfOk, IfErr, OnOk};
 ghost use Rattle.template_environment_settings.specs.Reading.{callback_of, registry_of};
 ghost use Rattle.template_environment_settings.specs.Standing.{settings_of, source_at};
 ghost use Rattle.template_program_parts.specs.Context.{text_pairs};
-ghost use Rattle.template_program_run.specs.Additions.{AllAreAccepted, IsRefusedAddition};
+ghost use Rattle.template_program_run.specs.Additions.{AllAreAccepted, IsRefusedAddition, IsRefusedEnvironment};
 ghost use Rattle.template_program_run.specs.Environments.{IsSetFor, IsMade};
 ghost use Rattle.template_program_run.specs.Ids.{IsLastId, behind_one};
 
@@ -11,14 +11,14 @@ use crate::request::Request;
 use std::alloc::Global;
 use template_environment_settings::{Environment, set_bounds};
 use template_machine_surroundings::StateIds;
-use template_values_errors::{Error, ErrorKind};
+use template_values_errors::Error;
 
 /// An environment with the templates, of which a later one replaces an earlier one of its name, set to what
 /// the request asks for.
 ///
 /// # Errors
 ///
-/// That of the first template that is refused, and `InvalidOperation` where no state id is left.
+/// That of the first template that is refused; `InvalidOperation` where no state id is left, and `OutOfMemory`.
 pub(crate) fn environment_of<'source>(
     alloc: Global,
     templates: &'source [(String, String)],
@@ -49,7 +49,7 @@ fn set_up<'source>(
     ensures callback { IfOk result (λ e. callback_of e ≡ None) }
     ensures had_one { OnOk result (¬ IsLastId ids.old) }
     ensures counted { ids.new ≡ behind_one ids.old }
-    ensures refused { IfErr result (λ kinds. IsLastId ids.old × (kinds ≡ ErrorKind.InvalidOperation ∷ [])) }
+    ensures refused { IfErr result (IsRefusedEnvironment ids.old) }
 {
     let mut environment = Environment::new(alloc, ids)?;
     set_bounds(

@@ -33,9 +33,9 @@ use template_values_errors::Error;
 /// # Errors
 ///
 /// [`Outcome::Context`] where the context of a render is refused, then [`Outcome::Template`] where a
-/// template is refused, no state id is left, the main one does not stand, or its names cannot be found
-/// for want of memory; [`Outcome::Render`] where the render ends with a fault, or the names cannot be
-/// written. Until the last nothing is written.
+/// template is refused, no state id is left, the main one does not stand, or the environment cannot be
+/// made or the names be found for want of memory; [`Outcome::Render`] where the render ends with a fault,
+/// or the names cannot be written. Until the last nothing is written.
 pub fn run<S: Sink>(
     alloc: Global,
     request: &Request,

@@ -18,7 +18,7 @@ returns-in_err-run_code-clause-renders g c = λ n finished.
     (record {
       programs = ruled_programs c.args.registry.now (Some c.args.compiled.now) c.rules.result.limit c.rules.result.undefined c.rules.ensures.limit c.rules.ensures.undefined;
       is_code = c.instructions.ensures.code;
-      start = c.in_ok-state.ensures.made ∙ ap (λ (e : AutoEscape). first_world c.args.id c.args.registry.now.functions e c.args.context) c.initial_auto_escape.ensures.escape;
+      start = c.in_ok-state.ensures.made ∙ ap (λ (e : AutoEscape). first_world c.args.id c.args.registry.now.globals e c.args.context) c.initial_auto_escape.ensures.escape;
     }) (c.in_err-run_code.ensures.runs (Some (unit_of c.args.compiled.now))) n finished)
 
 pub returns-clause-renders : goal.returns-clause-renders
@@ -27,7 +27,7 @@ returns-clause-renders g c = λ n finished.
     (record {
       programs = ruled_programs c.args.registry.now (Some c.args.compiled.now) c.rules.result.limit c.rules.result.undefined c.rules.ensures.limit c.rules.ensures.undefined;
       is_code = c.instructions.ensures.code;
-      start = c.in_ok-state.ensures.made ∙ ap (λ (e : AutoEscape). first_world c.args.id c.args.registry.now.functions e c.args.context) c.initial_auto_escape.ensures.escape;
+      start = c.in_ok-state.ensures.made ∙ ap (λ (e : AutoEscape). first_world c.args.id c.args.registry.now.globals e c.args.context) c.initial_auto_escape.ensures.escape;
     }) (c.in_ok-run_code.ensures.runs (Some (unit_of c.args.compiled.now))) n finished in
     whole done.over done.text
 
@@ -37,7 +37,7 @@ returns-clause-left g c = λ n finished.
     (record {
       programs = ruled_programs c.args.registry.now (Some c.args.compiled.now) c.rules.result.limit c.rules.result.undefined c.rules.ensures.limit c.rules.ensures.undefined;
       is_code = c.instructions.ensures.code;
-      start = c.in_ok-state.ensures.made ∙ ap (λ (e : AutoEscape). first_world c.args.id c.args.registry.now.functions e c.args.context) c.initial_auto_escape.ensures.escape;
+      start = c.in_ok-state.ensures.made ∙ ap (λ (e : AutoEscape). first_world c.args.id c.args.registry.now.globals e c.args.context) c.initial_auto_escape.ensures.escape;
     }) (c.in_ok-run_code.ensures.runs (Some (unit_of c.args.compiled.now))) n finished in
     c.levels.ensures.remaining ∙ done.left_is
 
@@ -47,6 +47,6 @@ returns-clause-world g c = λ n finished.
     (record {
       programs = ruled_programs c.args.registry.now (Some c.args.compiled.now) c.rules.result.limit c.rules.result.undefined c.rules.ensures.limit c.rules.ensures.undefined;
       is_code = c.instructions.ensures.code;
-      start = c.in_ok-state.ensures.made ∙ ap (λ (e : AutoEscape). first_world c.args.id c.args.registry.now.functions e c.args.context) c.initial_auto_escape.ensures.escape;
+      start = c.in_ok-state.ensures.made ∙ ap (λ (e : AutoEscape). first_world c.args.id c.args.registry.now.globals e c.args.context) c.initial_auto_escape.ensures.escape;
     }) (c.in_ok-run_code.ensures.runs (Some (unit_of c.args.compiled.now))) n finished in
     sym done.world
