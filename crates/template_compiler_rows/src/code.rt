@@ -139,6 +139,22 @@ fn write_called(instruction: &Instruction<'_>, out: &mut Report) {
             write_call("(method", Some(name.as_str()), *count, out)
         }
         Instruction::CallObject(count) => write_call("(call_value", None, *count, out),
+        _ => write_applied(instruction, out),
+    }
+}
+
+// A filter or a test, with the number of values that it takes, or what gathers arguments or turns an answer.
+fn write_applied(instruction: &Instruction<'_>, out: &mut Report) {
+    match instruction {
+        Instruction::ApplyFilter(name, count, _) => {
+            write_call("(filter", Some(name.as_str()), *count, out)
+        }
+        Instruction::PerformTest(name, count, _) => {
+            write_call("(test", Some(name.as_str()), *count, out)
+        }
+        Instruction::BuildList(Some(count)) => out.group("list", count),
+        Instruction::MergeKwargs(count) => out.group("merge", count),
+        Instruction::Not => out.push_str("not"),
         _ => out.push('?'),
     }
 }

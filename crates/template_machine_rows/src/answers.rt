@@ -52,6 +52,7 @@ fn tell<'line, R: NumberedRule>(
     out: &mut Report,
 ) {
     set(environment, &case.setting);
+    out.or(set_globals(environment, case), ());
     if take_all(alloc, environment, case, out) {
         match case.context.copy() {
             Ok(context) => ask(environment, ids, case, context, out),
@@ -66,6 +67,22 @@ fn set<R: AutoEscapeRule>(environment: &mut Environment<'_, R>, setting: &Settin
     if let Some(limit) = setting.limit {
         environment.set_recursion_limit(limit);
     }
+}
+
+// Puts the values under their names, and takes those away that are removed.
+fn set_globals<R: AutoEscapeRule>(
+    environment: &mut Environment<'_, R>,
+    case: &Case<'_>,
+) -> Result<(), Error> {
+    for entry in case.globals.entries().unwrap_or(&[]) {
+        if let Some(name) = entry.key.as_str() {
+            environment.add_global(name, entry.value.copy()?)?;
+        }
+    }
+    for name in &case.removed_globals {
+        environment.remove_global(*name);
+    }
+    Ok(())
 }
 
 // Takes the steps, tells which additions are refused, and whether the case goes on behind them.

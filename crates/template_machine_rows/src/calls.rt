@@ -2,7 +2,7 @@
 use crate::case::{Call, Case, Setting, Source, Subject};
 use crate::renders::{tell_captured, tell_render};
 use crate::report::Report;
-use crate::tellings::{tell_new_state, tell_templates};
+use crate::tellings::{tell_globals, tell_new_state, tell_templates};
 use std::alloc::Global;
 use std::borrow::CowStr;
 use template_environment::{Environment, Expression, Template};
@@ -10,7 +10,7 @@ use template_machine_surroundings::{AutoEscapeRule, StateIds};
 use template_values_core::Value;
 use template_values_errors::Error;
 
-/// Tells what comes of what is asked of the case's subject.
+/// Tells what comes of what is asked of the environment, or of the case's subject.
 pub(crate) fn ask<'line, R: AutoEscapeRule>(
     environment: &Environment<'line, R>,
     ids: &mut StateIds,
@@ -18,6 +18,10 @@ pub(crate) fn ask<'line, R: AutoEscapeRule>(
     context: Value,
     out: &mut Report,
 ) {
+    if let Call::Globals = case.setting.call {
+        drop(context);
+        return tell_globals(environment, out);
+    }
     match case.subject {
         Subject::Main(name) => {
             let template = environment.get_template(name);

@@ -3,13 +3,15 @@ use crate::report::Report;
 use crate::steps::{Step, first_name, steps_of};
 use serde_json::{Map, Value as Json};
 use std::alloc::Global;
-use template_rows::{behavior_of, count_of, expect_names, number_of, text_of};
+use template_rows::{behavior_of, count_of, expect_names, number_of, text_of, texts_of};
 use template_values_core::Value;
 use template_values_errors::{Error, ErrorKind, UndefinedBehavior};
 use template_values_json::context_from_json;
 
 // The names of a case's entries.
-const KNOWN: [&str; 15] = [
+const KNOWN: [&str; 17] = [
+    "globals",
+    "remove_globals",
     "templates",
     "main",
     "source",
@@ -27,9 +29,13 @@ const KNOWN: [&str; 15] = [
     "skip",
 ];
 
-/// A case: what is done, what is asked for then, and in which setting.
+/// A case: which globals stand, what is done, what is asked for then, and in which setting.
 #[derive(Drop)]
 pub(crate) struct Case<'line> {
+    /// A map of the values that are put under names.
+    pub(crate) globals: Value,
+    /// The names that no value stands under behind that.
+    pub(crate) removed_globals: Vec<&'line str>,
     pub(crate) steps: Vec<Step<'line>>,
     pub(crate) subject: Subject<'line>,
     pub(crate) setting: Setting,
@@ -80,6 +86,7 @@ pub(crate) enum Call {
     ContextNames,
     Escape,
     Templates,
+    Globals,
 }
 
 /// Where the text of a render goes.
@@ -108,9 +115,13 @@ impl<'line> Case<'line> {
         out: &mut Report,
     ) -> Case<'line> {
         out.or(expect_names(entries, &KNOWN), ());
+        let globals = object_of(alloc, entries.get("globals"));
+        let removed = removed_of(alloc, entries.get("remove_globals"));
         let steps = steps_of(alloc, entries.get("templates"), out);
-        let context = context_of(alloc, entries.get("context"));
+        let context = object_of(alloc, entries.get("context"));
         Case {
+            globals: out.or(globals, Value::none()),
+            removed_globals: out.or(removed, Vec::new(alloc)),
             subject: subject_of(entries, steps.as_slice(), out),
             setting: Setting::read(entries, out),
             context: out.or(context, Value::none()),
@@ -202,6 +213,7 @@ fn call_of(entries: &Map<String, Json>, out: &mut Report) -> Call {
         Some("undeclared_variables") => Call::UsedNames,
         Some("initial_auto_escape") => Call::Escape,
         Some("templates") => Call::Templates,
+        Some("globals") => Call::Globals,
         Some(_) => {
             out.refuse(ErrorKind::SyntaxError);
             Call::Usual
@@ -229,10 +241,18 @@ fn escapes_of(escapes: Option<&Json>, out: &mut Report) -> Escapes {
     }
 }
 
-fn context_of(alloc: Global, context: Option<&Json>) -> Result<Value, Error> {
-    match context {
+// The map that an object is; an empty one, if none stands.
+fn object_of(alloc: Global, object: Option<&Json>) -> Result<Value, Error> {
+    match object {
         None => context_from_json(alloc, b"{}"),
-        Some(context) => context_from_json(alloc, context.to_vec(alloc)?.as_slice()),
+        Some(object) => context_from_json(alloc, object.to_vec(alloc)?.as_slice()),
+    }
+}
+
+fn removed_of<'line>(alloc: Global, names: Option<&'line Json>) -> Result<Vec<&'line str>, Error> {
+    match names {
+        None => Ok(Vec::new(alloc)),
+        Some(names) => texts_of(alloc, names),
     }
 }
 

@@ -1,6 +1,8 @@
 //! Renders, as rows. Each line of standard input is a case, a JSON object with these entries, each of which may be
 //! left out:
 //!
+//! - `globals`: the values that are put under names before all else, an object;
+//! - `remove_globals`: the names that no value stands under behind that, an array of texts;
 //! - `templates`: what is done before the render, in order: `[name, source]` adds a template, `[name, null]` removes
 //!   the one of that name, `null` removes all, an object with `line_statement` and `line_comment` sets the prefixes of
 //!   the templates that are added from then on, and a number sets their rule of escapes, where `escapes` is one;
@@ -9,7 +11,7 @@
 //! - `expression`: an expression that is evaluated in its place;
 //! - `call`: what is asked of the template in place of a render into `room`: `render`, `render_captured`, `states` (a new
 //!   state of it, then one without a template), `undeclared_variables`, `initial_auto_escape` or `templates`; of an
-//!   expression `undeclared_variables` alone;
+//!   expression `undeclared_variables` alone; or `globals`, which is asked of the environment;
 //! - `room`: how many bytes the writer takes that the text goes to, or `null` where it goes nowhere; left out, it goes
 //!   to a text;
 //! - `context`: the context, an object; empty, if left out;
@@ -34,10 +36,10 @@
 //! - `! Kind` where the main template does not stand, where a source or an expression is refused, and where a call ended
 //!   with a fault that leaves no text;
 //! - the value of an expression, as JSON, or `undefined`, or `function N of M` for a function, N being its number and M that
-//!   of its environment, or `namespace N of M` for a namespace, M being the number of its state;
+//!   of its environment; a value that a state knows may also be `namespace N of M`, M being the number of its state;
 //! - `[name, name]` where names are asked for, and two such lists for those that are used: without what stands behind
 //!   dots, then with it;
-//! - `[name "source", name "source"]` for the templates that stand;
+//! - `[name "source", name "source"]` for the templates that stand, and `[name value, name value]` for the globals;
 //! - `state N of name, escape Escape, undefined Mode, limit N, exports [name], knows [name value]` for a state, N being
 //!   its number, with `, fuel N + M` before `exports` under a fuel: what was consumed, and what remains;
 //! - `? Kind` where the line is no case.

@@ -1,8 +1,9 @@
-//! How templates and states are told.
+//! How templates, globals and states are told.
 use crate::report::Report;
 use std::collections::BTreeSet;
 use template_environment::{Environment, State, Template};
 use template_machine_surroundings::AutoEscapeRule;
+use template_values_core::Value;
 use template_values_errors::Error;
 
 /// The templates that stand, each with its source.
@@ -27,6 +28,29 @@ fn tell_sources<R: AutoEscapeRule>(templates: &[Template<'_, '_, R>], out: &mut 
         out.push_str(template.name());
         out.push(' ');
         out.quoted(template.source().as_bytes());
+    }
+    out.push(']');
+}
+
+/// The names that values stand under, each with its value.
+pub(crate) fn tell_globals<R: AutoEscapeRule>(environment: &Environment<'_, R>, out: &mut Report) {
+    match environment.globals() {
+        Ok(globals) => tell_values(globals.as_slice(), out),
+        Err(error) => out.fault(&error),
+    }
+}
+
+fn tell_values(globals: &[(&str, &Value)], out: &mut Report) {
+    out.push('[');
+    let mut first = true;
+    for (name, value) in globals {
+        if !first {
+            out.push_str(", ");
+        }
+        first = false;
+        out.push_str(*name);
+        out.push(' ');
+        out.value(*value);
     }
     out.push(']');
 }
